@@ -1,6 +1,12 @@
 //! The literature model: what a bibliography knows of a work, and the texts of its parts.
 #![tactic(auto)]
 
+pub mod maybe_typed;
 pub mod memory;
+pub mod numeric;
+pub mod page;
 
+pub use maybe_typed::MaybeTyped;
 pub use memory::Memory;
+pub use numeric::{GrammarGender, NumberForm, Numeric, NumericDelimiter, NumericValue};
+pub use page::{PageRanges, PageRangesPart};
