@@ -1,0 +1,3 @@
+pub mod Date
+pub mod Entry
+pub mod Select
