@@ -1,5 +1,5 @@
 -- Selections: which of an entry and its direct parents a list of clauses selects.
-use Rattle.std.specs.Prelude.{◌≡◌, ℕ, Bool, true, false, not, ◌&&◌, ◌||◌, List, [], ◌∷◌, map, Option, Some, None, is_some, is_none, option_map, option_and_then, option_copied, find, if◌then◌else◌}
+use Rattle.std.specs.Prelude.{◌≡◌, ℕ, Bool, true, false, not, ◌&&◌, ◌||◌, List, [], ◌∷◌, map, Option, Some, None, is_some, is_none, option_map, option_and_then, option_copied, find, slice_get, if◌then◌else◌}
 use Rattle.std.specs.List.{list_any, list_all}
 use Rattle.std.specs.declared.alloc.Global.{Global}
 use denote.Enum.Bare.{sameb}
@@ -70,13 +70,92 @@ abbrev pub matches : List Rule → Entry → Bool
 matches rules e = list_any (fits e) rules
 
 -- the parent of: own > parents
-abbrev parent_of : List EntryType → List EntryType → Rule
+abbrev pub parent_of : List EntryType → List EntryType → Rule
 parent_of own parents = record { own = own; fields = []; parent = Some parents; bind = Parent }
 
 -- the child of: own > parents
-abbrev child_of : List EntryType → List EntryType → Rule
+abbrev pub child_of : List EntryType → List EntryType → Rule
 child_of own parents = record { own = own; fields = []; parent = Some parents; bind = Child }
+
+-- the work that holds this one: the book of a chapter, the journal of an article, the site of anything
+abbrev pub container : List Rule
+container =
+    parent_of (Chapter ∷ []) (Book ∷ Anthology ∷ Proceedings ∷ [])
+    ∷ parent_of (Anthos ∷ []) (Anthology ∷ [])
+    ∷ parent_of (of_type.Entry ∷ []) []
+    ∷ parent_of (Article ∷ []) (Proceedings ∷ Periodical ∷ Newspaper ∷ Blog ∷ Web ∷ [])
+    ∷ parent_of [] (Reference ∷ Web ∷ Blog ∷ [])
+    ∷ []
+
+-- the collection of a work that stands in no other
+abbrev pub collection : List Rule
+collection = parent_of (Book ∷ Anthology ∷ Proceedings ∷ Reference ∷ Report ∷ []) (Book ∷ Anthology ∷ Periodical ∷ Reference ∷ []) ∷ []
+
+-- the work that was translated or printed again
+abbrev pub original : List Rule
+original = parent_of [] (Original ∷ []) ∷ []
 
 -- the event at which a work was shown
 abbrev pub event : List Rule
 event = parent_of [] (Exhibition ∷ Conference ∷ Misc ∷ []) ∷ []
+
+-- the work whose volume numbers a chapter
+abbrev pub chapter : List Rule
+chapter =
+    child_of (Anthos ∷ []) (Anthology ∷ [])
+    ∷ child_of [] (Reference ∷ [])
+    ∷ child_of (Article ∷ []) (Proceedings ∷ [])
+    ∷ child_of [] (Book ∷ [])
+    ∷ []
+
+-- the work whose volume numbers a part
+abbrev pub part : List Rule
+part = child_of [] (Article ∷ Blog ∷ Book ∷ Legislation ∷ []) ∷ []
+
+-- the work whose title is the title of a volume
+abbrev pub volume_title : List Rule
+volume_title =
+    parent_of (Anthos ∷ []) (Anthology ∷ [])
+    ∷ parent_of (of_type.Entry ∷ []) []
+    ∷ parent_of [] (Reference ∷ [])
+    ∷ parent_of (Article ∷ []) (Proceedings ∷ [])
+    ∷ []
+
+-- the recording: a parent's, or else the entry itself
+abbrev pub audio_video : List Rule
+audio_video =
+    parent_of [] (Audio ∷ Video ∷ [])
+    ∷ record { own = Audio ∷ Video ∷ []; fields = []; parent = None; bind = Child }
+    ∷ []
+
+-- the first of the parents, if any
+abbrev pub first_parent : Entry → Option Entry
+first_parent e = slice_get (parents_of e) 0
+
+-- a chapter or a scene that has no title of its own
+abbrev pub is_untitled_part : Entry → Bool
+is_untitled_part e = (same_type (out-Entry e).entry_type Chapter || same_type (out-Entry e).entry_type Scene) && is_none (out-Entry e).title
+
+-- the work that holds the entry
+abbrev pub container_of : Entry → Option Entry
+container_of e = bound_select container e
+
+abbrev collection_after : Option Entry → Entry → Option Entry
+collection_after None e = bound_select collection e
+collection_after (Some c) e = first_parent c
+
+-- the collection that the entry, or the work that holds it, stands in
+abbrev pub collection_of : Entry → Option Entry
+collection_of e = collection_after (container_of e) e
+
+abbrev pub first_full : List (Entry × (Entry → Entry)) → Entry → Entry
+first_full [] e = e
+first_full (p ∷ ps) e = p.1 p.0
+
+-- One entry, given each parent with the whole of it: an untitled chapter or scene stands for its first parent's whole, anything else for itself.
+abbrev pub full_step : Entry-F (Entry × (Entry → Entry)) → Entry → Entry
+full_step x e = if is_untitled_part e then first_full x.parents.items e else e
+
+-- the whole that an entry is a part of: from an untitled chapter or scene up to the first parent, as long as there is one
+abbrev pub full_of : Entry → Entry
+full_of e = para-Entry (Entry → Entry) full_step e e

@@ -1,5 +1,9 @@
 //! Entries.
 
+ghost use Rattle.std.specs.Prelude.{◌≡◌, Option, option_copied};
+ghost use Rattle.lit_model.specs.declared.entry.Entry.{Entry};
+ghost use Rattle.lit_model.specs.Entry.{preorder, first_some, AnswersBy};
+
 use crate::date::Date;
 use crate::entry_type::EntryType;
 use crate::maybe_typed::MaybeTyped;
@@ -70,16 +74,29 @@ pub struct Entry {
     pub parents: Vec<Entry>,
 }
 
-fn first<'a, X, F: Fn(&Entry) -> Option<&X>>(entry: &'a Entry, f: &F) -> Option<&'a X>
-    requires { F.IsAlwaysCallable f.now }
-{
-    if let Some(found) = f(entry) {
-        return Some(found);
+impl Entry {
+    /// The first answer that `f` gives, asked of the entry, and then of each parent and that parent's own parents, before the next parent.
+    ///
+    /// `f` is to answer by the entry alone.
+    pub fn map<'a, X, F: Fn(&Entry) -> Option<&X>>(&'a self, f: F) -> Option<&'a X>
+        requires { F.IsAlwaysCallable f }
+        ensures { (g : Entry → Option X) → AnswersBy (F.post f) g → option_copied result ≡ first_some g (preorder self.now) }
+    {
+        self.first(&f)
     }
-    for parent in &entry.parents {
-        if let Some(found) = first(parent, f) {
+
+    fn first<'a, X, F: Fn(&Entry) -> Option<&X>>(&'a self, f: &F) -> Option<&'a X>
+        requires { F.IsAlwaysCallable f.now }
+        ensures { (g : Entry → Option X) → AnswersBy (F.post f.now) g → option_copied result ≡ first_some g (preorder self.now) }
+    {
+        if let Some(found) = f(self) {
             return Some(found);
         }
+        for parent in &self.parents {
+            if let Some(found) = parent.first(f) {
+                return Some(found);
+            }
+        }
+        None
     }
-    None
 }

@@ -2,7 +2,7 @@
 
 ghost use Rattle.std.specs.Prelude.{◌≡◌, map, option_copied};
 ghost use Rattle.std.specs.List.{list_all};
-ghost use Rattle.lit_model.specs.Select.{rule_of, is_among, has_field, has_parent, parent_among, fits, bound_by, bound_select, matches, event};
+ghost use Rattle.lit_model.specs.Select.{rule_of, is_among, has_field, has_parent, parent_among, fits, bound_by, bound_select, matches, container, collection, original, event, chapter, part, volume_title, audio_video, is_untitled_part, first_parent, container_of, collection_of, full_of};
 
 use crate::entry::Entry;
 use crate::entry_type::EntryType;
@@ -40,18 +40,220 @@ pub struct Clause<'a> {
     pub bind: Bind,
 }
 
-static EVENT: [Clause<'static>; 1] = [Clause {
-    own: &[],
+static CONTAINER: [Clause<'static>; 5] = [
+    Clause {
+        own: &[EntryType::Chapter],
+        fields: &[],
+        parent: Some(&[
+            EntryType::Book,
+            EntryType::Anthology,
+            EntryType::Proceedings,
+        ]),
+        bind: Bind::Parent,
+    },
+    Clause {
+        own: &[EntryType::Anthos],
+        fields: &[],
+        parent: Some(&[EntryType::Anthology]),
+        bind: Bind::Parent,
+    },
+    Clause {
+        own: &[EntryType::Entry],
+        fields: &[],
+        parent: Some(&[]),
+        bind: Bind::Parent,
+    },
+    Clause {
+        own: &[EntryType::Article],
+        fields: &[],
+        parent: Some(&[
+            EntryType::Proceedings,
+            EntryType::Periodical,
+            EntryType::Newspaper,
+            EntryType::Blog,
+            EntryType::Web,
+        ]),
+        bind: Bind::Parent,
+    },
+    Clause {
+        own: &[],
+        fields: &[],
+        parent: Some(&[EntryType::Reference, EntryType::Web, EntryType::Blog]),
+        bind: Bind::Parent,
+    },
+];
+
+/// The work that holds an entry: the book of a chapter, the journal of an article, the site of anything.
+fn container() -> &'static [Clause<'static>]
+    ensures { map rule_of result.now ≡ container }
+{
+    &CONTAINER
+}
+
+static COLLECTION: [Clause<'static>; 1] = [Clause {
+    own: &[
+        EntryType::Book,
+        EntryType::Anthology,
+        EntryType::Proceedings,
+        EntryType::Reference,
+        EntryType::Report,
+    ],
     fields: &[],
-    parent: Some(&[EntryType::Exhibition, EntryType::Conference, EntryType::Misc]),
+    parent: Some(&[
+        EntryType::Book,
+        EntryType::Anthology,
+        EntryType::Periodical,
+        EntryType::Reference,
+    ]),
     bind: Bind::Parent,
 }];
 
-/// The event at which a work was shown: its first parent that is an exhibition, a conference or of no type known.
+/// The collection of a work that stands in no other.
+fn collection() -> &'static [Clause<'static>]
+    ensures { map rule_of result.now ≡ collection }
+{
+    &COLLECTION
+}
+
+static ORIGINAL: [Clause<'static>; 1] = [Clause {
+    own: &[],
+    fields: &[],
+    parent: Some(&[EntryType::Original]),
+    bind: Bind::Parent,
+}];
+
+/// The work that was translated or printed again.
+fn original() -> &'static [Clause<'static>]
+    ensures { map rule_of result.now ≡ original }
+{
+    &ORIGINAL
+}
+
+static EVENT: [Clause<'static>; 1] = [Clause {
+    own: &[],
+    fields: &[],
+    parent: Some(&[
+        EntryType::Exhibition,
+        EntryType::Conference,
+        EntryType::Misc,
+    ]),
+    bind: Bind::Parent,
+}];
+
+/// The event at which a work was shown: its first parent that is an exhibition, a conference or anything else.
 pub fn event() -> &'static [Clause<'static>]
     ensures { map rule_of result.now ≡ event }
 {
     &EVENT
+}
+
+static CHAPTER: [Clause<'static>; 4] = [
+    Clause {
+        own: &[EntryType::Anthos],
+        fields: &[],
+        parent: Some(&[EntryType::Anthology]),
+        bind: Bind::Child,
+    },
+    Clause {
+        own: &[],
+        fields: &[],
+        parent: Some(&[EntryType::Reference]),
+        bind: Bind::Child,
+    },
+    Clause {
+        own: &[EntryType::Article],
+        fields: &[],
+        parent: Some(&[EntryType::Proceedings]),
+        bind: Bind::Child,
+    },
+    Clause {
+        own: &[],
+        fields: &[],
+        parent: Some(&[EntryType::Book]),
+        bind: Bind::Child,
+    },
+];
+
+/// The work whose volume numbers a chapter: an entry of an anthology, a reference work, proceedings or a book.
+pub fn chapter() -> &'static [Clause<'static>]
+    ensures { map rule_of result.now ≡ chapter }
+{
+    &CHAPTER
+}
+
+static PART: [Clause<'static>; 1] = [Clause {
+    own: &[],
+    fields: &[],
+    parent: Some(&[
+        EntryType::Article,
+        EntryType::Blog,
+        EntryType::Book,
+        EntryType::Legislation,
+    ]),
+    bind: Bind::Child,
+}];
+
+/// The work whose volume numbers a part: an entry of an article, a blog, a book or a law.
+pub fn part() -> &'static [Clause<'static>]
+    ensures { map rule_of result.now ≡ part }
+{
+    &PART
+}
+
+static VOLUME_TITLE: [Clause<'static>; 4] = [
+    Clause {
+        own: &[EntryType::Anthos],
+        fields: &[],
+        parent: Some(&[EntryType::Anthology]),
+        bind: Bind::Parent,
+    },
+    Clause {
+        own: &[EntryType::Entry],
+        fields: &[],
+        parent: Some(&[]),
+        bind: Bind::Parent,
+    },
+    Clause {
+        own: &[],
+        fields: &[],
+        parent: Some(&[EntryType::Reference]),
+        bind: Bind::Parent,
+    },
+    Clause {
+        own: &[EntryType::Article],
+        fields: &[],
+        parent: Some(&[EntryType::Proceedings]),
+        bind: Bind::Parent,
+    },
+];
+
+/// The work whose title is the title of a volume.
+pub fn volume_title() -> &'static [Clause<'static>]
+    ensures { map rule_of result.now ≡ volume_title }
+{
+    &VOLUME_TITLE
+}
+
+static AUDIO_VIDEO: [Clause<'static>; 2] = [
+    Clause {
+        own: &[],
+        fields: &[],
+        parent: Some(&[EntryType::Audio, EntryType::Video]),
+        bind: Bind::Parent,
+    },
+    Clause {
+        own: &[EntryType::Audio, EntryType::Video],
+        fields: &[],
+        parent: None,
+        bind: Bind::Child,
+    },
+];
+
+/// The recording: the first parent that is one, or else the entry itself where it is one.
+pub fn audio_video() -> &'static [Clause<'static>]
+    ensures { map rule_of result.now ≡ audio_video }
+{
+    &AUDIO_VIDEO
 }
 
 /// The type is among these, or there are none.
@@ -141,5 +343,54 @@ impl Entry {
             }
         }
         None
+    }
+}
+
+impl Entry {
+    fn is_untitled_part(&self) -> bool
+        ensures { result ≡ is_untitled_part self.now }
+    {
+        (self.entry_type == EntryType::Chapter || self.entry_type == EntryType::Scene)
+            && self.title.is_none()
+    }
+
+    /// The work that the entry is a part of: from a chapter or a scene without a title up to its first parent, and on, as long as there is one.
+    pub fn get_full(&self) -> &Entry
+        ensures { result.now ≡ full_of self.now }
+    {
+        let mut entry = self;
+        loop {
+            if !entry.is_untitled_part() {
+                return entry;
+            }
+            match entry.parents.first() {
+                None => return entry,
+                Some(parent) => entry = parent,
+            }
+        }
+    }
+
+    /// The work that holds the entry, as a journal holds an article.
+    pub fn get_container(&self) -> Option<&Entry>
+        ensures { option_copied result ≡ container_of self.now }
+    {
+        self.bound_select(container())
+    }
+
+    /// The collection that the entry stands in: where another work holds it, that work's first parent.
+    pub fn get_collection(&self) -> Option<&Entry>
+        ensures { option_copied result ≡ collection_of self.now }
+    {
+        match self.get_container() {
+            Some(container) => container.parents.first(),
+            None => self.bound_select(collection()),
+        }
+    }
+
+    /// The work that the entry translates or prints again.
+    pub fn get_original(&self) -> Option<&Entry>
+        ensures { option_copied result ≡ bound_select original self.now }
+    {
+        self.bound_select(original())
     }
 }

@@ -1,11 +1,9 @@
 //! Where a work can be had: its publisher, its address and its numbers.
 
-use std::collections::BTreeMap;
-
-use url::Url;
-
 use crate::date::Date;
 use crate::text::FormatString;
+use std::collections::BTreeMap;
+use url::Url;
 
 /// Who published a work, and where.
 #[derive(PartialEq, Eq, Drop)]
