@@ -1,7 +1,10 @@
 -- An entry and the works that it is a part of.
-use Rattle.std.specs.Prelude.{◌≡◌, ℕ, List, [], ◌∷◌, Option, None, option_copied, flat_map, string_bytes}
+use Rattle.std.specs.Prelude.{◌≡◌, ℕ, List, [], ◌∷◌, Option, None, Some, option_copied, option_and_then, flat_map, string_bytes, Vec}
 use Rattle.std.specs.Borrow.{Bor}
 use Rattle.std.specs.Option.{option_or}
+use Rattle.std.specs.declared.alloc.Global.{Global}
+use Rattle.lit_model.specs.declared.person.PersonsWithRoles.{PersonsWithRoles}
+use Rattle.lit_model.specs.Source.{serial}
 use Rattle.lit_model.specs.declared.entry_type.EntryType.{EntryType}
 use Rattle.lit_model.specs.declared.entry.Entry.{Entry, Entry-F, out-Entry, para-Entry}
 
@@ -56,3 +59,15 @@ pub record IsBare (key : List ℕ) (entry_type : EntryType) (e : Entry) : Type 0
   pub no_abstract : (out-Entry e).abstract_ ≡ None
   pub no_genre : (out-Entry e).genre ≡ None
   pub no_parents : parents_of e ≡ []
+
+-- the entry's own number under a scheme
+abbrev pub own_serial : List ℕ → Entry → Option (List ℕ)
+own_serial scheme e = option_and_then (serial scheme) (out-Entry e).serial_number
+
+abbrev optional_items : Option (Vec PersonsWithRoles Global) → List PersonsWithRoles
+optional_items None = []
+optional_items (Some v) = v.items
+
+-- the entry's own groups of further persons
+abbrev pub groups_of : Entry → List PersonsWithRoles
+groups_of e = optional_items (out-Entry e).affiliated

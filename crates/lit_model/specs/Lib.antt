@@ -1,3 +1,6 @@
 pub mod Date
 pub mod Entry
+pub mod Person
 pub mod Select
+pub mod Source
+pub mod Text

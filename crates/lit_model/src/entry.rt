@@ -1,8 +1,8 @@
 //! Entries.
 
-ghost use Rattle.std.specs.Prelude.{◌≡◌, Option, option_copied, option_map, string_bytes, IfOk};
+ghost use Rattle.std.specs.Prelude.{◌≡◌, Option, option_copied, option_map, string_bytes, codes, IfOk};
 ghost use Rattle.lit_model.specs.declared.entry.Entry.{Entry, out-Entry};
-ghost use Rattle.lit_model.specs.Entry.{parents_of, preorder, first_some, AnswersBy, IsBare};
+ghost use Rattle.lit_model.specs.Entry.{parents_of, preorder, first_some, AnswersBy, IsBare, own_serial};
 
 use crate::date::Date;
 use crate::entry_type::EntryType;
@@ -310,6 +310,51 @@ impl Entry {
         ensures { option_copied result ≡ (out-Entry self.now).genre }
     {
         self.genre.as_ref()
+    }
+
+    /// The entry's own number under the name of a scheme.
+    pub fn keyed_serial_number(&self, scheme: &str) -> Option<&str>
+        ensures { option_copied result ≡ own_serial scheme.now self.now }
+    {
+        match &self.serial_number {
+            None => None,
+            Some(serial_number) => serial_number.get(scheme),
+        }
+    }
+
+    /// The digital object identifier.
+    pub fn doi(&self) -> Option<&str>
+        ensures { option_copied result ≡ own_serial (codes "doi") self.now }
+    {
+        self.keyed_serial_number("doi")
+    }
+
+    /// The international standard book number.
+    pub fn isbn(&self) -> Option<&str>
+        ensures { option_copied result ≡ own_serial (codes "isbn") self.now }
+    {
+        self.keyed_serial_number("isbn")
+    }
+
+    /// The international standard serial number.
+    pub fn issn(&self) -> Option<&str>
+        ensures { option_copied result ≡ own_serial (codes "issn") self.now }
+    {
+        self.keyed_serial_number("issn")
+    }
+
+    /// The number in PubMed.
+    pub fn pmid(&self) -> Option<&str>
+        ensures { option_copied result ≡ own_serial (codes "pmid") self.now }
+    {
+        self.keyed_serial_number("pmid")
+    }
+
+    /// The number in PubMed Central.
+    pub fn pmcid(&self) -> Option<&str>
+        ensures { option_copied result ≡ own_serial (codes "pmcid") self.now }
+    {
+        self.keyed_serial_number("pmcid")
     }
 
     /// The works that it is a part of, in order.

@@ -1,11 +1,16 @@
 //! Selections: an entry, or one of its parents, by their types and fields.
 
-ghost use Rattle.std.specs.Prelude.{◌≡◌, map, option_copied};
+ghost use Rattle.std.specs.Prelude.{◌≡◌, ◌++◌, map, option_copied, IfOk, OnOk};
 ghost use Rattle.std.specs.List.{list_all};
+ghost use Rattle.lit_model.specs.Entry.{groups_of};
+ghost use Rattle.lit_model.specs.Person.{same_role, with_role};
 ghost use Rattle.lit_model.specs.Select.{rule_of, is_among, has_field, has_parent, parent_among, fits, bound_by, bound_select, matches, container, collection, original, event, chapter, part, volume_title, audio_video, is_untitled_part, first_parent, container_of, collection_of, full_of};
 
 use crate::entry::Entry;
 use crate::entry_type::EntryType;
+use crate::memory::Memory;
+use crate::person::{Person, PersonRole};
+use std::alloc::Global;
 
 /// A field that a clause asks for.
 #[derive(Clone, Copy, Debug, PartialEq, Eq, PartialOrd, Ord, Hash)]
@@ -393,4 +398,32 @@ impl Entry {
     {
         self.bound_select(original())
     }
+
+    /// The entry's own further persons of a role, in order. The error: there was no memory for the list.
+    pub fn affiliated_with_role(
+        &self,
+        alloc: Global,
+        role: &PersonRole,
+    ) -> Result<Vec<&Person>, Memory>
+        ensures { IfOk result (λ v. map (λ p. p.now) v.items ≡ with_role (λ r. same_role r role.now) (groups_of self.now)) }
+    {
+        let mut persons = Vec::new(alloc);
+        if let Some(groups) = &self.affiliated {
+            for group in groups {
+                if group.role == *role {
+                    push_all(&mut persons, &group.names)?;
+                }
+            }
+        }
+        Ok(persons)
+    }
+}
+
+fn push_all<'a>(persons: &mut Vec<&'a Person>, more: &'a [Person]) -> Result<(), Memory>
+    ensures { OnOk result (map (λ p. p.now) persons.new.items ≡ map (λ p. p.now) persons.old.items ++ more.now) }
+{
+    for person in more {
+        persons.push(person)?;
+    }
+    Ok(())
 }

@@ -1,5 +1,8 @@
 //! Where a work can be had: its publisher, its address and its numbers.
 
+ghost use Rattle.std.specs.Prelude.{◌≡◌, codes, option_copied};
+ghost use Rattle.lit_model.specs.Source.{serial};
+
 use crate::date::Date;
 use crate::text::FormatString;
 use std::collections::BTreeMap;
@@ -34,4 +37,51 @@ pub struct LanguageIdentifier {
     pub language: String,
     /// The region, as `US`.
     pub region: Option<String>,
+}
+
+impl SerialNumber {
+    /// The number under the name of a scheme.
+    pub fn get(&self, scheme: &str) -> Option<&str>
+        ensures { option_copied result ≡ serial scheme.now self.now }
+    {
+        match self.0.get(scheme) {
+            None => None,
+            Some(number) => Some(number.as_str()),
+        }
+    }
+
+    /// The digital object identifier.
+    pub fn doi(&self) -> Option<&str>
+        ensures { option_copied result ≡ serial (codes "doi") self.now }
+    {
+        self.get("doi")
+    }
+
+    /// The international standard book number.
+    pub fn isbn(&self) -> Option<&str>
+        ensures { option_copied result ≡ serial (codes "isbn") self.now }
+    {
+        self.get("isbn")
+    }
+
+    /// The international standard serial number.
+    pub fn issn(&self) -> Option<&str>
+        ensures { option_copied result ≡ serial (codes "issn") self.now }
+    {
+        self.get("issn")
+    }
+
+    /// The number in PubMed.
+    pub fn pmid(&self) -> Option<&str>
+        ensures { option_copied result ≡ serial (codes "pmid") self.now }
+    {
+        self.get("pmid")
+    }
+
+    /// The number in PubMed Central.
+    pub fn pmcid(&self) -> Option<&str>
+        ensures { option_copied result ≡ serial (codes "pmcid") self.now }
+    {
+        self.get("pmcid")
+    }
 }

@@ -1,5 +1,8 @@
 //! Texts that a style prints.
 
+ghost use Rattle.std.specs.Prelude.{◌≡◌};
+ghost use Rattle.lit_model.specs.Text.{select};
+
 /// Which of two forms of a text a style asks for (CSL 1.0.2, Text: form).
 #[derive(Clone, Copy, Debug, Default, PartialEq, Eq, PartialOrd, Ord, Hash)]
 pub enum LongShortForm {
@@ -42,4 +45,19 @@ pub struct FormatString {
     pub value: ChunkedString,
     /// The short form.
     pub short: Option<ChunkedString>,
+}
+
+impl FormatString {
+    /// The text in a form: the short form where it is asked for and there is one, else the whole text.
+    pub fn select(&self, form: LongShortForm) -> &ChunkedString
+        ensures { result.now ≡ select form self.now }
+    {
+        match form {
+            LongShortForm::Long => &self.value,
+            LongShortForm::Short => match &self.short {
+                Some(short) => short,
+                None => &self.value,
+            },
+        }
+    }
 }
