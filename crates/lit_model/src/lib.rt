@@ -5,8 +5,10 @@ pub mod maybe_typed;
 pub mod memory;
 pub mod numeric;
 pub mod page;
+pub mod sink;
 
 pub use maybe_typed::MaybeTyped;
 pub use memory::Memory;
 pub use numeric::{GrammarGender, NumberForm, Numeric, NumericDelimiter, NumericValue};
 pub use page::{PageRanges, PageRangesPart};
+pub use sink::{Displaying, Noting, Sink};
