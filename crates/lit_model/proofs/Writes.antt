@@ -2,6 +2,7 @@
 use Rattle.std.proofs.Common.{◌≡◌, ℕ, List, [], ◌∷◌, ◌++◌, sym, ap, subst, ◌∙◌, MutBor}
 use Rattle.std.specs.Fmt.{WritesInCalls, HasWritten, HasWrittenStyled, IsFlush, IsPlainFormatter, IsDefaultSpec}
 use Rattle.std.specs.List.{FoldsTo, concat}
+use Rattle.std.specs.Prelude.{Result, Ok, Err, OnOk}
 use Rattle.std.specs.declared.fmt.Formatter.{Formatter}
 use Rattle.std.proofs.Output.{writes_in_calls_single, writes_in_calls_append, has_written_styled_nil, has_written_styled_append}
 
@@ -10,14 +11,23 @@ module _ {W : Type 0} (took : W → List ℕ → W → Type 0) where
   pub writes_of_eq : (w : W) (a b : List ℕ) (v : W) → a ≡ b → WritesInCalls took w a v → WritesInCalls took w b v
   writes_of_eq w a b v e = subst (λ (bytes : List ℕ). WritesInCalls took w bytes v) e
 
-  -- one more call
-  pub writes_and_one : (w : W) (a : List ℕ) (v : W) (b : List ℕ) (u : W) (all : List ℕ) → a ++ b ≡ all → WritesInCalls took w a v → took v b u → WritesInCalls took w all u
-  writes_and_one w a v b u all e before one =
-      writes_of_eq w (a ++ b) all u e (writes_in_calls_append took w a v b u before (writes_in_calls_single took v b u one))
+  -- writes in a row are one write
+  pub two_writes : (w v u : W) (a b all : List ℕ) → WritesInCalls took w a v → WritesInCalls took v b u → a ++ b ≡ all → WritesInCalls took w all u
+  two_writes w v u a b all p q e = writes_of_eq w (a ++ b) all u e (writes_in_calls_append took w a v b u p q)
 
-  -- two writes in a row
-  pub writes_both : (w : W) (a : List ℕ) (v : W) (b : List ℕ) (u : W) (all : List ℕ) → a ++ b ≡ all → WritesInCalls took w a v → WritesInCalls took v b u → WritesInCalls took w all u
-  writes_both w a v b u all e before after = writes_of_eq w (a ++ b) all u e (writes_in_calls_append took w a v b u before after)
+  pub three_writes : (w v u t : W) (a b c all : List ℕ) → WritesInCalls took w a v → WritesInCalls took v b u → WritesInCalls took u c t → a ++ (b ++ c) ≡ all → WritesInCalls took w all t
+  three_writes w v u t a b c all p q r e = two_writes w v t a (b ++ c) all p (writes_in_calls_append took v b u c t q r) e
+
+  pub four_writes : (w v u t s : W) (a b c d all : List ℕ) → WritesInCalls took w a v → WritesInCalls took v b u → WritesInCalls took u c t → WritesInCalls took t d s → a ++ (b ++ (c ++ d)) ≡ all → WritesInCalls took w all s
+  four_writes w v u t s a b c d all p q r x e = three_writes w v u s a b (c ++ d) all p q (writes_in_calls_append took u c t d s r x) e
+
+  pub five_writes : (w v u t s r : W) (a b c d f all : List ℕ) → WritesInCalls took w a v → WritesInCalls took v b u → WritesInCalls took u c t → WritesInCalls took t d s → WritesInCalls took s f r → a ++ (b ++ (c ++ (d ++ f))) ≡ all → WritesInCalls took w all r
+  five_writes w v u t s r a b c d f all p q x y z e = four_writes w v u t r a b c (d ++ f) all p q x (writes_in_calls_append took t d s f r y z) e
+
+  -- a call that succeeds is a write
+  pub one_write : {T E : Type 0} (r : Result T E) (w : W) (bs : List ℕ) (v : W) → OnOk r (took w bs v) → OnOk r (WritesInCalls took w bs v)
+  one_write (Ok x) w bs v t = writes_in_calls_single took w bs v t
+  one_write (Err e) w bs v t = t
 
   -- a writer that passes its texts on to the one that it borrows
   module _ {S : Type 0} (inner : S → MutBor W) where
@@ -50,3 +60,8 @@ module _ {W : Type 0} (took : W → List ℕ → W → Type 0) where
     -- what it took, the formatter has written
     pub displayed : (s : S) (bs : List ℕ) (t : S) → WritesInCalls Displayed s bs t → Displayed s bs t
     displayed s bs t p = subst (λ (bytes : List ℕ). Displayed s bytes t) p.whole (displayed_calls s p.parts t p.calls)
+
+-- a fact that always holds beside one that holds on success
+pub on_ok_both : {T E A : Type 0} (B : Type 0) (r : Result T E) → A → OnOk r B → OnOk r (A × B)
+on_ok_both B (Ok x) a b = (a, b)
+on_ok_both B (Err e) a b = b

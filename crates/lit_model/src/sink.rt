@@ -16,7 +16,7 @@ pub trait Sink: fmt::Write {
 
     /// Hands over a text. It fails only where the writer refuses it.
     fn put(&mut self, text: &str) -> fmt::Result
-        ensures ok { OnOk result (Self.write_str_gives self.old text.now self.new) }
+        ensures ok { OnOk result (WritesInCalls Self.write_str_gives self.old text.now self.new) }
         ensures kept { OnOk result (refused self.new ≡ refused self.old) }
         ensures err { OnErr result (refused self.new ≡ true) };
 
@@ -42,7 +42,7 @@ pub struct Noting<'a, W> {
     refused: bool,
 }
 
-impl<'a, W> Noting<'a, W> {
+impl<'a, W: fmt::Write> Noting<'a, W> {
     /// A writer that has refused nothing yet.
     pub fn new(inner: &'a mut W) -> Self
         ensures lent { result.inner ≡ inner.entry }
@@ -53,20 +53,14 @@ impl<'a, W> Noting<'a, W> {
             refused: false,
         }
     }
-}
 
-impl<W: fmt::Write> fmt::Write for Noting<'_, W> {
-    ghost write_str_gives = { λ s bs t. (t.inner.ghost_name ≡ s.inner.ghost_name) × W.write_str_gives s.inner.now bs t.inner.now };
-
-    fn write_str(&mut self, s: &str) -> fmt::Result {
-        self.put(s)
-    }
-}
-
-impl<W: fmt::Write> Sink for Noting<'_, W> {
-    ghost refused = { λ s. s.refused };
-
-    fn put(&mut self, text: &str) -> fmt::Result {
+    /// Passes a text on.
+    fn pass(&mut self, text: &str) -> fmt::Result
+        ensures ok { OnOk result (W.write_str_gives self.old.inner.now text.now self.new.inner.now) }
+        ensures same { self.new.inner.ghost_name ≡ self.old.inner.ghost_name }
+        ensures kept { OnOk result (self.new.refused ≡ self.old.refused) }
+        ensures err { OnErr result (self.new.refused ≡ true) }
+    {
         match self.inner.write_str(text) {
             Ok(()) => Ok(()),
             Err(error) => {
@@ -74,6 +68,22 @@ impl<W: fmt::Write> Sink for Noting<'_, W> {
                 Err(error)
             }
         }
+    }
+}
+
+impl<W: fmt::Write> fmt::Write for Noting<'_, W> {
+    ghost write_str_gives = { λ s bs t. (t.inner.ghost_name ≡ s.inner.ghost_name) × W.write_str_gives s.inner.now bs t.inner.now };
+
+    fn write_str(&mut self, s: &str) -> fmt::Result {
+        self.pass(s)
+    }
+}
+
+impl<W: fmt::Write> Sink for Noting<'_, W> {
+    ghost refused = { λ s. s.refused };
+
+    fn put(&mut self, text: &str) -> fmt::Result {
+        self.pass(text)
     }
 }
 
@@ -84,7 +94,7 @@ pub struct Displaying<'a, W> {
     refused: bool,
 }
 
-impl<'a, W> Displaying<'a, W> {
+impl<'a, W: fmt::Write> Displaying<'a, W> {
     /// A formatter that has refused nothing yet.
     pub fn new(inner: &'a mut fmt::Formatter<W>) -> Self
         ensures lent { result.inner ≡ inner.entry }
@@ -95,20 +105,14 @@ impl<'a, W> Displaying<'a, W> {
             refused: false,
         }
     }
-}
 
-impl<W: fmt::Write> fmt::Write for Displaying<'_, W> {
-    ghost write_str_gives = { λ s bs t. (t.inner.ghost_name ≡ s.inner.ghost_name) × (IsFlush s.inner.now → HasWrittenStyled W.write_str_gives s.inner.now bs t.inner.now) };
-
-    fn write_str(&mut self, s: &str) -> fmt::Result {
-        self.put(s)
-    }
-}
-
-impl<W: fmt::Write> Sink for Displaying<'_, W> {
-    ghost refused = { λ s. s.refused };
-
-    fn put(&mut self, text: &str) -> fmt::Result {
+    /// Passes a text on.
+    fn pass(&mut self, text: &str) -> fmt::Result
+        ensures ok { OnOk result (IsFlush self.old.inner.now → HasWrittenStyled W.write_str_gives self.old.inner.now text.now self.new.inner.now) }
+        ensures same { self.new.inner.ghost_name ≡ self.old.inner.ghost_name }
+        ensures kept { OnOk result (self.new.refused ≡ self.old.refused) }
+        ensures err { OnErr result (self.new.refused ≡ true) }
+    {
         match self.inner.write_str(text) {
             Ok(()) => Ok(()),
             Err(error) => {
@@ -116,5 +120,21 @@ impl<W: fmt::Write> Sink for Displaying<'_, W> {
                 Err(error)
             }
         }
+    }
+}
+
+impl<W: fmt::Write> fmt::Write for Displaying<'_, W> {
+    ghost write_str_gives = { λ s bs t. (t.inner.ghost_name ≡ s.inner.ghost_name) × (IsFlush s.inner.now → HasWrittenStyled W.write_str_gives s.inner.now bs t.inner.now) };
+
+    fn write_str(&mut self, s: &str) -> fmt::Result {
+        self.pass(s)
+    }
+}
+
+impl<W: fmt::Write> Sink for Displaying<'_, W> {
+    ghost refused = { λ s. s.refused };
+
+    fn put(&mut self, text: &str) -> fmt::Result {
+        self.pass(text)
     }
 }
