@@ -2,5 +2,6 @@ pub mod Date
 pub mod Entry
 pub mod Person
 pub mod Select
+pub mod Sink
 pub mod Source
 pub mod Text

@@ -12,6 +12,7 @@ pub mod person;
 pub mod select;
 pub mod source;
 pub mod text;
+pub mod sink;
 
 pub use date::{Date, Season};
 pub use entry::Entry;
@@ -24,3 +25,4 @@ pub use person::{Person, PersonRole, PersonsWithRoles};
 pub use select::{Bind, Clause, Field};
 pub use source::{LanguageIdentifier, Publisher, QualifiedUrl, SerialNumber};
 pub use text::{ChunkKind, ChunkedString, FormatString, LongShortForm, StringChunk};
+pub use sink::{Displaying, Noting, Sink};
