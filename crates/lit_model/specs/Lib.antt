@@ -1,5 +1,6 @@
 pub mod Date
 pub mod Entry
+pub mod Name
 pub mod Person
 pub mod Select
 pub mod Sink

@@ -10,9 +10,9 @@ pub mod numeric;
 pub mod page;
 pub mod person;
 pub mod select;
+pub mod sink;
 pub mod source;
 pub mod text;
-pub mod sink;
 
 pub use date::{Date, Season};
 pub use entry::Entry;
@@ -23,6 +23,6 @@ pub use numeric::{GrammarGender, NumberForm, Numeric, NumericDelimiter, NumericV
 pub use page::{PageRanges, PageRangesPart};
 pub use person::{Person, PersonRole, PersonsWithRoles};
 pub use select::{Bind, Clause, Field};
+pub use sink::{Displaying, Noting, Sink};
 pub use source::{LanguageIdentifier, Publisher, QualifiedUrl, SerialNumber};
 pub use text::{ChunkKind, ChunkedString, FormatString, LongShortForm, StringChunk};
-pub use sink::{Displaying, Noting, Sink};

@@ -1,5 +1,13 @@
 //! Persons, and what they did for a work.
 
+ghost use Rattle.std.specs.Prelude.{◌≡◌, not, ◌||◌, option_copied, string_bytes, chars, map};
+ghost use Rattle.std.specs.List.{list_any, list_all};
+ghost use Rattle.unicode.specs.Binary.{is_alphabetic};
+ghost use Rattle.lit_model.specs.Name.{is_institutional, is_cjk_script, is_cjk, is_particle_word, name_particle, name_without_particle, without, first_without, name_without_article};
+ghost use Rattle.unicode.specs.Script.{script};
+
+use unicode::properties::{GeneralCategory, Script, is_alphabetic};
+
 /// A person or an institution.
 #[derive(PartialEq, Eq, Hash, Drop)]
 pub struct Person {
@@ -51,4 +59,115 @@ pub struct PersonsWithRoles {
     pub names: Vec<Person>,
     /// What they did.
     pub role: PersonRole,
+}
+
+impl Person {
+    /// An institution: no given name, no prefix and no suffix. One that is present and empty counts.
+    pub fn is_institutional(&self) -> bool
+        ensures { result ≡ is_institutional self.now }
+    {
+        self.given_name.is_none() && self.prefix.is_none() && self.suffix.is_none()
+    }
+
+    /// A name in a Chinese, Japanese or Korean script: the name and the given name together have a letter (Unicode Alphabetic), and each is of script Han, Hiragana, Katakana, Hangul or Bopomofo.
+    pub fn is_cjk(&self) -> bool
+        ensures { result ≡ is_cjk self.now }
+    {
+        let given = match &self.given_name {
+            Some(given) => given.as_str(),
+            None => "",
+        };
+        let name = self.name.as_str();
+        (has_letter(name) || has_letter(given)) && is_cjk_text(name) && is_cjk_text(given)
+    }
+
+    /// The particle of the name, as `van der`: its longest front of words, cut at each space, that begin with a lowercase letter (general category Ll), but never its last word.
+    pub fn name_particle(&self) -> Option<&str>
+        ensures { option_copied result ≡ name_particle (string_bytes self.now.name) }
+    {
+        let name = self.name.as_str();
+        let rest = self.name_without_particle();
+        let front = name.len() - rest.len();
+        if front == 0 {
+            return None;
+        }
+        Some(&name[..front - 1])
+    }
+
+    /// The name after its particle and the space behind that; the whole name where it has no particle.
+    pub fn name_without_particle(&self) -> &str
+        ensures { result.now ≡ name_without_particle (string_bytes self.now.name) }
+    {
+        let mut rest = self.name.as_str();
+        while let Some((word, after)) = rest.split_once(' ') {
+            if !is_particle_word(word) {
+                break;
+            }
+            rest = after;
+        }
+        rest
+    }
+
+    /// The name without an English article before it, `The`, `A` or `An` with a capital or not; the whole name where nothing else would be left.
+    pub fn name_without_article(&self) -> &str
+        ensures { result.now ≡ name_without_article (string_bytes self.now.name) }
+    {
+        let name = self.name.as_str();
+        first_without(&["The ", "the ", "A ", "a ", "An ", "an "], name).unwrap_or(name)
+    }
+}
+
+fn is_cjk_script(script: Script) -> bool
+    ensures { result ≡ is_cjk_script script }
+{
+    matches!(
+        script,
+        Script::Han | Script::Hiragana | Script::Katakana | Script::Hangul | Script::Bopomofo
+    )
+}
+
+fn has_letter(text: &str) -> bool
+    ensures { result ≡ list_any is_alphabetic (chars text.now) }
+{
+    text.chars().any(|c| is_alphabetic(c))
+}
+
+/// Each letter of the text is of a Chinese, Japanese or Korean script.
+fn is_cjk_text(text: &str) -> bool
+    ensures { result ≡ list_all (λ c. not (is_alphabetic c) || is_cjk_script (script c)) (chars text.now) }
+{
+    text.chars().all(|c| !is_alphabetic(c) || is_cjk_script(Script::for_char(c)))
+}
+
+/// The word begins with a lowercase letter.
+fn is_particle_word(word: &str) -> bool
+    ensures { result ≡ is_particle_word word.now }
+{
+    match word.chars().next() {
+        Some(first) => matches!(
+            GeneralCategory::for_char(first),
+            GeneralCategory::LowercaseLetter
+        ),
+        None => false,
+    }
+}
+
+/// The text behind the article that it begins with, where there is any.
+fn without<'a>(article: &str, text: &'a str) -> Option<&'a str>
+    ensures { option_copied result ≡ without article.now text.now }
+{
+    let rest = text.strip_prefix(article)?;
+    if rest.is_empty() { None } else { Some(rest) }
+}
+
+/// The same for the first of the articles that the text begins with.
+fn first_without<'a>(articles: &[&str], text: &'a str) -> Option<&'a str>
+    ensures { option_copied result ≡ first_without (map (λ a. a.now) articles.now) text.now }
+{
+    for article in articles {
+        if let Some(rest) = without(article, text) {
+            return Some(rest);
+        }
+    }
+    None
 }
