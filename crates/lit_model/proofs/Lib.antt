@@ -1,3 +1,4 @@
+pub mod Names
 pub mod Preorder
 pub mod Whole
 pub mod Writes

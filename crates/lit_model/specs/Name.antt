@@ -32,17 +32,17 @@ is_cjk_script _ = false
 abbrev pub letters : List ℕ → List ℕ
 letters text = filter is_alphabetic (chars text)
 
--- the bytes of a text, none where it is absent
-abbrev pub given_or_nothing : Person → List ℕ
-given_or_nothing p = unwrap_or (option_map string_bytes p.given_name) []
-
--- the letters of the name and the given name
-abbrev pub name_letters : Person → List ℕ
-name_letters p = letters (string_bytes p.name) ++ letters (given_or_nothing p)
-
 -- there are letters, and each is of such a script
+abbrev pub are_cjk : List ℕ → Bool
+are_cjk cs = nat_lt 0 (length cs) && list_all (λ c. is_cjk_script (script c)) cs
+
+-- the given name, or an empty text
+abbrev pub given_or_empty : Person → List ℕ
+given_or_empty p = unwrap_or (option_map string_bytes p.given_name) []
+
+-- the name and the given name together are in such scripts
 abbrev pub is_cjk : Person → Bool
-is_cjk p = nat_lt 0 (length (name_letters p)) && list_all (λ c. is_cjk_script (script c)) (name_letters p)
+is_cjk p = are_cjk (letters (string_bytes p.name) ++ letters (given_or_empty p))
 
 -- ---- particles
 

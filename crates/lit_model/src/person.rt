@@ -1,9 +1,9 @@
 //! Persons, and what they did for a work.
 
-ghost use Rattle.std.specs.Prelude.{◌≡◌, not, ◌||◌, option_copied, string_bytes, chars, map};
+ghost use Rattle.std.specs.Prelude.{◌≡◌, not, ◌||◌, ◌++◌, option_copied, string_bytes, chars, map};
 ghost use Rattle.std.specs.List.{list_any, list_all};
 ghost use Rattle.unicode.specs.Binary.{is_alphabetic};
-ghost use Rattle.lit_model.specs.Name.{is_institutional, is_cjk_script, is_cjk, is_particle_word, name_particle, name_without_particle, without, first_without, name_without_article};
+ghost use Rattle.lit_model.specs.Name.{is_institutional, is_cjk_script, letters, are_cjk, is_cjk, is_particle_word, name_particle, name_without_particle, without, first_without, name_without_article};
 ghost use Rattle.unicode.specs.Script.{script};
 
 use unicode::properties::{GeneralCategory, Script, is_alphabetic};
@@ -73,12 +73,10 @@ impl Person {
     pub fn is_cjk(&self) -> bool
         ensures { result ≡ is_cjk self.now }
     {
-        let given = match &self.given_name {
-            Some(given) => given.as_str(),
-            None => "",
-        };
-        let name = self.name.as_str();
-        (has_letter(name) || has_letter(given)) && is_cjk_text(name) && is_cjk_text(given)
+        match &self.given_name {
+            Some(given) => is_cjk_name(self.name.as_str(), given.as_str()),
+            None => is_cjk_name(self.name.as_str(), ""),
+        }
     }
 
     /// The particle of the name, as `van der`: its longest front of words, cut at each space, that begin with a lowercase letter (general category Ll), but never its last word.
@@ -124,6 +122,12 @@ fn is_cjk_script(script: Script) -> bool
         script,
         Script::Han | Script::Hiragana | Script::Katakana | Script::Hangul | Script::Bopomofo
     )
+}
+
+fn is_cjk_name(name: &str, given: &str) -> bool
+    ensures { result ≡ are_cjk (letters name.now ++ letters given.now) }
+{
+    (has_letter(name) || has_letter(given)) && is_cjk_text(name) && is_cjk_text(given)
 }
 
 fn has_letter(text: &str) -> bool
