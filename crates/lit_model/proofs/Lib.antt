@@ -1,4 +1,5 @@
 pub mod Names
+pub mod Particles
 pub mod Preorder
 pub mod Whole
 pub mod Writes

@@ -11,6 +11,9 @@ use Rattle.unicode.specs.Binary.{is_alphabetic}
 use Rattle.unicode.specs.Script.{script}
 use Rattle.lit_model.specs.Name.{is_cjk_script, letters, are_cjk, without}
 
+pub trans_to : (r m t : Bool) → t ≡ m → r ≡ m → r ≡ t
+trans_to r m t e h = h ∙ sym e
+
 -- ---- tests of the elements that pass another test
 
 module _ {X : Type 0} (p q : X → Bool) where

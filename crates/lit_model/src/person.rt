@@ -127,7 +127,10 @@ fn is_cjk_script(script: Script) -> bool
 fn is_cjk_name(name: &str, given: &str) -> bool
     ensures { result ≡ are_cjk (letters name.now ++ letters given.now) }
 {
-    (has_letter(name) || has_letter(given)) && is_cjk_text(name) && is_cjk_text(given)
+    if !has_letter(name) && !has_letter(given) {
+        return false;
+    }
+    is_cjk_text(name) && is_cjk_text(given)
 }
 
 fn has_letter(text: &str) -> bool
