@@ -1,11 +1,15 @@
 //! Persons, and what they did for a work.
 
-ghost use Rattle.std.specs.Prelude.{◌≡◌, not, ◌||◌, ◌++◌, option_copied, string_bytes, chars, map};
+ghost use Rattle.std.specs.Prelude.{◌≡◌, not, ◌||◌, ◌++◌, option_copied, string_bytes, chars, map, IfOk};
 ghost use Rattle.std.specs.List.{list_any, list_all};
 ghost use Rattle.unicode.specs.Binary.{is_alphabetic};
 ghost use Rattle.lit_model.specs.Name.{is_institutional, is_cjk_script, letters, are_cjk, is_cjk, is_particle_word, name_particle, name_without_particle, without, first_without, name_without_article};
+ghost use Rattle.lit_model.specs.Person.{named, role_of, group_of};
 ghost use Rattle.unicode.specs.Script.{script};
 
+use crate::memory::Memory;
+use crate::text::copy_text;
+use std::alloc::Global;
 use unicode::properties::{GeneralCategory, Script, is_alphabetic};
 
 /// A person or an institution.
@@ -113,6 +117,83 @@ impl Person {
         let name = self.name.as_str();
         first_without(&["The ", "the ", "A ", "a ", "An ", "an "], name).unwrap_or(name)
     }
+}
+
+impl Person {
+    /// A copy. The error: there was no memory for it.
+    pub fn clone(&self, alloc: Global) -> Result<Person, Memory>
+        ensures { IfOk result (λ p. named p ≡ named self.now) }
+    {
+        let name = String::from_str(alloc, self.name.as_str())?;
+        let given_name = copy_text(&self.given_name, alloc)?;
+        let prefix = copy_text(&self.prefix, alloc)?;
+        let suffix = copy_text(&self.suffix, alloc)?;
+        let alias = copy_text(&self.alias, alloc)?;
+        Ok(Person {
+            name,
+            given_name,
+            prefix,
+            suffix,
+            alias,
+            comma_suffix: self.comma_suffix,
+        })
+    }
+}
+
+impl PersonRole {
+    /// A copy. The error: there was no memory for it.
+    pub fn clone(&self, alloc: Global) -> Result<PersonRole, Memory>
+        ensures { IfOk result (λ r. role_of r ≡ role_of self.now) }
+    {
+        match self {
+            PersonRole::Translator => Ok(PersonRole::Translator),
+            PersonRole::Afterword => Ok(PersonRole::Afterword),
+            PersonRole::Foreword => Ok(PersonRole::Foreword),
+            PersonRole::Introduction => Ok(PersonRole::Introduction),
+            PersonRole::Annotator => Ok(PersonRole::Annotator),
+            PersonRole::Commentator => Ok(PersonRole::Commentator),
+            PersonRole::Holder => Ok(PersonRole::Holder),
+            PersonRole::Compiler => Ok(PersonRole::Compiler),
+            PersonRole::Founder => Ok(PersonRole::Founder),
+            PersonRole::Collaborator => Ok(PersonRole::Collaborator),
+            PersonRole::Organizer => Ok(PersonRole::Organizer),
+            PersonRole::CastMember => Ok(PersonRole::CastMember),
+            PersonRole::Composer => Ok(PersonRole::Composer),
+            PersonRole::Producer => Ok(PersonRole::Producer),
+            PersonRole::ExecutiveProducer => Ok(PersonRole::ExecutiveProducer),
+            PersonRole::Writer => Ok(PersonRole::Writer),
+            PersonRole::Cinematography => Ok(PersonRole::Cinematography),
+            PersonRole::Director => Ok(PersonRole::Director),
+            PersonRole::Illustrator => Ok(PersonRole::Illustrator),
+            PersonRole::Narrator => Ok(PersonRole::Narrator),
+            PersonRole::Unknown(text) => {
+                let copy = String::from_str(alloc, text.as_str())?;
+                Ok(PersonRole::Unknown(copy))
+            }
+        }
+    }
+}
+
+impl PersonsWithRoles {
+    /// A copy. The error: there was no memory for it.
+    pub fn clone(&self, alloc: Global) -> Result<PersonsWithRoles, Memory>
+        ensures { IfOk result (λ g. group_of g ≡ group_of self.now) }
+    {
+        let names = copy_persons(&self.names, alloc)?;
+        let role = self.role.clone(alloc)?;
+        Ok(PersonsWithRoles { names, role })
+    }
+}
+
+/// A copy of each person, in order.
+pub(crate) fn copy_persons(persons: &[Person], alloc: Global) -> Result<Vec<Person>, Memory>
+    ensures { IfOk result (λ v. map named v.items ≡ map named persons.now) }
+{
+    let mut copies = Vec::new(alloc);
+    for person in persons {
+        copies.push(person.clone(alloc)?)?;
+    }
+    Ok(copies)
 }
 
 fn is_cjk_script(script: Script) -> bool

@@ -1,10 +1,12 @@
 //! Where a work can be had: its publisher, its address and its numbers.
 
-ghost use Rattle.std.specs.Prelude.{◌≡◌, codes, option_copied};
-ghost use Rattle.lit_model.specs.Source.{serial};
+ghost use Rattle.std.specs.Prelude.{◌≡◌, codes, option_copied, IfOk};
+ghost use Rattle.lit_model.specs.Source.{press_of, address_of, serials, serial, language_of};
 
 use crate::date::Date;
-use crate::text::FormatString;
+use crate::memory::Memory;
+use crate::text::{FormatString, copy_forms, copy_text};
+use std::alloc::Global;
 use std::collections::BTreeMap;
 use url::Url;
 
@@ -83,5 +85,50 @@ impl SerialNumber {
         ensures { option_copied result ≡ serial (codes "pmcid") self.now }
     {
         self.get("pmcid")
+    }
+}
+
+impl Publisher {
+    /// A copy. The error: there was no memory for it.
+    pub fn clone(&self, alloc: Global) -> Result<Publisher, Memory>
+        ensures { IfOk result (λ p. press_of p ≡ press_of self.now) }
+    {
+        let name = copy_forms(&self.name, alloc)?;
+        let location = copy_forms(&self.location, alloc)?;
+        Ok(Publisher { name, location })
+    }
+}
+
+impl QualifiedUrl {
+    /// A copy. The error: there was no memory for it.
+    pub fn clone(&self, _alloc: Global) -> Result<QualifiedUrl, Memory>
+        ensures { IfOk result (λ u. address_of u ≡ address_of self.now) }
+    {
+        let value = self.value.clone()?;
+        Ok(QualifiedUrl {
+            value,
+            visit_date: self.visit_date,
+        })
+    }
+}
+
+impl SerialNumber {
+    /// A copy. The error: there was no memory for it.
+    pub fn clone(&self, _alloc: Global) -> Result<SerialNumber, Memory>
+        ensures { IfOk result (λ s. serials s ≡ serials self.now) }
+    {
+        let numbers = self.0.clone()?;
+        Ok(SerialNumber(numbers))
+    }
+}
+
+impl LanguageIdentifier {
+    /// A copy. The error: there was no memory for it.
+    pub fn clone(&self, alloc: Global) -> Result<LanguageIdentifier, Memory>
+        ensures { IfOk result (λ l. language_of l ≡ language_of self.now) }
+    {
+        let language = String::from_str(alloc, self.language.as_str())?;
+        let region = copy_text(&self.region, alloc)?;
+        Ok(LanguageIdentifier { language, region })
     }
 }

@@ -1,7 +1,10 @@
 //! Texts that a style prints.
 
-ghost use Rattle.std.specs.Prelude.{◌≡◌};
-ghost use Rattle.lit_model.specs.Text.{select};
+ghost use Rattle.std.specs.Prelude.{◌≡◌, map, option_map, string_bytes, IfOk};
+ghost use Rattle.lit_model.specs.Text.{chunk_of, chunks, forms_of, select};
+
+use crate::memory::Memory;
+use std::alloc::Global;
 
 /// Which of two forms of a text a style asks for (CSL 1.0.2, Text: form).
 #[derive(Clone, Copy, Debug, Default, PartialEq, Eq, PartialOrd, Ord, Hash)]
@@ -58,6 +61,84 @@ impl FormatString {
                 Some(short) => short,
                 None => &self.value,
             },
+        }
+    }
+}
+
+impl StringChunk {
+    /// A copy. The error: there was no memory for it.
+    pub fn clone(&self, alloc: Global) -> Result<StringChunk, Memory>
+        ensures { IfOk result (λ c. chunk_of c ≡ chunk_of self.now) }
+    {
+        let value = String::from_str(alloc, self.value.as_str())?;
+        Ok(StringChunk {
+            value,
+            kind: self.kind,
+        })
+    }
+}
+
+impl ChunkedString {
+    /// A copy. The error: there was no memory for it.
+    pub fn clone(&self, alloc: Global) -> Result<ChunkedString, Memory>
+        ensures { IfOk result (λ t. chunks t ≡ chunks self.now) }
+    {
+        let mut copies = Vec::new(alloc);
+        for chunk in &self.0 {
+            copies.push(chunk.clone(alloc)?)?;
+        }
+        Ok(ChunkedString(copies))
+    }
+}
+
+impl FormatString {
+    /// A copy. The error: there was no memory for it.
+    pub fn clone(&self, alloc: Global) -> Result<FormatString, Memory>
+        ensures { IfOk result (λ t. forms_of t ≡ forms_of self.now) }
+    {
+        let value = self.value.clone(alloc)?;
+        let short = copy_short(&self.short, alloc)?;
+        Ok(FormatString { value, short })
+    }
+}
+
+fn copy_short(short: &Option<ChunkedString>, alloc: Global) -> Result<Option<ChunkedString>, Memory>
+    ensures { IfOk result (λ t. option_map chunks t ≡ option_map chunks short.now) }
+{
+    match short {
+        None => Ok(None),
+        Some(short) => {
+            let copy = short.clone(alloc)?;
+            Ok(Some(copy))
+        }
+    }
+}
+
+/// A copy of a text, where there is one.
+pub(crate) fn copy_text(text: &Option<String>, alloc: Global) -> Result<Option<String>, Memory>
+    ensures { IfOk result (λ t. option_map string_bytes t ≡ option_map string_bytes text.now) }
+{
+    match text {
+        None => Ok(None),
+        Some(text) => {
+            let copy = String::from_str(alloc, text.as_str())?;
+            Ok(Some(copy))
+        }
+    }
+}
+
+/// A copy of a text with its forms, where there is one.
+pub(crate) fn copy_forms(
+    text: &Option<FormatString>,
+    alloc: Global,
+) -> Result<Option<FormatString>, Memory>
+    ensures { IfOk result (λ t. option_map forms_of t ≡ option_map forms_of text.now) }
+{
+    match text {
+        None => Ok(None),
+        Some(text) => {
+            let copy = text.clone(alloc)?;
+            Ok(Some(copy))
         }
     }
 }
