@@ -1,3 +1,4 @@
+pub mod Copies
 pub mod Names
 pub mod Particles
 pub mod Preorder

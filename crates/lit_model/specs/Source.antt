@@ -1,5 +1,6 @@
 -- Publishers, addresses, serial numbers and languages, without where their texts lie.
-use Rattle.std.specs.Prelude.{◌≡◌, ℕ, List, map, Option, Some, None, option_map, option_and_then, string_bytes, codes}
+use Rattle.std.specs.Prelude.{ℕ, List, map, Option, option_map, string_bytes, String}
+use Rattle.std.specs.declared.alloc.Global.{Global}
 use Rattle.std.specs.BTreeMap.{get_by_text}
 use Rattle.url.specs.Parts.{Parts}
 use Rattle.lit_model.specs.declared.date.Date.{Date}
@@ -25,9 +26,12 @@ pub record Address : Type 0 where
 abbrev pub address_of : QualifiedUrl → Address
 address_of u = record { value = u.value; visit_date = u.visit_date }
 
+abbrev pub scheme_and_number : String Global × String Global → List ℕ × List ℕ
+scheme_and_number e = (string_bytes e.0, string_bytes e.1)
+
 -- the serial numbers, each scheme with its number, in the order of the schemes
 abbrev pub serials : SerialNumber → List (List ℕ × List ℕ)
-serials s = map (λ e. (string_bytes e.0, string_bytes e.1)) s.0.entries
+serials s = map scheme_and_number s.0.entries
 
 -- the number under a scheme
 abbrev pub serial : List ℕ → SerialNumber → Option (List ℕ)
