@@ -5,6 +5,7 @@ pub mod maybe_typed;
 pub mod memory;
 pub mod numeric;
 pub mod page;
+mod scan;
 
 pub use maybe_typed::MaybeTyped;
 pub use memory::Memory;

@@ -1,0 +1,9 @@
+pub mod Fronts
+pub mod Integers
+pub mod Loops
+pub mod Shapes
+pub mod Classes
+pub mod Pieces
+pub mod Sound
+pub mod Complete
+pub mod Parsed

@@ -1,0 +1,4 @@
+pub mod Numeric
+pub mod NumericReading
+pub mod Scan
+pub mod Parsing
