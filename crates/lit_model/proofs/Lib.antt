@@ -7,3 +7,4 @@ pub mod Pieces
 pub mod Sound
 pub mod Complete
 pub mod Parsed
+pub mod Writes

@@ -2,3 +2,4 @@ pub mod Numeric
 pub mod NumericReading
 pub mod Scan
 pub mod Parsing
+pub mod Sink

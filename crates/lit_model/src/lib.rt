@@ -6,8 +6,10 @@ pub mod memory;
 pub mod numeric;
 pub mod page;
 mod scan;
+pub mod sink;
 
 pub use maybe_typed::MaybeTyped;
 pub use memory::Memory;
-pub use numeric::{GrammarGender, NumberForm, Numeric, NumericDelimiter, NumericValue};
+pub use numeric::{GrammarGender, NumberForm, Numeric, NumericDelimiter, NumericError, NumericValue};
 pub use page::{PageRanges, PageRangesPart};
+pub use sink::{Displaying, Noting, Sink};

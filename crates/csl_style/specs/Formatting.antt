@@ -1,0 +1,12 @@
+-- One formatting over another (CSL 1.0.2, Formatting): each attribute that is set, else that of the base.
+use Rattle.std.specs.Option.{option_or}
+use Rattle.csl_style.specs.declared.formatting.Formatting.{Formatting}
+
+abbrev pub over : Formatting → Formatting → Formatting
+over p base = record {
+  font_style = option_or p.font_style base.font_style;
+  font_variant = option_or p.font_variant base.font_variant;
+  font_weight = option_or p.font_weight base.font_weight;
+  text_decoration = option_or p.text_decoration base.text_decoration;
+  vertical_align = option_or p.vertical_align base.vertical_align;
+}

@@ -1,0 +1,85 @@
+//! How a style formats its text (CSL 1.0.2, Formatting) and where it places it (Display).
+
+ghost use Rattle.std.specs.Prelude.{◌≡◌};
+ghost use Rattle.csl_style.specs.Formatting.{over};
+
+/// Whether a text is upright or slanted.
+#[derive(Clone, Copy, Debug, Default, PartialEq, Eq, Hash)]
+pub enum FontStyle {
+    #[default]
+    Normal,
+    Italic,
+}
+
+/// Whether a text is in small capitals.
+#[derive(Clone, Copy, Debug, Default, PartialEq, Eq, Hash)]
+pub enum FontVariant {
+    #[default]
+    Normal,
+    SmallCaps,
+}
+
+/// How heavy a text is.
+#[derive(Clone, Copy, Debug, Default, PartialEq, Eq, Hash)]
+pub enum FontWeight {
+    #[default]
+    Normal,
+    Bold,
+    Light,
+}
+
+/// Whether a text is underlined.
+#[derive(Clone, Copy, Debug, Default, PartialEq, Eq, Hash)]
+pub enum TextDecoration {
+    #[default]
+    None,
+    Underline,
+}
+
+/// Where a text stands against the baseline.
+#[derive(Clone, Copy, Debug, Default, PartialEq, Eq, Hash)]
+pub enum VerticalAlign {
+    #[default]
+    None,
+    Baseline,
+    Sup,
+    Sub,
+}
+
+/// Where an element stands on the page (CSL 1.0.2, Display).
+#[derive(Clone, Copy, Debug, PartialEq, Eq, Hash)]
+pub enum Display {
+    /// On lines of its own.
+    Block,
+    /// At the left margin.
+    LeftMargin,
+    /// To the right of what stands at the left margin.
+    RightInline,
+    /// On lines of its own, moved to the right.
+    Indent,
+}
+
+/// The formatting attributes of a style's node. One that is not set leaves what is around the node.
+#[derive(Clone, Copy, Debug, Default, PartialEq, Eq, Hash)]
+pub struct Formatting {
+    pub font_style: Option<FontStyle>,
+    pub font_variant: Option<FontVariant>,
+    pub font_weight: Option<FontWeight>,
+    pub text_decoration: Option<TextDecoration>,
+    pub vertical_align: Option<VerticalAlign>,
+}
+
+impl Formatting {
+    /// This formatting over another: each attribute that is set here, else that of `base`.
+    pub fn apply(self, base: Formatting) -> Formatting
+        ensures { result ≡ over self base }
+    {
+        Formatting {
+            font_style: self.font_style.or(base.font_style),
+            font_variant: self.font_variant.or(base.font_variant),
+            font_weight: self.font_weight.or(base.font_weight),
+            text_decoration: self.text_decoration.or(base.text_decoration),
+            vertical_align: self.vertical_align.or(base.vertical_align),
+        }
+    }
+}

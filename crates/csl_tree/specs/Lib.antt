@@ -1,0 +1,5 @@
+pub mod Formatting
+pub mod Tokens
+pub mod Html
+pub mod Writing
+pub mod Content

@@ -1,0 +1,126 @@
+-- An output tree as a list of tokens: each text, and around each element where it opens and where it closes.
+-- It forgets how the texts are stored, and nothing else.
+use Rattle.std.specs.Prelude.{ℕ, Bool, true, false, List, [], ◌∷◌, ◌++◌, Option, Some, None, ◌==◌, string_bytes, length}
+use Rattle.std.specs.List.{flat_map, list_any, list_all}
+use Rattle.std.specs.Char.{is_not_whitespace}
+use Rattle.std.specs.Str.{chars}
+use Rattle.csl_style.specs.declared.formatting.Display.{Display}
+use Rattle.csl_tree.specs.declared.formatting.Formatting.{Formatting}
+use Rattle.csl_tree.specs.declared.formatting.Formatted.{Formatted}
+use Rattle.csl_tree.specs.declared.elem.ElemMeta.{ElemMeta}
+use Rattle.csl_tree.specs.declared.elem.ElemMeta.TheVariants as meta
+use Rattle.csl_tree.specs.declared.elem.ElemChild.{ElemChild}
+use Rattle.csl_tree.specs.declared.elem.ElemChild.TheOpen.{ElemChild-F, Elem-F, ElemChildren-F, Text, Elem, Markup, Link, Transparent}
+use Rattle.csl_tree.specs.declared.elem.ElemChild.TheFolds.{fold-ElemChild, fold-Elem, fold-ElemChildren}
+use Rattle.csl_tree.specs.declared.elem.Elem as elem
+use Rattle.csl_tree.specs.declared.elem.ElemChildren.{ElemChildren}
+
+-- which node made an element
+pub data Meta : Type 0 where
+  of_date : Meta
+  of_text : Meta
+  of_number : Meta
+  of_label : Meta
+  of_citation_number : Meta
+  of_entry : ℕ → Meta
+  of_citation_label : Meta
+
+abbrev pub meta_of : ElemMeta → Meta
+meta_of meta.Date = of_date
+meta_of meta.Text = of_text
+meta_of meta.Number = of_number
+meta_of meta.Label = of_label
+meta_of meta.CitationNumber = of_citation_number
+meta_of (meta.Entry n) = of_entry n
+meta_of meta.CitationLabel = of_citation_label
+
+abbrev pub optional_meta : Option ElemMeta → Option Meta
+optional_meta None = None
+optional_meta (Some m) = Some (meta_of m)
+
+-- a token that never joins another
+pub data Solid : Type 0 where
+  markup : List ℕ → Solid
+  link : List ℕ → Formatting → List ℕ → Solid
+  transparent : ℕ → Formatting → Solid
+  opened : Option Display → Option Meta → Solid
+  closed : Option Display → Solid
+
+pub data Token : Type 0 where
+  text : List ℕ → Formatting → Token
+  solid : Solid → Token
+
+-- the one token of a text
+abbrev pub text_tokens : Formatted → List Token
+text_tokens t = text (string_bytes t.text) t.formatting ∷ []
+
+-- the one token of a link
+abbrev pub link_tokens : Formatted → List ℕ → List Token
+link_tokens t url = solid (link (string_bytes t.text) t.formatting url) ∷ []
+
+-- an element around the tokens inside
+abbrev pub around : Option Display → Option Meta → List Token → List Token
+around d m inside = solid (opened d m) ∷ (inside ++ solid (closed d) ∷ [])
+
+-- one level of a tree, with the tokens of what is inside
+abbrev pub child_step : ElemChild-F (List Token) (List Token) (List Token) → List Token
+child_step (Text t) = text_tokens t
+child_step (Elem inside) = inside
+child_step (Markup s) = solid (markup (string_bytes s)) ∷ []
+child_step (Link t url) = link_tokens t (string_bytes url)
+child_step (Transparent n f) = solid (transparent n f) ∷ []
+
+abbrev pub elem_step : Elem-F (List Token) (List Token) (List Token) → List Token
+elem_step e = around e.display (optional_meta e.meta) e.children
+
+abbrev pub children_step : ElemChildren-F (List Token) (List Token) (List Token) → List Token
+children_step c = flat_map (λ ts. ts) c.0.items
+
+abbrev pub child_tokens : ElemChild → List Token
+child_tokens = fold-ElemChild (List Token) (List Token) (List Token) child_step elem_step children_step
+
+abbrev pub elem_tokens : elem.Elem → List Token
+elem_tokens = fold-Elem (List Token) (List Token) (List Token) child_step elem_step children_step
+
+abbrev pub tokens : ElemChildren → List Token
+tokens = fold-ElemChildren (List Token) (List Token) (List Token) child_step elem_step children_step
+
+-- Leaf text: the texts, markups and link texts in order
+abbrev pub token_text : Token → List ℕ
+token_text (text bs f) = bs
+token_text (solid (markup bs)) = bs
+token_text (solid (link bs f url)) = bs
+token_text (solid (transparent n f)) = []
+token_text (solid (opened d m)) = []
+token_text (solid (closed d)) = []
+
+abbrev pub leaf_text : List Token → List ℕ
+leaf_text ts = flat_map token_text ts
+
+-- nothing stands in an empty text, markup or link, or in an element of such; a transparent is not empty
+abbrev pub is_empty_token : Token → Bool
+is_empty_token (text bs f) = length bs == 0
+is_empty_token (solid (markup bs)) = length bs == 0
+is_empty_token (solid (link bs f url)) = length bs == 0
+is_empty_token (solid (transparent n f)) = false
+is_empty_token (solid (opened d m)) = true
+is_empty_token (solid (closed d)) = true
+
+abbrev pub is_empty : List Token → Bool
+is_empty ts = list_all is_empty_token ts
+
+-- a character of the text is no white space
+abbrev pub has_visible : List ℕ → Bool
+has_visible bs = list_any is_not_whitespace (chars bs)
+
+-- a link, a transparent, and a text or markup that is not all white space have content
+abbrev pub token_has_content : Token → Bool
+token_has_content (text bs f) = has_visible bs
+token_has_content (solid (markup bs)) = has_visible bs
+token_has_content (solid (link bs f url)) = true
+token_has_content (solid (transparent n f)) = true
+token_has_content (solid (opened d m)) = false
+token_has_content (solid (closed d)) = false
+
+abbrev pub has_content : List Token → Bool
+has_content ts = list_any token_has_content ts

@@ -1,0 +1,33 @@
+-- What a tree is written as.
+use Rattle.std.specs.Prelude.{ℕ, List, [], ◌∷◌, Option, Some, None}
+use Rattle.std.specs.List.{flat_map}
+use Rattle.csl_style.specs.declared.formatting.Display.{Display}
+use Rattle.csl_style.specs.declared.formatting.Display.TheVariants.{Block, LeftMargin, RightInline, Indent}
+use Rattle.csl_tree.specs.declared.elem.BufWriteFormat.{BufWriteFormat}
+use Rattle.csl_tree.specs.declared.elem.BufWriteFormat.TheVariants as format
+use Rattle.csl_tree.specs.Tokens.{Token, text, solid, markup, link, transparent, opened, closed}
+use Rattle.csl_tree.specs.Html.{html, html_bytes}
+
+-- a newline before and after a block
+abbrev pub line_break : Option Display → List ℕ
+line_break None = []
+line_break (Some Block) = 10 ∷ []
+line_break (Some LeftMargin) = []
+line_break (Some RightInline) = []
+line_break (Some Indent) = []
+
+abbrev pub plain_of : Token → List ℕ
+plain_of (text bs f) = bs
+plain_of (solid (markup bs)) = bs
+plain_of (solid (link bs f url)) = bs
+plain_of (solid (transparent n f)) = []
+plain_of (solid (opened d m)) = line_break d
+plain_of (solid (closed d)) = line_break d
+
+-- the leaf text, with its line breaks
+abbrev pub plain : List Token → List ℕ
+plain ts = flat_map plain_of ts
+
+abbrev pub written : BufWriteFormat → List Token → List ℕ
+written format.Plain ts = plain ts
+written format.Html ts = html_bytes (html ts)

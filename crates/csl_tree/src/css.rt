@@ -1,0 +1,70 @@
+//! The strings of HTML.
+
+ghost use Rattle.std.specs.Prelude.{◌≡◌};
+ghost use Rattle.csl_tree.specs.Html.{style_css, variant_css, weight_css, decoration_css, align_css, div_start};
+
+use csl_style::{Display, FontStyle, FontVariant, FontWeight, TextDecoration, VerticalAlign};
+
+/// The declaration of a style, if it is not the normal one.
+pub(crate) fn declare_style(style: FontStyle) -> &'static str
+    ensures { result.now ≡ style_css style }
+{
+    match style {
+        FontStyle::Normal => "",
+        FontStyle::Italic => "font-style: italic;",
+    }
+}
+
+/// The declaration of a weight, if it is not the normal one.
+pub(crate) fn declare_weight(weight: FontWeight) -> &'static str
+    ensures { result.now ≡ weight_css weight }
+{
+    match weight {
+        FontWeight::Normal => "",
+        FontWeight::Bold => "font-weight: bold;",
+        FontWeight::Light => "font-weight: lighter;",
+    }
+}
+
+/// The declaration of a decoration, if there is one.
+pub(crate) fn declare_decoration(decoration: TextDecoration) -> &'static str
+    ensures { result.now ≡ decoration_css decoration }
+{
+    match decoration {
+        TextDecoration::None => "",
+        TextDecoration::Underline => "text-decoration: underline;",
+    }
+}
+
+/// The declaration of a variant, if it is not the normal one.
+pub(crate) fn declare_variant(variant: FontVariant) -> &'static str
+    ensures { result.now ≡ variant_css variant }
+{
+    match variant {
+        FontVariant::Normal => "",
+        FontVariant::SmallCaps => "font-variant: small-caps;",
+    }
+}
+
+/// The declaration of an alignment, if the text leaves the baseline.
+pub(crate) fn declare_align(align: VerticalAlign) -> &'static str
+    ensures { result.now ≡ align_css align }
+{
+    match align {
+        VerticalAlign::None | VerticalAlign::Baseline => "",
+        VerticalAlign::Sup => "vertical-align: super;",
+        VerticalAlign::Sub => "vertical-align: sub;",
+    }
+}
+
+/// The start tag of an element with a display.
+pub(crate) fn div_start(display: Display) -> &'static str
+    ensures { result.now ≡ div_start display }
+{
+    match display {
+        Display::Block => "<div>",
+        Display::LeftMargin => "<div style=\"float: left;\">",
+        Display::RightInline => "<div style=\"float: right; clear: both;\">",
+        Display::Indent => "<div style=\"padding-left: 4em;\">",
+    }
+}

@@ -1,0 +1,238 @@
+//! The output tree and what is asked of it.
+
+ghost use Rattle.std.specs.Prelude.{◌≡◌, ◌↔◌, [], length, min, None, IsTrue};
+ghost use Rattle.csl_tree.specs.declared.elem.Elem.{out-Elem};
+ghost use Rattle.csl_tree.specs.Tokens.{tokens, elem_tokens, child_tokens, leaf_text, is_empty, has_content, has_visible, optional_meta, text_tokens};
+
+use crate::formatting::{Formatted, Formatting};
+use csl_style::Display;
+use std::alloc::Global;
+
+/// Some children in order.
+#[cycle(tree)]
+#[derive(PartialEq, Eq, Hash, Drop)]
+pub struct ElemChildren(pub Vec<ElemChild>);
+
+/// An element: what one node of a style made.
+#[cycle(tree)]
+#[derive(PartialEq, Eq, Hash, Drop)]
+pub struct Elem {
+    /// What stands inside.
+    pub children: ElemChildren,
+    /// Where it stands on the page, if the style says so (CSL 1.0.2, Display).
+    pub display: Option<Display>,
+    /// Which node of the style made it, where that matters to a reader of the tree.
+    pub meta: Option<ElemMeta>,
+}
+
+/// One child of an element.
+#[cycle(tree)]
+#[derive(PartialEq, Eq, Hash, Drop)]
+pub enum ElemChild {
+    /// A text.
+    Text(Formatted),
+    /// An element.
+    Elem(Elem),
+    /// A text that a typesetter reads as markup, as a formula.
+    Markup(String),
+    /// A link.
+    Link {
+        /// The text that shows.
+        text: Formatted,
+        /// Where it leads.
+        url: String,
+    },
+    /// A place that the reader of the tree fills with the text of a citation.
+    Transparent {
+        /// The index of the citation's item as it was handed in.
+        cite_idx: usize,
+        /// The formatting of that text.
+        format: Formatting,
+    },
+}
+
+/// Which node of a style made an element.
+#[derive(PartialEq, Eq, Hash, Drop)]
+pub enum ElemMeta {
+    /// A `cs:date`.
+    Date,
+    /// A `cs:text` of a variable.
+    Text,
+    /// A `cs:number`.
+    Number,
+    /// A `cs:label`.
+    Label,
+    /// The number of a citation.
+    CitationNumber,
+    /// A whole entry, with its index among the items of the citation.
+    Entry(usize),
+    /// The label of a citation.
+    CitationLabel,
+}
+
+/// What a tree is written as.
+#[derive(Clone, Copy, Debug, Default, PartialEq, Eq)]
+pub enum BufWriteFormat {
+    /// Its text, with line breaks around blocks.
+    #[default]
+    Plain,
+    /// HTML. Texts and addresses are written as they are, so it is safe only where they are.
+    Html,
+}
+
+/// Whether a character of the text is no white space.
+fn has_visible(text: &str) -> bool
+    ensures { result ≡ has_visible text.now }
+{
+    text.chars().any(|c| !c.is_whitespace())
+}
+
+impl ElemChildren {
+    /// No children.
+    pub fn new(alloc: Global) -> ElemChildren
+        ensures { tokens result ≡ [] }
+    {
+        ElemChildren(Vec::new(alloc))
+    }
+
+    /// Whether each child is empty.
+    #[cycle(empty)]
+    pub fn is_empty(&self) -> bool
+        ensures { result ≡ is_empty (tokens self.now) }
+    {
+        for child in &self.0 {
+            if !child.is_empty() {
+                return false;
+            }
+        }
+        true
+    }
+
+    /// Whether a child has content other than white space.
+    #[cycle(content)]
+    pub fn has_content(&self) -> bool
+        ensures { result ≡ has_content (tokens self.now) }
+    {
+        for child in &self.0 {
+            if child.has_content() {
+                return true;
+            }
+        }
+        false
+    }
+
+    /// The bytes of the text of the leaves, or `usize::MAX` where there are more.
+    #[cycle(len)]
+    pub fn str_len(&self) -> usize
+        ensures { result ≡ min (length (leaf_text (tokens self.now))) usize.MAX }
+    {
+        let mut len: usize = 0;
+        for child in &self.0 {
+            len = len.saturating_add(child.str_len());
+        }
+        len
+    }
+}
+
+impl Elem {
+    /// Whether each child is empty.
+    #[cycle(empty)]
+    pub fn is_empty(&self) -> bool
+        ensures { result ≡ is_empty (elem_tokens self.now) }
+    {
+        self.children.is_empty()
+    }
+
+    /// Whether a child has content other than white space.
+    #[cycle(content)]
+    pub fn has_content(&self) -> bool
+        ensures { result ≡ has_content (elem_tokens self.now) }
+    {
+        self.children.has_content()
+    }
+
+    /// The bytes of the text of the leaves, or `usize::MAX` where there are more.
+    #[cycle(len)]
+    pub fn str_len(&self) -> usize
+        ensures { result ≡ min (length (leaf_text (elem_tokens self.now))) usize.MAX }
+    {
+        self.children.str_len()
+    }
+
+    /// Whether its children may stand in its place: it has neither display nor meta.
+    pub fn may_inline(&self) -> bool
+        ensures { IsTrue result ↔ ((out-Elem self.now).display ≡ None) × (optional_meta (out-Elem self.now).meta ≡ None) }
+    {
+        self.display.is_none() && self.meta.is_none()
+    }
+}
+
+impl ElemChild {
+    /// Whether it is a text, a markup or a link of empty text, or an element of empty children.
+    #[cycle(empty)]
+    pub fn is_empty(&self) -> bool
+        ensures { result ≡ is_empty (child_tokens self.now) }
+    {
+        match self {
+            ElemChild::Text(text) => text.text.is_empty(),
+            ElemChild::Elem(elem) => elem.is_empty(),
+            ElemChild::Markup(markup) => markup.is_empty(),
+            ElemChild::Link { text, url: _ } => text.text.is_empty(),
+            ElemChild::Transparent {
+                cite_idx: _,
+                format: _,
+            } => false,
+        }
+    }
+
+    /// Whether it is a link, a transparent, a text or markup that is not all white space, or an
+    /// element with such a child.
+    #[cycle(content)]
+    pub fn has_content(&self) -> bool
+        ensures { result ≡ has_content (child_tokens self.now) }
+    {
+        match self {
+            ElemChild::Text(text) => has_visible(text.text.as_str()),
+            ElemChild::Elem(elem) => elem.has_content(),
+            ElemChild::Markup(markup) => has_visible(markup.as_str()),
+            ElemChild::Link { text: _, url: _ } => true,
+            ElemChild::Transparent {
+                cite_idx: _,
+                format: _,
+            } => true,
+        }
+    }
+
+    /// The bytes of the text of the leaves, or `usize::MAX` where there are more.
+    #[cycle(len)]
+    pub fn str_len(&self) -> usize
+        ensures { result ≡ min (length (leaf_text (child_tokens self.now))) usize.MAX }
+    {
+        match self {
+            ElemChild::Text(text) => text.text.len(),
+            ElemChild::Elem(elem) => elem.str_len(),
+            ElemChild::Markup(markup) => markup.len(),
+            ElemChild::Link { text, url: _ } => text.text.len(),
+            ElemChild::Transparent {
+                cite_idx: _,
+                format: _,
+            } => 0,
+        }
+    }
+}
+
+impl From<Elem> for ElemChild {
+    ghost from_gives = { λ elem child. child_tokens child ≡ elem_tokens elem };
+
+    fn from(elem: Elem) -> ElemChild {
+        ElemChild::Elem(elem)
+    }
+}
+
+impl From<Formatted> for ElemChild {
+    ghost from_gives = { λ text child. child_tokens child ≡ text_tokens text };
+
+    fn from(text: Formatted) -> ElemChild {
+        ElemChild::Text(text)
+    }
+}

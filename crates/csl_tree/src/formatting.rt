@@ -1,0 +1,48 @@
+//! Text in a formatting (CSL 1.0.2, Formatting).
+
+ghost use Rattle.std.specs.Prelude.{◌≡◌};
+ghost use Rattle.csl_tree.specs.Formatting.{over};
+
+use csl_style::{FontStyle, FontVariant, FontWeight, TextDecoration, VerticalAlign, formatting};
+
+/// How a text is formatted: every attribute has a value.
+#[derive(Clone, Copy, Debug, Default, PartialEq, Eq, Hash)]
+pub struct Formatting {
+    pub font_style: FontStyle,
+    pub font_variant: FontVariant,
+    pub font_weight: FontWeight,
+    pub text_decoration: TextDecoration,
+    pub vertical_align: VerticalAlign,
+}
+
+impl Formatting {
+    /// A node's formatting over this one: each attribute that the node sets, else that of `self`.
+    pub fn apply(self, other: formatting::Formatting) -> Formatting
+        ensures { result ≡ over other self }
+    {
+        Formatting {
+            font_style: other.font_style.unwrap_or(self.font_style),
+            font_variant: other.font_variant.unwrap_or(self.font_variant),
+            font_weight: other.font_weight.unwrap_or(self.font_weight),
+            text_decoration: other.text_decoration.unwrap_or(self.text_decoration),
+            vertical_align: other.vertical_align.unwrap_or(self.vertical_align),
+        }
+    }
+
+    /// The text in this formatting.
+    pub fn add_text(self, text: String) -> Formatted
+        ensures { result ≡ record { text = text; formatting = self } }
+    {
+        Formatted {
+            text,
+            formatting: self,
+        }
+    }
+}
+
+/// A text in a formatting.
+#[derive(PartialEq, Eq, Hash, Drop)]
+pub struct Formatted {
+    pub text: String,
+    pub formatting: Formatting,
+}

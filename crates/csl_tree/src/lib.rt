@@ -1,0 +1,14 @@
+//! The output tree: what a style made of an entry, as formatted text, elements and links.
+//!
+//! Contracts see a tree as its list of tokens (`specs/Tokens.antt`), which forgets how the texts
+//! are stored and nothing else.
+#![tactic(auto)]
+
+mod copies;
+mod css;
+pub mod elem;
+pub mod formatting;
+mod write;
+
+pub use elem::{BufWriteFormat, Elem, ElemChild, ElemChildren, ElemMeta};
+pub use formatting::{Formatted, Formatting};

@@ -1,0 +1,154 @@
+//! Writers that say whether they have refused a text.
+//!
+//! `fmt::Write` tells nothing of its errors, so no contract over it can say that a call fails only
+//! where the writer refused. A [`Sink`] tells it, and [`Noting`] makes one of any writer.
+
+ghost use Rattle.std.specs.Prelude.{◌≡◌, Bool, false, true, OnOk, OnErr};
+ghost use Rattle.std.specs.Fmt.{WritesInCalls, HasWrittenStyled, IsFlush};
+ghost use Rattle.lit_model.specs.Sink.{concat_texts};
+
+use std::fmt;
+
+/// A writer that tells whether it has refused a text.
+pub trait Sink: fmt::Write {
+    /// It has refused a text.
+    ghost refused: { Self → Bool };
+
+    /// Hands over a text. It fails only where the writer refuses it.
+    fn put(&mut self, text: &str) -> fmt::Result
+        ensures ok { OnOk result (WritesInCalls Self.write_str_gives self.old text.now self.new) }
+        ensures kept { OnOk result (refused self.new ≡ refused self.old) }
+        ensures err { OnErr result (refused self.new ≡ true) };
+
+    /// Hands over some texts in a row. It fails only where the writer refuses one.
+    final fn put_all(&mut self, texts: &[&str]) -> fmt::Result
+    where
+        Self: Sized,
+        ensures ok { OnOk result (WritesInCalls Self.write_str_gives self.old (concat_texts texts.now) self.new) }
+        ensures kept { OnOk result (refused self.new ≡ refused self.old) }
+        ensures err { OnErr result (refused self.new ≡ true) }
+    {
+        for text in texts {
+            self.put(text)?;
+        }
+        Ok(())
+    }
+}
+
+/// Any writer, with a note of its refusals.
+#[derive(Drop)]
+pub struct Noting<'a, W> {
+    inner: &'a mut W,
+    refused: bool,
+}
+
+impl<'a, W: fmt::Write> Noting<'a, W> {
+    /// A writer that has refused nothing yet.
+    pub fn new(inner: &'a mut W) -> Self
+        ensures lent { result.inner ≡ inner.entry }
+        ensures fresh { result.refused ≡ false }
+    {
+        Noting {
+            inner,
+            refused: false,
+        }
+    }
+
+    /// Gives the writer back.
+    pub fn into_inner(self) -> &'a mut W
+        ensures { result ≡ self.entry.inner }
+    {
+        self.inner
+    }
+
+    /// Passes a text on.
+    fn pass(&mut self, text: &str) -> fmt::Result
+        ensures ok { OnOk result (W.write_str_gives self.old.inner.now text.now self.new.inner.now) }
+        ensures same { self.new.inner.ghost_name ≡ self.old.inner.ghost_name }
+        ensures kept { OnOk result (self.new.refused ≡ self.old.refused) }
+        ensures err { OnErr result (self.new.refused ≡ true) }
+    {
+        match self.inner.write_str(text) {
+            Ok(()) => Ok(()),
+            Err(error) => {
+                self.refused = true;
+                Err(error)
+            }
+        }
+    }
+}
+
+impl<W: fmt::Write> fmt::Write for Noting<'_, W> {
+    ghost write_str_gives = { λ s bs t. (t.inner.ghost_name ≡ s.inner.ghost_name) × W.write_str_gives s.inner.now bs t.inner.now };
+
+    fn write_str(&mut self, s: &str) -> fmt::Result {
+        self.pass(s)
+    }
+}
+
+impl<W: fmt::Write> Sink for Noting<'_, W> {
+    ghost refused = { λ s. s.refused };
+
+    fn put(&mut self, text: &str) -> fmt::Result {
+        self.pass(text)
+    }
+}
+
+/// A formatter as a sink, for a `Display` of what writes into sinks.
+#[derive(Drop)]
+pub struct Displaying<'a, W> {
+    inner: &'a mut fmt::Formatter<W>,
+    refused: bool,
+}
+
+impl<'a, W: fmt::Write> Displaying<'a, W> {
+    /// A formatter that has refused nothing yet.
+    pub fn new(inner: &'a mut fmt::Formatter<W>) -> Self
+        ensures lent { result.inner ≡ inner.entry }
+        ensures fresh { result.refused ≡ false }
+    {
+        Displaying {
+            inner,
+            refused: false,
+        }
+    }
+
+    /// Gives the formatter back.
+    pub fn into_inner(self) -> &'a mut fmt::Formatter<W>
+        ensures { result ≡ self.entry.inner }
+    {
+        self.inner
+    }
+
+    /// Passes a text on.
+    fn pass(&mut self, text: &str) -> fmt::Result
+        ensures ok { OnOk result (IsFlush self.old.inner.now → HasWrittenStyled W.write_str_gives self.old.inner.now text.now self.new.inner.now) }
+        ensures same { self.new.inner.ghost_name ≡ self.old.inner.ghost_name }
+        ensures kept { OnOk result (self.new.refused ≡ self.old.refused) }
+        ensures err { OnErr result (self.new.refused ≡ true) }
+    {
+        match self.inner.write_str(text) {
+            Ok(()) => Ok(()),
+            Err(error) => {
+                self.refused = true;
+                Err(error)
+            }
+        }
+    }
+}
+
+impl<W: fmt::Write> fmt::Write for Displaying<'_, W> {
+    ghost write_str_gives = { λ s bs t. (t.inner.ghost_name ≡ s.inner.ghost_name) × (IsFlush s.inner.now → HasWrittenStyled W.write_str_gives s.inner.now bs t.inner.now) };
+
+    fn write_str(&mut self, s: &str) -> fmt::Result {
+        self.pass(s)
+    }
+}
+
+impl<W: fmt::Write> Sink for Displaying<'_, W> {
+    ghost refused = { λ s. s.refused };
+
+    fn put(&mut self, text: &str) -> fmt::Result {
+        self.pass(text)
+    }
+}
