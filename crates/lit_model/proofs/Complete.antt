@@ -17,7 +17,7 @@ Numbers = List (ℤ × Option NumericDelimiter)
 
 -- ---- classes that exclude each other
 
-space_is_no_digit : (c : ℕ) → is_whitespace c ≡ true → is_ascii_digit c ≡ false
+pub space_is_no_digit : (c : ℕ) → is_whitespace c ≡ true → is_ascii_digit c ≡ false
 space_is_no_digit c h = excluded (is_ascii_digit c) (is_whitespace c) (digit_is_no_space c) h
 
 space_is_no_delimiter : (c : ℕ) → is_whitespace c ≡ true → is_delimiter c ≡ false
@@ -116,18 +116,18 @@ value_stops : (p : ℕ → Bool) (v : ValueView) (cs tail : List ℕ) → ((c : 
 value_stops p (one n) cs tail apart s = stops_first p is_ascii_digit cs tail apart s.digits s.nonempty
 value_stops p (several xs) cs tail apart s = begins_with_digit p xs cs tail apart s.1
 
-affix_only : (p : ℕ → Bool) (o : Option (List ℕ)) (cs : List ℕ) → SpellsAffix p o cs → Only p cs
+pub affix_only : (p : ℕ → Bool) (o : Option (List ℕ)) (cs : List ℕ) → SpellsAffix p o cs → Only p cs
 affix_only p None cs s = subst (Only p) (sym s) tt
 affix_only p (Some bytes) cs s = s.1
 
-affix_complete : (p : ℕ → Bool) (o : Option (List ℕ)) (cs : List ℕ) → SpellsAffix p o cs → affix_from cs ≡ o
+pub affix_complete : (p : ℕ → Bool) (o : Option (List ℕ)) (cs : List ℕ) → SpellsAffix p o cs → affix_from cs ≡ o
 affix_complete p None cs s = ap affix_from s
 affix_complete p (Some bytes) [] s = absurd (omega (arith, s.0))
 affix_complete p (Some bytes) (c ∷ cs) s =
     let e = encodes_some c cs in
     ap text_from e.2 ∙ ap Some (sym e.2 ∙ sym s.2)
 
-blank_complete : (cs : List ℕ) → IsBlank cs → is_blank cs ≡ true
+pub blank_complete : (cs : List ℕ) → IsBlank cs → is_blank cs ≡ true
 blank_complete cs blank =
     let none : after is_whitespace cs ≡ [] = ap (after is_whitespace) (sym (append-nil cs)) ∙ after_is is_whitespace cs [] blank tt in
     rw none refl
@@ -144,7 +144,7 @@ count_whole v cs s =
     ap (count_by is_delimiter) s.whole
     ∙ omega (arith, count_append is_delimiter s.before (s.prefix ++ (s.numbers ++ (s.suffix ++ s.after))), count_append is_delimiter s.prefix (s.numbers ++ (s.suffix ++ s.after)), count_append is_delimiter s.numbers (s.suffix ++ s.after), count_append is_delimiter s.suffix s.after, a, b, c, d)
 
-blank_stops : (p : ℕ → Bool) (cs : List ℕ) → ((c : ℕ) → is_whitespace c ≡ true → p c ≡ false) → IsBlank cs → Stops p cs
+pub blank_stops : (p : ℕ → Bool) (cs : List ℕ) → ((c : ℕ) → is_whitespace c ≡ true → p c ≡ false) → IsBlank cs → Stops p cs
 blank_stops p [] apart blank = tt
 blank_stops p (c ∷ cs) apart blank = apart c blank.0
 

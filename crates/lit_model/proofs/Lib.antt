@@ -8,3 +8,8 @@ pub mod Sound
 pub mod Complete
 pub mod Parsed
 pub mod Writes
+pub mod PageLoops
+pub mod PageClasses
+pub mod PageSound
+pub mod PageComplete
+pub mod PagesParsed

@@ -10,6 +10,8 @@ pub mod sink;
 
 pub use maybe_typed::MaybeTyped;
 pub use memory::Memory;
-pub use numeric::{GrammarGender, NumberForm, Numeric, NumericDelimiter, NumericError, NumericValue};
+pub use numeric::{
+    GrammarGender, NumberForm, Numeric, NumericDelimiter, NumericError, NumericValue,
+};
 pub use page::{PageRanges, PageRangesPart};
 pub use sink::{Displaying, Noting, Sink};

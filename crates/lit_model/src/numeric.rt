@@ -4,7 +4,7 @@ ghost use Rattle.std.specs.Prelude.{◌≡◌, Option, None, IfOk, option_map, s
 ghost use Rattle.lit_model.specs.Numeric.{one, numeric_view, value_view, numbers, only_number, plural, is_bare};
 
 mod error;
-mod parse;
+pub(crate) mod parse;
 
 use crate::memory::Memory;
 pub use error::NumericError;

@@ -1,7 +1,7 @@
 //! The front of a text: the readers that the grammars of numbers and pages share.
 
 ghost use Rattle.std.specs.Prelude.{◌≡◌, ℕ, ◌<◌, ◌≤◌, Bool, Option, List, [], ◌∷◌, ◌++◌, None, MatchOption, IfSome, count_by, encode_utf8, length, option_map, chars, encode_utf8_all};
-ghost use Rattle.lit_model.specs.Numeric.{is_delimiter};
+ghost use Rattle.lit_model.specs.Numeric.{is_affix, is_delimiter};
 ghost use Rattle.lit_model.specs.NumericReading.{front, after, integer_at, delimiter_of, delimiter_at};
 ghost use Rattle.lit_model.specs.NumericReading as reading;
 ghost use Rattle.lit_model.specs.Scan.{passes, read_view};
@@ -17,6 +17,8 @@ pub enum Class {
     Digit,
     /// A character of the prefix or the suffix of a number.
     Affix,
+    /// A character of the prefix or the suffix of a page.
+    PageAffix,
 }
 
 impl Class {
@@ -27,11 +29,17 @@ impl Class {
         match self {
             Class::Blank => c.is_whitespace(),
             Class::Digit => c.is_ascii_digit(),
-            Class::Affix => {
-                !c.is_ascii_digit() && !c.is_whitespace() && delimiter_from(c).is_none()
-            }
+            Class::Affix => may_surround(c),
+            Class::PageAffix => may_surround(c) && c != '–',
         }
     }
+}
+
+/// Whether the character may stand in the prefix or the suffix of a number.
+fn may_surround(c: char) -> bool
+    ensures { result ≡ is_affix c }
+{
+    !c.is_ascii_digit() && !c.is_whitespace() && delimiter_from(c).is_none()
 }
 
 /// The delimiter that a character is.
@@ -47,7 +55,7 @@ fn delimiter_from(c: char) -> Option<NumericDelimiter>
 }
 
 /// The first character, and the text after it.
-fn first(text: &str) -> Option<(char, &str)>
+pub fn first(text: &str) -> Option<(char, &str)>
     ensures chars { MatchOption result (chars text.now ≡ []) (λ x. chars text.now ≡ x.0 ∷ chars x.1.now) }
     ensures bytes { IfSome result (λ x. text.now ≡ encode_utf8 x.0 ++ x.1.now) }
     ensures shorter { IfSome result (λ x. length x.1.now < length text.now) }
