@@ -13,3 +13,5 @@ pub mod PageClasses
 pub mod PageSound
 pub mod PageComplete
 pub mod PagesParsed
+pub mod Texts
+pub mod PageTexts

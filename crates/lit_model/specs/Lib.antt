@@ -6,3 +6,5 @@ pub mod Sink
 pub mod Page
 pub mod PageReading
 pub mod PageParsing
+pub mod NumericText
+pub mod PageText

@@ -5,6 +5,7 @@ ghost use Rattle.lit_model.specs.Numeric.{one, numeric_view, value_view, numbers
 
 mod error;
 pub(crate) mod parse;
+mod write;
 
 use crate::memory::Memory;
 pub use error::NumericError;

@@ -5,6 +5,7 @@ ghost use Rattle.lit_model.specs.Numeric.{numeric_view};
 ghost use Rattle.lit_model.specs.Page.{part_view, pages_view, starting_page, first_page, plural_pages, is_range};
 
 mod parse;
+mod write;
 
 use crate::memory::Memory;
 use crate::numeric::Numeric;

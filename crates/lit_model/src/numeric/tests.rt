@@ -67,3 +67,18 @@ fn copies_are_equal(rt: HostRuntime) -> Result<(), Fail> {
     assert!(rt; same(&copy, &read));
     Ok(())
 }
+
+#[test]
+fn writes_numbers(rt: HostRuntime) -> Result<(), Fail> {
+    let read = Numeric::parse(rt.alloc(), "n4-6 ,9& 12a")?;
+    let shown = format!(in rt.alloc(); "{read}")?;
+    assert_eq!(rt; shown.as_str(), "n4-6, 9 & 12a");
+    let mut sorted = String::new(rt.alloc());
+    read.fmt_value(&mut sorted, true)?;
+    assert_eq!(rt; sorted.as_str(), "0004-0006, 0009 & 0012");
+    let mut negative = String::new(rt.alloc());
+    Numeric::new(-3).fmt_value(&mut negative, true)?;
+    Numeric::new(-12345).fmt_value(&mut negative, false)?;
+    assert_eq!(rt; negative.as_str(), "-003-12345");
+    Ok(())
+}

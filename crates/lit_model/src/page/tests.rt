@@ -50,3 +50,11 @@ fn first_skips_separators(rt: HostRuntime) -> Result<(), Fail> {
     assert_eq!(rt; pages.first().and_then(|page| page.value()), Some(9));
     Ok(())
 }
+
+#[test]
+fn writes_pages(rt: HostRuntime) -> Result<(), Fail> {
+    let pages = PageRanges::parse(rt.alloc(), "321–328 ,7& A9")?;
+    let shown = format!(in rt.alloc(); "{pages}")?;
+    assert_eq!(rt; shown.as_str(), "321-328, 7 & A9");
+    Ok(())
+}
