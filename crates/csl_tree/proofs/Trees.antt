@@ -1,12 +1,12 @@
 -- The tokens of a tree are those of its parts.
-use Rattle.std.proofs.Common.{◌≡◌, ℕ, List, [], ◌∷◌, ◌++◌, refl, sym, ap, ◌∙◌}
+use Rattle.std.proofs.Common.{◌≡◌, ℕ, List, [], ◌∷◌, ◌++◌, refl, ap, ◌∙◌}
 use Rattle.std.specs.List.{flat_map}
 use Rattle.std.proofs.lemmas.Grind.{flat_map-append}
 use Rattle.std.proofs.lemmas.List.Folds.{flat_map-map}
-use Rattle.csl_tree.specs.Tokens.{Token, child_step, elem_step, children_step, child_tokens, elem_tokens, tokens}
-use Rattle.csl_tree.specs.declared.elem.ElemChild.{ElemChild}
-use Rattle.csl_tree.specs.declared.elem.ElemChild.TheFolds.{fold_out-ElemChildren}
+use Rattle.csl_tree.specs.Tokens.{Token, around, optional_meta, child_step, elem_step, children_step, child_tokens, elem_tokens, tokens}
+use Rattle.csl_tree.specs.declared.elem.ElemChild.TheFolds.{fold_out-ElemChildren, fold_out-Elem}
 use Rattle.csl_tree.specs.declared.elem.ElemChildren.{ElemChildren}
+use Rattle.csl_tree.specs.declared.elem.Elem as elem
 
 -- the tokens of children are those of each, in order
 pub tokens_out : (c : ElemChildren) → tokens c ≡ flat_map child_tokens c.0.items
@@ -19,3 +19,6 @@ flat_map-flat_map f g (x ∷ xs) = flat_map-append f (g x) (flat_map g xs) ∙ a
 -- what each token of children gives is what each child gives
 pub tokens_give : (f : Token → List ℕ) (c : ElemChildren) → flat_map f (tokens c) ≡ flat_map (λ k. flat_map f (child_tokens k)) c.0.items
 tokens_give f c = ap (flat_map f) (tokens_out c) ∙ flat_map-flat_map f child_tokens c.0.items
+
+pub elem_tokens_are : (e : elem.Elem) → elem_tokens e ≡ around (elem.out-Elem e).display (optional_meta (elem.out-Elem e).meta) (tokens (elem.out-Elem e).children)
+elem_tokens_are e = fold_out-Elem (List Token) (List Token) (List Token) child_step elem_step children_step e

@@ -1,5 +1,5 @@
 -- HTML of a tree: a list of start tags, end tags and texts, and its bytes.
-use Rattle.std.specs.Prelude.{ℕ, List, [], ◌∷◌, ◌++◌, Option, Some, None, codes, if◌then◌else◌}
+use Rattle.std.specs.Prelude.{ℕ, List, [], ◌∷◌, ◌++◌, Some, None, codes, if◌then◌else◌}
 use Rattle.std.specs.List.{flat_map}
 use Rattle.csl_style.specs.declared.formatting.Display.{Display}
 use Rattle.csl_style.specs.declared.formatting.Display.TheVariants.{Block, LeftMargin, RightInline, Indent}

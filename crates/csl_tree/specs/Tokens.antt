@@ -54,6 +54,10 @@ pub data Token : Type 0 where
 abbrev pub text_tokens : Formatted → List Token
 text_tokens t = text (string_bytes t.text) t.formatting ∷ []
 
+-- the one token of a link
+abbrev pub link_tokens : Formatted → List ℕ → List Token
+link_tokens t url = solid (link (string_bytes t.text) t.formatting url) ∷ []
+
 -- an element around the tokens inside
 abbrev pub around : Option Display → Option Meta → List Token → List Token
 around d m inside = solid (opened d m) ∷ (inside ++ solid (closed d) ∷ [])
@@ -63,7 +67,7 @@ abbrev pub child_step : ElemChild-F (List Token) (List Token) (List Token) → L
 child_step (Text t) = text_tokens t
 child_step (Elem inside) = inside
 child_step (Markup s) = solid (markup (string_bytes s)) ∷ []
-child_step (Link t url) = solid (link (string_bytes t.text) t.formatting (string_bytes url)) ∷ []
+child_step (Link t url) = link_tokens t (string_bytes url)
 child_step (Transparent n f) = solid (transparent n f) ∷ []
 
 abbrev pub elem_step : Elem-F (List Token) (List Token) (List Token) → List Token

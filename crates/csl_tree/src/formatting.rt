@@ -3,8 +3,7 @@
 ghost use Rattle.std.specs.Prelude.{◌≡◌};
 ghost use Rattle.csl_tree.specs.Formatting.{over};
 
-use csl_style::formatting;
-use csl_style::{FontStyle, FontVariant, FontWeight, TextDecoration, VerticalAlign};
+use csl_style::{FontStyle, FontVariant, FontWeight, TextDecoration, VerticalAlign, formatting};
 
 /// How a text is formatted: every attribute has a value.
 #[derive(Clone, Copy, Debug, Default, PartialEq, Eq, Hash)]

@@ -4,6 +4,7 @@
 //! are stored and nothing else.
 #![tactic(auto)]
 
+mod copies;
 mod css;
 pub mod elem;
 pub mod formatting;

@@ -2,7 +2,7 @@
 use Rattle.std.proofs.Common.{◌≡◌, ℕ, List, [], ◌∷◌, ◌++◌, sym, ap, subst, ◌∙◌, MutBor}
 use Rattle.std.specs.Fmt.{WritesInCalls, HasWritten, HasWrittenStyled, IsFlush, IsPlainFormatter, IsDefaultSpec}
 use Rattle.std.specs.List.{FoldsTo, concat}
-use Rattle.std.specs.Prelude.{Result, Ok, Err, OnOk}
+use Rattle.std.specs.Prelude.{Result, Ok, Err, OnOk, IsOk}
 use Rattle.std.specs.declared.fmt.Formatter.{Formatter}
 use Rattle.std.proofs.Output.{writes_in_calls_single, writes_in_calls_append, has_written_styled_nil, has_written_styled_append}
 
@@ -38,9 +38,15 @@ module _ {W : Type 0} (took : W → List ℕ → W → Type 0) where
     passed_on_calls s [] t p = (ap (λ (x : S). (inner x).ghost_name) (sym p), ap (λ (x : S). (inner x).now) p)
     passed_on_calls s (x ∷ texts) t p = let rest = passed_on_calls p.0 texts t p.2 in (rest.0 ∙ p.1.0, (((inner p.0).now, p.1.1, rest.1)))
 
-    -- what it took, the borrowed one took
-    pub passed_on : (s : S) (bs : List ℕ) (t : S) → WritesInCalls PassedOn s bs t → ((inner t).ghost_name ≡ (inner s).ghost_name) × WritesInCalls took (inner s).now bs (inner t).now
-    passed_on s bs t p = let all = passed_on_calls s p.parts t p.calls in (all.0, record { parts = p.parts; calls = all.1; whole = p.whole })
+    -- what it took, the borrowed one took, which is v once the loan has ended
+    pub passed_on : {T E : Type 0} (r : Result T E) (s t : S) (lent back : MutBor W) (v : W) (bs : List ℕ) → inner s ≡ lent → back ≡ inner t → (back.ghost_name ≡ lent.ghost_name → v ≡ back.now) → OnOk r (WritesInCalls PassedOn s bs t) → OnOk r (WritesInCalls took lent.now bs v)
+    passed_on (Err e) s t lent back v bs from to ends p = p
+    passed_on (Ok x) s t lent back v bs from to ends p =
+        let all = passed_on_calls s p.parts t p.calls in
+        let same : back.ghost_name ≡ lent.ghost_name = ap (λ (m : MutBor W). m.ghost_name) to ∙ all.0 ∙ ap (λ (m : MutBor W). m.ghost_name) from in
+        let last : (inner t).now ≡ v = ap (λ (m : MutBor W). m.now) (sym to) ∙ sym (ends same) in
+        subst (λ (w : W). WritesInCalls took w bs v) (ap (λ (m : MutBor W). m.now) from)
+        (subst (WritesInCalls took (inner s).now bs) last (record { parts = p.parts; calls = all.1; whole = p.whole }))
 
   -- the formatter, which a styled write leaves plain if it was
   pub plain_written : (f : Formatter W) (bs : List ℕ) (g : Formatter W) → HasWrittenStyled took f bs g → IsPlainFormatter f → HasWritten took f bs g
@@ -57,9 +63,16 @@ module _ {W : Type 0} (took : W → List ℕ → W → Type 0) where
         let rest = displayed_calls p.0 texts t p.2 in
         (rest.0 ∙ p.1.0, λ flush. let first = p.1.1 flush in has_written_styled_append took (inner s).now x (inner p.0).now (concat texts) (inner t).now first (rest.1 first.flush))
 
-    -- what it took, the formatter has written
-    pub displayed : (s : S) (bs : List ℕ) (t : S) → WritesInCalls Displayed s bs t → Displayed s bs t
-    displayed s bs t p = subst (λ (bytes : List ℕ). Displayed s bytes t) p.whole (displayed_calls s p.parts t p.calls)
+    -- what it took, the formatter has written, which is g once the loan has ended
+    pub displayed : {T E : Type 0} (r : Result T E) (s t : S) (lent back : MutBor (Formatter W)) (g : Formatter W) (bs : List ℕ) → inner s ≡ lent → back ≡ inner t → (back.ghost_name ≡ lent.ghost_name → g ≡ back.now) → OnOk r (WritesInCalls Displayed s bs t) → IsFlush lent.now → IsOk r → HasWrittenStyled took lent.now bs g
+    displayed (Err e) s t lent back g bs from to ends p flush ok = cc
+    displayed (Ok x) s t lent back g bs from to ends p flush ok =
+        let all = subst (λ (bytes : List ℕ). Displayed s bytes t) p.whole (displayed_calls s p.parts t p.calls) in
+        let same : back.ghost_name ≡ lent.ghost_name = ap (λ (m : MutBor (Formatter W)). m.ghost_name) to ∙ all.0 ∙ ap (λ (m : MutBor (Formatter W)). m.ghost_name) from in
+        let last : (inner t).now ≡ g = ap (λ (m : MutBor (Formatter W)). m.now) (sym to) ∙ sym (ends same) in
+        let first : (inner s).now ≡ lent.now = ap (λ (m : MutBor (Formatter W)). m.now) from in
+        subst (λ (f : Formatter W). HasWrittenStyled took f bs g) first
+        (subst (HasWrittenStyled took (inner s).now bs) last (all.1 (subst IsFlush (sym first) flush)))
 
 -- a fact that always holds beside one that holds on success
 pub on_ok_both : {T E A : Type 0} (B : Type 0) (r : Result T E) → A → OnOk r B → OnOk r (A × B)

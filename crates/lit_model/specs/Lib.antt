@@ -1,7 +1,16 @@
 pub mod Date
 pub mod Entry
 pub mod Name
+pub mod Numeric
+pub mod NumericReading
+pub mod NumericText
+pub mod Page
+pub mod PageParsing
+pub mod PageReading
+pub mod PageText
+pub mod Parsing
 pub mod Person
+pub mod Scan
 pub mod Select
 pub mod Sink
 pub mod Source

@@ -10,6 +10,7 @@ pub mod numeric;
 pub mod page;
 pub mod person;
 pub mod select;
+mod scan;
 pub mod sink;
 pub mod source;
 pub mod text;
@@ -19,7 +20,9 @@ pub use entry::Entry;
 pub use entry_type::EntryType;
 pub use maybe_typed::MaybeTyped;
 pub use memory::Memory;
-pub use numeric::{GrammarGender, NumberForm, Numeric, NumericDelimiter, NumericValue};
+pub use numeric::{
+    GrammarGender, NumberForm, Numeric, NumericDelimiter, NumericError, NumericValue,
+};
 pub use page::{PageRanges, PageRangesPart};
 pub use person::{Person, PersonRole, PersonsWithRoles};
 pub use select::{Bind, Clause, Field};

@@ -1,6 +1,17 @@
 //! Numbers as a bibliography writes them, and the forms that a style asks for.
 
-/// A number, or several, with the texts around it, as `no. 4-6` has.
+ghost use Rattle.std.specs.Prelude.{◌≡◌, Option, None, IfOk, option_map, string_bytes};
+ghost use Rattle.lit_model.specs.Numeric.{one, numeric_view, value_view, numbers, only_number, plural, is_bare};
+
+mod error;
+pub(crate) mod parse;
+mod write;
+
+use crate::memory::Memory;
+pub use error::NumericError;
+use std::alloc::{AllocError, Global};
+
+/// A number, or several, with the texts around it, as `n4-6a` has.
 #[derive(PartialEq, Eq, Hash, Drop)]
 pub struct Numeric {
     /// The number or numbers.
@@ -9,6 +20,87 @@ pub struct Numeric {
     pub prefix: Option<String>,
     /// What stands after the last number.
     pub suffix: Option<String>,
+}
+
+impl Numeric {
+    /// One number, with no text around it.
+    pub fn new(value: i32) -> Numeric
+        ensures { numeric_view result ≡ record { value = one value; prefix = None; suffix = None } }
+    {
+        Numeric {
+            value: NumericValue::Number(value),
+            prefix: None,
+            suffix: None,
+        }
+    }
+
+    /// The number, where there is just one.
+    pub fn value(&self) -> Option<i32>
+        ensures { result ≡ only_number (numbers (value_view self.now.value)) }
+    {
+        match &self.value {
+            NumericValue::Number(number) => Some(*number),
+            NumericValue::Set(numbers) => match numbers.as_slice() {
+                [(number, _)] => Some(*number),
+                _ => None,
+            },
+        }
+    }
+
+    /// Whether a term beside the number is in the plural: where there are several numbers, and
+    /// where the number counts things (`is_number_of`: pages or volumes) and is above 1.
+    pub fn is_plural(&self, is_number_of: bool) -> bool
+        ensures { result ≡ plural is_number_of (numbers (value_view self.now.value)) }
+    {
+        match &self.value {
+            NumericValue::Number(number) => is_number_of && *number > 1,
+            NumericValue::Set(numbers) => match numbers.as_slice() {
+                [] => false,
+                [(number, _)] => is_number_of && *number > 1,
+                _ => true,
+            },
+        }
+    }
+
+    /// Whether a form may rewrite the number: where it has neither prefix nor suffix.
+    pub fn will_transform(&self) -> bool
+        ensures { result ≡ is_bare (numeric_view self.now) }
+    {
+        self.prefix.is_none() && self.suffix.is_none()
+    }
+
+    /// An equal value.
+    ///
+    /// # Errors
+    /// `Memory` where there was none for the copy.
+    pub fn clone(&self, alloc: Global) -> Result<Numeric, Memory>
+        ensures { IfOk result (λ copy. numeric_view copy ≡ numeric_view self.now) }
+    {
+        let value = match &self.value {
+            NumericValue::Number(number) => NumericValue::Number(*number),
+            NumericValue::Set(numbers) => NumericValue::Set(numbers.as_slice().to_vec(alloc)?),
+        };
+        let prefix = copied(alloc, &self.prefix)?;
+        let suffix = copied(alloc, &self.suffix)?;
+        Ok(Numeric {
+            value,
+            prefix,
+            suffix,
+        })
+    }
+}
+
+/// A copy of a text, where there is one.
+fn copied(alloc: Global, text: &Option<String>) -> Result<Option<String>, AllocError>
+    ensures { IfOk result (λ copy. option_map string_bytes copy ≡ option_map string_bytes text.now) }
+{
+    match text {
+        Some(text) => {
+            let copy = String::from_str(alloc, text.as_str())?;
+            Ok(Some(copy))
+        }
+        None => Ok(None),
+    }
 }
 
 /// One number, or a list of them.
@@ -51,3 +143,6 @@ pub enum GrammarGender {
     Feminine,
     Masculine,
 }
+
+#[cfg(test)]
+mod tests;

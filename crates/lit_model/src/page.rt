@@ -1,12 +1,115 @@
 //! Page ranges.
 
+ghost use Rattle.std.specs.Prelude.{◌≡◌, IfOk, option_map};
+ghost use Rattle.lit_model.specs.Numeric.{numeric_view};
+ghost use Rattle.lit_model.specs.Page.{part_view, pages_view, starting_page, first_page, plural_pages, is_range};
+
+mod parse;
+mod write;
+
+use crate::memory::Memory;
 use crate::numeric::Numeric;
+use std::alloc::Global;
 
 /// The pages of a work.
 #[derive(PartialEq, Eq, Hash, Drop)]
 pub struct PageRanges {
     /// The pages, ranges and separators in order.
     pub ranges: Vec<PageRangesPart>,
+}
+
+impl PageRanges {
+    /// The first page: the one that the first item begins with.
+    pub fn first(&self) -> Option<&Numeric>
+        ensures { option_map (λ page. numeric_view page.now) result ≡ first_page (pages_view self.now) }
+    {
+        for part in &self.ranges {
+            if let Some(page) = part.start() {
+                return Some(page);
+            }
+        }
+        None
+    }
+
+    /// Whether a term beside the pages is in the plural: where there is a range, or more than one
+    /// part.
+    pub fn is_plural(&self) -> bool
+        ensures { result ≡ plural_pages (pages_view self.now) }
+    {
+        match self.ranges.as_slice() {
+            [] => false,
+            [part] => part.is_range(),
+            _ => true,
+        }
+    }
+
+    /// An equal value.
+    ///
+    /// # Errors
+    /// `Memory` where there was none for the copy.
+    pub fn clone(&self, alloc: Global) -> Result<PageRanges, Memory>
+        ensures { IfOk result (λ copy. pages_view copy ≡ pages_view self.now) }
+    {
+        let mut ranges = Vec::with_capacity(alloc, self.ranges.len())?;
+        for part in &self.ranges {
+            let copy = part.clone(alloc)?;
+            ranges.push(copy)?;
+        }
+        Ok(PageRanges { ranges })
+    }
+}
+
+impl PageRangesPart {
+    /// The page that the item begins with; none for a separator.
+    fn start(&self) -> Option<&Numeric>
+        ensures { option_map (λ page. numeric_view page.now) result ≡ starting_page (part_view self.now) }
+    {
+        match self {
+            PageRangesPart::Ampersand | PageRangesPart::Comma => None,
+            PageRangesPart::EscapedRange(page, _)
+            | PageRangesPart::SinglePage(page)
+            | PageRangesPart::Range(page, _) => Some(page),
+        }
+    }
+
+    /// Whether this is a range.
+    fn is_range(&self) -> bool
+        ensures { result ≡ is_range (part_view self.now) }
+    {
+        match self {
+            PageRangesPart::Ampersand | PageRangesPart::Comma | PageRangesPart::SinglePage(_) => {
+                false
+            }
+            PageRangesPart::EscapedRange(_, _) | PageRangesPart::Range(_, _) => true,
+        }
+    }
+
+    /// An equal value.
+    ///
+    /// # Errors
+    /// `Memory` where there was none for the copy.
+    pub fn clone(&self, alloc: Global) -> Result<PageRangesPart, Memory>
+        ensures { IfOk result (λ copy. part_view copy ≡ part_view self.now) }
+    {
+        match self {
+            PageRangesPart::Ampersand => Ok(PageRangesPart::Ampersand),
+            PageRangesPart::Comma => Ok(PageRangesPart::Comma),
+            PageRangesPart::EscapedRange(first, last) => {
+                let first = first.clone(alloc)?;
+                let last = last.clone(alloc)?;
+                Ok(PageRangesPart::EscapedRange(first, last))
+            }
+            PageRangesPart::SinglePage(page) => {
+                let page = page.clone(alloc)?;
+                Ok(PageRangesPart::SinglePage(page))
+            }
+            PageRangesPart::Range(first, last) => {
+                let first = first.clone(alloc)?;
+                let last = last.clone(alloc)?;
+                Ok(PageRangesPart::Range(first, last))
+            }
+        }
+    }
 }
 
 /// One part of the pages of a work.
@@ -23,3 +126,6 @@ pub enum PageRangesPart {
     /// A range of pages.
     Range(Numeric, Numeric),
 }
+
+#[cfg(test)]
+mod tests;

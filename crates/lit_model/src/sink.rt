@@ -54,6 +54,13 @@ impl<'a, W: fmt::Write> Noting<'a, W> {
         }
     }
 
+    /// Gives the writer back.
+    pub fn into_inner(self) -> &'a mut W
+        ensures { result ≡ self.entry.inner }
+    {
+        self.inner
+    }
+
     /// Passes a text on.
     fn pass(&mut self, text: &str) -> fmt::Result
         ensures ok { OnOk result (W.write_str_gives self.old.inner.now text.now self.new.inner.now) }
@@ -104,6 +111,13 @@ impl<'a, W: fmt::Write> Displaying<'a, W> {
             inner,
             refused: false,
         }
+    }
+
+    /// Gives the formatter back.
+    pub fn into_inner(self) -> &'a mut fmt::Formatter<W>
+        ensures { result ≡ self.entry.inner }
+    {
+        self.inner
     }
 
     /// Passes a text on.

@@ -1,0 +1,107 @@
+//! Copies of a tree and of its parts. A copy is equal to what it was made of.
+
+ghost use Rattle.std.specs.Prelude.{◌≡◌, IfOk};
+ghost use Rattle.csl_tree.specs.Tokens.{tokens, elem_tokens, child_tokens, text_tokens, meta_of, optional_meta};
+
+use crate::elem::{Elem, ElemChild, ElemChildren, ElemMeta};
+use crate::formatting::Formatted;
+use lit_model::Memory;
+use std::alloc::Global;
+
+impl Formatted {
+    /// An equal text. The only error is want of memory.
+    pub fn clone(&self, alloc: Global) -> Result<Formatted, Memory>
+        ensures { IfOk result (λ copy. text_tokens copy ≡ text_tokens self.now) }
+    {
+        let text = String::from_str(alloc, self.text.as_str())?;
+        Ok(self.formatting.add_text(text))
+    }
+}
+
+impl ElemMeta {
+    /// An equal meta. The only error is want of memory.
+    pub fn clone(&self, _alloc: Global) -> Result<ElemMeta, Memory>
+        ensures { IfOk result (λ copy. meta_of copy ≡ meta_of self.now) }
+    {
+        Ok(match self {
+            ElemMeta::Date => ElemMeta::Date,
+            ElemMeta::Text => ElemMeta::Text,
+            ElemMeta::Number => ElemMeta::Number,
+            ElemMeta::Label => ElemMeta::Label,
+            ElemMeta::CitationNumber => ElemMeta::CitationNumber,
+            ElemMeta::Entry(index) => ElemMeta::Entry(*index),
+            ElemMeta::CitationLabel => ElemMeta::CitationLabel,
+        })
+    }
+}
+
+fn clone_meta(meta: &Option<ElemMeta>, alloc: Global) -> Result<Option<ElemMeta>, Memory>
+    ensures { IfOk result (λ copy. optional_meta copy ≡ optional_meta meta.now) }
+{
+    match meta {
+        None => Ok(None),
+        Some(meta) => Ok(Some(meta.clone(alloc)?)),
+    }
+}
+
+impl ElemChildren {
+    /// Equal children. The only error is want of memory.
+    #[cycle(copies)]
+    pub fn clone(&self, alloc: Global) -> Result<ElemChildren, Memory>
+        ensures { IfOk result (λ copy. tokens copy ≡ tokens self.now) }
+    {
+        let mut copies = Vec::with_capacity(alloc, self.0.len())?;
+        for child in &self.0 {
+            copies.push(child.clone(alloc)?)?;
+        }
+        Ok(ElemChildren(copies))
+    }
+}
+
+impl Elem {
+    /// An equal element. The only error is want of memory.
+    #[cycle(copies)]
+    pub fn clone(&self, alloc: Global) -> Result<Elem, Memory>
+        ensures { IfOk result (λ copy. elem_tokens copy ≡ elem_tokens self.now) }
+    {
+        let children = self.children.clone(alloc)?;
+        let meta = clone_meta(&self.meta, alloc)?;
+        Ok(Elem {
+            children,
+            display: self.display,
+            meta,
+        })
+    }
+}
+
+impl ElemChild {
+    /// An equal child. The only error is want of memory.
+    #[cycle(copies)]
+    pub fn clone(&self, alloc: Global) -> Result<ElemChild, Memory>
+        ensures { IfOk result (λ copy. child_tokens copy ≡ child_tokens self.now) }
+    {
+        match self {
+            ElemChild::Text(text) => {
+                let text = text.clone(alloc)?;
+                Ok(ElemChild::Text(text))
+            }
+            ElemChild::Elem(elem) => {
+                let elem = elem.clone(alloc)?;
+                Ok(ElemChild::Elem(elem))
+            }
+            ElemChild::Markup(markup) => {
+                let markup = String::from_str(alloc, markup.as_str())?;
+                Ok(ElemChild::Markup(markup))
+            }
+            ElemChild::Link { text, url } => {
+                let text = text.clone(alloc)?;
+                let url = String::from_str(alloc, url.as_str())?;
+                Ok(ElemChild::Link { text, url })
+            }
+            ElemChild::Transparent { cite_idx, format } => Ok(ElemChild::Transparent {
+                cite_idx: *cite_idx,
+                format: *format,
+            }),
+        }
+    }
+}

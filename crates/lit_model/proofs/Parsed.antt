@@ -1,0 +1,32 @@
+-- What the answer of `parse` says, from the exact answer.
+use Rattle.std.proofs.Common.{◌≡◌, ℕ, List, Option, Some, None, Result, Ok, Err, MatchResult, refl, sym, ◌∙◌}
+use Rattle.std.specs.Prelude.{IfOk}
+use Rattle.lit_model.specs.declared.numeric.error.NumericError.{NumericError}
+use Rattle.lit_model.specs.declared.numeric.error.NumericError.TheVariants as errors
+use Rattle.lit_model.specs.NumericReading.{numeric_from}
+use Rattle.lit_model.specs.Numeric.{NumericView, Spells}
+use Rattle.lit_model.specs.Parsing.{Gives}
+use Rattle.lit_model.proofs.Pieces.{some_is}
+use Rattle.lit_model.proofs.Sound.{numeric_sound}
+use Rattle.lit_model.proofs.Complete.{numeric_complete}
+
+pub found : {X : Type 0} (view : X → NumericView) (cs : List ℕ) (r : Result X NumericError) → Gives view r (numeric_from cs) → IfOk r (λ n. Spells (view n) cs)
+found view cs (Ok n) h = numeric_sound cs (view n) h
+found view cs (Err e) h = tt
+
+pub only : {X : Type 0} (view : X → NumericView) (cs : List ℕ) (r : Result X NumericError) → Gives view r (numeric_from cs) → (v : NumericView) → Spells v cs → MatchResult r (λ n. view n ≡ v) (λ e. e ≡ errors.Memory)
+only view cs (Ok n) h v s = some_is (view n) v (sym h ∙ numeric_complete v cs s)
+only view cs (Err errors.Memory) h v s = refl
+only view cs (Err errors.NotNumeric) h v s = let e = numeric_complete v cs s in absurd cc
+
+none_if : (cs : List ℕ) (o : Option NumericView) → numeric_from cs ≡ o → ((v : NumericView) → Spells v cs → ⊥) → numeric_from cs ≡ None
+none_if cs None e h = e
+none_if cs (Some v) e h = absurd (h v (numeric_sound cs v e))
+
+-- what no value spells is not read
+pub nothing_read : (cs : List ℕ) → ((v : NumericView) → Spells v cs → ⊥) → numeric_from cs ≡ None
+nothing_read cs h = none_if cs (numeric_from cs) refl h
+
+-- a text has one value at most
+pub unique : (cs : List ℕ) (v w : NumericView) → Spells v cs → Spells w cs → v ≡ w
+unique cs v w s t = some_is v w (sym (numeric_complete v cs s) ∙ numeric_complete w cs t)

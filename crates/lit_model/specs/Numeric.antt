@@ -1,0 +1,113 @@
+-- Numbers: their values, and the grammar of the texts that stand for them.
+use Rattle.std.specs.Prelude.{◌≡◌, ℕ, ◌^◌, ◌<◌, ◌≤◌, Bool, true, false, not, map, is_none, int_lt, ◌&&◌, ◌||◌, ◌==◌, List, [], ◌∷◌, ◌++◌, length, ℤ, pos, Option, Some, None, option_map, string_bytes, encode_utf8_all}
+use Rattle.std.specs.Char.{is_ascii_digit, is_whitespace}
+use Rattle.std.specs.List.{AllByRecursion}
+use Rattle.std.specs.Str.Parse.{digits_value}
+use Rattle.lit_model.specs.declared.numeric.Numeric.{Numeric}
+use Rattle.lit_model.specs.declared.numeric.NumericValue.{NumericValue}
+use Rattle.lit_model.specs.declared.numeric.NumericValue.TheVariants.{Number, Set}
+use Rattle.lit_model.specs.declared.numeric.NumericDelimiter.{NumericDelimiter}
+use Rattle.lit_model.specs.declared.numeric.NumericDelimiter.TheVariants.{Comma, Ampersand, Hyphen}
+
+-- ---- values, without where they lie in memory
+
+-- one number, or several, each with what separates it from the next
+pub data ValueView : Type 0 where
+  one : ℤ → ValueView
+  several : List (ℤ × Option NumericDelimiter) → ValueView
+
+-- a number by its value and the bytes of its texts
+pub record NumericView : Type 0 where
+  pub value : ValueView
+  pub prefix : Option (List ℕ)
+  pub suffix : Option (List ℕ)
+
+abbrev pub value_view : NumericValue → ValueView
+value_view (Number n) = one n
+value_view (Set numbers) = several numbers.items
+
+abbrev pub numeric_view : Numeric → NumericView
+numeric_view n = record { value = value_view n.value; prefix = option_map string_bytes n.prefix; suffix = option_map string_bytes n.suffix }
+
+-- the numbers alone
+abbrev pub numbers : ValueView → List ℤ
+numbers (one n) = n ∷ []
+numbers (several xs) = map (λ x. x.0) xs
+
+-- the number, where there is just one
+abbrev pub only_number : List ℤ → Option ℤ
+only_number [] = None
+only_number (n ∷ []) = Some n
+only_number (n ∷ m ∷ more) = None
+
+-- whether a term beside the numbers is in the plural: several are, and where they count things, one above 1 is
+abbrev pub plural : Bool → List ℤ → Bool
+plural counts [] = false
+plural counts (n ∷ []) = counts && int_lt (pos 1) n
+plural counts (n ∷ m ∷ more) = true
+
+-- neither a prefix nor a suffix
+abbrev pub is_bare : NumericView → Bool
+is_bare v = is_none v.prefix && is_none v.suffix
+
+-- ---- the grammar, over the characters of a text
+
+-- the character that separates two numbers
+abbrev pub delimiter_char : NumericDelimiter → ℕ
+delimiter_char Comma = 44
+delimiter_char Ampersand = 38
+delimiter_char Hyphen = 45
+
+abbrev pub is_delimiter : ℕ → Bool
+is_delimiter c = (c == 44 || c == 38) || c == 45
+
+-- a character of a prefix or a suffix: no digit, no white space and no delimiter
+abbrev pub is_affix : ℕ → Bool
+is_affix c = (not (is_ascii_digit c) && not (is_whitespace c)) && not (is_delimiter c)
+
+-- each of the characters passes the test
+abbrev pub Only : (ℕ → Bool) → List ℕ → Type 0
+Only p cs = AllByRecursion (λ c. p c ≡ true) cs
+
+-- white space, or nothing
+abbrev pub IsBlank : List ℕ → Type 0
+IsBlank cs = Only is_whitespace cs
+
+-- one digit or more, which write the number in base ten; it is below 2 ^ 31
+pub record SpellsInteger (n : ℤ) (cs : List ℕ) : Type 0 where
+  pub nonempty : 0 < length cs
+  pub digits : Only is_ascii_digit cs
+  pub fits : digits_value 10 cs < 2 ^ 31
+  pub is : n ≡ pos (digits_value 10 cs)
+
+-- The last number has no delimiter. Each other one has one, with white space round it or none, before the numbers that follow.
+abbrev pub SpellsIntegers : List (ℤ × Option NumericDelimiter) → List ℕ → Type 0
+SpellsIntegers [] cs = ⊥
+SpellsIntegers (x ∷ []) cs = (x.1 ≡ None) × SpellsInteger x.0 cs
+SpellsIntegers (x ∷ y ∷ more) cs = (d : NumericDelimiter) × (digits : List ℕ) × (before : List ℕ) × (after : List ℕ) × (rest : List ℕ)
+    × (x.1 ≡ Some d) × (cs ≡ digits ++ (before ++ (delimiter_char d ∷ (after ++ rest))))
+    × SpellsInteger x.0 digits × IsBlank before × IsBlank after × SpellsIntegers (y ∷ more) rest
+
+-- one number, or two and more
+abbrev pub SpellsValue : ValueView → List ℕ → Type 0
+SpellsValue (one n) cs = SpellsInteger n cs
+SpellsValue (several numbers) cs = (2 ≤ length numbers) × SpellsIntegers numbers cs
+
+-- nothing, or the characters of a prefix or a suffix that is there
+abbrev pub SpellsAffix : (ℕ → Bool) → Option (List ℕ) → List ℕ → Type 0
+SpellsAffix p None cs = cs ≡ []
+SpellsAffix p (Some bytes) cs = (0 < length cs) × Only p cs × (bytes ≡ encode_utf8_all cs)
+
+-- The characters spell the value: white space or none, the prefix, the numbers, the suffix, white space or none.
+pub record Spells (v : NumericView) (cs : List ℕ) : Type 0 where
+  pub before : List ℕ
+  pub prefix : List ℕ
+  pub numbers : List ℕ
+  pub suffix : List ℕ
+  pub after : List ℕ
+  pub whole : cs ≡ before ++ (prefix ++ (numbers ++ (suffix ++ after)))
+  pub blank_before : IsBlank before
+  pub has_prefix : SpellsAffix is_affix v.prefix prefix
+  pub has_value : SpellsValue v.value numbers
+  pub has_suffix : SpellsAffix is_affix v.suffix suffix
+  pub blank_after : IsBlank after

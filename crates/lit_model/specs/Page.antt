@@ -1,0 +1,132 @@
+-- Pages: their values, and the grammar of the texts that stand for them.
+use Rattle.std.specs.Prelude.{◌≡◌, ℕ, Bool, true, false, not, ◌&&◌, ◌||◌, ◌==◌, List, [], ◌∷◌, ◌++◌, map, ℤ, Option, Some, None}
+use Rattle.std.specs.Option.{option_or}
+use Rattle.lit_model.specs.declared.page.PageRanges.{PageRanges}
+use Rattle.lit_model.specs.declared.page.PageRangesPart.{PageRangesPart}
+use Rattle.lit_model.specs.declared.page.PageRangesPart.TheVariants.{Ampersand, Comma, EscapedRange, SinglePage, Range}
+use Rattle.lit_model.specs.Numeric.{NumericView, one, numeric_view, is_affix, IsBlank, SpellsInteger, SpellsAffix}
+
+-- ---- values, without where they lie in memory
+
+pub data PartView : Type 0 where
+  ampersand : PartView
+  comma : PartView
+  escaped : NumericView → NumericView → PartView
+  single : NumericView → PartView
+  range : NumericView → NumericView → PartView
+
+abbrev pub part_view : PageRangesPart → PartView
+part_view Ampersand = ampersand
+part_view Comma = comma
+part_view (EscapedRange from to) = escaped (numeric_view from) (numeric_view to)
+part_view (SinglePage page) = single (numeric_view page)
+part_view (Range from to) = range (numeric_view from) (numeric_view to)
+
+abbrev pub parts_view : List PageRangesPart → List PartView
+parts_view parts = map part_view parts
+
+-- the parts in order
+abbrev pub pages_view : PageRanges → List PartView
+pages_view pages = parts_view pages.ranges.items
+
+-- the page that an item begins with
+abbrev pub starting_page : PartView → Option NumericView
+starting_page ampersand = None
+starting_page comma = None
+starting_page (escaped from to) = Some from
+starting_page (single page) = Some page
+starting_page (range from to) = Some from
+
+-- the page that the first item begins with
+abbrev pub first_page : List PartView → Option NumericView
+first_page [] = None
+first_page (p ∷ more) = option_or (starting_page p) (first_page more)
+
+-- the part is a range
+abbrev pub is_range : PartView → Bool
+is_range ampersand = false
+is_range comma = false
+is_range (escaped from to) = true
+is_range (single page) = false
+is_range (range from to) = true
+
+-- whether a term beside the pages is in the plural: where there is a range, or more than one part
+abbrev pub plural_pages : List PartView → Bool
+plural_pages [] = false
+plural_pages (p ∷ []) = is_range p
+plural_pages (p ∷ q ∷ more) = true
+
+-- ---- the grammar, over the characters of a text
+
+-- the two characters that join the ends of a range: `-`, and the en dash
+abbrev pub is_range_mark : ℕ → Bool
+is_range_mark c = c == 45 || c == 0x2013
+
+-- the two characters that separate the items
+abbrev pub is_separator : ℕ → Bool
+is_separator c = c == 44 || c == 38
+
+-- a character of the prefix or the suffix of a page: as of a number, but no en dash
+abbrev pub is_page_affix : ℕ → Bool
+is_page_affix c = is_affix c && not (c == 0x2013)
+
+-- a page: a prefix, one number, a suffix
+pub record SpellsPage (v : NumericView) (cs : List ℕ) : Type 0 where
+  pub prefix : List ℕ
+  pub digits : List ℕ
+  pub suffix : List ℕ
+  pub number : ℤ
+  pub whole : cs ≡ prefix ++ (digits ++ suffix)
+  pub is_one : v.value ≡ one number
+  pub has_prefix : SpellsAffix is_page_affix v.prefix prefix
+  pub has_number : SpellsInteger number digits
+  pub has_suffix : SpellsAffix is_page_affix v.suffix suffix
+
+-- two pages joined by a mark, with white space round it or none
+pub record SpellsRange (v w : NumericView) (cs : List ℕ) : Type 0 where
+  pub first : List ℕ
+  pub before : List ℕ
+  pub mark : ℕ
+  pub behind : List ℕ
+  pub last : List ℕ
+  pub whole : cs ≡ first ++ (before ++ (mark ∷ (behind ++ last)))
+  pub is_mark : is_range_mark mark ≡ true
+  pub has_first : SpellsPage v first
+  pub blank_before : IsBlank before
+  pub blank_behind : IsBlank behind
+  pub has_last : SpellsPage w last
+
+-- an item is a page or a range
+abbrev pub SpellsItem : PartView → List ℕ → Type 0
+SpellsItem ampersand cs = ⊥
+SpellsItem comma cs = ⊥
+SpellsItem (escaped v w) cs = ⊥
+SpellsItem (single v) cs = SpellsPage v cs
+SpellsItem (range v w) cs = SpellsRange v w cs
+
+-- the character of a separator
+abbrev pub SpellsSeparator : PartView → ℕ → Type 0
+SpellsSeparator ampersand c = c ≡ 38
+SpellsSeparator comma c = c ≡ 44
+SpellsSeparator (escaped v w) c = ⊥
+SpellsSeparator (single v) c = ⊥
+SpellsSeparator (range v w) c = ⊥
+
+-- items, with a separator between two of them, and white space round it or none
+abbrev pub SpellsParts : List PartView → List ℕ → Type 0
+SpellsParts [] cs = ⊥
+SpellsParts (p ∷ []) cs = SpellsItem p cs
+SpellsParts (p ∷ s ∷ []) cs = ⊥
+SpellsParts (p ∷ s ∷ q ∷ more) cs = (item : List ℕ) × (before : List ℕ) × (c : ℕ) × (behind : List ℕ) × (rest : List ℕ)
+    × (cs ≡ item ++ (before ++ (c ∷ (behind ++ rest))))
+    × SpellsItem p item × IsBlank before × SpellsSeparator s c × IsBlank behind × SpellsParts (q ∷ more) rest
+
+-- The characters spell the pages: white space or none, the items and separators, white space or none.
+pub record SpellsPages (parts : List PartView) (cs : List ℕ) : Type 0 where
+  pub before : List ℕ
+  pub inner : List ℕ
+  pub after : List ℕ
+  pub whole : cs ≡ before ++ (inner ++ after)
+  pub blank_before : IsBlank before
+  pub has_parts : SpellsParts parts inner
+  pub blank_after : IsBlank after

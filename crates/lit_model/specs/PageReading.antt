@@ -1,0 +1,65 @@
+-- What the parser of pages reads, step by step: functions of the characters that are left.
+use Rattle.std.specs.Prelude.{ℕ, zero, suc, ◌==◌, if◌then◌else◌, List, [], ◌∷◌, Option, Some, None, count_by}
+use Rattle.std.specs.Char.{is_whitespace}
+use Rattle.lit_model.specs.Numeric.{NumericView, one}
+use Rattle.lit_model.specs.NumericReading.{◌>>=◌, front, after, integer_at, affix_from, is_blank}
+use Rattle.lit_model.specs.Page.{PartView, ampersand, comma, single, range, is_page_affix, is_range_mark, is_separator}
+
+-- a page at the front, and what follows it
+unfoldable pub page_at : List ℕ → Option (NumericView × List ℕ)
+page_at cs = do
+  n ← integer_at (after is_page_affix cs)
+  Some (record { value = one n.0; prefix = affix_from (front is_page_affix cs); suffix = affix_from (front is_page_affix n.1) }, after is_page_affix n.1)
+
+-- what follows the mark of a range at the front, and white space
+abbrev pub mark_first : List ℕ → Option (List ℕ)
+mark_first [] = None
+mark_first (c ∷ cs) = if is_range_mark c then Some (after is_whitespace cs) else None
+
+-- the same behind white space
+unfoldable pub mark_at : List ℕ → Option (List ℕ)
+mark_at cs = mark_first (after is_whitespace cs)
+
+-- the separator that a character is
+abbrev pub separator_of : ℕ → Option PartView
+separator_of c = if c == 44 then Some comma else (if c == 38 then Some ampersand else None)
+
+-- the separator at the front, and what follows it and white space
+abbrev pub separator_first : List ℕ → Option (PartView × List ℕ)
+separator_first [] = None
+separator_first (c ∷ cs) = do
+  s ← separator_of c
+  Some (s, after is_whitespace cs)
+
+-- the same behind white space
+unfoldable pub separator_at : List ℕ → Option (PartView × List ℕ)
+separator_at cs = separator_first (after is_whitespace cs)
+
+-- a page alone, or with the page that follows a mark
+unfoldable pub item_from : NumericView × List ℕ → Option (List ℕ) → Option (PartView × List ℕ)
+item_from v None = Some (single v.0, v.1)
+item_from v (Some cs) = do
+  w ← page_at cs
+  Some (range v.0 w.0, w.1)
+
+unfoldable pub item_at : List ℕ → Option (PartView × List ℕ)
+item_at cs = do
+  v ← page_at cs
+  item_from v (mark_at v.1)
+
+-- this many items with a separator, one without, and what follows
+unfoldable pub parts_at : ℕ → List ℕ → Option (List PartView × List ℕ)
+parts_at zero cs = do
+  p ← item_at cs
+  Some (p.0 ∷ [], p.1)
+parts_at (suc k) cs = do
+  p ← item_at cs
+  s ← separator_at p.1
+  more ← parts_at k s.1
+  Some (p.0 ∷ s.0 ∷ more.0, more.1)
+
+-- the pages that the characters spell, if they spell some
+unfoldable pub pages_from : List ℕ → Option (List PartView)
+pages_from cs = do
+  parts ← parts_at (count_by is_separator cs) (after is_whitespace cs)
+  if is_blank parts.1 then Some parts.0 else None

@@ -1,0 +1,23 @@
+-- What a parser answers, against what it reads.
+use Rattle.std.specs.Prelude.{◌≡◌, ℕ, List, Option, Some, None, Result, Ok, Err, chars}
+use Rattle.lit_model.specs.Numeric.{ValueView}
+use Rattle.lit_model.specs.NumericReading.{read_of, value_at, text_from, numeric_from}
+use Rattle.lit_model.specs.declared.numeric.parse.Shape.{Shape}
+use Rattle.lit_model.specs.declared.numeric.error.NumericError.{NumericError}
+use Rattle.lit_model.specs.declared.numeric.error.NumericError.TheVariants as errors
+
+-- an error says that nothing was read, or that memory ran out
+abbrev pub Fails : {Y : Type 0} → NumericError → Option Y → Type 0
+Fails errors.Memory read = Unit {0}
+Fails errors.NotNumeric read = read ≡ None
+
+-- what was answered, seen by the view, is what was read, unless memory ran out
+abbrev pub Gives : {X Y : Type 0} → (X → Y) → Result X NumericError → Option Y → Type 0
+Gives view (Ok x) read = read ≡ Some (view x)
+Gives view (Err e) read = Fails e read
+
+-- a text of the grammar, taken apart
+pub record IsShapeOf (cs : List ℕ) (s : Shape) : Type 0 where
+  pub value : ValueView
+  pub has_value : read_of (value_at s.delimiters (chars s.numbers.now)) ≡ Some value
+  pub whole : numeric_from cs ≡ Some (record { value = value; prefix = text_from s.prefix.now; suffix = text_from s.suffix.now })

@@ -1,0 +1,163 @@
+//! Reading of numbers.
+
+ghost use Rattle.std.specs.Prelude.{◌≡◌, ℕ, ◌<◌, ◌≤◌, Bool, Option, List, Some, None, IfOk, IsErrOf, MatchOption, MatchResult, OnErr, IsErr, Err, ◌↔◌, option_map, chars, string_bytes};
+ghost use Rattle.lit_model.specs.Numeric.{numeric_view, NumericView, value_view, Spells};
+ghost use Rattle.lit_model.specs.NumericReading.{read_of, rest_of, integers_at, value_at, numeric_from, text_from};
+ghost use Rattle.lit_model.specs.Parsing.{Gives, IsShapeOf};
+
+use super::error::NumericError;
+use super::{Numeric, NumericDelimiter, NumericValue};
+use crate::scan;
+use crate::scan::Class;
+use std::alloc::{AllocError, Global};
+
+#[derive(Clone, Copy)]
+/// A numeric text taken apart. It is in the grammar, and nothing of it was copied yet.
+struct Shape<'a> {
+    prefix: &'a str,
+    /// The text from the first number on.
+    numbers: &'a str,
+    /// How many delimiters stand in the text, one fewer than there are numbers.
+    delimiters: usize,
+    suffix: &'a str,
+}
+
+/// What follows the numbers, of which each but the last has a delimiter after it.
+fn skip_integers(delimiters: usize, text: &str) -> Option<&str>
+    ensures { option_map (λ rest. chars rest.now) result ≡ rest_of (integers_at delimiters (chars text.now)) }
+{
+    let mut rest = text;
+    for _ in 0..delimiters {
+        let Some((_, after)) = scan::integer(rest) else {
+            return None;
+        };
+        let Some((_, after)) = scan::delimiter(after) else {
+            return None;
+        };
+        rest = after;
+    }
+    match scan::integer(rest) {
+        Some((_, rest)) => Some(rest),
+        None => None,
+    }
+}
+
+/// The numbers of a text, each with its delimiter.
+fn integers(
+    alloc: Global,
+    delimiters: usize,
+    text: &str,
+) -> Result<Vec<(i32, Option<NumericDelimiter>)>, NumericError>
+    ensures { Gives (λ v. v.items) result (read_of (integers_at delimiters (chars text.now))) }
+{
+    let mut numbers = Vec::with_capacity(alloc, delimiters.saturating_add(1))?;
+    let mut rest = text;
+    for _ in 0..delimiters {
+        let Some((number, after)) = scan::integer(rest) else {
+            return Err(NumericError::NotNumeric);
+        };
+        let Some((delimiter, after)) = scan::delimiter(after) else {
+            return Err(NumericError::NotNumeric);
+        };
+        numbers.push((number, Some(delimiter)))?;
+        rest = after;
+    }
+    let Some((number, _)) = scan::integer(rest) else {
+        return Err(NumericError::NotNumeric);
+    };
+    numbers.push((number, None))?;
+    Ok(numbers)
+}
+
+/// A numeric text taken apart, or nothing where the text is not in the grammar.
+#[tactic(auto, unfolding(crate::specs::NumericReading::numeric_from))]
+fn shape_of(text: &str) -> Option<Shape<'_>>
+    ensures { MatchOption result (numeric_from (chars text.now) ≡ None) (IsShapeOf (chars text.now)) }
+{
+    let delimiters = scan::delimiters(text);
+    let (_, start) = scan::split_front(text, Class::Blank);
+    let (prefix, numbers) = scan::split_front(start, Class::Affix);
+    let Some(rest) = skip_integers(delimiters, numbers) else {
+        return None;
+    };
+    let (suffix, rest) = scan::split_front(rest, Class::Affix);
+    if !scan::is_blank(rest) {
+        return None;
+    }
+    Some(Shape {
+        prefix,
+        numbers,
+        delimiters,
+        suffix,
+    })
+}
+
+/// The one number of a text without a delimiter, or all of its numbers.
+#[tactic(auto, unfolding(crate::specs::NumericReading::value_at))]
+fn value_of(alloc: Global, shape: &Shape<'_>) -> Result<NumericValue, NumericError>
+    ensures { Gives value_view result (read_of (value_at shape.now.delimiters (chars shape.now.numbers.now))) }
+{
+    if shape.delimiters == 0 {
+        return match scan::integer(shape.numbers) {
+            Some((number, _)) => Ok(NumericValue::Number(number)),
+            None => Err(NumericError::NotNumeric),
+        };
+    }
+    let numbers = integers(alloc, shape.delimiters, shape.numbers)?;
+    Ok(NumericValue::Set(numbers))
+}
+
+/// A text that is there if it is not empty.
+pub fn nonempty(alloc: Global, text: &str) -> Result<Option<String>, AllocError>
+    ensures { IfOk result (λ o. option_map string_bytes o ≡ text_from text.now) }
+{
+    if text.is_empty() {
+        return Ok(None);
+    }
+    let copy = String::from_str(alloc, text)?;
+    Ok(Some(copy))
+}
+
+/// The number that a text stands for.
+pub fn parsed(alloc: Global, text: &str) -> Result<Numeric, NumericError>
+    ensures exact { Gives numeric_view result (numeric_from (chars text.now)) }
+    ensures none { numeric_from (chars text.now) ≡ None → result ≡ Err NumericError.NotNumeric }
+{
+    let Some(shape) = shape_of(text) else {
+        return Err(NumericError::NotNumeric);
+    };
+    let value = value_of(alloc, &shape)?;
+    let prefix = nonempty(alloc, shape.prefix)?;
+    let suffix = nonempty(alloc, shape.suffix)?;
+    Ok(Numeric {
+        value,
+        prefix,
+        suffix,
+    })
+}
+
+impl Numeric {
+    /// The number that a text stands for (CSL 1.0.2, Number).
+    ///
+    /// The text has white space or none, a prefix, one number or several, a suffix, and white
+    /// space or none. A number is a row of ASCII digits whose value is below 2^31, and stands after
+    /// another behind one of `,`, `&` and `-`, with white space round it or none. A prefix or a
+    /// suffix is any row of other characters, and may be missing.
+    ///
+    /// # Errors
+    /// `NotNumeric` for any other text, before any memory is taken; `Memory` where there was none
+    /// for the numbers or the texts.
+    pub fn parse(alloc: Global, text: &str) -> Result<Numeric, NumericError>
+        // What is read is spelled so.
+        ensures found { IfOk result (λ n. Spells (numeric_view n) (chars text.now)) }
+        // What is spelled so is read, unless memory ran out; so a text has one value at most.
+        ensures only { (v : NumericView) → Spells v (chars text.now)
+            → MatchResult result (λ n. numeric_view n ≡ v) (λ e. e ≡ NumericError.Memory) }
+        // A text stands for one value at most.
+        ensures unique { (v w : NumericView) → Spells v (chars text.now) → Spells w (chars text.now) → v ≡ w }
+        // What is spelled by no value is refused.
+        ensures refused { ((v : NumericView) → Spells v (chars text.now) → ⊥) → result ≡ Err NumericError.NotNumeric }
+    {
+        parsed(alloc, text)
+    }
+}

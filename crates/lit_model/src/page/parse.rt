@@ -1,0 +1,240 @@
+//! Reading of pages.
+
+ghost use Rattle.std.specs.Prelude.{◌≡◌, ◌++◌, ℕ, Bool, Option, List, Some, None, Err, IfOk, MatchOption, MatchResult, IsSome, option_map, count_by, chars};
+ghost use Rattle.lit_model.specs.Numeric.{numeric_view};
+ghost use Rattle.lit_model.specs.NumericReading.{read_of, rest_of};
+ghost use Rattle.lit_model.specs.Page.{PartView, part_view, parts_view, pages_view, is_separator, SpellsPages};
+ghost use Rattle.lit_model.specs.PageReading.{page_at, mark_at, separator_at, item_at, parts_at, pages_from};
+ghost use Rattle.lit_model.specs.PageParsing.{page_of, item_of};
+ghost use Rattle.lit_model.specs.Parsing.{Gives};
+
+use super::{PageRanges, PageRangesPart};
+use crate::numeric::parse::nonempty;
+use crate::numeric::{Numeric, NumericError, NumericValue};
+use crate::scan;
+use crate::scan::Class;
+use std::alloc::{AllocError, Global};
+
+/// A page that was read. Nothing of it was copied yet.
+#[derive(Clone, Copy)]
+struct PageShape<'a> {
+    prefix: &'a str,
+    number: i32,
+    suffix: &'a str,
+}
+
+/// An item that was read.
+#[derive(Clone, Copy)]
+enum ItemShape<'a> {
+    Single(PageShape<'a>),
+    Pair(PageShape<'a>, PageShape<'a>),
+}
+
+/// The page at the front, and what follows it.
+#[tactic(auto, unfolding(crate::specs::PageReading::page_at))]
+fn page(text: &str) -> Option<(PageShape<'_>, &str)>
+    ensures { option_map (λ x. (page_of x.0, chars x.1.now)) result ≡ page_at (chars text.now) }
+{
+    let (prefix, rest) = scan::split_front(text, Class::PageAffix);
+    let Some((number, rest)) = scan::integer(rest) else {
+        return None;
+    };
+    let (suffix, rest) = scan::split_front(rest, Class::PageAffix);
+    let page = PageShape {
+        prefix,
+        number,
+        suffix,
+    };
+    Some((page, rest))
+}
+
+/// What follows the mark of a range, and the white space round it.
+#[tactic(auto, unfolding(crate::specs::PageReading::mark_at))]
+fn after_mark(text: &str) -> Option<&str>
+    ensures { option_map (λ rest. chars rest.now) result ≡ mark_at (chars text.now) }
+{
+    let (_, rest) = scan::split_front(text, Class::Blank);
+    let Some((c, rest)) = scan::first(rest) else {
+        return None;
+    };
+    if c != '-' && c != '–' {
+        return None;
+    }
+    let (_, rest) = scan::split_front(rest, Class::Blank);
+    Some(rest)
+}
+
+/// The separator at the front, with the white space round it, and what follows.
+#[tactic(auto, unfolding(crate::specs::PageReading::separator_at))]
+fn separator(text: &str) -> Option<(PageRangesPart, &str)>
+    ensures { option_map (λ x. (part_view x.0, chars x.1.now)) result ≡ separator_at (chars text.now) }
+{
+    let (_, rest) = scan::split_front(text, Class::Blank);
+    let Some((c, rest)) = scan::first(rest) else {
+        return None;
+    };
+    let separator = match c {
+        ',' => PageRangesPart::Comma,
+        '&' => PageRangesPart::Ampersand,
+        _ => return None,
+    };
+    let (_, rest) = scan::split_front(rest, Class::Blank);
+    Some((separator, rest))
+}
+
+/// The page or the range at the front, and what follows it.
+#[tactic(auto, unfolding(crate::specs::PageReading::item_at, crate::specs::PageReading::item_from))]
+fn item(text: &str) -> Option<(ItemShape<'_>, &str)>
+    ensures { option_map (λ x. (item_of x.0, chars x.1.now)) result ≡ item_at (chars text.now) }
+{
+    let Some((first, rest)) = page(text) else {
+        return None;
+    };
+    let Some(end) = after_mark(rest) else {
+        return Some((ItemShape::Single(first), rest));
+    };
+    let Some((last, rest)) = page(end) else {
+        return None;
+    };
+    Some((ItemShape::Pair(first, last), rest))
+}
+
+/// What follows the items, of which each but the last has a separator after it.
+fn skip_parts(separators: usize, text: &str) -> Option<&str>
+    ensures { option_map (λ rest. chars rest.now) result ≡ rest_of (parts_at separators (chars text.now)) }
+{
+    let mut rest = text;
+    for _ in 0..separators {
+        let Some((_, after)) = item(rest) else {
+            return None;
+        };
+        let Some((_, after)) = separator(after) else {
+            return None;
+        };
+        rest = after;
+    }
+    match item(rest) {
+        Some((_, rest)) => Some(rest),
+        None => None,
+    }
+}
+
+/// How many separators stand in the text.
+fn separators(text: &str) -> usize
+    ensures { result ≡ count_by is_separator (chars text.now) }
+{
+    text.chars().filter(|c| matches!(c, ',' | '&')).count()
+}
+
+/// The page, with copies of its texts.
+fn made_page(alloc: Global, page: &PageShape<'_>) -> Result<Numeric, AllocError>
+    ensures { IfOk result (λ n. numeric_view n ≡ page_of page.now) }
+{
+    let prefix = nonempty(alloc, page.prefix)?;
+    let suffix = nonempty(alloc, page.suffix)?;
+    Ok(Numeric {
+        value: NumericValue::Number(page.number),
+        prefix,
+        suffix,
+    })
+}
+
+/// The item, with copies of its texts.
+fn made_item(alloc: Global, item: &ItemShape<'_>) -> Result<PageRangesPart, AllocError>
+    ensures { IfOk result (λ p. part_view p ≡ item_of item.now) }
+{
+    match item {
+        ItemShape::Single(page) => {
+            let page = made_page(alloc, page)?;
+            Ok(PageRangesPart::SinglePage(page))
+        }
+        ItemShape::Pair(first, last) => {
+            let first = made_page(alloc, first)?;
+            let last = made_page(alloc, last)?;
+            Ok(PageRangesPart::Range(first, last))
+        }
+    }
+}
+
+/// The items of a text, and the separators between them.
+fn parts(alloc: Global, separators: usize, text: &str) -> Result<Vec<PageRangesPart>, NumericError>
+    ensures { Gives (λ v. parts_view v.items) result (read_of (parts_at separators (chars text.now))) }
+{
+    let capacity = separators.saturating_mul(2).saturating_add(1);
+    let mut parts = Vec::with_capacity(alloc, capacity)?;
+    let mut rest = text;
+    for _ in 0..separators {
+        let Some((shape, after)) = item(rest) else {
+            return Err(NumericError::NotNumeric);
+        };
+        let Some((separator, after)) = separator(after) else {
+            return Err(NumericError::NotNumeric);
+        };
+        let item = made_item(alloc, &shape)?;
+        parts.push(item)?;
+        parts.push(separator)?;
+        rest = after;
+    }
+    let Some((shape, _)) = item(rest) else {
+        return Err(NumericError::NotNumeric);
+    };
+    let item = made_item(alloc, &shape)?;
+    parts.push(item)?;
+    Ok(parts)
+}
+
+/// The text from the first item on, and how many separators stand in it; or nothing where the text
+/// is not in the grammar.
+#[tactic(auto, unfolding(crate::specs::PageReading::pages_from))]
+fn items_of(text: &str) -> Option<(usize, &str)>
+    ensures { MatchOption result (pages_from (chars text.now) ≡ None)
+        (λ x. IsSome (pages_from (chars text.now)) × (read_of (parts_at x.0 (chars x.1.now)) ≡ pages_from (chars text.now))) }
+{
+    let separators = separators(text);
+    let (_, items) = scan::split_front(text, Class::Blank);
+    let Some(rest) = skip_parts(separators, items) else {
+        return None;
+    };
+    if !scan::is_blank(rest) {
+        return None;
+    }
+    Some((separators, items))
+}
+
+/// The pages that a text stands for.
+fn parsed(alloc: Global, text: &str) -> Result<PageRanges, NumericError>
+    ensures exact { Gives pages_view result (pages_from (chars text.now)) }
+    ensures none { pages_from (chars text.now) ≡ None → result ≡ Err NumericError.NotNumeric }
+{
+    let Some((separators, items)) = items_of(text) else {
+        return Err(NumericError::NotNumeric);
+    };
+    let ranges = parts(alloc, separators, items)?;
+    Ok(PageRanges { ranges })
+}
+
+impl PageRanges {
+    /// The pages that a text stands for.
+    ///
+    /// The text has white space or none, items with a `,` or a `&` between two of them, and white
+    /// space or none. An item is a page, or two pages joined by a `-` or an en dash. White space
+    /// may stand round each separator and each mark. A page is one number with a prefix and a
+    /// suffix, as [`Numeric::parse`] reads them, that hold no en dash.
+    ///
+    /// # Errors
+    /// `NotNumeric` for any other text, before any memory is taken; `Memory` where there was none
+    /// for the parts or their texts.
+    pub fn parse(alloc: Global, text: &str) -> Result<PageRanges, NumericError>
+        // What is read is spelled so.
+        ensures found { IfOk result (λ pages. SpellsPages (pages_view pages) (chars text.now)) }
+        // What is spelled so is read, unless memory ran out.
+        ensures only { (v : List PartView) → SpellsPages v (chars text.now)
+            → MatchResult result (λ pages. pages_view pages ≡ v) (λ e. e ≡ NumericError.Memory) }
+        // A text stands for one value at most.
+        ensures unique { (v w : List PartView) → SpellsPages v (chars text.now) → SpellsPages w (chars text.now) → v ≡ w }
+        // What is spelled by no value is refused.
+        ensures refused { ((v : List PartView) → SpellsPages v (chars text.now) → ⊥) → result ≡ Err NumericError.NotNumeric }
+    {
+        parsed(alloc, text)
+    }
+}

@@ -1,0 +1,60 @@
+use super::*;
+use crate::numeric::NumericError;
+use std::test::Fail;
+
+#[test]
+fn reads_a_range_and_a_page(rt: HostRuntime) -> Result<(), Fail> {
+    let pages = PageRanges::parse(rt.alloc(), "321-328, 7")?;
+    let expected = vec![in rt.alloc();
+        PageRangesPart::Range(Numeric::new(321), Numeric::new(328)),
+        PageRangesPart::Comma,
+        PageRangesPart::SinglePage(Numeric::new(7)),
+    ]?;
+    assert!(rt; pages.ranges == expected);
+    assert!(rt; pages.is_plural());
+    let first = pages.first().expect(&rt, "a page");
+    assert_eq!(rt; first.value(), Some(321));
+    let copy = pages.clone(rt.alloc())?;
+    assert!(rt; copy == pages);
+    Ok(())
+}
+
+#[test]
+fn marks_may_be_dashes_with_space(rt: HostRuntime) -> Result<(), Fail> {
+    let pages = PageRanges::parse(rt.alloc(), " A1 – A3 ")?;
+    let copy = PageRanges::parse(rt.alloc(), "A1-A3")?;
+    assert!(rt; pages == copy);
+    let single = PageRanges::parse(rt.alloc(), "7")?;
+    assert!(rt; !single.is_plural());
+    Ok(())
+}
+
+#[test]
+fn refuses_what_is_no_page(rt: HostRuntime) {
+    for text in ["", "i-iv", "1-2-3", "1,", "-3", "1 2", "4&", "1,&2"] {
+        let refused = match PageRanges::parse(rt.alloc(), text) {
+            Ok(_) => false,
+            Err(error) => error == NumericError::NotNumeric,
+        };
+        assert!(rt; refused, "{text}");
+    }
+}
+
+#[test]
+fn first_skips_separators(rt: HostRuntime) -> Result<(), Fail> {
+    let ranges = vec![in rt.alloc();
+        PageRangesPart::Comma,
+        PageRangesPart::SinglePage(Numeric::new(9)),
+    ]?;
+    let pages = PageRanges { ranges };
+    assert_eq!(rt; pages.first().and_then(|page| page.value()), Some(9));
+    Ok(())
+}
+
+#[test]
+fn writes_pages(rt: HostRuntime) -> Result<(), Fail> {
+    let pages = PageRanges::parse(rt.alloc(), "321–328 ,7& A9")?;
+    let shown = format!(in rt.alloc(); "{pages}")?;
+    assert_eq!(rt; shown.as_str(), "321-328, 7 & A9");
+    Ok(())
+}
