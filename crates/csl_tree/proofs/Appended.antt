@@ -4,7 +4,8 @@ use Rattle.std.specs.List.{flat_map}
 use Rattle.std.proofs.lemmas.Grind.{flat_map-append}
 use Rattle.csl_tree.specs.Tokens.{Token, Solid, text, Meta, solid, opened, closed, markup, link, transparent, optional_meta, child_step, elem_step, children_step, child_tokens, elem_tokens, tokens}
 use Rattle.csl_tree.specs.Formatting.{same_formatting}
-use Rattle.csl_tree.specs.Content.{last_before, ◌++>◌, boxed}
+use Rattle.csl_tree.specs.Content.{last_before, ◌++>◌, boxed, affixed}
+use Rattle.csl_tree.proofs.Joins.{join_assoc}
 use Rattle.std.proofs.Common.{true, false, cond, Option}
 use Rattle.std.specs.List.{remove}
 use Rattle.csl_tree.proofs.Trees.{tokens_out, elem_tokens_are}
@@ -170,3 +171,11 @@ no_items (x ∷ xs) h = let b = some (x ∷ xs) (omega arith) in cc (b.is)
 
 pub items_none : (c : ElemChildren) → tokens c ≡ [] → length c.0.items ≡ 0
 items_none c h = no_items c.0.items (sym (tokens_out c) ∙ h)
+
+-- children that are not none, between two contents
+pub affixed_is : (p s : List Token) (c : ElemChildren) → 0 < length c.0.items → affixed p s (tokens c) ≡ p ++> (tokens c ++> s)
+affixed_is p s c h = let b = some c.0.items h in rw (tokens_out c ∙ b.is) refl
+
+-- three contents, one after another
+pub joined_in_turn : (old p inner s a b d : List Token) → a ≡ old ++> p → b ≡ a ++> inner → d ≡ b ++> s → d ≡ old ++> (p ++> (inner ++> s))
+joined_in_turn old p inner s a b d e f g = g ∙ ap (λ l. l ++> s) (f ∙ ap (λ l. l ++> inner) e) ∙ join_assoc (old ++> p) inner s ∙ join_assoc old p (inner ++> s)

@@ -1,10 +1,10 @@
 //! Contents: children that are written one after another, where texts of equal formatting that
 //! meet become one text.
 
-ghost use Rattle.std.specs.Prelude.{◌≡◌, [], ◌∷◌, ◌++◌, OnOk, IfOk};
+ghost use Rattle.std.specs.Prelude.{◌≡◌, [], ◌∷◌, ◌++◌, OnOk, IfOk, option_map};
 ghost use Rattle.std.specs.Bool.{OnTrue, OnFalse};
 ghost use Rattle.std.specs.List.{flat_map};
-ghost use Rattle.csl_tree.specs.Content.{◌++>◌, text_content, boxed};
+ghost use Rattle.csl_tree.specs.Content.{◌++>◌, text_content, optional_text, boxed, affixed};
 ghost use Rattle.csl_tree.specs.Tokens.{tokens, child_tokens, text, optional_meta};
 
 use crate::elem::{Elem, ElemChild, ElemChildren, ElemMeta};
@@ -64,6 +64,47 @@ impl ElemChildren {
         let first = rest.remove(0);
         push_child_to(&mut self.0, alloc, first)?;
         self.0.append(&mut rest)?;
+        Ok(())
+    }
+}
+
+impl ElemChildren {
+    /// Appends a text, if there is one.
+    fn push_optional(
+        &mut self,
+        alloc: Global,
+        more: Option<&str>,
+        formatting: Formatting,
+    ) -> Result<(), Memory>
+        ensures ok { OnOk result (tokens self.new ≡ tokens self.old ++> optional_text (option_map (λ t. t.now) more.entry) formatting) }
+    {
+        match more {
+            None => Ok(()),
+            Some(more) => {
+                self.push_text(alloc, more, formatting)?;
+                Ok(())
+            }
+        }
+    }
+
+    /// Appends some children between two texts, unless there are none. The only error is want of
+    /// memory; what the children are then is left open.
+    pub fn push_affixed(
+        &mut self,
+        alloc: Global,
+        prefix: Option<&str>,
+        children: ElemChildren,
+        suffix: Option<&str>,
+        formatting: Formatting,
+    ) -> Result<(), Memory>
+        ensures ok { OnOk result (tokens self.new ≡ tokens self.old ++> affixed (optional_text (option_map (λ t. t.now) prefix.entry) formatting) (optional_text (option_map (λ t. t.now) suffix.entry) formatting) (tokens children)) }
+    {
+        if children.0.is_empty() {
+            return Ok(());
+        }
+        self.push_optional(alloc, prefix, formatting)?;
+        self.append(alloc, children)?;
+        self.push_optional(alloc, suffix, formatting)?;
         Ok(())
     }
 }
