@@ -4,6 +4,7 @@
 //! are stored and nothing else.
 #![tactic(auto)]
 
+pub mod content;
 mod copies;
 mod css;
 pub mod elem;
