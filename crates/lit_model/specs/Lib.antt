@@ -1,5 +1,6 @@
 pub mod Date
 pub mod Entry
+pub mod MaybeTyped
 pub mod Name
 pub mod Numeric
 pub mod NumericReading
@@ -15,3 +16,4 @@ pub mod Select
 pub mod Sink
 pub mod Source
 pub mod Text
+pub mod Work
