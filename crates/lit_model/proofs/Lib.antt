@@ -1,6 +1,5 @@
 pub mod Classes
 pub mod Complete
-pub mod Copies
 pub mod Fronts
 pub mod Integers
 pub mod Loops
@@ -16,7 +15,9 @@ pub mod Particles
 pub mod Pieces
 pub mod Preorder
 pub mod Shapes
+pub mod Shown
 pub mod Sound
 pub mod Texts
 pub mod Whole
+pub mod Works
 pub mod Writes

@@ -11,8 +11,8 @@ use Rattle.lit_model.specs.Person.{Named, named, Group, group_of}
 use Rattle.lit_model.specs.Source.{Press, press_of, Address, address_of, serials, Language, language_of}
 use Rattle.lit_model.specs.Text.{Forms, forms_of}
 
--- an entry's own fields, and how many parents it has
-pub record Work : Type 0 where
+-- an entry's own fields
+pub record Own : Type 0 where
   pub key : List ℕ
   pub entry_type : EntryType
   pub title : Option Forms
@@ -40,10 +40,9 @@ pub record Work : Type 0 where
   pub note : Option Forms
   pub abstract_ : Option Forms
   pub genre : Option Forms
-  pub parent_count : ℕ
 
-abbrev pub work_of : Entry → Work
-work_of e = record {
+abbrev pub own_of : Entry → Own
+own_of e = record {
   key = string_bytes (out-Entry e).key;
   entry_type = (out-Entry e).entry_type;
   title = option_map forms_of (out-Entry e).title;
@@ -71,8 +70,15 @@ work_of e = record {
   note = option_map forms_of (out-Entry e).note;
   abstract_ = option_map forms_of (out-Entry e).abstract_;
   genre = option_map forms_of (out-Entry e).genre;
-  parent_count = length (out-Entry e).parents.items;
 }
+
+-- an entry's own fields, and how many parents it has
+pub record Work : Type 0 where
+  pub own : Own
+  pub parent_count : ℕ
+
+abbrev pub work_of : Entry → Work
+work_of e = record { own = own_of e; parent_count = length (parents_of e) }
 
 -- The entry and its parents in preorder. Two entries show the same list exactly where they agree in every field, at every level.
 abbrev pub works : Entry → List Work

@@ -189,9 +189,23 @@ impl PersonsWithRoles {
 pub(crate) fn copy_persons(persons: &[Person], alloc: Global) -> Result<Vec<Person>, Memory>
     ensures { IfOk result (λ v. map named v.items ≡ map named persons.now) }
 {
-    let mut copies = Vec::new(alloc);
+    let mut copies = Vec::with_capacity(alloc, persons.len())?;
     for person in persons {
         copies.push(person.clone(alloc)?)?;
+    }
+    Ok(copies)
+}
+
+/// A copy of each group, in order.
+pub(crate) fn copy_groups(
+    groups: &[PersonsWithRoles],
+    alloc: Global,
+) -> Result<Vec<PersonsWithRoles>, Memory>
+    ensures { IfOk result (λ v. map group_of v.items ≡ map group_of groups.now) }
+{
+    let mut copies = Vec::with_capacity(alloc, groups.len())?;
+    for group in groups {
+        copies.push(group.clone(alloc)?)?;
     }
     Ok(copies)
 }

@@ -83,7 +83,7 @@ impl ChunkedString {
     pub fn clone(&self, alloc: Global) -> Result<ChunkedString, Memory>
         ensures { IfOk result (λ t. chunks t ≡ chunks self.now) }
     {
-        let mut copies = Vec::new(alloc);
+        let mut copies = Vec::with_capacity(alloc, self.0.len())?;
         for chunk in &self.0 {
             copies.push(chunk.clone(alloc)?)?;
         }

@@ -1,4 +1,4 @@
-use Rattle.lit_model.proofs.Copies.{pairs-AllZip}
+use Rattle.lit_model.proofs.Shown.{pairs-AllZip}
 use Rattle.lit_model.proofs.source.SerialNumber.clone.Goals as goal
 
 pub returns : goal.returns
