@@ -15,6 +15,7 @@ pub mod Particles
 pub mod Pieces
 pub mod Preorder
 pub mod Shapes
+pub mod Shortening
 pub mod Shown
 pub mod Sound
 pub mod Texts

@@ -1,0 +1,64 @@
+-- How the given name of a person is shortened.
+use Rattle.std.specs.Prelude.{ℕ, Bool, true, false, ◌==◌, List, [], ◌∷◌, ◌++◌, map, filter, Option, Some, None, option_map, unwrap_or, string_bytes, codes, slice_get, chars, encode_utf8_all, filter_map, if◌then◌else◌}
+use Rattle.std.specs.Char.{is_whitespace}
+use Rattle.std.specs.List.{slice_split}
+use Rattle.std.specs.Str.{trim_end}
+use Rattle.unicode_segmentation.specs.Grapheme.{graphemes}
+use Rattle.lit_model.specs.declared.initials.Before.{Before}
+use Rattle.lit_model.specs.declared.initials.Before.TheVariants.{Nothing, Word, Piece}
+
+abbrev pub is_nonempty : List ℕ → Bool
+is_nonempty [] = false
+is_nonempty (c ∷ cs) = true
+
+-- the longest runs of characters that are no white space
+abbrev pub char_words : List ℕ → List (List ℕ)
+char_words cs = filter is_nonempty (slice_split is_whitespace cs)
+
+-- the words of a text
+abbrev pub given_words : List ℕ → List (List ℕ)
+given_words text = map encode_utf8_all (char_words (chars text))
+
+-- the first grapheme of a text; an empty text has none
+abbrev pub first_grapheme : List ℕ → Option (List ℕ)
+first_grapheme piece = slice_get (graphemes true piece) 0
+
+-- the first grapheme of each piece of a word, cut at each `-`
+abbrev pub initials_of : List ℕ → List (List ℕ)
+initials_of word = filter_map first_grapheme (slice_split (λ b. b == 45) word)
+
+-- What is written before an initial: nothing before the first; the given text after another word; after another piece of its word, where hyphens are kept, the given text without its trailing white space and a hyphen.
+abbrev pub gap : List ℕ → Bool → Before → List ℕ
+gap text hyphen Nothing = []
+gap text hyphen Word = text
+gap text hyphen Piece = if hyphen then trim_end text ++ codes "-" else text
+
+-- the initials of one word, each after its gap
+abbrev pub word_text : List ℕ → Bool → Before → List (List ℕ) → List ℕ
+word_text text hyphen before [] = []
+word_text text hyphen before (g ∷ gs) = gap text hyphen before ++ (g ++ word_text text hyphen Piece gs)
+
+-- what the next piece, or the next word, stands after
+abbrev pub before_piece : Before → List (List ℕ) → Before
+before_piece before [] = before
+before_piece before (g ∷ gs) = Piece
+
+abbrev pub before_word : Before → Before
+before_word Nothing = Nothing
+before_word Word = Word
+before_word Piece = Word
+
+-- after the last initial stands the given text without its trailing white space
+abbrev pub end_text : List ℕ → Before → List ℕ
+end_text text Nothing = []
+end_text text Word = trim_end text
+end_text text Piece = trim_end text
+
+-- the initials of words, each word by its initials
+abbrev pub words_text : List ℕ → Bool → Before → List (List (List ℕ)) → List ℕ
+words_text text hyphen before [] = end_text text before
+words_text text hyphen before (w ∷ ws) = word_text text hyphen before w ++ words_text text hyphen (before_word (before_piece before w)) ws
+
+-- the initials of a given name
+abbrev pub initials : List ℕ → Bool → List ℕ → List ℕ
+initials text hyphen given = words_text text hyphen Nothing (map initials_of (given_words given))
