@@ -9,7 +9,7 @@ use Rattle.std.proofs.lemmas.List.Elements.{All-nil, All-cons, All-from_get_or}
 use Rattle.std.proofs.lemmas.List.Splits.{slice_split_none, slice_split_at}
 use Rattle.std.proofs.lemmas.Str.{encodes-append, encodes-chars, chars_from_encodes, IsUtf8-past_char, chars_past_char, chars-nil}
 use Rattle.unicode_segmentation.specs.Grapheme.{graphemes}
-use Rattle.lit_model.specs.Initials.{is_nonempty, char_words, given_words, first_grapheme, initials_of, gap, word_text, before_piece, before_word, words_text}
+use Rattle.lit_model.specs.Initials.{is_nonempty, char_words, given_words, first_grapheme, initials_of, gap, word_text, before_piece, before_word, end_text, words_text}
 use Rattle.lit_model.specs.declared.initials.Before.{Before}
 use Rattle.lit_model.specs.declared.initials.Before.TheVariants.{Nothing, Word, Piece}
 use Rattle.lit_model.proofs.Particles.{lacks}
@@ -133,3 +133,17 @@ last_piece text hyphen so_far target before o all split whole = ap (λ (gs : Lis
 
 pub last_place : (before place target : Before) (o : Option (List ℕ)) (all : List (List ℕ)) → all ≡ cons_option o [] → place ≡ before_piece before (option_to_list o) → before_piece before all ≡ target → place ≡ target
 last_place before place target o all split at whole = at ∙ ap (before_piece before) (sym (split ∙ option_alone o)) ∙ whole
+
+-- ---- a loop over the words of a name
+
+-- one word more was written
+pub next_word : (text : List ℕ) (hyphen : Bool) (so_far target : List ℕ) (before place : Before) (w : List ℕ) (all more : List (List ℕ)) → all ≡ w ∷ more → place ≡ before_word (before_piece before (initials_of w)) → so_far ++ words_text text hyphen before (map initials_of all) ≡ target → (so_far ++ word_text text hyphen before (initials_of w)) ++ words_text text hyphen place (map initials_of more) ≡ target
+next_word text hyphen so_far target before place w all more split at whole =
+    append_assoc so_far (word_text text hyphen before (initials_of w)) (words_text text hyphen place (map initials_of more))
+    ∙ ap (λ (b : Before). so_far ++ (word_text text hyphen before (initials_of w) ++ words_text text hyphen b (map initials_of more))) at
+    ∙ ap (λ (ws : List (List ℕ)). so_far ++ words_text text hyphen before (map initials_of ws)) (sym split)
+    ∙ whole
+
+-- no word is left
+pub last_word : (text : List ℕ) (hyphen : Bool) (so_far target : List ℕ) (before : Before) (all : List (List ℕ)) → all ≡ [] → so_far ++ words_text text hyphen before (map initials_of all) ≡ target → so_far ++ end_text text before ≡ target
+last_word text hyphen so_far target before all none whole = ap (λ (ws : List (List ℕ)). so_far ++ words_text text hyphen before (map initials_of ws)) (sym none) ∙ whole

@@ -4,6 +4,7 @@ use Rattle.std.specs.Char.{is_whitespace}
 use Rattle.std.specs.List.{slice_split}
 use Rattle.std.specs.Str.{trim_end}
 use Rattle.unicode_segmentation.specs.Grapheme.{graphemes}
+use Rattle.lit_model.specs.declared.person.Person.{Person}
 use Rattle.lit_model.specs.declared.initials.Before.{Before}
 use Rattle.lit_model.specs.declared.initials.Before.TheVariants.{Nothing, Word, Piece}
 
@@ -62,3 +63,11 @@ words_text text hyphen before (w ∷ ws) = word_text text hyphen before w ++ wor
 -- the initials of a given name
 abbrev pub initials : List ℕ → Bool → List ℕ → List ℕ
 initials text hyphen given = words_text text hyphen Nothing (map initials_of (given_words given))
+
+-- the initials of a person; without a given name there are none
+abbrev pub optional_initials : List ℕ → Bool → Option (List ℕ) → List ℕ
+optional_initials text hyphen None = []
+optional_initials text hyphen (Some given) = initials text hyphen given
+
+abbrev pub person_initials : Option (List ℕ) → Bool → Person → List ℕ
+person_initials text hyphen p = optional_initials (unwrap_or text []) hyphen (option_map string_bytes p.given_name)

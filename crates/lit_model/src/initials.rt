@@ -1,10 +1,11 @@
 //! Given names cut down to their initials.
 
-ghost use Rattle.std.specs.Prelude.{◌≡◌, true, map, option_to_list, OnOk, OnErr, IfOk};
+ghost use Rattle.std.specs.Prelude.{◌≡◌, true, map, option_to_list, option_copied, OnOk, OnErr, IfOk};
 ghost use Rattle.std.specs.Fmt.{WritesInCalls};
-ghost use Rattle.lit_model.specs.Initials.{first_grapheme, initials_of, gap, word_text, before_piece, before_word, end_text, initials};
+ghost use Rattle.lit_model.specs.Initials.{first_grapheme, initials_of, gap, word_text, before_piece, before_word, end_text, initials, person_initials};
 
-use crate::sink::Sink;
+use crate::person::Person;
+use crate::sink::{Noting, Sink};
 use std::fmt;
 use unicode_segmentation::UnicodeSegmentation;
 
@@ -126,3 +127,48 @@ impl Before {
         }
     }
 }
+
+impl Person {
+    /// Writes the initials of the given name to a sink: the first grapheme of each piece between white space or `-`, each followed by the text `delimiter`. Between the pieces of one word, where hyphens are kept, that text loses its trailing white space and a `-` follows; so does the last one lose it. It fails only where the sink refuses a text; what the sink holds then is left open.
+    pub fn initials_into<S: Sink>(
+        &self,
+        sink: &mut S,
+        delimiter: Option<&str>,
+        with_hyphen: bool,
+    ) -> fmt::Result
+        ensures ok { OnOk result (WritesInCalls S.write_str_gives sink.old (person_initials (option_copied delimiter.entry) with_hyphen self.now) sink.new) }
+        ensures kept { OnOk result (S.refused sink.new ≡ S.refused sink.old) }
+        ensures err { OnErr result (S.refused sink.new ≡ true) }
+    {
+        let text = delimiter.unwrap_or("");
+        match &self.given_name {
+            None => Ok(()),
+            Some(given) => {
+                let shortened = Shortened {
+                    text,
+                    hyphen: with_hyphen,
+                };
+                shortened.put_words(sink, given.as_str())
+            }
+        }
+    }
+
+    /// Writes the initials of the given name to any writer, as [`Person::initials_into`] does to a sink. It fails only where the writer refuses a text; what the writer holds then is left open.
+    pub fn initials<W: fmt::Write>(
+        &self,
+        w: &mut W,
+        delimiter: Option<&str>,
+        with_hyphen: bool,
+    ) -> fmt::Result
+        ensures { OnOk result (WritesInCalls W.write_str_gives w.old (person_initials (option_copied delimiter.entry) with_hyphen self.now) w.new) }
+    {
+        let mut sink = Noting::new(w);
+        let result = self.initials_into(&mut sink, delimiter, with_hyphen);
+        // It does nothing: the proof reads what `w` holds from the reference that comes back.
+        sink.into_inner();
+        result
+    }
+}
+
+#[cfg(test)]
+mod tests;
