@@ -3,6 +3,7 @@ pub mod Complete
 pub mod Fronts
 pub mod Integers
 pub mod Loops
+pub mod Marking
 pub mod Names
 pub mod PageClasses
 pub mod PageComplete
