@@ -3,6 +3,7 @@ pub mod Complete
 pub mod Fronts
 pub mod Integers
 pub mod Loops
+pub mod Marking
 pub mod Names
 pub mod PageClasses
 pub mod PageComplete
@@ -15,6 +16,7 @@ pub mod Particles
 pub mod Pieces
 pub mod Preorder
 pub mod Shapes
+pub mod Shortening
 pub mod Shown
 pub mod Sound
 pub mod Texts

@@ -15,16 +15,17 @@ use Rattle.lit_model.specs.Name.{words, is_particle_word, particle_words, after_
 eqb_apart : (a b : ℕ) → a ≢ b → eqb a b ≡ false
 eqb_apart a b h = ⊎_elim (λ same. absurd (h same.1)) (λ other. other.0) (eqb_tells a b)
 
-unspaced : (xs : List ℕ) → ((i : ℕ) → i < length xs → get_or xs i 0 ≢ 32) → All (λ b. eqb b 32 ≡ false) xs
-unspaced xs h = All-from_get_or (λ b. eqb b 32 ≡ false) xs 0 (λ i k. eqb_apart (get_or xs i 0) 32 (h i k))
+-- a test of a byte that a text lacks fails at each of its bytes
+pub lacks : (c : ℕ) (xs : List ℕ) → ((i : ℕ) → i < length xs → get_or xs i 0 ≢ c) → All (λ b. eqb b c ≡ false) xs
+lacks c xs h = All-from_get_or (λ b. eqb b c ≡ false) xs 0 (λ i k. eqb_apart (get_or xs i 0) c (h i k))
 
 -- a text without a space is one word
 pub words_one : (text : List ℕ) → ((i : ℕ) → i < length text → get_or text i 0 ≢ 32) → words text ≡ text ∷ []
-words_one text h = slice_split_none (λ b. eqb b 32) text (unspaced text h)
+words_one text h = slice_split_none (λ b. eqb b 32) text (lacks 32 text h)
 
 -- the first word ends at the first space
 pub words_more : (text w after : List ℕ) → text ≡ w ++ (32 ∷ after) → ((i : ℕ) → i < length w → get_or w i 0 ≢ 32) → words text ≡ w ∷ words after
-words_more text w after e h = ap words e ∙ slice_split_at (λ b. eqb b 32) w 32 after (unspaced w h) refl
+words_more text w after e h = ap words e ∙ slice_split_at (λ b. eqb b 32) w 32 after (lacks 32 w h) refl
 
 abbrev HasFirst : List (List ℕ) → Type 0
 HasFirst ws = (v : List ℕ) × (vs : List (List ℕ)) × (ws ≡ v ∷ vs)

@@ -1,5 +1,6 @@
 pub mod Date
 pub mod Entry
+pub mod Initials
 pub mod MaybeTyped
 pub mod Name
 pub mod Numeric

@@ -5,6 +5,8 @@ mod copies;
 pub mod date;
 pub mod entry;
 pub mod entry_type;
+mod first_names;
+mod initials;
 pub mod maybe_typed;
 pub mod memory;
 pub mod numeric;
