@@ -15,3 +15,5 @@ pub mod PageComplete
 pub mod PagesParsed
 pub mod Texts
 pub mod PageTexts
+pub mod RoundTrip
+pub mod Writable

@@ -1,7 +1,8 @@
 //! Reading of numbers.
 
 ghost use Rattle.std.specs.Prelude.{◌≡◌, ℕ, ◌<◌, ◌≤◌, Bool, Option, List, Some, None, IfOk, IsErrOf, MatchOption, MatchResult, OnErr, IsErr, Err, ◌↔◌, option_map, chars, string_bytes};
-ghost use Rattle.lit_model.specs.Numeric.{numeric_view, NumericView, value_view, Spells};
+ghost use Rattle.lit_model.specs.Numeric.{numeric_view, NumericView, value_view, Spells, IsWritable};
+ghost use Rattle.lit_model.specs.NumericText.{numeric_text};
 ghost use Rattle.lit_model.specs.NumericReading.{read_of, rest_of, integers_at, value_at, numeric_from, text_from};
 ghost use Rattle.lit_model.specs.Parsing.{Gives, IsShapeOf};
 
@@ -157,6 +158,10 @@ impl Numeric {
         ensures unique { (v w : NumericView) → Spells v (chars text.now) → Spells w (chars text.now) → v ≡ w }
         // What is spelled by no value is refused.
         ensures refused { ((v : NumericView) → Spells v (chars text.now) → ⊥) → result ≡ Err NumericError.NotNumeric }
+        // The values that are read are those that can be written, and what `Display` writes of one is read as that value.
+        ensures writable { IfOk result (λ n. IsWritable (numeric_view n)) }
+        ensures again { (v : NumericView) → IsWritable v → text.now ≡ numeric_text v
+            → MatchResult result (λ n. numeric_view n ≡ v) (λ e. e ≡ NumericError.Memory) }
     {
         parsed(alloc, text)
     }
