@@ -8,3 +8,5 @@ pub mod PageReading
 pub mod PageParsing
 pub mod NumericText
 pub mod PageText
+pub mod Roman
+pub mod NumericForm

@@ -26,7 +26,7 @@ fn zeros(count: usize) -> &'static str
 
 /// Writes a number, for sorting in four places at least.
 #[tactic(auto, using(crate::proofs::Writes::two_writes, crate::proofs::Writes::three_writes))]
-fn put_integer<S: Sink>(sink: &mut S, number: i32, machine_readable: bool) -> fmt::Result
+pub fn put_integer<S: Sink>(sink: &mut S, number: i32, machine_readable: bool) -> fmt::Result
     ensures ok { OnOk result (WritesInCalls S.write_str_gives sink.old (integer_text machine_readable number) sink.new) }
     ensures kept { OnOk result (S.refused sink.new ≡ S.refused sink.old) }
     ensures err { OnErr result (S.refused sink.new ≡ true) }
@@ -48,7 +48,7 @@ fn put_integer<S: Sink>(sink: &mut S, number: i32, machine_readable: bool) -> fm
 }
 
 /// What stands between two numbers.
-fn delimiter_str(delimiter: Option<NumericDelimiter>) -> &'static str
+pub fn delimiter_str(delimiter: Option<NumericDelimiter>) -> &'static str
     ensures { result.now ≡ delimiter_text delimiter }
 {
     match delimiter {
