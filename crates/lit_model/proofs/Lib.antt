@@ -17,3 +17,4 @@ pub mod Texts
 pub mod PageTexts
 pub mod RoundTrip
 pub mod Writable
+pub mod PageRoundTrip

@@ -3,7 +3,8 @@
 ghost use Rattle.std.specs.Prelude.{◌≡◌, ◌++◌, ℕ, Bool, Option, List, Some, None, Err, IfOk, MatchOption, MatchResult, IsSome, option_map, count_by, chars};
 ghost use Rattle.lit_model.specs.Numeric.{numeric_view};
 ghost use Rattle.lit_model.specs.NumericReading.{read_of, rest_of};
-ghost use Rattle.lit_model.specs.Page.{PartView, part_view, parts_view, pages_view, is_separator, SpellsPages};
+ghost use Rattle.lit_model.specs.Page.{PartView, part_view, parts_view, pages_view, is_separator, SpellsPages, AreWritable};
+ghost use Rattle.lit_model.specs.PageText.{pages_text};
 ghost use Rattle.lit_model.specs.PageReading.{page_at, mark_at, separator_at, item_at, parts_at, pages_from};
 ghost use Rattle.lit_model.specs.PageParsing.{page_of, item_of};
 ghost use Rattle.lit_model.specs.Parsing.{Gives};
@@ -234,6 +235,10 @@ impl PageRanges {
         ensures unique { (v w : List PartView) → SpellsPages v (chars text.now) → SpellsPages w (chars text.now) → v ≡ w }
         // What is spelled by no value is refused.
         ensures refused { ((v : List PartView) → SpellsPages v (chars text.now) → ⊥) → result ≡ Err NumericError.NotNumeric }
+        // The values that are read are those that can be written, and what `Display` writes of one is read as that value.
+        ensures writable { IfOk result (λ pages. AreWritable (pages_view pages)) }
+        ensures again { (v : List PartView) → AreWritable v → text.now ≡ pages_text v
+            → MatchResult result (λ pages. pages_view pages ≡ v) (λ e. e ≡ NumericError.Memory) }
     {
         parsed(alloc, text)
     }
