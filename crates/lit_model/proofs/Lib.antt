@@ -18,3 +18,4 @@ pub mod PageTexts
 pub mod RoundTrip
 pub mod Writable
 pub mod PageRoundTrip
+pub mod Equal

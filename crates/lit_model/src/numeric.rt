@@ -95,7 +95,8 @@ impl Numeric {
 
 /// A copy of a text, where there is one.
 fn copied(alloc: Global, text: &Option<String>) -> Result<Option<String>, AllocError>
-    ensures { IfOk result (λ copy. option_map string_bytes copy ≡ option_map string_bytes text.now) }
+    ensures { IfOk result (λ copy. option_map string_bytes copy
+        ≡ option_map string_bytes text.now) }
 {
     match text {
         Some(text) => {

@@ -1,9 +1,9 @@
 //! Numbers in the forms that a style asks for.
 
-ghost use Rattle.std.specs.Prelude.{◌≡◌, ℕ, Bool, Option, List, true, OnOk, OnErr, option_map};
-ghost use Rattle.std.specs.Fmt.{WritesInCalls, signed_decimal};
-ghost use Rattle.lit_model.specs.Numeric.{numeric_view, value_view};
-ghost use Rattle.lit_model.specs.NumericText.{value_text, numbers_text};
+ghost use Rattle.std.specs.Prelude.{◌≡◌, Option, true, OnOk, OnErr, option_map};
+ghost use Rattle.std.specs.Fmt.{WritesInCalls};
+ghost use Rattle.lit_model.specs.Numeric.{numeric_view};
+ghost use Rattle.lit_model.specs.NumericText.{numbers_text};
 ghost use Rattle.lit_model.specs.NumericForm.{roman_text, ordinal_text, long_ordinal_text, form_text, numeric_in_form};
 
 use super::roman::put_roman;
@@ -34,7 +34,8 @@ pub trait Ordinals {
 
 /// Writes a number in roman numerals, where it has some.
 fn put_in_roman<S: Sink>(sink: &mut S, number: i32) -> fmt::Result
-    ensures ok { OnOk result (WritesInCalls S.write_str_gives sink.old (roman_text number) sink.new) }
+    ensures ok { OnOk result (WritesInCalls S.write_str_gives sink.old
+        (roman_text number) sink.new) }
     ensures kept { OnOk result (S.refused sink.new ≡ S.refused sink.old) }
     ensures err { OnErr result (S.refused sink.new ≡ true) }
 {
@@ -52,7 +53,8 @@ fn put_ordinal<S: Sink, O: Ordinals>(
     gender: Option<GrammarGender>,
     ordinals: &O,
 ) -> fmt::Result
-    ensures ok { OnOk result (WritesInCalls S.write_str_gives sink.old (ordinal_text (O.ordinals ordinals.now) gender number) sink.new) }
+    ensures ok { OnOk result (WritesInCalls S.write_str_gives sink.old
+        (ordinal_text (O.ordinals ordinals.now) gender number) sink.new) }
     ensures kept { OnOk result (S.refused sink.new ≡ S.refused sink.old) }
     ensures err { OnErr result (S.refused sink.new ≡ true) }
 {
@@ -69,7 +71,9 @@ fn put_long_ordinal<S: Sink, O: Ordinals>(
     gender: Option<GrammarGender>,
     ordinals: &O,
 ) -> fmt::Result
-    ensures ok { OnOk result (WritesInCalls S.write_str_gives sink.old (long_ordinal_text (O.ordinals ordinals.now) (O.long_ordinals ordinals.now) gender number) sink.new) }
+    ensures ok { OnOk result (WritesInCalls S.write_str_gives sink.old
+        (long_ordinal_text (O.ordinals ordinals.now)
+        (O.long_ordinals ordinals.now) gender number) sink.new) }
     ensures kept { OnOk result (S.refused sink.new ≡ S.refused sink.old) }
     ensures err { OnErr result (S.refused sink.new ≡ true) }
 {
@@ -90,7 +94,9 @@ fn put_in_form<S: Sink, O: Ordinals>(
     gender: Option<GrammarGender>,
     ordinals: &O,
 ) -> fmt::Result
-    ensures ok { OnOk result (WritesInCalls S.write_str_gives sink.old (form_text (O.ordinals ordinals.now) (O.long_ordinals ordinals.now) form gender number) sink.new) }
+    ensures ok { OnOk result (WritesInCalls S.write_str_gives sink.old
+        (form_text (O.ordinals ordinals.now)
+        (O.long_ordinals ordinals.now) form gender number) sink.new) }
     ensures kept { OnOk result (S.refused sink.new ≡ S.refused sink.old) }
     ensures err { OnErr result (S.refused sink.new ≡ true) }
 {
@@ -110,7 +116,9 @@ fn put_numbers_in_form<S: Sink, O: Ordinals>(
     gender: Option<GrammarGender>,
     ordinals: &O,
 ) -> fmt::Result
-    ensures ok { OnOk result (WritesInCalls S.write_str_gives sink.old (numbers_text (form_text (O.ordinals ordinals.now) (O.long_ordinals ordinals.now) form gender) numbers.now) sink.new) }
+    ensures ok { OnOk result (WritesInCalls S.write_str_gives sink.old
+        (numbers_text (form_text (O.ordinals ordinals.now)
+        (O.long_ordinals ordinals.now) form gender) numbers.now) sink.new) }
     ensures kept { OnOk result (S.refused sink.new ≡ S.refused sink.old) }
     ensures err { OnErr result (S.refused sink.new ≡ true) }
 {
@@ -133,7 +141,9 @@ impl Numeric {
         gender: Option<GrammarGender>,
         ordinals: &O,
     ) -> fmt::Result
-        ensures ok { OnOk result (WritesInCalls S.write_str_gives sink.old (numeric_in_form (O.ordinals ordinals.now) (O.long_ordinals ordinals.now) form gender (numeric_view self.now)) sink.new) }
+        ensures ok { OnOk result (WritesInCalls S.write_str_gives sink.old
+            (numeric_in_form (O.ordinals ordinals.now)
+            (O.long_ordinals ordinals.now) form gender (numeric_view self.now)) sink.new) }
         ensures kept { OnOk result (S.refused sink.new ≡ S.refused sink.old) }
         ensures err { OnErr result (S.refused sink.new ≡ true) }
     {
@@ -157,7 +167,9 @@ impl Numeric {
         gender: Option<GrammarGender>,
         ordinals: &O,
     ) -> fmt::Result
-        ensures { OnOk result (WritesInCalls W.write_str_gives w.old (numeric_in_form (O.ordinals ordinals.now) (O.long_ordinals ordinals.now) form gender (numeric_view self.now)) w.new) }
+        ensures { OnOk result (WritesInCalls W.write_str_gives w.old
+            (numeric_in_form (O.ordinals ordinals.now)
+            (O.long_ordinals ordinals.now) form gender (numeric_view self.now)) w.new) }
     {
         let mut sink = Noting::new(w);
         let result = self.with_form_into(&mut sink, form, gender, ordinals);

@@ -1,4 +1,5 @@
-ghost use Rattle.std.specs.Prelude.{Some, None, codes};
+ghost use Rattle.std.specs.Prelude.{◌≡◌, ◌↔◌, IsTrue, Some, None, codes};
+ghost use Rattle.lit_model.specs.Numeric.{numeric_view};
 
 use super::*;
 use std::test::Fail;
@@ -37,8 +38,10 @@ impl Ordinals for Word {
     }
 }
 
-/// Whether the two numbers are equal, field by field.
-fn same(a: &Numeric, b: &Numeric) -> bool {
+/// Whether the two numbers are equal: they are where their values are.
+fn same(a: &Numeric, b: &Numeric) -> bool
+    ensures { IsTrue result ↔ (numeric_view a.now ≡ numeric_view b.now) }
+{
     *a == *b
 }
 
