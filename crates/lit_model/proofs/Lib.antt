@@ -23,3 +23,7 @@ pub mod Texts
 pub mod Whole
 pub mod Works
 pub mod Writes
+pub mod RoundTrip
+pub mod Writable
+pub mod PageRoundTrip
+pub mod Equal

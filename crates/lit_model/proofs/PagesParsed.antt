@@ -1,10 +1,12 @@
 -- What the answer of the parser of pages says, from the exact answer.
-use Rattle.std.proofs.Common.{◌≡◌, ℕ, List, Option, Some, None, Result, Ok, Err, MatchResult, refl, sym, ◌∙◌}
+use Rattle.std.proofs.Common.{◌≡◌, ℕ, true, List, Option, Some, None, Result, Ok, Err, MatchResult, refl, sym, ◌∙◌}
 use Rattle.std.specs.Prelude.{IfOk}
 use Rattle.lit_model.specs.declared.numeric.error.NumericError.{NumericError}
 use Rattle.lit_model.specs.declared.numeric.error.NumericError.TheVariants as errors
 use Rattle.lit_model.specs.PageReading.{pages_from}
-use Rattle.lit_model.specs.Page.{PartView, SpellsPages}
+use Rattle.std.specs.Str.{all_scalars}
+use Rattle.lit_model.proofs.PageRoundTrip.{pages_writable}
+use Rattle.lit_model.specs.Page.{AreWritable, PartView, SpellsPages}
 use Rattle.lit_model.specs.Parsing.{Gives}
 use Rattle.lit_model.proofs.Pieces.{some_is}
 use Rattle.lit_model.proofs.PageSound.{pages_sound}
@@ -33,3 +35,8 @@ nothing_read cs h = none_if cs (pages_from cs) refl h
 -- a text has one value at most
 pub unique : (cs : List ℕ) (v w : Parts) → SpellsPages v cs → SpellsPages w cs → v ≡ w
 unique cs v w s t = some_is v w (sym (pages_complete v cs s) ∙ pages_complete w cs t)
+
+-- what is read can be written
+pub writable : {X : Type 0} (view : X → Parts) (cs : List ℕ) → all_scalars cs ≡ true → (r : Result X NumericError) → Gives view r (pages_from cs) → IfOk r (λ n. AreWritable (view n))
+writable view cs is_scalar (Ok n) h = pages_writable (view n) cs is_scalar (pages_sound cs (view n) h)
+writable view cs is_scalar (Err e) h = tt

@@ -1,10 +1,12 @@
 -- What the answer of `parse` says, from the exact answer.
-use Rattle.std.proofs.Common.{◌≡◌, ℕ, List, Option, Some, None, Result, Ok, Err, MatchResult, refl, sym, ◌∙◌}
+use Rattle.std.proofs.Common.{◌≡◌, ℕ, true, List, Option, Some, None, Result, Ok, Err, MatchResult, refl, sym, ◌∙◌}
 use Rattle.std.specs.Prelude.{IfOk}
 use Rattle.lit_model.specs.declared.numeric.error.NumericError.{NumericError}
 use Rattle.lit_model.specs.declared.numeric.error.NumericError.TheVariants as errors
 use Rattle.lit_model.specs.NumericReading.{numeric_from}
-use Rattle.lit_model.specs.Numeric.{NumericView, Spells}
+use Rattle.std.specs.Str.{all_scalars}
+use Rattle.lit_model.proofs.Writable.{numeric_writable}
+use Rattle.lit_model.specs.Numeric.{IsWritable, NumericView, Spells}
 use Rattle.lit_model.specs.Parsing.{Gives}
 use Rattle.lit_model.proofs.Pieces.{some_is}
 use Rattle.lit_model.proofs.Sound.{numeric_sound}
@@ -30,3 +32,8 @@ nothing_read cs h = none_if cs (numeric_from cs) refl h
 -- a text has one value at most
 pub unique : (cs : List ℕ) (v w : NumericView) → Spells v cs → Spells w cs → v ≡ w
 unique cs v w s t = some_is v w (sym (numeric_complete v cs s) ∙ numeric_complete w cs t)
+
+-- what is read can be written
+pub writable : {X : Type 0} (view : X → NumericView) (cs : List ℕ) → all_scalars cs ≡ true → (r : Result X NumericError) → Gives view r (numeric_from cs) → IfOk r (λ n. IsWritable (view n))
+writable view cs is_scalar (Ok n) h = numeric_writable (view n) cs is_scalar (numeric_sound cs (view n) h)
+writable view cs is_scalar (Err e) h = tt

@@ -18,3 +18,5 @@ pub mod Sink
 pub mod Source
 pub mod Text
 pub mod Work
+pub mod Roman
+pub mod NumericForm

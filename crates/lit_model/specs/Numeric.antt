@@ -1,5 +1,5 @@
 -- Numbers: their values, and the grammar of the texts that stand for them.
-use Rattle.std.specs.Prelude.{◌≡◌, ℕ, ◌^◌, ◌<◌, ◌≤◌, Bool, true, false, not, map, is_none, int_lt, ◌&&◌, ◌||◌, ◌==◌, List, [], ◌∷◌, ◌++◌, length, ℤ, pos, Option, Some, None, option_map, string_bytes, encode_utf8_all}
+use Rattle.std.specs.Prelude.{◌≡◌, ℕ, ◌^◌, ◌<◌, ◌≤◌, Bool, true, false, not, map, is_none, int_lt, ◌&&◌, ◌||◌, ◌==◌, List, [], ◌∷◌, ◌++◌, length, ℤ, pos, negsuc, Option, Some, None, IsSome, IsUtf8, chars, ⊤, option_map, string_bytes, encode_utf8_all}
 use Rattle.std.specs.Char.{is_ascii_digit, is_whitespace}
 use Rattle.std.specs.List.{AllByRecursion}
 use Rattle.std.specs.Str.Parse.{digits_value}
@@ -111,3 +111,30 @@ pub record Spells (v : NumericView) (cs : List ℕ) : Type 0 where
   pub has_value : SpellsValue v.value numbers
   pub has_suffix : SpellsAffix is_affix v.suffix suffix
   pub blank_after : IsBlank after
+
+-- ---- the values that some text spells
+
+-- a number that digits write: from 0 to 2 ^ 31 - 1
+abbrev pub IsWritableInteger : ℤ → Type 0
+IsWritableInteger (pos n) = n < 2 ^ 31
+IsWritableInteger (negsuc n) = ⊥
+
+-- each number but the last has a delimiter
+abbrev pub AreWritableIntegers : List (ℤ × Option NumericDelimiter) → Type 0
+AreWritableIntegers [] = ⊥
+AreWritableIntegers (x ∷ []) = IsWritableInteger x.0 × (x.1 ≡ None)
+AreWritableIntegers (x ∷ y ∷ more) = IsWritableInteger x.0 × IsSome x.1 × AreWritableIntegers (y ∷ more)
+
+abbrev pub IsWritableValue : ValueView → Type 0
+IsWritableValue (one n) = IsWritableInteger n
+IsWritableValue (several numbers) = (2 ≤ length numbers) × AreWritableIntegers numbers
+
+-- a prefix or a suffix that is there has a character, and only such characters
+abbrev pub IsWritableAffix : (ℕ → Bool) → Option (List ℕ) → Type 0
+IsWritableAffix p None = ⊤
+IsWritableAffix p (Some bytes) = IsUtf8 bytes × (0 < length bytes) × Only p (chars bytes)
+
+pub record IsWritable (v : NumericView) : Type 0 where
+  pub value : IsWritableValue v.value
+  pub prefix : IsWritableAffix is_affix v.prefix
+  pub suffix : IsWritableAffix is_affix v.suffix

@@ -1,10 +1,10 @@
 -- Pages: their values, and the grammar of the texts that stand for them.
-use Rattle.std.specs.Prelude.{◌≡◌, ℕ, Bool, true, false, not, ◌&&◌, ◌||◌, ◌==◌, List, [], ◌∷◌, ◌++◌, map, ℤ, Option, Some, None}
+use Rattle.std.specs.Prelude.{◌≡◌, ℕ, Bool, true, false, not, ◌&&◌, ◌||◌, ◌==◌, List, [], ◌∷◌, ◌++◌, map, ℤ, Option, Some, None, ⊤}
 use Rattle.std.specs.Option.{option_or}
 use Rattle.lit_model.specs.declared.page.PageRanges.{PageRanges}
 use Rattle.lit_model.specs.declared.page.PageRangesPart.{PageRangesPart}
 use Rattle.lit_model.specs.declared.page.PageRangesPart.TheVariants.{Ampersand, Comma, EscapedRange, SinglePage, Range}
-use Rattle.lit_model.specs.Numeric.{NumericView, one, numeric_view, is_affix, IsBlank, SpellsInteger, SpellsAffix}
+use Rattle.lit_model.specs.Numeric.{ValueView, NumericView, one, several, numeric_view, is_affix, IsBlank, SpellsInteger, SpellsAffix, IsWritableInteger, IsWritableAffix}
 
 -- ---- values, without where they lie in memory
 
@@ -130,3 +130,35 @@ pub record SpellsPages (parts : List PartView) (cs : List ℕ) : Type 0 where
   pub blank_before : IsBlank before
   pub has_parts : SpellsParts parts inner
   pub blank_after : IsBlank after
+
+-- ---- the values that some text spells
+
+abbrev pub IsOneWritable : ValueView → Type 0
+IsOneWritable (one n) = IsWritableInteger n
+IsOneWritable (several numbers) = ⊥
+
+pub record IsWritablePage (v : NumericView) : Type 0 where
+  pub number : IsOneWritable v.value
+  pub prefix : IsWritableAffix is_page_affix v.prefix
+  pub suffix : IsWritableAffix is_page_affix v.suffix
+
+abbrev pub IsWritableItem : PartView → Type 0
+IsWritableItem ampersand = ⊥
+IsWritableItem comma = ⊥
+IsWritableItem (escaped v w) = ⊥
+IsWritableItem (single v) = IsWritablePage v
+IsWritableItem (range v w) = IsWritablePage v × IsWritablePage w
+
+abbrev pub IsSeparator : PartView → Type 0
+IsSeparator ampersand = ⊤
+IsSeparator comma = ⊤
+IsSeparator (escaped v w) = ⊥
+IsSeparator (single v) = ⊥
+IsSeparator (range v w) = ⊥
+
+-- items, with a separator between two of them
+abbrev pub AreWritable : List PartView → Type 0
+AreWritable [] = ⊥
+AreWritable (p ∷ []) = IsWritableItem p
+AreWritable (p ∷ s ∷ []) = ⊥
+AreWritable (p ∷ s ∷ q ∷ more) = IsWritableItem p × IsSeparator s × AreWritable (q ∷ more)

@@ -4,11 +4,14 @@ ghost use Rattle.std.specs.Prelude.{◌≡◌, Option, None, IfOk, option_map, s
 ghost use Rattle.lit_model.specs.Numeric.{one, numeric_view, value_view, numbers, only_number, plural, is_bare};
 
 mod error;
+mod form;
 pub(crate) mod parse;
+mod roman;
 mod write;
 
 use crate::memory::Memory;
 pub use error::NumericError;
+pub use form::Ordinals;
 use std::alloc::{AllocError, Global};
 
 /// A number, or several, with the texts around it, as `n4-6a` has.
@@ -92,7 +95,8 @@ impl Numeric {
 
 /// A copy of a text, where there is one.
 fn copied(alloc: Global, text: &Option<String>) -> Result<Option<String>, AllocError>
-    ensures { IfOk result (λ copy. option_map string_bytes copy ≡ option_map string_bytes text.now) }
+    ensures { IfOk result (λ copy. option_map string_bytes copy
+        ≡ option_map string_bytes text.now) }
 {
     match text {
         Some(text) => {

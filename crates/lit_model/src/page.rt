@@ -21,7 +21,8 @@ pub struct PageRanges {
 impl PageRanges {
     /// The first page: the one that the first item begins with.
     pub fn first(&self) -> Option<&Numeric>
-        ensures { option_map (λ page. numeric_view page.now) result ≡ first_page (pages_view self.now) }
+        ensures { option_map (λ page. numeric_view page.now) result
+            ≡ first_page (pages_view self.now) }
     {
         for part in &self.ranges {
             if let Some(page) = part.start() {
@@ -62,7 +63,8 @@ impl PageRanges {
 impl PageRangesPart {
     /// The page that the item begins with; none for a separator.
     fn start(&self) -> Option<&Numeric>
-        ensures { option_map (λ page. numeric_view page.now) result ≡ starting_page (part_view self.now) }
+        ensures { option_map (λ page. numeric_view page.now) result
+            ≡ starting_page (part_view self.now) }
     {
         match self {
             PageRangesPart::Ampersand | PageRangesPart::Comma => None,

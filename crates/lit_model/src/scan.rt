@@ -1,6 +1,6 @@
 //! The front of a text: the readers that the grammars of numbers and pages share.
 
-ghost use Rattle.std.specs.Prelude.{◌≡◌, ℕ, ◌<◌, ◌≤◌, Bool, Option, List, [], ◌∷◌, ◌++◌, None, MatchOption, IfSome, count_by, encode_utf8, length, option_map, chars, encode_utf8_all};
+ghost use Rattle.std.specs.Prelude.{◌≡◌, ◌<◌, Option, [], ◌∷◌, ◌++◌, None, MatchOption, IfSome, count_by, encode_utf8, length, chars, encode_utf8_all};
 ghost use Rattle.lit_model.specs.Numeric.{is_affix, is_delimiter};
 ghost use Rattle.lit_model.specs.NumericReading.{front, after, integer_at, delimiter_of, delimiter_at};
 ghost use Rattle.lit_model.specs.NumericReading as reading;
@@ -56,7 +56,8 @@ fn delimiter_from(c: char) -> Option<NumericDelimiter>
 
 /// The first character, and the text after it.
 pub fn first(text: &str) -> Option<(char, &str)>
-    ensures chars { MatchOption result (chars text.now ≡ []) (λ x. chars text.now ≡ x.0 ∷ chars x.1.now) }
+    ensures chars { MatchOption result (chars text.now ≡ [])
+        (λ x. chars text.now ≡ x.0 ∷ chars x.1.now) }
     ensures bytes { IfSome result (λ x. text.now ≡ encode_utf8 x.0 ++ x.1.now) }
     ensures shorter { IfSome result (λ x. length x.1.now < length text.now) }
 {
@@ -91,8 +92,8 @@ pub fn integer(text: &str) -> Option<(i32, &str)>
     }
 }
 
-#[tactic(auto, unfolding(crate::specs::NumericReading::delimiter_at))]
 /// The delimiter at the front, with the white space round it, and what follows.
+#[tactic(auto, unfolding(crate::specs::NumericReading::delimiter_at))]
 pub fn delimiter(text: &str) -> Option<(NumericDelimiter, &str)>
     ensures { read_view result ≡ delimiter_at (chars text.now) }
 {

@@ -1,7 +1,8 @@
 //! Reading of numbers.
 
-ghost use Rattle.std.specs.Prelude.{◌≡◌, ℕ, ◌<◌, ◌≤◌, Bool, Option, List, Some, None, IfOk, IsErrOf, MatchOption, MatchResult, OnErr, IsErr, Err, ◌↔◌, option_map, chars, string_bytes};
-ghost use Rattle.lit_model.specs.Numeric.{numeric_view, NumericView, value_view, Spells};
+ghost use Rattle.std.specs.Prelude.{◌≡◌, ◌<◌, Option, Some, None, IfOk, MatchOption, MatchResult, Err, option_map, chars, string_bytes};
+ghost use Rattle.lit_model.specs.Numeric.{numeric_view, NumericView, value_view, Spells, IsWritable};
+ghost use Rattle.lit_model.specs.NumericText.{numeric_text};
 ghost use Rattle.lit_model.specs.NumericReading.{read_of, rest_of, integers_at, value_at, numeric_from, text_from};
 ghost use Rattle.lit_model.specs.Parsing.{Gives, IsShapeOf};
 
@@ -11,8 +12,8 @@ use crate::scan;
 use crate::scan::Class;
 use std::alloc::{AllocError, Global};
 
-#[derive(Clone, Copy)]
 /// A numeric text taken apart. It is in the grammar, and nothing of it was copied yet.
+#[derive(Clone, Copy)]
 struct Shape<'a> {
     prefix: &'a str,
     /// The text from the first number on.
@@ -24,7 +25,8 @@ struct Shape<'a> {
 
 /// What follows the numbers, of which each but the last has a delimiter after it.
 fn skip_integers(delimiters: usize, text: &str) -> Option<&str>
-    ensures { option_map (λ rest. chars rest.now) result ≡ rest_of (integers_at delimiters (chars text.now)) }
+    ensures { option_map (λ rest. chars rest.now) result
+        ≡ rest_of (integers_at delimiters (chars text.now)) }
 {
     let mut rest = text;
     for _ in 0..delimiters {
@@ -72,7 +74,8 @@ fn integers(
 /// A numeric text taken apart, or nothing where the text is not in the grammar.
 #[tactic(auto, unfolding(crate::specs::NumericReading::numeric_from))]
 fn shape_of(text: &str) -> Option<Shape<'_>>
-    ensures { MatchOption result (numeric_from (chars text.now) ≡ None) (IsShapeOf (chars text.now)) }
+    ensures { MatchOption result (numeric_from (chars text.now) ≡ None)
+        (IsShapeOf (chars text.now)) }
 {
     let delimiters = scan::delimiters(text);
     let (_, start) = scan::split_front(text, Class::Blank);
@@ -95,7 +98,8 @@ fn shape_of(text: &str) -> Option<Shape<'_>>
 /// The one number of a text without a delimiter, or all of its numbers.
 #[tactic(auto, unfolding(crate::specs::NumericReading::value_at))]
 fn value_of(alloc: Global, shape: &Shape<'_>) -> Result<NumericValue, NumericError>
-    ensures { Gives value_view result (read_of (value_at shape.now.delimiters (chars shape.now.numbers.now))) }
+    ensures { Gives value_view result
+        (read_of (value_at shape.now.delimiters (chars shape.now.numbers.now))) }
 {
     if shape.delimiters == 0 {
         return match scan::integer(shape.numbers) {
@@ -154,9 +158,16 @@ impl Numeric {
         ensures only { (v : NumericView) → Spells v (chars text.now)
             → MatchResult result (λ n. numeric_view n ≡ v) (λ e. e ≡ NumericError.Memory) }
         // A text stands for one value at most.
-        ensures unique { (v w : NumericView) → Spells v (chars text.now) → Spells w (chars text.now) → v ≡ w }
+        ensures unique { (v w : NumericView) → Spells v (chars text.now)
+            → Spells w (chars text.now) → v ≡ w }
         // What is spelled by no value is refused.
-        ensures refused { ((v : NumericView) → Spells v (chars text.now) → ⊥) → result ≡ Err NumericError.NotNumeric }
+        ensures refused { ((v : NumericView) → Spells v (chars text.now) → ⊥)
+            → result ≡ Err NumericError.NotNumeric }
+        // The values that are read are those that can be written, and what `Display` writes of
+        // one is read as that value.
+        ensures writable { IfOk result (λ n. IsWritable (numeric_view n)) }
+        ensures again { (v : NumericView) → IsWritable v → text.now ≡ numeric_text v
+            → MatchResult result (λ n. numeric_view n ≡ v) (λ e. e ≡ NumericError.Memory) }
     {
         parsed(alloc, text)
     }

@@ -1,8 +1,47 @@
+ghost use Rattle.std.specs.Prelude.{◌≡◌, ◌↔◌, IsTrue, Some, None, codes};
+ghost use Rattle.lit_model.specs.Numeric.{numeric_view};
+
 use super::*;
 use std::test::Fail;
 
-/// Whether the two numbers are equal, field by field.
-fn same(a: &Numeric, b: &Numeric) -> bool {
+/// A locale in which each number has the suffix `nd` and none has a word.
+struct Suffix;
+
+impl Ordinals for Suffix {
+    ghost ordinals = { λ _ _ _. Some (codes "nd") };
+
+    ghost long_ordinals = { λ _ _ _. None };
+
+    fn lookup(&self, _number: i32, _gender: Option<GrammarGender>) -> Option<&str> {
+        Some("nd")
+    }
+
+    fn long(&self, _number: i32, _gender: Option<GrammarGender>) -> Option<&str> {
+        None
+    }
+}
+
+/// A locale in which each number has a word.
+struct Word;
+
+impl Ordinals for Word {
+    ghost ordinals = { λ _ _ _. None };
+
+    ghost long_ordinals = { λ _ _ _. Some (codes "second") };
+
+    fn lookup(&self, _number: i32, _gender: Option<GrammarGender>) -> Option<&str> {
+        None
+    }
+
+    fn long(&self, _number: i32, _gender: Option<GrammarGender>) -> Option<&str> {
+        Some("second")
+    }
+}
+
+/// Whether the two numbers are equal: they are where their values are.
+fn same(a: &Numeric, b: &Numeric) -> bool
+    ensures { IsTrue result ↔ (numeric_view a.now ≡ numeric_view b.now) }
+{
     *a == *b
 }
 
@@ -80,5 +119,43 @@ fn writes_numbers(rt: HostRuntime) -> Result<(), Fail> {
     Numeric::new(-3).fmt_value(&mut negative, true)?;
     Numeric::new(-12345).fmt_value(&mut negative, false)?;
     assert_eq!(rt; negative.as_str(), "-003-12345");
+    Ok(())
+}
+
+#[test]
+fn writes_roman_numerals(rt: HostRuntime) -> Result<(), Fail> {
+    for (number, text) in [
+        (1994, "mcmxciv"),
+        (3999, "mmmcmxcix"),
+        (4, "iv"),
+        (4000, "4000"),
+        (0, "0"),
+        (-3, "-3"),
+    ] {
+        let mut written = String::new(rt.alloc());
+        Numeric::new(number).with_form(&mut written, NumberForm::Roman, None, &Suffix)?;
+        assert_eq!(rt; written.as_str(), text);
+    }
+    Ok(())
+}
+
+#[test]
+fn writes_ordinals(rt: HostRuntime) -> Result<(), Fail> {
+    let mut written = String::new(rt.alloc());
+    let several = Numeric::parse(rt.alloc(), "2,32")?;
+    several.with_form(&mut written, NumberForm::Ordinal, None, &Suffix)?;
+    assert_eq!(rt; written.as_str(), "2nd, 32nd");
+    let mut long = String::new(rt.alloc());
+    several.with_form(&mut long, NumberForm::LongOrdinal, None, &Word)?;
+    assert_eq!(rt; long.as_str(), "second, 32");
+    let mut without = String::new(rt.alloc());
+    Numeric::new(-3).with_form(&mut without, NumberForm::LongOrdinal, None, &Suffix)?;
+    assert_eq!(rt; without.as_str(), "-3nd");
+    let mut plain = String::new(rt.alloc());
+    several.with_form(&mut plain, NumberForm::Numeric, None, &Suffix)?;
+    assert_eq!(rt; plain.as_str(), "2, 32");
+    let mut kept = String::new(rt.alloc());
+    Numeric::parse(rt.alloc(), "2a")?.with_form(&mut kept, NumberForm::Roman, None, &Suffix)?;
+    assert_eq!(rt; kept.as_str(), "2a");
     Ok(())
 }

@@ -1,7 +1,7 @@
 //! Writing of numbers.
 
-ghost use Rattle.std.specs.Prelude.{◌≡◌, ◌+◌, ◌<◌, ℕ, Bool, Some, true, [], OnOk, OnErr, length, replicate, unwrap_or, option_map, string_bytes};
-ghost use Rattle.std.specs.Fmt.{WritesInCalls, signed_decimal};
+ghost use Rattle.std.specs.Prelude.{◌≡◌, ◌<◌, Some, true, [], OnOk, OnErr, replicate, unwrap_or, option_map, string_bytes};
+ghost use Rattle.std.specs.Fmt.{WritesInCalls};
 ghost use Rattle.lit_model.specs.Numeric.{numeric_view, value_view};
 ghost use Rattle.lit_model.specs.NumericText.{integer_text, delimiter_text, numbers_text, value_text, numeric_text};
 
@@ -26,8 +26,9 @@ fn zeros(count: usize) -> &'static str
 
 /// Writes a number, for sorting in four places at least.
 #[tactic(auto, using(crate::proofs::Writes::two_writes, crate::proofs::Writes::three_writes))]
-fn put_integer<S: Sink>(sink: &mut S, number: i32, machine_readable: bool) -> fmt::Result
-    ensures ok { OnOk result (WritesInCalls S.write_str_gives sink.old (integer_text machine_readable number) sink.new) }
+pub fn put_integer<S: Sink>(sink: &mut S, number: i32, machine_readable: bool) -> fmt::Result
+    ensures ok { OnOk result (WritesInCalls S.write_str_gives sink.old
+        (integer_text machine_readable number) sink.new) }
     ensures kept { OnOk result (S.refused sink.new ≡ S.refused sink.old) }
     ensures err { OnErr result (S.refused sink.new ≡ true) }
 {
@@ -48,7 +49,7 @@ fn put_integer<S: Sink>(sink: &mut S, number: i32, machine_readable: bool) -> fm
 }
 
 /// What stands between two numbers.
-fn delimiter_str(delimiter: Option<NumericDelimiter>) -> &'static str
+pub fn delimiter_str(delimiter: Option<NumericDelimiter>) -> &'static str
     ensures { result.now ≡ delimiter_text delimiter }
 {
     match delimiter {
@@ -73,7 +74,8 @@ impl NumericValue {
     /// Writes the number or the numbers to a sink, for sorting or to be read. It fails only where
     /// the sink refuses a text; what the sink holds then is left open.
     fn write_into<S: Sink>(&self, sink: &mut S, machine_readable: bool) -> fmt::Result
-        ensures ok { OnOk result (WritesInCalls S.write_str_gives sink.old (value_text (integer_text machine_readable) (value_view self.now)) sink.new) }
+        ensures ok { OnOk result (WritesInCalls S.write_str_gives sink.old
+            (value_text (integer_text machine_readable) (value_view self.now)) sink.new) }
         ensures kept { OnOk result (S.refused sink.new ≡ S.refused sink.old) }
         ensures err { OnErr result (S.refused sink.new ≡ true) }
     {
@@ -90,7 +92,8 @@ fn put_numbers<S: Sink>(
     numbers: &[(i32, Option<NumericDelimiter>)],
     machine_readable: bool,
 ) -> fmt::Result
-    ensures ok { OnOk result (WritesInCalls S.write_str_gives sink.old (numbers_text (integer_text machine_readable) numbers.now) sink.new) }
+    ensures ok { OnOk result (WritesInCalls S.write_str_gives sink.old
+        (numbers_text (integer_text machine_readable) numbers.now) sink.new) }
     ensures kept { OnOk result (S.refused sink.new ≡ S.refused sink.old) }
     ensures err { OnErr result (S.refused sink.new ≡ true) }
 {
@@ -106,7 +109,8 @@ impl Numeric {
     /// (`machine_readable`) each number in four places at least. It fails only where the sink
     /// refuses a text; what the sink holds then is left open.
     pub fn fmt_value_into<S: Sink>(&self, sink: &mut S, machine_readable: bool) -> fmt::Result
-        ensures ok { OnOk result (WritesInCalls S.write_str_gives sink.old (value_text (integer_text machine_readable) (value_view self.now.value)) sink.new) }
+        ensures ok { OnOk result (WritesInCalls S.write_str_gives sink.old
+            (value_text (integer_text machine_readable) (value_view self.now.value)) sink.new) }
         ensures kept { OnOk result (S.refused sink.new ≡ S.refused sink.old) }
         ensures err { OnErr result (S.refused sink.new ≡ true) }
     {
@@ -116,7 +120,8 @@ impl Numeric {
     /// Writes the number or the numbers to any writer, as [`Numeric::fmt_value_into`] does to a
     /// sink. It fails only where the writer refuses a text; what the writer holds then is left open.
     pub fn fmt_value<W: fmt::Write>(&self, w: &mut W, machine_readable: bool) -> fmt::Result
-        ensures { OnOk result (WritesInCalls W.write_str_gives w.old (value_text (integer_text machine_readable) (value_view self.now.value)) w.new) }
+        ensures { OnOk result (WritesInCalls W.write_str_gives w.old
+            (value_text (integer_text machine_readable) (value_view self.now.value)) w.new) }
     {
         let mut sink = Noting::new(w);
         let result = self.fmt_value_into(&mut sink, machine_readable);
@@ -129,7 +134,8 @@ impl Numeric {
     /// a text; what the sink holds then is left open.
     #[tactic(auto, using(crate::proofs::Writes::three_writes))]
     pub fn write_into<S: Sink>(&self, sink: &mut S) -> fmt::Result
-        ensures ok { OnOk result (WritesInCalls S.write_str_gives sink.old (numeric_text (numeric_view self.now)) sink.new) }
+        ensures ok { OnOk result (WritesInCalls S.write_str_gives sink.old
+            (numeric_text (numeric_view self.now)) sink.new) }
         ensures kept { OnOk result (S.refused sink.new ≡ S.refused sink.old) }
         ensures err { OnErr result (S.refused sink.new ≡ true) }
     {

@@ -1,9 +1,10 @@
 //! Reading of pages.
 
-ghost use Rattle.std.specs.Prelude.{◌≡◌, ◌++◌, ℕ, Bool, Option, List, Some, None, Err, IfOk, MatchOption, MatchResult, IsSome, option_map, count_by, chars};
+ghost use Rattle.std.specs.Prelude.{◌≡◌, Option, List, Some, None, Err, IfOk, MatchOption, MatchResult, IsSome, option_map, count_by, chars};
 ghost use Rattle.lit_model.specs.Numeric.{numeric_view};
 ghost use Rattle.lit_model.specs.NumericReading.{read_of, rest_of};
-ghost use Rattle.lit_model.specs.Page.{PartView, part_view, parts_view, pages_view, is_separator, SpellsPages};
+ghost use Rattle.lit_model.specs.Page.{PartView, part_view, parts_view, pages_view, is_separator, SpellsPages, AreWritable};
+ghost use Rattle.lit_model.specs.PageText.{pages_text};
 ghost use Rattle.lit_model.specs.PageReading.{page_at, mark_at, separator_at, item_at, parts_at, pages_from};
 ghost use Rattle.lit_model.specs.PageParsing.{page_of, item_of};
 ghost use Rattle.lit_model.specs.Parsing.{Gives};
@@ -67,7 +68,8 @@ fn after_mark(text: &str) -> Option<&str>
 /// The separator at the front, with the white space round it, and what follows.
 #[tactic(auto, unfolding(crate::specs::PageReading::separator_at))]
 fn separator(text: &str) -> Option<(PageRangesPart, &str)>
-    ensures { option_map (λ x. (part_view x.0, chars x.1.now)) result ≡ separator_at (chars text.now) }
+    ensures { option_map (λ x. (part_view x.0, chars x.1.now)) result
+        ≡ separator_at (chars text.now) }
 {
     let (_, rest) = scan::split_front(text, Class::Blank);
     let Some((c, rest)) = scan::first(rest) else {
@@ -101,7 +103,8 @@ fn item(text: &str) -> Option<(ItemShape<'_>, &str)>
 
 /// What follows the items, of which each but the last has a separator after it.
 fn skip_parts(separators: usize, text: &str) -> Option<&str>
-    ensures { option_map (λ rest. chars rest.now) result ≡ rest_of (parts_at separators (chars text.now)) }
+    ensures { option_map (λ rest. chars rest.now) result
+        ≡ rest_of (parts_at separators (chars text.now)) }
 {
     let mut rest = text;
     for _ in 0..separators {
@@ -158,7 +161,8 @@ fn made_item(alloc: Global, item: &ItemShape<'_>) -> Result<PageRangesPart, Allo
 
 /// The items of a text, and the separators between them.
 fn parts(alloc: Global, separators: usize, text: &str) -> Result<Vec<PageRangesPart>, NumericError>
-    ensures { Gives (λ v. parts_view v.items) result (read_of (parts_at separators (chars text.now))) }
+    ensures { Gives (λ v. parts_view v.items) result
+        (read_of (parts_at separators (chars text.now))) }
 {
     let capacity = separators.saturating_mul(2).saturating_add(1);
     let mut parts = Vec::with_capacity(alloc, capacity)?;
@@ -188,7 +192,8 @@ fn parts(alloc: Global, separators: usize, text: &str) -> Result<Vec<PageRangesP
 #[tactic(auto, unfolding(crate::specs::PageReading::pages_from))]
 fn items_of(text: &str) -> Option<(usize, &str)>
     ensures { MatchOption result (pages_from (chars text.now) ≡ None)
-        (λ x. IsSome (pages_from (chars text.now)) × (read_of (parts_at x.0 (chars x.1.now)) ≡ pages_from (chars text.now))) }
+        (λ x. IsSome (pages_from (chars text.now))
+        × (read_of (parts_at x.0 (chars x.1.now)) ≡ pages_from (chars text.now))) }
 {
     let separators = separators(text);
     let (_, items) = scan::split_front(text, Class::Blank);
@@ -231,9 +236,16 @@ impl PageRanges {
         ensures only { (v : List PartView) → SpellsPages v (chars text.now)
             → MatchResult result (λ pages. pages_view pages ≡ v) (λ e. e ≡ NumericError.Memory) }
         // A text stands for one value at most.
-        ensures unique { (v w : List PartView) → SpellsPages v (chars text.now) → SpellsPages w (chars text.now) → v ≡ w }
+        ensures unique { (v w : List PartView) → SpellsPages v (chars text.now)
+            → SpellsPages w (chars text.now) → v ≡ w }
         // What is spelled by no value is refused.
-        ensures refused { ((v : List PartView) → SpellsPages v (chars text.now) → ⊥) → result ≡ Err NumericError.NotNumeric }
+        ensures refused { ((v : List PartView) → SpellsPages v (chars text.now) → ⊥)
+            → result ≡ Err NumericError.NotNumeric }
+        // The values that are read are those that can be written, and what `Display` writes of
+        // one is read as that value.
+        ensures writable { IfOk result (λ pages. AreWritable (pages_view pages)) }
+        ensures again { (v : List PartView) → AreWritable v → text.now ≡ pages_text v
+            → MatchResult result (λ pages. pages_view pages ≡ v) (λ e. e ≡ NumericError.Memory) }
     {
         parsed(alloc, text)
     }

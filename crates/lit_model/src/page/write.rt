@@ -1,6 +1,6 @@
 //! Writing of pages.
 
-ghost use Rattle.std.specs.Prelude.{◌≡◌, Bool, Some, true, OnOk, OnErr};
+ghost use Rattle.std.specs.Prelude.{◌≡◌, Some, true, OnOk, OnErr};
 ghost use Rattle.std.specs.Fmt.{WritesInCalls};
 ghost use Rattle.lit_model.specs.Numeric.{numeric_view};
 ghost use Rattle.lit_model.specs.Page.{part_view, pages_view, range};
@@ -14,7 +14,8 @@ use std::fmt;
 /// Writes two pages joined by a `-`.
 #[tactic(auto, using(crate::proofs::Writes::three_writes))]
 fn put_range<S: Sink>(sink: &mut S, first: &Numeric, last: &Numeric) -> fmt::Result
-    ensures ok { OnOk result (WritesInCalls S.write_str_gives sink.old (part_text (range (numeric_view first.now) (numeric_view last.now))) sink.new) }
+    ensures ok { OnOk result (WritesInCalls S.write_str_gives sink.old
+        (part_text (range (numeric_view first.now) (numeric_view last.now))) sink.new) }
     ensures kept { OnOk result (S.refused sink.new ≡ S.refused sink.old) }
     ensures err { OnErr result (S.refused sink.new ≡ true) }
 {
@@ -28,7 +29,8 @@ impl PageRangesPart {
     /// Writes the part to a sink. It fails only where the sink refuses a text; what the sink holds
     /// then is left open.
     pub fn write_into<S: Sink>(&self, sink: &mut S) -> fmt::Result
-        ensures ok { OnOk result (WritesInCalls S.write_str_gives sink.old (part_text (part_view self.now)) sink.new) }
+        ensures ok { OnOk result (WritesInCalls S.write_str_gives sink.old
+            (part_text (part_view self.now)) sink.new) }
         ensures kept { OnOk result (S.refused sink.new ≡ S.refused sink.old) }
         ensures err { OnErr result (S.refused sink.new ≡ true) }
     {
@@ -46,7 +48,8 @@ impl PageRanges {
     /// Writes the pages to a sink. It fails only where the sink refuses a text; what the sink holds
     /// then is left open.
     pub fn write_into<S: Sink>(&self, sink: &mut S) -> fmt::Result
-        ensures ok { OnOk result (WritesInCalls S.write_str_gives sink.old (pages_text (pages_view self.now)) sink.new) }
+        ensures ok { OnOk result (WritesInCalls S.write_str_gives sink.old
+            (pages_text (pages_view self.now)) sink.new) }
         ensures kept { OnOk result (S.refused sink.new ≡ S.refused sink.old) }
         ensures err { OnErr result (S.refused sink.new ≡ true) }
     {

@@ -1,6 +1,8 @@
-use Rattle.std.proofs.Common.{chars}
-use Rattle.lit_model.specs.Numeric.{numeric_view}
-use Rattle.lit_model.proofs.Parsed.{found, only, nothing_read, unique}
+use Rattle.std.proofs.Common.{ℕ, List, chars, subst, sym}
+use Rattle.std.proofs.lemmas.Str.{scalars-chars}
+use Rattle.lit_model.specs.Numeric.{numeric_view, Spells}
+use Rattle.lit_model.proofs.Parsed.{found, only, nothing_read, unique, writable}
+use Rattle.lit_model.proofs.RoundTrip.{numeric_spelled}
 use Rattle.lit_model.proofs.numeric.Numeric.parse.Goals as goal
 
 pub returns-clause-found : goal.returns-clause-found
@@ -14,3 +16,9 @@ returns-clause-refused c h = c.parsed.ensures.none (nothing_read (chars c.args.t
 
 pub returns-clause-unique : goal.returns-clause-unique
 returns-clause-unique c = unique (chars c.args.text.now)
+
+pub returns-clause-writable : goal.returns-clause-writable
+returns-clause-writable c = writable numeric_view (chars c.args.text.now) (scalars-chars c.args.text.now c.utf8.text) c.parsed.result c.parsed.ensures.exact
+
+pub returns-clause-again : goal.returns-clause-again
+returns-clause-again c v w e = only numeric_view (chars c.args.text.now) c.parsed.result c.parsed.ensures.exact v (subst (λ (t : List ℕ). Spells v (chars t)) (sym e) (numeric_spelled v w))

@@ -1,0 +1,41 @@
+-- The texts of numbers in a form, by their bytes.
+use Rattle.std.specs.Prelude.{ℕ, Bool, ◌&&◌, if◌then◌else◌, int_le, List, [], ◌++◌, ℤ, pos, negsuc, Option, unwrap_or}
+use Rattle.std.specs.Fmt.{signed_decimal}
+use Rattle.lit_model.specs.declared.numeric.NumberForm.{NumberForm}
+use Rattle.lit_model.specs.declared.numeric.NumberForm.TheVariants as forms
+use Rattle.lit_model.specs.declared.numeric.GrammarGender.{GrammarGender}
+use Rattle.lit_model.specs.Numeric.{NumericView, is_bare}
+use Rattle.lit_model.specs.NumericText.{value_text, numeric_text}
+use Rattle.lit_model.specs.Roman.{roman, has_roman}
+
+-- what a locale answers of a number and a gender: the suffix of the ordinal, or the whole long ordinal
+abbrev pub OrdinalTexts : Type 0
+OrdinalTexts = ℤ → Option GrammarGender → Option (List ℕ)
+
+-- the number in lower case roman numerals, where it has one
+abbrev pub roman_text : ℤ → List ℕ
+roman_text (pos n) = if has_roman n then roman n else signed_decimal (pos n)
+roman_text (negsuc n) = signed_decimal (negsuc n)
+
+-- the number and the suffix of its ordinal, if there is one
+abbrev pub ordinal_text : OrdinalTexts → Option GrammarGender → ℤ → List ℕ
+ordinal_text ordinals gender n = signed_decimal n ++ unwrap_or (ordinals n gender) []
+
+-- the numbers that may have a long ordinal
+abbrev pub has_long_ordinal : ℤ → Bool
+has_long_ordinal n = int_le (pos 1) n && int_le n (pos 10)
+
+-- the long ordinal, else the ordinal
+abbrev pub long_ordinal_text : OrdinalTexts → OrdinalTexts → Option GrammarGender → ℤ → List ℕ
+long_ordinal_text ordinals long gender n = if has_long_ordinal n then unwrap_or (long n gender) (ordinal_text ordinals gender n) else ordinal_text ordinals gender n
+
+-- a number in a form
+abbrev pub form_text : OrdinalTexts → OrdinalTexts → NumberForm → Option GrammarGender → ℤ → List ℕ
+form_text ordinals long forms.Numeric gender n = signed_decimal n
+form_text ordinals long forms.Ordinal gender n = ordinal_text ordinals gender n
+form_text ordinals long forms.LongOrdinal gender n = long_ordinal_text ordinals long gender n
+form_text ordinals long forms.Roman gender n = roman_text n
+
+-- numbers in a form, number by number, where there is no prefix and no suffix; else as they stand
+abbrev pub numeric_in_form : OrdinalTexts → OrdinalTexts → NumberForm → Option GrammarGender → NumericView → List ℕ
+numeric_in_form ordinals long form gender v = if is_bare v then value_text (form_text ordinals long form gender) v.value else numeric_text v

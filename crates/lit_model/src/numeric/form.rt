@@ -1,0 +1,180 @@
+//! Numbers in the forms that a style asks for.
+
+ghost use Rattle.std.specs.Prelude.{◌≡◌, Option, true, OnOk, OnErr, option_map};
+ghost use Rattle.std.specs.Fmt.{WritesInCalls};
+ghost use Rattle.lit_model.specs.Numeric.{numeric_view};
+ghost use Rattle.lit_model.specs.NumericText.{numbers_text};
+ghost use Rattle.lit_model.specs.NumericForm.{roman_text, ordinal_text, long_ordinal_text, form_text, numeric_in_form};
+
+use super::roman::put_roman;
+use super::write::{delimiter_str, put_integer};
+use super::{GrammarGender, NumberForm, Numeric, NumericDelimiter, NumericValue};
+use crate::sink::{Noting, Sink};
+use std::fmt;
+
+/// The ordinals of a locale (CSL 1.0.2, Ordinals).
+pub trait Ordinals {
+    ghost use Rattle.std.specs.Prelude.{◌≡◌, option_map};
+    ghost use Rattle.lit_model.specs.NumericForm.{OrdinalTexts};
+
+    /// The suffix of a number's ordinal, if there is one.
+    ghost ordinals: { Self → OrdinalTexts };
+
+    /// A number's long ordinal, if there is one.
+    ghost long_ordinals: { Self → OrdinalTexts };
+
+    /// The suffix that makes an ordinal of the number in this gender, as `nd` of 2.
+    fn lookup(&self, number: i32, gender: Option<GrammarGender>) -> Option<&str>
+        ensures { option_map (λ text. text.now) result ≡ ordinals self.now number gender };
+
+    /// The word for the ordinal of the number in this gender, as `second` of 2.
+    fn long(&self, number: i32, gender: Option<GrammarGender>) -> Option<&str>
+        ensures { option_map (λ text. text.now) result ≡ long_ordinals self.now number gender };
+}
+
+/// Writes a number in roman numerals, where it has some.
+fn put_in_roman<S: Sink>(sink: &mut S, number: i32) -> fmt::Result
+    ensures ok { OnOk result (WritesInCalls S.write_str_gives sink.old
+        (roman_text number) sink.new) }
+    ensures kept { OnOk result (S.refused sink.new ≡ S.refused sink.old) }
+    ensures err { OnErr result (S.refused sink.new ≡ true) }
+{
+    if number >= 1 && number <= 3999 {
+        return put_roman(sink, number.unsigned_abs());
+    }
+    put_integer(sink, number, false)
+}
+
+/// Writes a number and the suffix of its ordinal, if there is one.
+#[tactic(auto, using(crate::proofs::Writes::two_writes))]
+fn put_ordinal<S: Sink, O: Ordinals>(
+    sink: &mut S,
+    number: i32,
+    gender: Option<GrammarGender>,
+    ordinals: &O,
+) -> fmt::Result
+    ensures ok { OnOk result (WritesInCalls S.write_str_gives sink.old
+        (ordinal_text (O.ordinals ordinals.now) gender number) sink.new) }
+    ensures kept { OnOk result (S.refused sink.new ≡ S.refused sink.old) }
+    ensures err { OnErr result (S.refused sink.new ≡ true) }
+{
+    let suffix = ordinals.lookup(number, gender).unwrap_or("");
+    put_integer(sink, number, false)?;
+    sink.put(suffix)?;
+    Ok(())
+}
+
+/// Writes the long ordinal of a number, else its ordinal.
+fn put_long_ordinal<S: Sink, O: Ordinals>(
+    sink: &mut S,
+    number: i32,
+    gender: Option<GrammarGender>,
+    ordinals: &O,
+) -> fmt::Result
+    ensures ok { OnOk result (WritesInCalls S.write_str_gives sink.old
+        (long_ordinal_text (O.ordinals ordinals.now)
+        (O.long_ordinals ordinals.now) gender number) sink.new) }
+    ensures kept { OnOk result (S.refused sink.new ≡ S.refused sink.old) }
+    ensures err { OnErr result (S.refused sink.new ≡ true) }
+{
+    if number >= 1 && number <= 10 {
+        return match ordinals.long(number, gender) {
+            Some(word) => sink.put(word),
+            None => put_ordinal(sink, number, gender, ordinals),
+        };
+    }
+    put_ordinal(sink, number, gender, ordinals)
+}
+
+/// Writes a number in a form; plainly, where it has none.
+fn put_in_form<S: Sink, O: Ordinals>(
+    sink: &mut S,
+    number: i32,
+    form: NumberForm,
+    gender: Option<GrammarGender>,
+    ordinals: &O,
+) -> fmt::Result
+    ensures ok { OnOk result (WritesInCalls S.write_str_gives sink.old
+        (form_text (O.ordinals ordinals.now)
+        (O.long_ordinals ordinals.now) form gender number) sink.new) }
+    ensures kept { OnOk result (S.refused sink.new ≡ S.refused sink.old) }
+    ensures err { OnErr result (S.refused sink.new ≡ true) }
+{
+    match form {
+        NumberForm::Numeric => put_integer(sink, number, false),
+        NumberForm::Ordinal => put_ordinal(sink, number, gender, ordinals),
+        NumberForm::LongOrdinal => put_long_ordinal(sink, number, gender, ordinals),
+        NumberForm::Roman => put_in_roman(sink, number),
+    }
+}
+
+/// Writes numbers in a form, with their delimiters.
+fn put_numbers_in_form<S: Sink, O: Ordinals>(
+    sink: &mut S,
+    numbers: &[(i32, Option<NumericDelimiter>)],
+    form: NumberForm,
+    gender: Option<GrammarGender>,
+    ordinals: &O,
+) -> fmt::Result
+    ensures ok { OnOk result (WritesInCalls S.write_str_gives sink.old
+        (numbers_text (form_text (O.ordinals ordinals.now)
+        (O.long_ordinals ordinals.now) form gender) numbers.now) sink.new) }
+    ensures kept { OnOk result (S.refused sink.new ≡ S.refused sink.old) }
+    ensures err { OnErr result (S.refused sink.new ≡ true) }
+{
+    for (number, delimiter) in numbers {
+        put_in_form(sink, *number, form, gender, ordinals)?;
+        sink.put(delimiter_str(*delimiter))?;
+    }
+    Ok(())
+}
+
+impl Numeric {
+    /// Writes the number in a form to a sink, or each number of several (CSL 1.0.2, Number). What
+    /// a form cannot write is written plainly, and a number with a prefix or a suffix is written as
+    /// it stands. It fails only where the sink refuses a text; what the sink holds then is left
+    /// open.
+    pub fn with_form_into<S: Sink, O: Ordinals>(
+        &self,
+        sink: &mut S,
+        form: NumberForm,
+        gender: Option<GrammarGender>,
+        ordinals: &O,
+    ) -> fmt::Result
+        ensures ok { OnOk result (WritesInCalls S.write_str_gives sink.old
+            (numeric_in_form (O.ordinals ordinals.now)
+            (O.long_ordinals ordinals.now) form gender (numeric_view self.now)) sink.new) }
+        ensures kept { OnOk result (S.refused sink.new ≡ S.refused sink.old) }
+        ensures err { OnErr result (S.refused sink.new ≡ true) }
+    {
+        if !self.will_transform() {
+            return self.write_into(sink);
+        }
+        match &self.value {
+            NumericValue::Number(number) => put_in_form(sink, *number, form, gender, ordinals),
+            NumericValue::Set(numbers) => {
+                put_numbers_in_form(sink, numbers.as_slice(), form, gender, ordinals)
+            }
+        }
+    }
+
+    /// Writes the number in a form to any writer, as [`Numeric::with_form_into`] does to a sink. It
+    /// fails only where the writer refuses a text; what the writer holds then is left open.
+    pub fn with_form<W: fmt::Write, O: Ordinals>(
+        &self,
+        w: &mut W,
+        form: NumberForm,
+        gender: Option<GrammarGender>,
+        ordinals: &O,
+    ) -> fmt::Result
+        ensures { OnOk result (WritesInCalls W.write_str_gives w.old
+            (numeric_in_form (O.ordinals ordinals.now)
+            (O.long_ordinals ordinals.now) form gender (numeric_view self.now)) w.new) }
+    {
+        let mut sink = Noting::new(w);
+        let result = self.with_form_into(&mut sink, form, gender, ordinals);
+        // It does nothing: the proof reads what `w` holds from the reference that comes back.
+        sink.into_inner();
+        result
+    }
+}

@@ -1,0 +1,93 @@
+//! Roman numerals.
+
+ghost use Rattle.std.specs.Prelude.{◌≡◌, ◌<◌, true, OnOk, OnErr, replicate};
+ghost use Rattle.std.specs.Fmt.{WritesInCalls};
+ghost use Rattle.lit_model.specs.Roman.{roman_digit, roman};
+
+use crate::sink::Sink;
+use std::fmt;
+
+/// The thousands, of which there are three at most.
+fn thousands(digit: u32) -> &'static str
+    requires { digit < 4 }
+    ensures { result.now ≡ replicate digit 109 }
+{
+    match digit {
+        0 => "",
+        1 => "m",
+        2 => "mm",
+        _ => "mmm",
+    }
+}
+
+/// The digit of the hundreds.
+fn hundreds(digit: u32) -> &'static str
+    requires { digit < 10 }
+    ensures { result.now ≡ roman_digit 99 100 109 digit }
+{
+    match digit {
+        0 => "",
+        1 => "c",
+        2 => "cc",
+        3 => "ccc",
+        4 => "cd",
+        5 => "d",
+        6 => "dc",
+        7 => "dcc",
+        8 => "dccc",
+        _ => "cm",
+    }
+}
+
+/// The digit of the tens.
+fn tens(digit: u32) -> &'static str
+    requires { digit < 10 }
+    ensures { result.now ≡ roman_digit 120 108 99 digit }
+{
+    match digit {
+        0 => "",
+        1 => "x",
+        2 => "xx",
+        3 => "xxx",
+        4 => "xl",
+        5 => "l",
+        6 => "lx",
+        7 => "lxx",
+        8 => "lxxx",
+        _ => "xc",
+    }
+}
+
+/// The digit of the units.
+fn units(digit: u32) -> &'static str
+    requires { digit < 10 }
+    ensures { result.now ≡ roman_digit 105 118 120 digit }
+{
+    match digit {
+        0 => "",
+        1 => "i",
+        2 => "ii",
+        3 => "iii",
+        4 => "iv",
+        5 => "v",
+        6 => "vi",
+        7 => "vii",
+        8 => "viii",
+        _ => "ix",
+    }
+}
+
+/// Writes a number from 1 to 3999 as a roman numeral in lower case.
+#[tactic(auto, using(crate::proofs::Writes::four_writes))]
+pub fn put_roman<S: Sink>(sink: &mut S, number: u32) -> fmt::Result
+    requires { number < 4000 }
+    ensures ok { OnOk result (WritesInCalls S.write_str_gives sink.old (roman number) sink.new) }
+    ensures kept { OnOk result (S.refused sink.new ≡ S.refused sink.old) }
+    ensures err { OnErr result (S.refused sink.new ≡ true) }
+{
+    sink.put(thousands(number / 1000))?;
+    sink.put(hundreds(number / 100 % 10))?;
+    sink.put(tens(number / 10 % 10))?;
+    sink.put(units(number % 10))?;
+    Ok(())
+}
