@@ -11,4 +11,4 @@ pub use maybe_typed::MaybeTyped;
 pub use memory::Memory;
 pub use numeric::{GrammarGender, NumberForm, Numeric, NumericDelimiter, NumericValue};
 pub use page::{PageRanges, PageRangesPart};
-pub use sink::{Displaying, Noting, Sink};
+pub use sink::{Displaying, Noting, Put, Sink, display_text, write_text};
