@@ -120,14 +120,14 @@ impl<'a, W: fmt::Write> Displaying<'a, W> {
         self.inner
     }
 
-    /// Passes a text on.
-    fn pass(&mut self, text: &str) -> fmt::Result
-        ensures ok { OnOk result (IsFlush self.old.inner.now → HasWrittenStyled W.write_str_gives self.old.inner.now text.now self.new.inner.now) }
+    /// Passes a part of what is displayed on.
+    fn pass(&mut self, part: &str) -> fmt::Result
+        ensures ok { OnOk result (IsFlush self.old.inner.now → HasWrittenStyled W.write_str_gives self.old.inner.now part.now self.new.inner.now) }
         ensures same { self.new.inner.ghost_name ≡ self.old.inner.ghost_name }
         ensures kept { OnOk result (self.new.refused ≡ self.old.refused) }
         ensures err { OnErr result (self.new.refused ≡ true) }
     {
-        match self.inner.write_str(text) {
+        match self.inner.write_str(part) {
             Ok(()) => Ok(()),
             Err(error) => {
                 self.refused = true;
@@ -172,10 +172,10 @@ pub fn write_text<T: Put, W: fmt::Write>(text: &T, w: &mut W) -> fmt::Result
     ensures { OnOk result (WritesInCalls W.write_str_gives w.old (T.text text.now) w.new) }
 {
     let mut sink = Noting::new(w);
-    let result = text.put_into(&mut sink);
+    let written = text.put_into(&mut sink);
     // It does nothing: the proof reads what `w` holds from the reference that comes back.
     sink.into_inner();
-    result
+    written
 }
 
 /// Writes a text as `{}` does, whatever options the formatter has.
@@ -184,8 +184,8 @@ pub fn display_text<T: Put, W: fmt::Write>(text: &T, f: &mut fmt::Formatter<W>) 
     ensures styled { WritesStyledOnOk W.write_str_gives f.old result (T.text text.now) f.new }
 {
     let mut sink = Displaying::new(f);
-    let result = text.put_into(&mut sink);
+    let displayed = text.put_into(&mut sink);
     // As above.
     sink.into_inner();
-    result
+    displayed
 }

@@ -1,0 +1,4 @@
+//! Tests over all crates. What is expected stands here as written out by hand.
+
+mod program;
+mod tree;
