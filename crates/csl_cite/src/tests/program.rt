@@ -61,7 +61,14 @@ fn title_nature_html(rt: HostRuntime) -> Result<(), Fail> {
 
 #[test]
 fn title_nature_plain(rt: HostRuntime) -> Result<(), Fail> {
-    assert_run(&rt, rt.alloc(), &["title", "Nature", "plain"], 0, "(Title: Nature)\n", "")
+    assert_run(
+        &rt,
+        rt.alloc(),
+        &["title", "Nature", "plain"],
+        0,
+        "(Title: Nature)\n",
+        "",
+    )
 }
 
 #[test]
@@ -79,16 +86,51 @@ fn no_words_is_title_nature_html(rt: HostRuntime) -> Result<(), Fail> {
 #[test]
 fn missing_words(rt: HostRuntime) -> Result<(), Fail> {
     assert_run(&rt, rt.alloc(), &["title"], 2, "", "missing word\n")?;
-    assert_run(&rt, rt.alloc(), &["title", "Nature"], 2, "", "missing word\n")
+    assert_run(
+        &rt,
+        rt.alloc(),
+        &["title", "Nature"],
+        2,
+        "",
+        "missing word\n",
+    )
 }
 
 #[test]
 fn unknown_words(rt: HostRuntime) -> Result<(), Fail> {
     let alloc = rt.alloc();
-    assert_run(&rt, alloc, &["title", "Nature", "pdf"], 2, "", "unknown: pdf\n")?;
-    assert_run(&rt, alloc, &["title", "Nature", "html", "now"], 2, "", "unknown: now\n")?;
-    assert_run(&rt, alloc, &["title", "Nature", "pdf", "now"], 2, "", "unknown: pdf\n")?;
-    assert_run(&rt, alloc, &["cite", "crazy-rich", "author-date", "plain"], 2, "", "unknown: cite\n")?;
+    assert_run(
+        &rt,
+        alloc,
+        &["title", "Nature", "pdf"],
+        2,
+        "",
+        "unknown: pdf\n",
+    )?;
+    assert_run(
+        &rt,
+        alloc,
+        &["title", "Nature", "html", "now"],
+        2,
+        "",
+        "unknown: now\n",
+    )?;
+    assert_run(
+        &rt,
+        alloc,
+        &["title", "Nature", "pdf", "now"],
+        2,
+        "",
+        "unknown: pdf\n",
+    )?;
+    assert_run(
+        &rt,
+        alloc,
+        &["cite", "crazy-rich", "author-date", "plain"],
+        2,
+        "",
+        "unknown: cite\n",
+    )?;
     assert_run(&rt, alloc, &["label", "x"], 2, "", "unknown: label\n")
 }
 
@@ -97,7 +139,14 @@ fn any_title_goes_through_as_it_is(rt: HostRuntime) -> Result<(), Fail> {
     let alloc = rt.alloc();
     let title = "é 📚 <b> & \n\"";
     let html = "(Title: <span style=\"font-style: italic;\">é 📚 <b> & \n\"</span>)\n";
-    assert_run(&rt, alloc, &["title", title, "plain"], 0, "(Title: é 📚 <b> & \n\")\n", "")?;
+    assert_run(
+        &rt,
+        alloc,
+        &["title", title, "plain"],
+        0,
+        "(Title: é 📚 <b> & \n\")\n",
+        "",
+    )?;
     assert_run(&rt, alloc, &["title", title, "html"], 0, html, "")
 }
 
@@ -138,7 +187,11 @@ fn a_refused_fault_is_status_four(rt: HostRuntime) -> Result<(), Fail> {
     assert_eq!(rt; run_refusing(alloc, &["title"], 0, 0)?, 4);
     assert_eq!(rt; run_refusing(alloc, &["title"], 0, 1)?, 2);
     for fault in 0..3 {
-        assert_eq!(rt; run_refusing(alloc, &["label"], 0, fault)?, 4, "after {fault} texts");
+        assert_eq!(rt;
+            run_refusing(alloc, &["label"], 0, fault)?,
+            4,
+            "after {fault} texts"
+        );
     }
     assert_eq!(rt; run_refusing(alloc, &["label"], 0, 3)?, 2);
     Ok(())

@@ -36,7 +36,12 @@ fn baseline_alone_is_an_empty_style(rt: HostRuntime) -> Result<(), Fail> {
         vertical_align: VerticalAlign::Baseline,
         ..Formatting::default()
     };
-    assert_html(&rt, rt.alloc(), &text(rt.alloc(), "x", formatting)?, "<span style=\"\">x</span>")
+    assert_html(
+        &rt,
+        rt.alloc(),
+        &text(rt.alloc(), "x", formatting)?,
+        "<span style=\"\">x</span>",
+    )
 }
 
 #[test]
@@ -54,7 +59,8 @@ fn declarations_in_order(rt: HostRuntime) -> Result<(), Fail> {
         text_decoration: TextDecoration::Underline,
         vertical_align: VerticalAlign::Sub,
     };
-    let html = "<span style=\"font-style: italic;font-weight: bold;text-decoration: underline;font-variant: small-caps;vertical-align: sub;\">x</span>";
+    let html =
+        "<span style=\"font-style: italic;font-weight: bold;text-decoration: underline;font-variant: small-caps;vertical-align: sub;\">x</span>";
     assert_html(&rt, alloc, &text(alloc, "x", all)?, html)?;
     let light = Formatting {
         font_weight: FontWeight::Light,
@@ -71,11 +77,25 @@ fn displays(rt: HostRuntime) -> Result<(), Fail> {
     for (display, html) in [
         (None, "A"),
         (Some(Display::Block), "<div>A</div>"),
-        (Some(Display::Indent), "<div style=\"padding-left: 4em;\">A</div>"),
-        (Some(Display::LeftMargin), "<div style=\"float: left;\">A</div>"),
-        (Some(Display::RightInline), "<div style=\"float: right; clear: both;\">A</div>"),
+        (
+            Some(Display::Indent),
+            "<div style=\"padding-left: 4em;\">A</div>",
+        ),
+        (
+            Some(Display::LeftMargin),
+            "<div style=\"float: left;\">A</div>",
+        ),
+        (
+            Some(Display::RightInline),
+            "<div style=\"float: right; clear: both;\">A</div>",
+        ),
     ] {
-        assert_html(&rt, alloc, &elem(alloc, plain_text(alloc, "A")?, display)?, html)?;
+        assert_html(
+            &rt,
+            alloc,
+            &elem(alloc, plain_text(alloc, "A")?, display)?,
+            html,
+        )?;
     }
     Ok(())
 }
