@@ -8,6 +8,8 @@ mod node;
 mod render;
 mod run;
 mod streams;
+#[cfg(test)]
+mod tests;
 mod title;
 mod words;
 

@@ -3,3 +3,4 @@ pub mod Written
 pub mod Nested
 pub mod Joins
 pub mod Appended
+pub mod Rejects

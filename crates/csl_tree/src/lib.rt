@@ -9,7 +9,9 @@ mod copies;
 mod css;
 pub mod elem;
 pub mod formatting;
+pub mod stack;
 mod write;
 
 pub use elem::{BufWriteFormat, Elem, ElemChild, ElemChildren, ElemMeta};
 pub use formatting::{Formatted, Formatting};
+pub use stack::NonEmptyStack;
