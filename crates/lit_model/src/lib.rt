@@ -29,6 +29,6 @@ pub use numeric::{
 pub use page::{PageRanges, PageRangesPart};
 pub use person::{Person, PersonRole, PersonsWithRoles};
 pub use select::{Bind, Clause, Field};
+pub use sink::{Displaying, Noting, Put, Sink, display_text, write_text};
 pub use source::{LanguageIdentifier, Publisher, QualifiedUrl, SerialNumber};
 pub use text::{ChunkKind, ChunkedString, FormatString, LongShortForm, StringChunk};
-pub use sink::{Displaying, Noting, Put, Sink, display_text, write_text};
