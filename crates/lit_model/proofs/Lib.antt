@@ -19,3 +19,4 @@ pub mod RoundTrip
 pub mod Writable
 pub mod PageRoundTrip
 pub mod Equal
+pub mod PageEqual
