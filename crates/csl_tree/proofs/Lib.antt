@@ -1,3 +1,6 @@
 pub mod Trees
 pub mod Written
 pub mod Nested
+pub mod Joins
+pub mod Appended
+pub mod Rejects

@@ -1,5 +1,5 @@
 -- Contents: lists of tokens, joined so that texts of one formatting that meet become one text.
-use Rattle.std.specs.Prelude.{ℕ, List, [], ◌∷◌, ◌++◌, Option, if◌then◌else◌}
+use Rattle.std.specs.Prelude.{ℕ, List, [], ◌∷◌, ◌++◌, Option, Some, None, if◌then◌else◌}
 use Rattle.csl_style.specs.declared.formatting.Display.{Display}
 use Rattle.csl_tree.specs.declared.formatting.Formatting.{Formatting}
 use Rattle.csl_tree.specs.Formatting.{same_formatting}
@@ -30,6 +30,11 @@ abbrev pub ◌++>◌ : List Token → List Token → List Token
 abbrev pub text_content : List ℕ → Formatting → List Token
 text_content [] f = []
 text_content (b ∷ bs) f = text (b ∷ bs) f ∷ []
+
+-- the content of a text, if there is one
+abbrev pub optional_text : Option (List ℕ) → Formatting → List Token
+optional_text None f = []
+optional_text (Some bs) f = text_content bs f
 
 -- an element around a content, unless there is none
 abbrev pub boxed : Option Display → Option Meta → List Token → List Token

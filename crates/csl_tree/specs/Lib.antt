@@ -3,3 +3,4 @@ pub mod Tokens
 pub mod Html
 pub mod Writing
 pub mod Content
+pub mod Stack

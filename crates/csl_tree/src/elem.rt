@@ -224,15 +224,15 @@ impl ElemChild {
 impl From<Elem> for ElemChild {
     ghost from_gives = { λ elem child. child_tokens child ≡ elem_tokens elem };
 
-    fn from(elem: Elem) -> ElemChild {
-        ElemChild::Elem(elem)
+    fn from(inner: Elem) -> ElemChild {
+        ElemChild::Elem(inner)
     }
 }
 
 impl From<Formatted> for ElemChild {
     ghost from_gives = { λ text child. child_tokens child ≡ text_tokens text };
 
-    fn from(text: Formatted) -> ElemChild {
-        ElemChild::Text(text)
+    fn from(formatted: Formatted) -> ElemChild {
+        ElemChild::Text(formatted)
     }
 }

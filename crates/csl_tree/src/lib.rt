@@ -4,11 +4,14 @@
 //! are stored and nothing else.
 #![tactic(auto)]
 
+pub mod content;
 mod copies;
 mod css;
 pub mod elem;
 pub mod formatting;
+pub mod stack;
 mod write;
 
 pub use elem::{BufWriteFormat, Elem, ElemChild, ElemChildren, ElemMeta};
 pub use formatting::{Formatted, Formatting};
+pub use stack::NonEmptyStack;

@@ -5,14 +5,14 @@ ghost use Rattle.std.specs.Fmt.{WritesInCalls};
 ghost use Rattle.csl_tree.specs.Formatting.{same_formatting, default_formatting};
 ghost use Rattle.csl_tree.specs.Tokens.{tokens, elem_tokens, child_tokens, text_tokens, link_tokens, leaf_text, solid, opened, closed};
 ghost use Rattle.csl_tree.specs.Html.{span, start_tag, html_bytes_of, html, html_text, IsNested};
-ghost use Rattle.csl_tree.specs.Writing.{written};
+ghost use Rattle.csl_tree.specs.Writing.{written, line_break};
 ghost use Rattle.csl_tree.specs.declared.elem.BufWriteFormat.TheVariants.{Plain};
 
 use crate::css;
 use crate::elem::{BufWriteFormat, Elem, ElemChild, ElemChildren};
 use crate::formatting::{Formatted, Formatting};
 use csl_style::Display;
-use lit_model::{Displaying, Noting, Sink};
+use lit_model::{Put, Sink, display_text, write_text};
 use std::fmt;
 
 impl Formatting {
@@ -87,14 +87,24 @@ fn write_link<S: Sink>(
     }
 }
 
+/// The line break around a block in plain text.
+fn line_break(display: Option<Display>) -> &'static str
+    ensures { result.now ≡ line_break display }
+{
+    match display {
+        Some(Display::Block) => "\n",
+        _ => "",
+    }
+}
+
 /// What stands before an element's children.
 fn start_of(display: Option<Display>, format: BufWriteFormat) -> &'static str
     ensures { result.now ≡ written format (solid (opened display None) ∷ []) }
 {
     match (format, display) {
+        (BufWriteFormat::Plain, display) => line_break(display),
         (BufWriteFormat::Html, Some(display)) => css::div_start(display),
-        (BufWriteFormat::Plain, Some(Display::Block)) => "\n",
-        _ => "",
+        (BufWriteFormat::Html, None) => "",
     }
 }
 
@@ -103,10 +113,17 @@ fn end_of(display: Option<Display>, format: BufWriteFormat) -> &'static str
     ensures { result.now ≡ written format (solid (closed display) ∷ []) }
 {
     match (format, display) {
+        (BufWriteFormat::Plain, display) => line_break(display),
         (BufWriteFormat::Html, Some(_)) => "</div>",
-        (BufWriteFormat::Plain, Some(Display::Block)) => "\n",
-        _ => "",
+        (BufWriteFormat::Html, None) => "",
     }
+}
+
+/// A tree and what it is written as.
+#[derive(Drop)]
+struct InFormat<'a, T> {
+    tree: &'a T,
+    format: BufWriteFormat,
 }
 
 impl ElemChildren {
@@ -124,8 +141,8 @@ impl ElemChildren {
         Ok(())
     }
 
-    /// Writes the children to any writer (`write_into` says of which writers an error speaks). It
-    /// fails only where the writer refuses a text; what the writer holds then is left open.
+    /// Writes the children to any writer. It fails only where the writer refuses a text, as
+    /// `write_into` says of sinks; what the writer holds then is left open.
     ///
     /// The HTML is a nested list of tags and texts, and its texts are those of the leaves.
     pub fn write_buf<W: fmt::Write>(&self, w: &mut W, format: BufWriteFormat) -> fmt::Result
@@ -133,11 +150,31 @@ impl ElemChildren {
         ensures nested { IsNested (html (tokens self.now)) }
         ensures leaves { html_text (html (tokens self.now)) ≡ leaf_text (tokens self.now) }
     {
-        let mut sink = Noting::new(w);
-        let result = self.write_into(&mut sink, format);
-        // It does nothing: the proof reads what `w` holds from the reference that comes back.
-        sink.into_inner();
-        result
+        let children = InFormat { tree: self, format };
+        write_text(&children, w)
+    }
+}
+
+impl Put for InFormat<'_, ElemChildren> {
+    ghost text = { λ s. written s.format (tokens s.tree.now) };
+
+    fn put_into<S: Sink>(&self, sink: &mut S) -> fmt::Result {
+        self.tree.write_into(sink, self.format)
+    }
+}
+
+/// The plain text, with and without `#`.
+impl fmt::Display for ElemChildren {
+    ghost output = { λ tree. Some (written Plain (tokens tree)) };
+
+    ghost styled_output = { λ tree spec. Some (written Plain (tokens tree)) };
+
+    fn fmt<W: fmt::Write>(&self, f: &mut fmt::Formatter<W>) -> fmt::Result {
+        let children = InFormat {
+            tree: self,
+            format: BufWriteFormat::Plain,
+        };
+        display_text(&children, f)
     }
 }
 
@@ -156,8 +193,8 @@ impl Elem {
         Ok(())
     }
 
-    /// Writes the element to any writer (`write_into` says of which writers an error speaks). It
-    /// fails only where the writer refuses a text; what the writer holds then is left open.
+    /// Writes the element to any writer. It fails only where the writer refuses a text, as
+    /// `write_into` says of sinks; what the writer holds then is left open.
     ///
     /// The HTML is a nested list of tags and texts, and its texts are those of the leaves.
     pub fn write_buf<W: fmt::Write>(&self, w: &mut W, format: BufWriteFormat) -> fmt::Result
@@ -165,11 +202,31 @@ impl Elem {
         ensures nested { IsNested (html (elem_tokens self.now)) }
         ensures leaves { html_text (html (elem_tokens self.now)) ≡ leaf_text (elem_tokens self.now) }
     {
-        let mut sink = Noting::new(w);
-        let result = self.write_into(&mut sink, format);
-        // It does nothing: the proof reads what `w` holds from the reference that comes back.
-        sink.into_inner();
-        result
+        let elem = InFormat { tree: self, format };
+        write_text(&elem, w)
+    }
+}
+
+impl Put for InFormat<'_, Elem> {
+    ghost text = { λ s. written s.format (elem_tokens s.tree.now) };
+
+    fn put_into<S: Sink>(&self, sink: &mut S) -> fmt::Result {
+        self.tree.write_into(sink, self.format)
+    }
+}
+
+/// The plain text, with and without `#`.
+impl fmt::Display for Elem {
+    ghost output = { λ tree. Some (written Plain (elem_tokens tree)) };
+
+    ghost styled_output = { λ tree spec. Some (written Plain (elem_tokens tree)) };
+
+    fn fmt<W: fmt::Write>(&self, f: &mut fmt::Formatter<W>) -> fmt::Result {
+        let elem = InFormat {
+            tree: self,
+            format: BufWriteFormat::Plain,
+        };
+        display_text(&elem, f)
     }
 }
 
@@ -194,8 +251,8 @@ impl ElemChild {
         }
     }
 
-    /// Writes the child to any writer (`write_into` says of which writers an error speaks). It
-    /// fails only where the writer refuses a text; what the writer holds then is left open.
+    /// Writes the child to any writer. It fails only where the writer refuses a text, as
+    /// `write_into` says of sinks; what the writer holds then is left open.
     ///
     /// The HTML is a nested list of tags and texts, and its texts are those of the leaves.
     pub fn write_buf<W: fmt::Write>(&self, w: &mut W, format: BufWriteFormat) -> fmt::Result
@@ -203,49 +260,30 @@ impl ElemChild {
         ensures nested { IsNested (html (child_tokens self.now)) }
         ensures leaves { html_text (html (child_tokens self.now)) ≡ leaf_text (child_tokens self.now) }
     {
-        let mut sink = Noting::new(w);
-        let result = self.write_into(&mut sink, format);
-        // It does nothing: the proof reads what `w` holds from the reference that comes back.
-        sink.into_inner();
-        result
+        let child = InFormat { tree: self, format };
+        write_text(&child, w)
     }
 }
 
-impl fmt::Display for ElemChildren {
-    ghost output = { λ tree. Some (written Plain (tokens tree)) };
+impl Put for InFormat<'_, ElemChild> {
+    ghost text = { λ s. written s.format (child_tokens s.tree.now) };
 
-    ghost styled_output = { λ tree spec. Some (written Plain (tokens tree)) };
-
-    fn fmt<W: fmt::Write>(&self, f: &mut fmt::Formatter<W>) -> fmt::Result {
-        let mut sink = Displaying::new(f);
-        let result = self.write_into(&mut sink, BufWriteFormat::Plain);
-        sink.into_inner();
-        result
+    fn put_into<S: Sink>(&self, sink: &mut S) -> fmt::Result {
+        self.tree.write_into(sink, self.format)
     }
 }
 
-impl fmt::Display for Elem {
-    ghost output = { λ tree. Some (written Plain (elem_tokens tree)) };
-
-    ghost styled_output = { λ tree spec. Some (written Plain (elem_tokens tree)) };
-
-    fn fmt<W: fmt::Write>(&self, f: &mut fmt::Formatter<W>) -> fmt::Result {
-        let mut sink = Displaying::new(f);
-        let result = self.write_into(&mut sink, BufWriteFormat::Plain);
-        sink.into_inner();
-        result
-    }
-}
-
+/// The plain text, with and without `#`.
 impl fmt::Display for ElemChild {
     ghost output = { λ tree. Some (written Plain (child_tokens tree)) };
 
     ghost styled_output = { λ tree spec. Some (written Plain (child_tokens tree)) };
 
     fn fmt<W: fmt::Write>(&self, f: &mut fmt::Formatter<W>) -> fmt::Result {
-        let mut sink = Displaying::new(f);
-        let result = self.write_into(&mut sink, BufWriteFormat::Plain);
-        sink.into_inner();
-        result
+        let child = InFormat {
+            tree: self,
+            format: BufWriteFormat::Plain,
+        };
+        display_text(&child, f)
     }
 }

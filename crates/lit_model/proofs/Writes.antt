@@ -39,14 +39,18 @@ module _ {W : Type 0} (took : W → List ℕ → W → Type 0) where
     passed_on_calls s (x ∷ texts) t p = let rest = passed_on_calls p.0 texts t p.2 in (rest.0 ∙ p.1.0, (((inner p.0).now, p.1.1, rest.1)))
 
     -- what it took, the borrowed one took, which is v once the loan has ended
-    pub passed_on : {T E : Type 0} (r : Result T E) (s t : S) (lent back : MutBor W) (v : W) (bs : List ℕ) → inner s ≡ lent → back ≡ inner t → (back.ghost_name ≡ lent.ghost_name → v ≡ back.now) → OnOk r (WritesInCalls PassedOn s bs t) → OnOk r (WritesInCalls took lent.now bs v)
-    passed_on (Err e) s t lent back v bs from to ends p = p
-    passed_on (Ok x) s t lent back v bs from to ends p =
+    pub passed_back : (s t : S) (lent back : MutBor W) (v : W) (bs : List ℕ) → inner s ≡ lent → back ≡ inner t → (back.ghost_name ≡ lent.ghost_name → v ≡ back.now) → WritesInCalls PassedOn s bs t → WritesInCalls took lent.now bs v
+    passed_back s t lent back v bs from to ends p =
         let all = passed_on_calls s p.parts t p.calls in
         let same : back.ghost_name ≡ lent.ghost_name = ap (λ (m : MutBor W). m.ghost_name) to ∙ all.0 ∙ ap (λ (m : MutBor W). m.ghost_name) from in
         let last : (inner t).now ≡ v = ap (λ (m : MutBor W). m.now) (sym to) ∙ sym (ends same) in
         subst (λ (w : W). WritesInCalls took w bs v) (ap (λ (m : MutBor W). m.now) from)
         (subst (WritesInCalls took (inner s).now bs) last (record { parts = p.parts; calls = all.1; whole = p.whole }))
+
+    -- the same of a call that may fail
+    pub passed_on : {T E : Type 0} (r : Result T E) (s t : S) (lent back : MutBor W) (v : W) (bs : List ℕ) → inner s ≡ lent → back ≡ inner t → (back.ghost_name ≡ lent.ghost_name → v ≡ back.now) → OnOk r (WritesInCalls PassedOn s bs t) → OnOk r (WritesInCalls took lent.now bs v)
+    passed_on (Err e) s t lent back v bs from to ends p = p
+    passed_on (Ok x) s t lent back v bs from to ends p = passed_back s t lent back v bs from to ends p
 
   -- the formatter, which a styled write leaves plain if it was
   pub plain_written : (f : Formatter W) (bs : List ℕ) (g : Formatter W) → HasWrittenStyled took f bs g → IsPlainFormatter f → HasWritten took f bs g
@@ -78,3 +82,9 @@ module _ {W : Type 0} (took : W → List ℕ → W → Type 0) where
 pub on_ok_both : {T E A : Type 0} (B : Type 0) (r : Result T E) → A → OnOk r B → OnOk r (A × B)
 on_ok_both B (Ok x) a b = (a, b)
 on_ok_both B (Err e) a b = b
+
+-- where a writer stayed as it was, so did the one that it borrows
+pub kept_back : {W S : Type 0} (inner : S → MutBor W) (s t : S) (lent back : MutBor W) (v : W) → inner s ≡ lent → back ≡ inner t → (back.ghost_name ≡ lent.ghost_name → v ≡ back.now) → t ≡ s → v ≡ lent.now
+kept_back {W} inner s t lent back v from to ends same =
+    let whole : back ≡ lent = to ∙ ap inner same ∙ from in
+    ends (ap (λ (m : MutBor W). m.ghost_name) whole) ∙ ap (λ (m : MutBor W). m.now) whole

@@ -1,17 +1,34 @@
 //! The literature model: what a bibliography knows of a work, and the texts of its parts.
 #![tactic(auto)]
 
+mod copies;
+pub mod date;
+pub mod entry;
+pub mod entry_type;
+mod first_names;
+mod initials;
 pub mod maybe_typed;
 pub mod memory;
 pub mod numeric;
 pub mod page;
+pub mod person;
 mod scan;
+pub mod select;
 pub mod sink;
+pub mod source;
+pub mod text;
 
+pub use date::{Date, Season};
+pub use entry::Entry;
+pub use entry_type::EntryType;
 pub use maybe_typed::MaybeTyped;
 pub use memory::Memory;
 pub use numeric::{
     GrammarGender, NumberForm, Numeric, NumericDelimiter, NumericError, NumericValue,
 };
 pub use page::{PageRanges, PageRangesPart};
-pub use sink::{Displaying, Noting, Sink};
+pub use person::{Person, PersonRole, PersonsWithRoles};
+pub use select::{Bind, Clause, Field};
+pub use sink::{Displaying, Noting, Put, Sink, display_text, write_text};
+pub use source::{LanguageIdentifier, Publisher, QualifiedUrl, SerialNumber};
+pub use text::{ChunkKind, ChunkedString, FormatString, LongShortForm, StringChunk};

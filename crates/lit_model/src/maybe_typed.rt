@@ -1,3 +1,15 @@
+//! Values that were understood, or their texts.
+
+ghost use Rattle.std.specs.Prelude.{◌≡◌, IfOk};
+ghost use Rattle.lit_model.specs.MaybeTyped.{maybe_view};
+ghost use Rattle.lit_model.specs.Numeric.{numeric_view};
+ghost use Rattle.lit_model.specs.Page.{pages_view};
+
+use crate::memory::Memory;
+use crate::numeric::Numeric;
+use crate::page::PageRanges;
+use std::alloc::Global;
+
 /// A value that was understood, or the text that stands for it.
 #[derive(PartialEq, Eq, Hash, Drop)]
 pub enum MaybeTyped<T> {
@@ -5,4 +17,40 @@ pub enum MaybeTyped<T> {
     Typed(T),
     /// The text, which is no such value.
     String(String),
+}
+
+impl MaybeTyped<Numeric> {
+    /// A copy. The error: there was no memory for it.
+    pub fn clone(&self, alloc: Global) -> Result<MaybeTyped<Numeric>, Memory>
+        ensures { IfOk result (λ copy. maybe_view numeric_view copy ≡ maybe_view numeric_view self.now) }
+    {
+        match self {
+            MaybeTyped::Typed(number) => {
+                let copy = number.clone(alloc)?;
+                Ok(MaybeTyped::Typed(copy))
+            }
+            MaybeTyped::String(text) => {
+                let copy = String::from_str(alloc, text.as_str())?;
+                Ok(MaybeTyped::String(copy))
+            }
+        }
+    }
+}
+
+impl MaybeTyped<PageRanges> {
+    /// A copy. The error: there was no memory for it.
+    pub fn clone(&self, alloc: Global) -> Result<MaybeTyped<PageRanges>, Memory>
+        ensures { IfOk result (λ copy. maybe_view pages_view copy ≡ maybe_view pages_view self.now) }
+    {
+        match self {
+            MaybeTyped::Typed(pages) => {
+                let copy = pages.clone(alloc)?;
+                Ok(MaybeTyped::Typed(copy))
+            }
+            MaybeTyped::String(text) => {
+                let copy = String::from_str(alloc, text.as_str())?;
+                Ok(MaybeTyped::String(copy))
+            }
+        }
+    }
 }

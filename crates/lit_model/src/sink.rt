@@ -3,8 +3,8 @@
 //! `fmt::Write` tells nothing of its errors, so no contract over it can say that a call fails only
 //! where the writer refused. A [`Sink`] tells it, and [`Noting`] makes one of any writer.
 
-ghost use Rattle.std.specs.Prelude.{◌≡◌, Bool, false, true, OnOk, OnErr};
-ghost use Rattle.std.specs.Fmt.{WritesInCalls, HasWrittenStyled, IsFlush};
+ghost use Rattle.std.specs.Prelude.{◌≡◌, ℕ, List, Bool, false, true, OnOk, OnErr};
+ghost use Rattle.std.specs.Fmt.{WritesInCalls, WritesOnOk, WritesStyledOnOk, HasWrittenStyled, IsFlush};
 ghost use Rattle.lit_model.specs.Sink.{concat_texts};
 
 use std::fmt;
@@ -120,14 +120,14 @@ impl<'a, W: fmt::Write> Displaying<'a, W> {
         self.inner
     }
 
-    /// Passes a text on.
-    fn pass(&mut self, text: &str) -> fmt::Result
-        ensures ok { OnOk result (IsFlush self.old.inner.now → HasWrittenStyled W.write_str_gives self.old.inner.now text.now self.new.inner.now) }
+    /// Passes a part of what is displayed on.
+    fn pass(&mut self, part: &str) -> fmt::Result
+        ensures ok { OnOk result (IsFlush self.old.inner.now → HasWrittenStyled W.write_str_gives self.old.inner.now part.now self.new.inner.now) }
         ensures same { self.new.inner.ghost_name ≡ self.old.inner.ghost_name }
         ensures kept { OnOk result (self.new.refused ≡ self.old.refused) }
         ensures err { OnErr result (self.new.refused ≡ true) }
     {
-        match self.inner.write_str(text) {
+        match self.inner.write_str(part) {
             Ok(()) => Ok(()),
             Err(error) => {
                 self.refused = true;
@@ -151,4 +151,41 @@ impl<W: fmt::Write> Sink for Displaying<'_, W> {
     fn put(&mut self, text: &str) -> fmt::Result {
         self.pass(text)
     }
+}
+
+/// What has a text that a sink can take.
+pub trait Put {
+    /// The bytes of the text.
+    ghost text: { Self → List ℕ };
+
+    /// Hands the text over. It fails only where the sink refuses a part of it; what the sink holds
+    /// then is left open.
+    fn put_into<S: Sink>(&self, sink: &mut S) -> fmt::Result
+        ensures ok { OnOk result (WritesInCalls S.write_str_gives sink.old (text self.now) sink.new) }
+        ensures kept { OnOk result (S.refused sink.new ≡ S.refused sink.old) }
+        ensures err { OnErr result (S.refused sink.new ≡ true) };
+}
+
+/// Writes a text to any writer. It fails only where the writer refuses a part of it, as `put_into`
+/// says of sinks; what the writer holds then is left open.
+pub fn write_text<T: Put, W: fmt::Write>(text: &T, w: &mut W) -> fmt::Result
+    ensures { OnOk result (WritesInCalls W.write_str_gives w.old (T.text text.now) w.new) }
+{
+    let mut sink = Noting::new(w);
+    let written = text.put_into(&mut sink);
+    // It does nothing: the proof reads what `w` holds from the reference that comes back.
+    sink.into_inner();
+    written
+}
+
+/// Writes a text as `{}` does, whatever options the formatter has.
+pub fn display_text<T: Put, W: fmt::Write>(text: &T, f: &mut fmt::Formatter<W>) -> fmt::Result
+    ensures plain { WritesOnOk W.write_str_gives f.old result (T.text text.now) f.new }
+    ensures styled { WritesStyledOnOk W.write_str_gives f.old result (T.text text.now) f.new }
+{
+    let mut sink = Displaying::new(f);
+    let displayed = text.put_into(&mut sink);
+    // As above.
+    sink.into_inner();
+    displayed
 }

@@ -1,11 +1,6 @@
-use Rattle.std.proofs.Common.{rules}
-use Rattle.lit_model.proofs.Writes.{passed_on}
 use Rattle.csl_tree.specs.Tokens.{child_tokens}
 use Rattle.csl_tree.proofs.Nested.{nested_child, html_leaves}
 use Rattle.csl_tree.proofs.elem.ElemChild.write_buf.Goals as goal
-
-pub returns-clause-ok : goal.returns-clause-ok
-returns-clause-ok g c = passed_on _ (λ s. s.inner) _ _ _ _ _ _ _ c.new-sink.ensures.lent c.into_inner.ensures (λ same. search rules) c.write_into-result.ensures.ok
 
 pub returns-clause-nested : goal.returns-clause-nested
 returns-clause-nested g c = nested_child c.args.self.now

@@ -1,0 +1,99 @@
+//! Works over the literature model. Each makes its input by repeating a unit, and does one call on it.
+
+use anyhow::{Result, bail};
+use lit_model::{Entry, EntryType, Numeric, NumericError, NumericValue, PageRanges, Person};
+use std::alloc::Global;
+
+/// A text of so many units, and its end.
+fn repeated(alloc: Global, unit: &str, size: usize, end: &str) -> Result<String> {
+    let mut text = String::new(alloc);
+    for _ in 0..size {
+        text.push_str(unit)?;
+    }
+    text.push_str(end)?;
+    Ok(text)
+}
+
+/// Reads a list of numbers, and counts them.
+pub fn numeric(alloc: Global, size: usize) -> Result<usize> {
+    let text = repeated(alloc, "17, ", size, "4")?;
+    match Numeric::parse(alloc, text.as_str()) {
+        Ok(numeric) => match &numeric.value {
+            NumericValue::Number(_) => Ok(1),
+            NumericValue::Set(numbers) => Ok(numbers.len()),
+        },
+        Err(NumericError::Memory) => bail!("out of memory"),
+        Err(NumericError::NotNumeric) => bail!("not numeric"),
+    }
+}
+
+/// Reads a list of page ranges, and counts its parts.
+pub fn pages(alloc: Global, size: usize) -> Result<usize> {
+    let text = repeated(alloc, "321-328, ", size, "7")?;
+    match PageRanges::parse(alloc, text.as_str()) {
+        Ok(pages) => Ok(pages.ranges.len()),
+        Err(NumericError::Memory) => bail!("out of memory"),
+        Err(NumericError::NotNumeric) => bail!("no pages"),
+    }
+}
+
+fn person(name: String, given_name: String) -> Person {
+    Person {
+        name,
+        given_name: Some(given_name),
+        prefix: None,
+        suffix: None,
+        alias: None,
+        comma_suffix: false,
+    }
+}
+
+/// Writes the initials of many given names, and counts their bytes.
+pub fn initials(alloc: Global, size: usize) -> Result<usize> {
+    let name = String::from_str(alloc, "Kwan")?;
+    let given_name = repeated(alloc, "Jean-Luc ", size, "Marie")?;
+    let mut written = String::new(alloc);
+    person(name, given_name).initials(&mut written, Some(". "), true)?;
+    Ok(written.len())
+}
+
+/// Finds the particle of a name of many words, and counts its bytes.
+pub fn particle(alloc: Global, size: usize) -> Result<usize> {
+    let name = repeated(alloc, "van der ", size, "Berg")?;
+    let given_name = String::from_str(alloc, "Vincent")?;
+    match person(name, given_name).name_particle() {
+        Some(particle) => Ok(particle.len()),
+        None => bail!("no particle"),
+    }
+}
+
+/// An entry with many authors.
+fn entry(alloc: Global, size: usize) -> Result<Entry> {
+    let mut authors = Vec::new(alloc);
+    for _ in 0..size {
+        let name = String::from_str(alloc, "Kwan")?;
+        let given_name = String::from_str(alloc, "Kevin")?;
+        authors.push(person(name, given_name))?;
+    }
+    let mut entry = Entry::new(alloc, "crazy-rich", EntryType::Book)?;
+    entry.authors = Some(authors);
+    Ok(entry)
+}
+
+fn author_count(entry: &Entry) -> usize {
+    match entry.authors() {
+        Some(authors) => authors.len(),
+        None => 0,
+    }
+}
+
+fn copied_authors(alloc: Global, entry: &Entry) -> Result<usize> {
+    let copy = entry.clone(alloc)?;
+    Ok(author_count(&copy))
+}
+
+/// Copies an entry with many authors, and counts those of the copy.
+pub fn clone_entry(alloc: Global, size: usize) -> Result<usize> {
+    let entry = entry(alloc, size)?;
+    copied_authors(alloc, &entry)
+}

@@ -1,0 +1,60 @@
+//! The program `csl_bench`: it does a work of a given size, for whoever counts its instructions.
+//!
+//! `csl_bench WORK N` does the work once, N times as large as its unit, and prints a checksum of the
+//! answer, never a time. Without words it does each work in a small size.
+#![tactic(auto)]
+
+mod literature;
+
+use anyhow::{Result, bail};
+use std::alloc::Global;
+use std::env;
+use std::rt::Env;
+
+/// The sizes of the works that are done without words.
+const SMALL: usize = 10;
+
+/// The works, by name.
+const WORKS: [&str; 5] = ["numeric", "pages", "initials", "particle", "clone_entry"];
+
+/// Does a work, and answers its checksum.
+fn checksum(alloc: Global, work: &str, size: usize) -> Result<usize> {
+    if work == "numeric" {
+        literature::numeric(alloc, size)
+    } else if work == "pages" {
+        literature::pages(alloc, size)
+    } else if work == "initials" {
+        literature::initials(alloc, size)
+    } else if work == "particle" {
+        literature::particle(alloc, size)
+    } else if work == "clone_entry" {
+        literature::clone_entry(alloc, size)
+    } else {
+        bail!("no such work: {work}");
+    }
+}
+
+fn report(rt: &(impl Print + AllocGlobal), work: &str, size: usize) -> Result<()> {
+    let sum = checksum(rt.alloc(), work, size)?;
+    rt.println(format_args!("{work} {size}: {sum}"))?;
+    Ok(())
+}
+
+fn run(rt: &(impl Env + Print + AllocGlobal)) -> Result<()> {
+    let mut words = env::args(rt)?;
+    let _name = words.next();
+    match (words.next(), words.next()) {
+        (Some(work), Some(size)) => report(rt, work.as_str(), size.parse::<usize>()?),
+        (Some(_), None) => bail!("csl_bench WORK N"),
+        _ => {
+            for work in WORKS {
+                report(rt, work, SMALL)?;
+            }
+            Ok(())
+        }
+    }
+}
+
+fn main(rt: HostRuntime) -> Result<()> {
+    run(&rt)
+}

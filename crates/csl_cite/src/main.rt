@@ -1,0 +1,52 @@
+//! The program `csl_cite`: it prints what a built-in style makes of an entry.
+//!
+//! All of its work is [`run::run`], over any two writers; `main` hands it the arguments and the
+//! standard streams.
+#![tactic(auto)]
+
+mod node;
+mod render;
+mod run;
+mod streams;
+#[cfg(test)]
+mod tests;
+mod title;
+mod words;
+
+use std::env;
+use std::io::{self, ErrorKind};
+use std::process::ExitCode;
+use std::rt::Env;
+use streams::{Fault, Output};
+
+/// The arguments after the program's name.
+fn arguments(rt: &(impl Env + AllocGlobal)) -> io::Result<Vec<String>> {
+    let mut words = env::args(rt)?;
+    let _name = words.next();
+    Ok(words.collect(rt.alloc())?)
+}
+
+/// Says why there are no arguments, and answers the status for it.
+fn without_arguments(rt: &impl Eprint, error: &io::Error) -> u8 {
+    let (line, status) = if error.kind() == ErrorKind::OutOfMemory {
+        ("out of memory", 3)
+    } else {
+        ("not text", 2)
+    };
+    // Where even this can't be said, the status says it.
+    let _ = rt.eprintln(line);
+    status
+}
+
+fn main(rt: HostRuntime) -> ExitCode {
+    let status = match arguments(&rt) {
+        Ok(words) => run::run(
+            rt.alloc(),
+            words.as_slice(),
+            &mut Output { rt: &rt },
+            &mut Fault { rt: &rt },
+        ),
+        Err(error) => without_arguments(&rt, &error),
+    };
+    ExitCode::from(status)
+}

@@ -1,0 +1,5 @@
+//! Tests over all crates. What is expected stands here as written out by hand.
+
+mod program;
+mod stack;
+mod tree;

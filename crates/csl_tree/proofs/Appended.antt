@@ -1,0 +1,181 @@
+-- A content that ends in a child, and what follows.
+use Rattle.std.proofs.Common.{◌≡◌, ℕ, ◌+◌, ◌<◌, ◌≤◌, List, [], ◌∷◌, ◌++◌, length, get_or, take, set, refl, sym, ap, ◌∙◌, append_assoc, arith}
+use Rattle.std.specs.List.{flat_map}
+use Rattle.std.proofs.lemmas.Grind.{flat_map-append}
+use Rattle.csl_tree.specs.Tokens.{Token, Solid, text, Meta, solid, opened, closed, markup, link, transparent, optional_meta, child_step, elem_step, children_step, child_tokens, elem_tokens, tokens}
+use Rattle.csl_tree.specs.Formatting.{same_formatting}
+use Rattle.csl_tree.specs.Content.{last_before, ◌++>◌, boxed, affixed}
+use Rattle.csl_tree.proofs.Joins.{join_assoc}
+use Rattle.std.proofs.Common.{true, false, cond, Option}
+use Rattle.std.specs.List.{remove}
+use Rattle.csl_tree.proofs.Trees.{tokens_out, elem_tokens_are}
+use Rattle.csl_style.specs.declared.formatting.Display.{Display}
+use Rattle.csl_tree.specs.declared.elem.ElemChild.{ElemChild}
+use Rattle.std.specs.Prelude.{string_bytes}
+use Rattle.std.specs.declared.string.String.{String}
+use Rattle.std.specs.declared.alloc.Global.{Global}
+use Rattle.csl_tree.specs.declared.formatting.Formatting.{Formatting}
+use Rattle.csl_tree.specs.declared.formatting.Formatted.{Formatted}
+use Rattle.csl_tree.specs.declared.elem.Elem as elem
+use Rattle.csl_tree.specs.declared.elem.ElemChildren.{ElemChildren}
+use Rattle.csl_tree.specs.declared.elem.ElemChild.TheOpen.{ElemChild-F, Text, Elem, Markup, Link, Transparent}
+use Rattle.csl_tree.specs.declared.elem.ElemChild.TheViews.{out-ElemChild}
+use Rattle.csl_tree.specs.declared.elem.ElemChild.TheFolds.{fold_out-ElemChild, map-ElemChild, fold-roll-ElemChild}
+use Rattle.csl_tree.specs.declared.elem.ElemChild.TheVariants as variants
+use Rattle.std.proofs.lemmas.List.{take_more, take_more_set, take_all, append-nil, length-set}
+
+-- what stands before a content that is not empty stays as it is
+pub join_after : (p : List Token) (u : Token) (l b : List Token) → (p ++ u ∷ l) ++> b ≡ p ++ ((u ∷ l) ++> b)
+join_after [] u l b = refl
+join_after (t ∷ []) u l b = refl
+join_after (t ∷ v ∷ p) u l b = ap (λ w. t ∷ w) (join_after (v ∷ p) u l b)
+
+pub solid_last : (a : List Token) (s : Solid) (b : List Token) → (a ++ solid s ∷ []) ++> b ≡ (a ++ solid s ∷ []) ++ b
+solid_last a s b = join_after a (solid s) [] b ∙ sym (append_assoc a (solid s ∷ []) b)
+
+-- the tokens of a child are not none
+pub record Begins (l : List Token) : Type 0 where
+  pub first : Token
+  pub rest : List Token
+  pub is : l ≡ first ∷ rest
+
+layer_begins : (x : ElemChild-F ElemChild elem.Elem ElemChildren) → Begins (child_step (map-ElemChild ElemChild elem.Elem ElemChildren (List Token) (List Token) (List Token) child_tokens elem_tokens tokens x))
+layer_begins (Text f) = record { first = _; rest = _; is = refl }
+layer_begins (Elem e) = record { first = _; rest = _; is = elem_tokens_are e }
+layer_begins (Markup s) = record { first = _; rest = _; is = refl }
+layer_begins (Link f url) = record { first = _; rest = _; is = refl }
+layer_begins (Transparent n f) = record { first = _; rest = _; is = refl }
+
+pub child_begins : (k : ElemChild) → Begins (child_tokens k)
+child_begins k = let e = fold_out-ElemChild (List Token) (List Token) (List Token) child_step elem_step children_step k in let b = layer_begins (out-ElemChild k) in record { first = b.first; rest = b.rest; is = e ∙ b.is }
+
+-- what follows joins the last child alone
+pub join_child : (p : List Token) (k : ElemChild) (b : List Token) → (p ++ child_tokens k) ++> b ≡ p ++ (child_tokens k ++> b)
+join_child p k b = let h = child_begins k in rw h.is (join_after p h.first h.rest b)
+
+pub elem_child : (e : elem.Elem) → child_tokens (variants.Elem e) ≡ elem_tokens e
+elem_child e = ap child_tokens (sym (variants.rolls-Elem e)) ∙ fold-roll-ElemChild (List Token) (List Token) (List Token) child_step elem_step children_step (Elem e)
+
+-- what follows an element joins nothing
+pub elem_apart : (e : elem.Elem) (b : List Token) → child_tokens (variants.Elem e) ++> b ≡ child_tokens (variants.Elem e) ++ b
+elem_apart e b = rw (elem_child e, elem_tokens_are e) (solid_last (solid (opened e.display (optional_meta e.meta)) ∷ tokens e.children) (closed e.display) b)
+
+module _ {A B : Type 0} (f : A → List B) (xs : List A) (i : ℕ) (last : i + 1 ≡ length xs) where
+  pub flat_map-last : (x : A) → x ≡ get_or xs i x → flat_map f xs ≡ flat_map f (take i xs) ++ f x
+  flat_map-last x h =
+      let one : f (get_or xs i x) ++ [] ≡ f x = append-nil _ ∙ ap f (sym h) in
+      sym (ap (flat_map f) (take_all (i + 1) xs (omega arith))) ∙ ap (flat_map f) (take_more xs i x (omega arith)) ∙ flat_map-append f (take i xs) (get_or xs i x ∷ []) ∙ ap (λ l. flat_map f (take i xs) ++ l) one
+
+  pub flat_map-set_last : (y : A) → flat_map f (set xs i y) ≡ flat_map f (take i xs) ++ f y
+  flat_map-set_last y =
+      sym (ap (flat_map f) (take_all (i + 1) (set xs i y) (omega (arith, length-set {A = A})))) ∙ ap (flat_map f) (take_more_set xs i y (omega arith)) ∙ flat_map-append f (take i xs) (y ∷ []) ∙ ap (λ l. flat_map f (take i xs) ++ l) (append-nil (f y))
+
+-- a last child that the text joined
+pub last_joined : (xs : List ElemChild) (i : ℕ) (x y : ElemChild) (b : List Token) → i + 1 ≡ length xs → x ≡ get_or xs i x → child_tokens y ≡ child_tokens x ++> b → flat_map child_tokens (set xs i y) ≡ flat_map child_tokens xs ++> b
+last_joined xs i x y b h k e = rw (flat_map-set_last child_tokens xs i h y, flat_map-last child_tokens xs i h x k, e) (sym (join_child _ x b))
+
+-- a last child that the text did not join
+pub last_apart : (xs ys : List ElemChild) (i : ℕ) (x y : ElemChild) (b : List Token) → i + 1 ≡ length xs → x ≡ get_or xs i x → ys ≡ set xs i y → child_tokens y ≡ child_tokens x → child_tokens x ++> b ≡ child_tokens x ++ b → flat_map child_tokens ys ++ b ≡ flat_map child_tokens xs ++> b
+last_apart xs ys i x y b h k s e a = rw (s, flat_map-set_last child_tokens xs i h y, flat_map-last child_tokens xs i h x k, e, join_child _ x b, a) (append_assoc (flat_map child_tokens (take i xs)) (child_tokens x) b)
+
+-- no child, and a text
+pub none_apart : (xs ys : List ElemChild) (b : List Token) → ys ≡ xs → length xs ≤ 0 → flat_map child_tokens ys ++ b ≡ flat_map child_tokens xs ++> b
+none_apart [] ys b e h = rw e
+none_apart (x ∷ xs) ys b e h = absurd (omega arith)
+
+pub text_child : (f : Formatted) → child_tokens (variants.Text f) ≡ text (string_bytes f.text) f.formatting ∷ []
+text_child f = ap child_tokens (sym (variants.rolls-Text f)) ∙ fold-roll-ElemChild (List Token) (List Token) (List Token) child_step elem_step children_step (Text f)
+
+-- some children, and then a text
+pub pushed : (xs ys : List ElemChild) (s : String Global) (bs : List ℕ) (f : Formatting) → ys ≡ xs ++ variants.Text (record { text = s; formatting = f }) ∷ [] → string_bytes s ≡ bs → flat_map child_tokens ys ≡ flat_map child_tokens xs ++ text bs f ∷ []
+pushed xs ys s bs f e h =
+    ap (flat_map child_tokens) e ∙ flat_map-append child_tokens xs (variants.Text (record { text = s; formatting = f }) ∷ [])
+    ∙ ap (λ l. flat_map child_tokens xs ++ (l ++ [])) (text_child (record { text = s; formatting = f }))
+    ∙ ap (λ l. flat_map child_tokens xs ++ text l f ∷ []) h
+
+-- what begins with no text joins nothing
+pub solid_next : (a : List Token) (s : Solid) (b : List Token) → a ++> (solid s ∷ b) ≡ a ++ solid s ∷ b
+solid_next [] s b = refl
+solid_next (text x f ∷ []) s b = refl
+solid_next (solid u ∷ []) s b = refl
+solid_next (t ∷ u ∷ a) s b = ap (λ l. t ∷ l) (solid_next (u ∷ a) s b)
+
+-- one child more, which begins with no text
+pub solid_pushed : (xs ys : List ElemChild) (k : ElemChild) (s : Solid) (l : List Token) → ys ≡ xs ++ k ∷ [] → child_tokens k ≡ solid s ∷ l → flat_map child_tokens ys ≡ flat_map child_tokens xs ++> child_tokens k
+solid_pushed xs ys k s l e h =
+    ap (flat_map child_tokens) e ∙ flat_map-append child_tokens xs (k ∷ []) ∙ ap (λ w. flat_map child_tokens xs ++ w) (append-nil (child_tokens k) ∙ h)
+    ∙ sym (solid_next (flat_map child_tokens xs) s l) ∙ ap (λ w. flat_map child_tokens xs ++> w) (sym h)
+
+markup_child : (m : String Global) → child_tokens (variants.Markup m) ≡ solid (markup (string_bytes m)) ∷ []
+markup_child m = ap child_tokens (sym (variants.rolls-Markup m)) ∙ fold-roll-ElemChild (List Token) (List Token) (List Token) child_step elem_step children_step (Markup m)
+
+link_child : (f : Formatted) (u : String Global) → child_tokens (variants.Link f u) ≡ solid (link (string_bytes f.text) f.formatting (string_bytes u)) ∷ []
+link_child f u = ap child_tokens (sym (variants.rolls-Link f u)) ∙ fold-roll-ElemChild (List Token) (List Token) (List Token) child_step elem_step children_step (Link f u)
+
+transparent_child : (n : ℕ) (f : Formatting) → child_tokens (variants.Transparent n f) ≡ solid (transparent n f) ∷ []
+transparent_child n f = ap child_tokens (sym (variants.rolls-Transparent n f)) ∙ fold-roll-ElemChild (List Token) (List Token) (List Token) child_step elem_step children_step (Transparent n f)
+
+pub markup_pushed : (xs ys : List ElemChild) (m : String Global) → ys ≡ xs ++ variants.Markup m ∷ [] → flat_map child_tokens ys ≡ flat_map child_tokens xs ++> child_tokens (variants.Markup m)
+markup_pushed xs ys m e = solid_pushed xs ys _ _ [] e (markup_child m)
+
+pub link_pushed : (xs ys : List ElemChild) (f : Formatted) (u : String Global) → ys ≡ xs ++ variants.Link f u ∷ [] → flat_map child_tokens ys ≡ flat_map child_tokens xs ++> child_tokens (variants.Link f u)
+link_pushed xs ys f u e = solid_pushed xs ys _ _ [] e (link_child f u)
+
+pub transparent_pushed : (xs ys : List ElemChild) (n : ℕ) (f : Formatting) → ys ≡ xs ++ variants.Transparent n f ∷ [] → flat_map child_tokens ys ≡ flat_map child_tokens xs ++> child_tokens (variants.Transparent n f)
+transparent_pushed xs ys n f e = solid_pushed xs ys _ _ [] e (transparent_child n f)
+
+pub elem_pushed : (xs ys : List ElemChild) (e : elem.Elem) → ys ≡ xs ++ variants.Elem e ∷ [] → flat_map child_tokens ys ≡ flat_map child_tokens xs ++> child_tokens (variants.Elem e)
+elem_pushed xs ys e h = solid_pushed xs ys _ _ _ h (elem_child e ∙ elem_tokens_are e)
+
+-- what stands after the first token of the second content stays as it is
+last_next : (t u : Token) (l r : List Token) → last_before t (u ∷ (l ++ r)) ≡ last_before t (u ∷ l) ++ r
+last_next (text x f) (text y g) l r = elim (same_formatting f g) as (λ s. cond s (text (x ++ y) f ∷ (l ++ r)) (text x f ∷ text y g ∷ (l ++ r)) ≡ cond s (text (x ++ y) f ∷ l) (text x f ∷ text y g ∷ l) ++ r) [ true ↦ refl | false ↦ refl ]
+last_next (text x f) (solid s) l r = refl
+last_next (solid s) u l r = refl
+
+join_next : (a : List Token) (u : Token) (l r : List Token) → a ++> (u ∷ (l ++ r)) ≡ (a ++> (u ∷ l)) ++ r
+join_next [] u l r = refl
+join_next (t ∷ []) u l r = last_next t u l r
+join_next (t ∷ v ∷ a) u l r = ap (λ w. t ∷ w) (join_next (v ∷ a) u l r)
+
+-- some children, the first of which may join what is there
+pub appended : (xs first_put all moved rest : List ElemChild) (k : ElemChild) → moved ≡ k ∷ rest → flat_map child_tokens first_put ≡ flat_map child_tokens xs ++> child_tokens k → all ≡ first_put ++ rest → flat_map child_tokens all ≡ flat_map child_tokens xs ++> flat_map child_tokens moved
+appended xs first_put all moved rest k m h e =
+    let b = child_begins k in
+    rw (e, m, flat_map-append child_tokens first_put rest, h, b.is) (sym (join_next (flat_map child_tokens xs) b.first b.rest (flat_map child_tokens rest)))
+
+pub first_removed : (xs ys : List ElemChild) (k : ElemChild) → 0 < length xs → k ≡ get_or xs 0 k → ys ≡ remove xs 0 → xs ≡ k ∷ ys
+first_removed [] ys k h e r = absurd (omega arith)
+first_removed (x ∷ xs) ys k h e r = cc
+
+none : (xs : List ElemChild) → length xs ≡ 0 → flat_map child_tokens xs ≡ []
+none [] h = refl
+none (x ∷ xs) h = absurd (omega arith)
+
+some : (xs : List ElemChild) → 0 < length xs → Begins (flat_map child_tokens xs)
+some [] h = absurd (omega arith)
+some (x ∷ xs) h = let b = child_begins x in record { first = b.first; rest = b.rest ++ flat_map child_tokens xs; is = ap (λ l. l ++ flat_map child_tokens xs) b.is }
+
+pub tokens_none : (c : ElemChildren) → length c.0.items ≡ 0 → tokens c ≡ []
+tokens_none c h = tokens_out c ∙ none c.0.items h
+
+pub boxed_is : (d : Option Display) (m : Option Meta) (c : ElemChildren) → 0 < length c.0.items → boxed d m (tokens c) ≡ solid (opened d m) ∷ (tokens c ++ solid (closed d) ∷ [])
+boxed_is d m c h = let b = some c.0.items h in rw (tokens_out c ∙ b.is) refl
+
+pub elem_boxed : (xs ys : List ElemChild) (e : elem.Elem) → ys ≡ xs ++ variants.Elem e ∷ [] → flat_map child_tokens ys ≡ flat_map child_tokens xs ++> (solid (opened e.display (optional_meta e.meta)) ∷ (tokens e.children ++ solid (closed e.display) ∷ []))
+elem_boxed xs ys e h = elem_pushed xs ys e h ∙ ap (λ l. flat_map child_tokens xs ++> l) (elem_child e ∙ elem_tokens_are e)
+
+no_items : (xs : List ElemChild) → flat_map child_tokens xs ≡ [] → length xs ≡ 0
+no_items [] h = refl
+no_items (x ∷ xs) h = let b = some (x ∷ xs) (omega arith) in cc (b.is)
+
+pub items_none : (c : ElemChildren) → tokens c ≡ [] → length c.0.items ≡ 0
+items_none c h = no_items c.0.items (sym (tokens_out c) ∙ h)
+
+-- children that are not none, between two contents
+pub affixed_is : (p s : List Token) (c : ElemChildren) → 0 < length c.0.items → affixed p s (tokens c) ≡ p ++> (tokens c ++> s)
+affixed_is p s c h = let b = some c.0.items h in rw (tokens_out c ∙ b.is) refl
+
+-- three contents, one after another
+pub joined_in_turn : (old p inner s a b d : List Token) → a ≡ old ++> p → b ≡ a ++> inner → d ≡ b ++> s → d ≡ old ++> (p ++> (inner ++> s))
+joined_in_turn old p inner s a b d e f g = g ∙ ap (λ l. l ++> s) (f ∙ ap (λ l. l ++> inner) e) ∙ join_assoc (old ++> p) inner s ∙ join_assoc old p (inner ++> s)

@@ -1,0 +1,22 @@
+-- What a stack ends as, once a `&mut` into it has ended, and the last item that a predicate accepts.
+use Rattle.std.specs.Prelude.{Bool, true, false, ◌+◌, ◌≤◌, ◌≡◌, ℕ, ◌<◌, List, length, Option, slice_index_or, slice_set, OnSome}
+use Rattle.std.specs.Borrow.{Bor, Fml, RattleType, MutBor, Lends, LendsSo}
+use Rattle.std.specs.Fn.{Shared, FnReturnsAt}
+use Rattle.csl_tree.specs.contracts.stack.NonEmptyStack.{the_row}
+
+module _ (T : RattleType) (s : MutBor (List T.Denot)) where
+  -- item i has the last value behind r
+  abbrev pub lends_item : ℕ → MutBor T.Denot → Fml
+  lends_item i r = Lends (the_row T) T s r (slice_set s.now i)
+
+  -- some item has the last value behind r, and at `None` the stack stays as it is
+  abbrev pub lends_some : Option (MutBor T.Denot) → Fml
+  lends_some r = LendsSo (the_row T) T s r (λ n w. OnSome r ((i : ℕ) × (i < length s.now) × (n ≡ slice_set s.now i w))) (λ n. n ≡ s.now)
+
+-- the predicate rejects each item from place i on
+abbrev pub RejectsFrom : {F T : Type 0} → Shared F (Bor T × Unit {0}) Bool → F → List T → ℕ → Type 0
+RejectsFrom {F} {T} calls f xs i = (k : ℕ) (d : T) → i ≤ k → k < length xs → FnReturnsAt calls f (slice_index_or xs k d) false
+
+-- the predicate accepts item i, and no later one
+abbrev pub IsLastAt : {F T : Type 0} → Shared F (Bor T × Unit {0}) Bool → F → List T → ℕ → Type 0
+IsLastAt {F} {T} calls f xs i = ((d : T) → FnReturnsAt calls f (slice_index_or xs i d) true) × RejectsFrom calls f xs (i + 1)

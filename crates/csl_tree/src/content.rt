@@ -1,0 +1,188 @@
+//! Contents: children that are written one after another, where texts of equal formatting that
+//! meet become one text.
+
+ghost use Rattle.std.specs.Prelude.{◌≡◌, [], ◌∷◌, ◌++◌, OnOk, IfOk, option_map};
+ghost use Rattle.std.specs.Bool.{OnTrue, OnFalse};
+ghost use Rattle.std.specs.List.{flat_map};
+ghost use Rattle.csl_tree.specs.Content.{◌++>◌, text_content, optional_text, boxed, affixed};
+ghost use Rattle.csl_tree.specs.Tokens.{tokens, child_tokens, text, optional_meta};
+
+use crate::elem::{Elem, ElemChild, ElemChildren, ElemMeta};
+use crate::formatting::{Formatted, Formatting};
+use csl_style::Display;
+use lit_model::Memory;
+use std::alloc::Global;
+
+impl ElemChildren {
+    /// Appends a text, which joins a last text of equal formatting. An empty text writes nothing.
+    /// The only error is want of memory; what the children are then is left open.
+    pub fn push_text(
+        &mut self,
+        alloc: Global,
+        more: &str,
+        formatting: Formatting,
+    ) -> Result<(), Memory>
+        ensures ok { OnOk result (tokens self.new ≡ tokens self.old ++> text_content more.now formatting) }
+    {
+        if more.is_empty() {
+            return Ok(());
+        }
+        push_text_to(&mut self.0, alloc, more, formatting)?;
+        Ok(())
+    }
+
+    /// Appends an element around some children, unless there are none. The only error is want of
+    /// memory; what the children are then is left open.
+    pub fn push_box(
+        &mut self,
+        children: ElemChildren,
+        display: Option<Display>,
+        meta: Option<ElemMeta>,
+    ) -> Result<(), Memory>
+        ensures ok { OnOk result (tokens self.new ≡ tokens self.old ++> boxed display (optional_meta meta) (tokens children)) }
+    {
+        if children.0.is_empty() {
+            return Ok(());
+        }
+        self.0.push(ElemChild::Elem(Elem {
+            children,
+            display,
+            meta,
+        }))?;
+        Ok(())
+    }
+
+    /// Appends some children, the first of which may join the last that is there. The only error
+    /// is want of memory; what the children are then is left open.
+    pub fn append(&mut self, alloc: Global, children: ElemChildren) -> Result<(), Memory>
+        ensures ok { OnOk result (tokens self.new ≡ tokens self.old ++> tokens children) }
+    {
+        let ElemChildren(mut rest) = children;
+        if rest.is_empty() {
+            return Ok(());
+        }
+        let first = rest.remove(0);
+        push_child_to(&mut self.0, alloc, first)?;
+        self.0.append(&mut rest)?;
+        Ok(())
+    }
+}
+
+impl ElemChildren {
+    /// Appends a text, if there is one.
+    fn push_optional(
+        &mut self,
+        alloc: Global,
+        more: Option<&str>,
+        formatting: Formatting,
+    ) -> Result<(), Memory>
+        ensures ok { OnOk result (tokens self.new ≡ tokens self.old ++> optional_text (option_map (λ t. t.now) more.entry) formatting) }
+    {
+        match more {
+            None => Ok(()),
+            Some(more) => {
+                self.push_text(alloc, more, formatting)?;
+                Ok(())
+            }
+        }
+    }
+
+    /// Appends some children between two texts, unless there are none. The only error is want of
+    /// memory; what the children are then is left open.
+    pub fn push_affixed(
+        &mut self,
+        alloc: Global,
+        prefix: Option<&str>,
+        children: ElemChildren,
+        suffix: Option<&str>,
+        formatting: Formatting,
+    ) -> Result<(), Memory>
+        ensures ok { OnOk result (tokens self.new ≡ tokens self.old ++> affixed (optional_text (option_map (λ t. t.now) prefix.entry) formatting) (optional_text (option_map (λ t. t.now) suffix.entry) formatting) (tokens children)) }
+    {
+        if children.0.is_empty() {
+            return Ok(());
+        }
+        self.push_optional(alloc, prefix, formatting)?;
+        self.append(alloc, children)?;
+        self.push_optional(alloc, suffix, formatting)?;
+        Ok(())
+    }
+}
+
+/// Appends a text to a child that is a text of equal formatting, and says whether it is one.
+fn join_last(last: &mut ElemChild, more: &str, formatting: Formatting) -> Result<bool, Memory>
+    ensures joins { IfOk result (λ did. OnTrue did (child_tokens last.new ≡ child_tokens last.old ++> text more.now formatting ∷ [])) }
+    ensures unchanged { IfOk result (λ did. OnFalse did (child_tokens last.new ≡ child_tokens last.old)) }
+    ensures apart { IfOk result (λ did. OnFalse did (child_tokens last.old ++> text more.now formatting ∷ [] ≡ child_tokens last.old ++ text more.now formatting ∷ [])) }
+{
+    match last {
+        ElemChild::Text(text) => {
+            if text.formatting == formatting {
+                text.text.push_str(more)?;
+                Ok(true)
+            } else {
+                Ok(false)
+            }
+        }
+        ElemChild::Elem(_) => Ok(false),
+        ElemChild::Markup(_) => Ok(false),
+        ElemChild::Link { text: _, url: _ } => Ok(false),
+        ElemChild::Transparent {
+            cite_idx: _,
+            format: _,
+        } => Ok(false),
+    }
+}
+
+/// Appends a text that is not empty.
+fn push_text_to(
+    children: &mut Vec<ElemChild>,
+    alloc: Global,
+    more: &str,
+    formatting: Formatting,
+) -> Result<(), Memory>
+    ensures ok { OnOk result (flat_map child_tokens children.new.items ≡ flat_map child_tokens children.old.items ++> text more.now formatting ∷ []) }
+{
+    let len = children.len();
+    if len > 0 {
+        let did = join_last(&mut children[len - 1], more, formatting)?;
+        if did {
+            return Ok(());
+        }
+    }
+    let text = String::from_str(alloc, more)?;
+    children.push(ElemChild::Text(Formatted { text, formatting }))?;
+    Ok(())
+}
+
+/// Appends a child, which joins a last text if it is a text of equal formatting.
+fn push_child_to(
+    children: &mut Vec<ElemChild>,
+    alloc: Global,
+    child: ElemChild,
+) -> Result<(), Memory>
+    ensures ok { OnOk result (flat_map child_tokens children.new.items ≡ flat_map child_tokens children.old.items ++> child_tokens child) }
+{
+    match child {
+        ElemChild::Text(text) => {
+            push_text_to(children, alloc, text.text.as_str(), text.formatting)?;
+            Ok(())
+        }
+        ElemChild::Elem(elem) => {
+            children.push(ElemChild::Elem(elem))?;
+            Ok(())
+        }
+        ElemChild::Markup(markup) => {
+            children.push(ElemChild::Markup(markup))?;
+            Ok(())
+        }
+        ElemChild::Link { text, url } => {
+            children.push(ElemChild::Link { text, url })?;
+            Ok(())
+        }
+        ElemChild::Transparent { cite_idx, format } => {
+            children.push(ElemChild::Transparent { cite_idx, format })?;
+            Ok(())
+        }
+    }
+}

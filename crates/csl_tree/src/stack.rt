@@ -1,0 +1,179 @@
+//! A list of at least one item, of which the last is in use.
+
+ghost use Rattle.std.specs.Prelude.{◌≡◌, ℕ, ◌+◌, ◌-◌, ◌<◌, [], ◌∷◌, ◌++◌, length, take, drop, IfOk, OnOk, IfErr, OnErr, IfSome, IfNone, slice_index_or};
+ghost use Rattle.std.specs.Borrow.{sem};
+ghost use Rattle.std.specs.Int.NonZero.{non_zero_usize_get};
+ghost use Rattle.std.specs.Slice.Iter.{iter_rest};
+ghost use Rattle.csl_tree.specs.Stack.{lends_item, lends_some, IsLastAt, RejectsFrom};
+
+use lit_model::Memory;
+use std::alloc::Global;
+use std::marker::Model;
+use std::num::NonZeroUsize;
+use std::slice;
+
+/// A stack that is never empty.
+#[derive(Drop)]
+pub struct NonEmptyStack<T> {
+    items: Vec<T>,
+}
+
+impl<T> Model for NonEmptyStack<T> {
+    ghost use Rattle.std.specs.Prelude.{List, length, ◌<◌};
+
+    ghost Value = { List T };
+
+    ghost view = { λ s. s.items.items };
+
+    ghost invariant = { λ s. 0 < length s.items.items };
+}
+
+impl<T> NonEmptyStack<T> {
+    /// A stack of one item. The only error is want of memory, and drops the item.
+    pub fn new(alloc: Global, item: T) -> Result<Self, Memory>
+    where
+        T: Drop,
+        ensures { IfOk result (λ stack. stack ≡ item ∷ []) }
+    {
+        let mut items = Vec::new(alloc);
+        items.push(item)?;
+        Ok(NonEmptyStack { items })
+    }
+
+    /// A stack of one default item. The only error is want of memory.
+    pub fn with_default(alloc: Global) -> Result<Self, Memory>
+    where
+        T: Default + Drop,
+        ensures { IfOk result (λ stack. (item : T) × T.is_default item × (stack ≡ item ∷ [])) }
+    {
+        NonEmptyStack::new(alloc, T::default())
+    }
+
+    /// How many items there are.
+    pub fn len(&self) -> NonZeroUsize
+        ensures { non_zero_usize_get result ≡ length self.now }
+    {
+        NonZeroUsize::new(self.items.len()).unwrap()
+    }
+
+    /// The last item.
+    pub fn last(&self) -> &T
+        ensures { result.now ≡ slice_index_or self.now (length self.now - 1) result.now }
+    {
+        &self.items[self.items.len() - 1]
+    }
+
+    /// The last item, to be written. Nothing else changes.
+    pub fn last_mut(&mut self) -> &mut T
+        ensures* writes_back { sem 𝓛 (lends_item T.row self.entry (length self.old - 1) result) }
+        ensures value { result.now ≡ slice_index_or self.old (length self.old - 1) result.now }
+    {
+        let len = self.items.len();
+        &mut self.items[len - 1]
+    }
+
+    /// The first item, to be written. Nothing else changes.
+    pub fn first_mut(&mut self) -> &mut T
+        ensures* writes_back { sem 𝓛 (lends_item T.row self.entry 0 result) }
+        ensures value { result.now ≡ slice_index_or self.old 0 result.now }
+    {
+        &mut self.items[0]
+    }
+
+    fn at_mut(&mut self, i: usize) -> &mut T
+        requires { i < length self.old }
+        ensures* writes_back { sem 𝓛 (lends_item T.row self.entry i result) }
+        ensures value { result.now ≡ slice_index_or self.old i result.now }
+    {
+        &mut self.items[i]
+    }
+
+    /// The place of the last item that the predicate accepts.
+    fn last_accepted<F: Fn(&T) -> bool + Drop>(&self, predicate: F) -> Option<usize>
+        requires { F.IsAlwaysCallable predicate }
+        ensures found { IfSome result (λ i. (i < length self.now) × IsLastAt F.Fn predicate self.now i) }
+        ensures none { IfNone result (RejectsFrom F.Fn predicate self.now 0) }
+    {
+        let mut i = self.items.len();
+        while i > 0 {
+            i -= 1;
+            if predicate(&self.items[i]) {
+                return Some(i);
+            }
+        }
+        None
+    }
+
+    /// The last item that the predicate accepts, to be written, or `None` where it accepts none.
+    /// Nothing else changes.
+    pub fn last_mut_predicate<F: Fn(&T) -> bool + Drop>(&mut self, predicate: F) -> Option<&mut T>
+        requires { F.IsAlwaysCallable predicate }
+        ensures* writes_back { sem 𝓛 (lends_some T.row self.entry result) }
+        ensures value { IfSome result (λ r. (i : ℕ) × (i < length self.old) × IsLastAt F.Fn predicate self.old i × (r.now ≡ slice_index_or self.old i r.now)) }
+        ensures none { IfNone result (RejectsFrom F.Fn predicate self.old 0) }
+    {
+        match self.last_accepted(predicate) {
+            Some(i) => Some(self.at_mut(i)),
+            None => None,
+        }
+    }
+
+    /// Puts an item behind the others. Where there is no memory for it, it comes back.
+    pub fn push(&mut self, item: T) -> Result<(), T>
+        ensures ok { OnOk result (self.new ≡ self.old ++ item ∷ []) }
+        ensures back { IfErr result (λ back. back ≡ item) }
+        ensures err { OnErr result (self.new ≡ self.old) }
+    {
+        match self.items.push(item) {
+            Ok(()) => Ok(()),
+            Err(failed) => Err(failed.value),
+        }
+    }
+
+    /// Takes the last item, unless it is the only one.
+    pub fn pop(&mut self) -> Option<T>
+        ensures some { IfSome result (λ item. self.old ≡ self.new ++ item ∷ []) }
+        ensures left { IfSome result (λ _. 0 < length self.new) }
+        ensures none { IfNone result ((self.new ≡ self.old) × (length self.old ≡ 1)) }
+    {
+        if self.items.len() > 1 {
+            self.items.pop()
+        } else {
+            None
+        }
+    }
+
+    /// Takes the items from `idx` on, in order, and leaves those before. The only error is want of
+    /// memory, which leaves all.
+    pub fn drain(&mut self, idx: NonZeroUsize) -> Result<Vec<T>, Memory>
+        requires { non_zero_usize_get idx < length self.old }
+        ensures taken { IfOk result (λ items. items.items ≡ drop (non_zero_usize_get idx) self.old) }
+        ensures left { OnOk result (self.new ≡ take (non_zero_usize_get idx) self.old) }
+        ensures err { OnErr result (self.new ≡ self.old) }
+    {
+        let items = self.items.split_off(idx.get())?;
+        Ok(items)
+    }
+
+    /// The items, from the first to the last.
+    pub fn iter(&self) -> slice::Iter<'_, T>
+        ensures { iter_rest result ≡ self.now }
+    {
+        self.items.iter()
+    }
+
+    /// The one item that is left.
+    pub fn finish(self) -> T
+        requires { length self ≡ 1 }
+        ensures { self ≡ result ∷ [] }
+    {
+        let NonEmptyStack { mut items } = self;
+        match items.pop() {
+            Some(item) => {
+                items.destroy_empty();
+                item
+            }
+            None => unreachable!(),
+        }
+    }
+}

@@ -1,0 +1,6 @@
+use Rattle.std.proofs.Common.{rules}
+use Rattle.lit_model.proofs.Writes.{passed_on}
+use Rattle.lit_model.proofs.person.Person.initials.Goals as goal
+
+pub returns : goal.returns
+returns g c = passed_on _ (λ s. s.inner) _ _ _ _ _ _ _ c.new-sink.ensures.lent c.into_inner.ensures (λ same. search rules) c.initials_into-result.ensures.ok

@@ -1,0 +1,19 @@
+-- Dates by their parts. Months and days count from 0.
+use Rattle.std.specs.Prelude.{ℕ, ℤ, ◌≤◌, Bool, Option, IfSome}
+use Rattle.lit_model.specs.declared.date.Date.{Date}
+use Rattle.lit_model.specs.declared.date.Season.{Season}
+
+-- a month of a year and a day of a month, where they are given
+abbrev pub IsOnCalendar : Option ℕ → Option ℕ → Type 0
+IsOnCalendar month day = IfSome month (λ m. m ≤ 11) × IfSome day (λ d. d ≤ 30)
+
+-- what a date says
+pub record Parts : Type 0 where
+  pub year : ℤ
+  pub month : Option ℕ
+  pub day : Option ℕ
+  pub season : Option Season
+  pub approximate : Bool
+
+abbrev pub date_parts : Date → Parts
+date_parts d = record { year = d.year; month = d.month; day = d.day; season = d.season; approximate = d.approximate }

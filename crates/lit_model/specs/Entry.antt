@@ -1,0 +1,73 @@
+-- An entry and the works that it is a part of.
+use Rattle.std.specs.Prelude.{◌≡◌, ℕ, List, [], ◌∷◌, Option, None, Some, option_copied, option_and_then, flat_map, string_bytes, Vec}
+use Rattle.std.specs.Borrow.{Bor}
+use Rattle.std.specs.Option.{option_or}
+use Rattle.std.specs.declared.alloc.Global.{Global}
+use Rattle.lit_model.specs.declared.person.PersonsWithRoles.{PersonsWithRoles}
+use Rattle.lit_model.specs.Source.{serial}
+use Rattle.lit_model.specs.declared.entry_type.EntryType.{EntryType}
+use Rattle.lit_model.specs.declared.entry.Entry.{Entry, Entry-F, out-Entry, para-Entry}
+
+-- the direct parents, in order
+abbrev pub parents_of : Entry → List Entry
+parents_of e = (out-Entry e).parents.items
+
+-- One entry, given each parent with what the walk makes of it: the entry, then each parent's walk.
+abbrev pub preorder_step : Entry-F (Entry × (Entry → List Entry)) → Entry → List Entry
+preorder_step x e = e ∷ flat_map (λ p. p.1 p.0) x.parents.items
+
+-- the entry, then the preorder of each parent, in order
+abbrev pub preorder : Entry → List Entry
+preorder e = para-Entry (Entry → List Entry) preorder_step e e
+
+-- the first answer that f gives, if any
+abbrev pub first_some : {X : Type 0} → (Entry → Option X) → List Entry → Option X
+first_some f [] = None
+first_some f (e ∷ es) = option_or (f e) (first_some f es)
+
+-- what is asked answers the function g of the entry
+abbrev pub AnswersBy : {X : Type 0} → (Bor Entry → Option (Bor X) → Type 0) → (Entry → Option X) → Type 0
+AnswersBy {X} post g = (e : Bor Entry) (r : Option (Bor X)) → post e r → option_copied r ≡ g e.now
+
+-- an entry with this key and type, of which nothing else is known
+pub record IsBare (key : List ℕ) (entry_type : EntryType) (e : Entry) : Type 0 where
+  pub key_is : string_bytes (out-Entry e).key ≡ key
+  pub type_is : (out-Entry e).entry_type ≡ entry_type
+  pub no_title : (out-Entry e).title ≡ None
+  pub no_authors : (out-Entry e).authors ≡ None
+  pub no_editors : (out-Entry e).editors ≡ None
+  pub no_date : (out-Entry e).date ≡ None
+  pub no_url : (out-Entry e).url ≡ None
+  pub no_affiliated : (out-Entry e).affiliated ≡ None
+  pub no_publisher : (out-Entry e).publisher ≡ None
+  pub no_location : (out-Entry e).location ≡ None
+  pub no_organization : (out-Entry e).organization ≡ None
+  pub no_issue : (out-Entry e).issue ≡ None
+  pub no_volume : (out-Entry e).volume ≡ None
+  pub no_edition : (out-Entry e).edition ≡ None
+  pub no_chapter : (out-Entry e).chapter ≡ None
+  pub no_volume_total : (out-Entry e).volume_total ≡ None
+  pub no_page_total : (out-Entry e).page_total ≡ None
+  pub no_page_range : (out-Entry e).page_range ≡ None
+  pub no_runtime : (out-Entry e).runtime ≡ None
+  pub no_serial_number : (out-Entry e).serial_number ≡ None
+  pub no_language : (out-Entry e).language ≡ None
+  pub no_archive : (out-Entry e).archive ≡ None
+  pub no_archive_location : (out-Entry e).archive_location ≡ None
+  pub no_call_number : (out-Entry e).call_number ≡ None
+  pub no_note : (out-Entry e).note ≡ None
+  pub no_abstract : (out-Entry e).abstract_ ≡ None
+  pub no_genre : (out-Entry e).genre ≡ None
+  pub no_parents : parents_of e ≡ []
+
+-- the entry's own number under a scheme
+abbrev pub own_serial : List ℕ → Entry → Option (List ℕ)
+own_serial scheme e = option_and_then (serial scheme) (out-Entry e).serial_number
+
+abbrev optional_items : Option (Vec PersonsWithRoles Global) → List PersonsWithRoles
+optional_items None = []
+optional_items (Some v) = v.items
+
+-- the entry's own groups of further persons
+abbrev pub groups_of : Entry → List PersonsWithRoles
+groups_of e = optional_items (out-Entry e).affiliated

@@ -1,0 +1,13 @@
+-- A value that was understood, or a text.
+use Rattle.std.specs.Prelude.{ℕ, List, string_bytes}
+use Rattle.lit_model.specs.declared.maybe_typed.MaybeTyped.{MaybeTyped}
+use Rattle.lit_model.specs.declared.maybe_typed.MaybeTyped.TheVariants as of_kind
+
+-- an understood value by a view of it, or the bytes of a text
+pub data MaybeView (V : Type 0) : Type 0 where
+  typed : V → MaybeView V
+  text : List ℕ → MaybeView V
+
+abbrev pub maybe_view : {T V : Type 0} → (T → V) → MaybeTyped T → MaybeView V
+maybe_view v (of_kind.Typed x) = typed (v x)
+maybe_view v (of_kind.String s) = text (string_bytes s)

@@ -1,0 +1,107 @@
+-- The parts of a person's name: particle, article, and whether it is of an institution or in a CJK script.
+use Rattle.std.specs.Prelude.{◌≡◌, ℕ, Bool, true, false, not, ◌&&◌, ◌||◌, ◌==◌, List, [], ◌∷◌, ◌++◌, map, filter, drop, length, Option, Some, None, is_some, option_map, unwrap_or, string_bytes, codes, nat_lt, chars, if◌then◌else◌}
+use Rattle.std.specs.Option.{option_or}
+use Rattle.std.specs.List.{list_all, slice_split, join_with_byte, starts_with}
+use Rattle.unicode.specs.Binary.{is_alphabetic}
+use Rattle.unicode.specs.GeneralCategory.{general_category}
+use Rattle.unicode.specs.Script.{script}
+use Rattle.ucd_category.specs.declared.GeneralCategory.{GeneralCategory}
+use Rattle.ucd_category.specs.declared.GeneralCategory.TheVariants.{LowercaseLetter}
+use Rattle.ucd_script.specs.declared.Script.{Script}
+use Rattle.ucd_script.specs.declared.Script.TheVariants.{Han, Hiragana, Katakana, Hangul, Bopomofo}
+use Rattle.lit_model.specs.declared.person.Person.{Person}
+
+-- ---- institutions
+
+-- an institution has a name alone: no given name, no prefix and no suffix
+abbrev pub is_institutional : Person → Bool
+is_institutional p = not (is_some p.given_name) && (not (is_some p.prefix) && not (is_some p.suffix))
+
+-- ---- CJK names
+
+-- a script of Chinese, Japanese or Korean
+abbrev pub is_cjk_script : Script → Bool
+is_cjk_script Han = true
+is_cjk_script Hiragana = true
+is_cjk_script Katakana = true
+is_cjk_script Hangul = true
+is_cjk_script Bopomofo = true
+is_cjk_script _ = false
+
+-- the alphabetic characters of a text
+abbrev pub letters : List ℕ → List ℕ
+letters text = filter is_alphabetic (chars text)
+
+-- there are letters, and each is of such a script
+abbrev pub are_cjk : List ℕ → Bool
+are_cjk cs = nat_lt 0 (length cs) && list_all (λ c. is_cjk_script (script c)) cs
+
+-- the given name, or an empty text
+abbrev pub given_or_empty : Person → List ℕ
+given_or_empty p = unwrap_or (option_map string_bytes p.given_name) []
+
+-- the name and the given name together are in such scripts
+abbrev pub is_cjk : Person → Bool
+is_cjk p = are_cjk (letters (string_bytes p.name) ++ letters (given_or_empty p))
+
+-- ---- particles
+
+-- the words of a text, cut at each space
+abbrev pub words : List ℕ → List (List ℕ)
+words text = slice_split (λ b. b == 32) text
+
+abbrev pub is_lowercase_letter : GeneralCategory → Bool
+is_lowercase_letter LowercaseLetter = true
+is_lowercase_letter _ = false
+
+abbrev pub first_is_lowercase : List ℕ → Bool
+first_is_lowercase [] = false
+first_is_lowercase (c ∷ cs) = is_lowercase_letter (general_category c)
+
+-- a word begins with a lowercase letter, general category Ll
+abbrev pub is_particle_word : List ℕ → Bool
+is_particle_word word = first_is_lowercase (chars word)
+
+-- the longest front of the words that are particle words, never the last word
+abbrev pub particle_words : List (List ℕ) → List (List ℕ)
+particle_words [] = []
+particle_words (w ∷ []) = []
+particle_words (w ∷ v ∷ ws) = if is_particle_word w then w ∷ particle_words (v ∷ ws) else []
+
+-- the words after that front
+abbrev pub after_particle : List (List ℕ) → List (List ℕ)
+after_particle [] = []
+after_particle (w ∷ []) = w ∷ []
+after_particle (w ∷ v ∷ ws) = if is_particle_word w then after_particle (v ∷ ws) else w ∷ v ∷ ws
+
+-- words with a space between them, if there are any
+abbrev pub spaced : List (List ℕ) → Option (List ℕ)
+spaced [] = None
+spaced (w ∷ ws) = Some (join_with_byte 32 (w ∷ ws))
+
+-- the particle of a name
+abbrev pub name_particle : List ℕ → Option (List ℕ)
+name_particle name = spaced (particle_words (words name))
+
+-- the name after its particle and the space behind it
+abbrev pub name_without_particle : List ℕ → List ℕ
+name_without_particle name = join_with_byte 32 (after_particle (words name))
+
+-- ---- articles
+
+-- the text without the article, where it begins with it and more follows
+abbrev pub without : List ℕ → List ℕ → Option (List ℕ)
+without article text = if starts_with ◌==◌ text article && nat_lt (length article) (length text) then Some (drop (length article) text) else None
+
+-- the same for the first of several that it begins with
+abbrev pub first_without : List (List ℕ) → List ℕ → Option (List ℕ)
+first_without [] text = None
+first_without (a ∷ articles) text = option_or (without a text) (first_without articles text)
+
+-- the English articles, with the space behind them
+abbrev pub articles : List (List ℕ)
+articles = codes "The " ∷ codes "the " ∷ codes "A " ∷ codes "a " ∷ codes "An " ∷ codes "an " ∷ []
+
+-- the name without an article before it
+abbrev pub name_without_article : List ℕ → List ℕ
+name_without_article name = unwrap_or (first_without articles name) name

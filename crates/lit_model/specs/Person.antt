@@ -1,0 +1,51 @@
+-- Persons by their texts.
+use Rattle.std.specs.Prelude.{◌≡◌, ℕ, Bool, List, [], map, Option, Some, None, option_map, string_bytes, flat_map, if◌then◌else◌}
+use Rattle.lit_model.specs.declared.person.Person.{Person}
+use Rattle.lit_model.specs.declared.person.PersonRole.{PersonRole}
+use Rattle.lit_model.specs.declared.person.PersonRole.TheVariants.{Unknown}
+use Rattle.lit_model.specs.contracts.person.PersonRolePartialEq.TheImpl.{eq-value}
+use Rattle.lit_model.specs.declared.person.PersonsWithRoles.{PersonsWithRoles}
+
+-- a person, without where the texts lie
+pub record Named : Type 0 where
+  pub name : List ℕ
+  pub given_name : Option (List ℕ)
+  pub prefix : Option (List ℕ)
+  pub suffix : Option (List ℕ)
+  pub alias : Option (List ℕ)
+  pub comma_suffix : Bool
+
+abbrev pub named : Person → Named
+named p = record {
+  name = string_bytes p.name;
+  given_name = option_map string_bytes p.given_name;
+  prefix = option_map string_bytes p.prefix;
+  suffix = option_map string_bytes p.suffix;
+  alias = option_map string_bytes p.alias;
+  comma_suffix = p.comma_suffix;
+}
+
+-- a role: one of those with a name, or a text
+pub data Role : Type 0 where
+  known : PersonRole → Role
+  unknown : List ℕ → Role
+
+abbrev pub role_of : PersonRole → Role
+role_of (Unknown text) = unknown (string_bytes text)
+role_of role = known role
+
+-- the two roles are one, as `==` has it
+abbrev pub same_role : PersonRole → PersonRole → Bool
+same_role = eq-value.it
+
+-- persons with one role
+pub record Group : Type 0 where
+  pub names : List Named
+  pub role : Role
+
+abbrev pub group_of : PersonsWithRoles → Group
+group_of g = record { names = map named g.names.items; role = role_of g.role }
+
+-- the persons of the groups whose role passes a test, in order
+abbrev pub with_role : (PersonRole → Bool) → List PersonsWithRoles → List Person
+with_role is groups = flat_map (λ g. if is g.role then g.names.items else []) groups

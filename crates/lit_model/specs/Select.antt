@@ -1,0 +1,161 @@
+-- Selections: which of an entry and its direct parents a list of clauses selects.
+use Rattle.std.specs.Prelude.{◌≡◌, ℕ, Bool, true, false, not, ◌&&◌, ◌||◌, List, [], ◌∷◌, map, Option, Some, None, is_some, is_none, option_map, option_and_then, option_copied, find, slice_get, if◌then◌else◌}
+use Rattle.std.specs.List.{list_any, list_all}
+use Rattle.std.specs.declared.alloc.Global.{Global}
+use denote.Enum.Bare.{sameb}
+use Rattle.lit_model.specs.declared.entry.Entry.{Entry, Entry-F, out-Entry, para-Entry}
+use Rattle.lit_model.specs.declared.entry_type.EntryType.{EntryType}
+use Rattle.lit_model.specs.declared.entry_type.EntryType.TheVariants.{Article, Chapter, Anthos, Report, Web, Scene, Newspaper, Legislation, Misc, Periodical, Proceedings, Book, Blog, Reference, Conference, Anthology, Video, Audio, Exhibition, Original}
+use Rattle.lit_model.specs.declared.entry_type.EntryType.TheVariants as of_type
+use Rattle.lit_model.specs.contracts.entry_type.EntryType.{the_type}
+use Rattle.lit_model.specs.declared.select.Clause.{Clause}
+use Rattle.lit_model.specs.declared.select.Bind.{Bind}
+use Rattle.lit_model.specs.declared.select.Bind.TheVariants.{Nothing, Child, Parent}
+use Rattle.lit_model.specs.declared.select.Field.{Field}
+use Rattle.lit_model.specs.declared.select.Field.TheVariants.{Date, Url, Issue, Volume}
+use Rattle.lit_model.specs.Entry.{parents_of}
+
+-- a clause by its lists
+pub record Rule : Type 0 where
+  pub own : List EntryType
+  pub fields : List Field
+  pub parent : Option (List EntryType)
+  pub bind : Bind
+
+abbrev pub rule_of : Clause → Rule
+rule_of c = record { own = c.own.now; fields = c.fields.now; parent = option_map (λ types. types.now) c.parent; bind = c.bind }
+
+-- the two types are one
+abbrev pub same_type : EntryType → EntryType → Bool
+same_type = sameb the_type
+
+-- the type is among these; no types stand for every type
+abbrev pub is_among : EntryType → List EntryType → Bool
+is_among t [] = true
+is_among t (x ∷ xs) = list_any (λ y. same_type y t) (x ∷ xs)
+
+-- the entry itself has the field
+abbrev pub has_field : Entry → Field → Bool
+has_field e Date = is_some (out-Entry e).date
+has_field e Url = is_some (out-Entry e).url
+has_field e Issue = is_some (out-Entry e).issue
+has_field e Volume = is_some (out-Entry e).volume
+
+-- the first direct parent of one of these types
+abbrev pub parent_among : List EntryType → Entry → Option Entry
+parent_among types e = find (λ p. is_among (out-Entry p).entry_type types) (parents_of e)
+
+-- a direct parent is of one of the types, where a parent is asked for
+abbrev pub has_parent : Option (List EntryType) → Entry → Bool
+has_parent None e = true
+has_parent (Some types) e = is_some (parent_among types e)
+
+-- the entry matches the clause
+abbrev pub fits : Entry → Rule → Bool
+fits e r = is_among (out-Entry e).entry_type r.own && (list_all (has_field e) r.fields && has_parent r.parent e)
+
+-- what a clause that matches selects
+abbrev pub bound_by : Bind → Option (List EntryType) → Entry → Option Entry
+bound_by Nothing parent e = None
+bound_by Child parent e = Some e
+bound_by Parent None e = None
+bound_by Parent (Some types) e = parent_among types e
+
+-- what the first clause that matches selects
+abbrev pub bound_select : List Rule → Entry → Option Entry
+bound_select rules e = option_and_then (λ r. bound_by r.bind r.parent e) (find (fits e) rules)
+
+-- some clause matches
+abbrev pub matches : List Rule → Entry → Bool
+matches rules e = list_any (fits e) rules
+
+-- the parent of: own > parents
+abbrev pub parent_of : List EntryType → List EntryType → Rule
+parent_of own parents = record { own = own; fields = []; parent = Some parents; bind = Parent }
+
+-- the child of: own > parents
+abbrev pub child_of : List EntryType → List EntryType → Rule
+child_of own parents = record { own = own; fields = []; parent = Some parents; bind = Child }
+
+-- the work that holds this one: the book of a chapter, the journal of an article, the site of anything
+abbrev pub container : List Rule
+container =
+    parent_of (Chapter ∷ []) (Book ∷ Anthology ∷ Proceedings ∷ [])
+    ∷ parent_of (Anthos ∷ []) (Anthology ∷ [])
+    ∷ parent_of (of_type.Entry ∷ []) []
+    ∷ parent_of (Article ∷ []) (Proceedings ∷ Periodical ∷ Newspaper ∷ Blog ∷ Web ∷ [])
+    ∷ parent_of [] (Reference ∷ Web ∷ Blog ∷ [])
+    ∷ []
+
+-- the collection of a work that stands in no other
+abbrev pub collection : List Rule
+collection = parent_of (Book ∷ Anthology ∷ Proceedings ∷ Reference ∷ Report ∷ []) (Book ∷ Anthology ∷ Periodical ∷ Reference ∷ []) ∷ []
+
+-- the work that was translated or printed again
+abbrev pub original : List Rule
+original = parent_of [] (Original ∷ []) ∷ []
+
+-- the event at which a work was shown
+abbrev pub event : List Rule
+event = parent_of [] (Exhibition ∷ Conference ∷ Misc ∷ []) ∷ []
+
+-- the work whose volume numbers a chapter
+abbrev pub chapter : List Rule
+chapter =
+    child_of (Anthos ∷ []) (Anthology ∷ [])
+    ∷ child_of [] (Reference ∷ [])
+    ∷ child_of (Article ∷ []) (Proceedings ∷ [])
+    ∷ child_of [] (Book ∷ [])
+    ∷ []
+
+-- the work whose volume numbers a part
+abbrev pub part : List Rule
+part = child_of [] (Article ∷ Blog ∷ Book ∷ Legislation ∷ []) ∷ []
+
+-- the work whose title is the title of a volume
+abbrev pub volume_title : List Rule
+volume_title =
+    parent_of (Anthos ∷ []) (Anthology ∷ [])
+    ∷ parent_of (of_type.Entry ∷ []) []
+    ∷ parent_of [] (Reference ∷ [])
+    ∷ parent_of (Article ∷ []) (Proceedings ∷ [])
+    ∷ []
+
+-- the recording: a parent's, or else the entry itself
+abbrev pub audio_video : List Rule
+audio_video =
+    parent_of [] (Audio ∷ Video ∷ [])
+    ∷ record { own = Audio ∷ Video ∷ []; fields = []; parent = None; bind = Child }
+    ∷ []
+
+-- the first of the parents, if any
+abbrev pub first_parent : Entry → Option Entry
+first_parent e = slice_get (parents_of e) 0
+
+-- a chapter or a scene that has no title of its own
+abbrev pub is_untitled_part : Entry → Bool
+is_untitled_part e = (same_type (out-Entry e).entry_type Chapter || same_type (out-Entry e).entry_type Scene) && is_none (out-Entry e).title
+
+-- the work that holds the entry
+abbrev pub container_of : Entry → Option Entry
+container_of e = bound_select container e
+
+abbrev collection_after : Option Entry → Entry → Option Entry
+collection_after None e = bound_select collection e
+collection_after (Some c) e = first_parent c
+
+-- the collection that the entry, or the work that holds it, stands in
+abbrev pub collection_of : Entry → Option Entry
+collection_of e = collection_after (container_of e) e
+
+abbrev pub first_full : List (Entry × (Entry → Entry)) → Entry → Entry
+first_full [] e = e
+first_full (p ∷ ps) e = p.1 p.0
+
+-- One entry, given each parent with the whole of it: an untitled chapter or scene stands for its first parent's whole, anything else for itself.
+abbrev pub full_step : Entry-F (Entry × (Entry → Entry)) → Entry → Entry
+full_step x e = if is_untitled_part e then first_full x.parents.items e else e
+
+-- the whole that an entry is a part of: from an untitled chapter or scene up to the first parent, as long as there is one
+abbrev pub full_of : Entry → Entry
+full_of e = para-Entry (Entry → Entry) full_step e e

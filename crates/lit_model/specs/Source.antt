@@ -1,0 +1,46 @@
+-- Publishers, addresses, serial numbers and languages, without where their texts lie.
+use Rattle.std.specs.Prelude.{ℕ, List, map, Option, option_map, string_bytes, String}
+use Rattle.std.specs.declared.alloc.Global.{Global}
+use Rattle.std.specs.BTreeMap.{get_by_text}
+use Rattle.url.specs.Parts.{Parts}
+use Rattle.lit_model.specs.declared.date.Date.{Date}
+use Rattle.lit_model.specs.declared.source.Publisher.{Publisher}
+use Rattle.lit_model.specs.declared.source.QualifiedUrl.{QualifiedUrl}
+use Rattle.lit_model.specs.declared.source.SerialNumber.{SerialNumber}
+use Rattle.lit_model.specs.declared.source.LanguageIdentifier.{LanguageIdentifier}
+use Rattle.lit_model.specs.Text.{Forms, forms_of}
+
+-- a publisher by its texts
+pub record Press : Type 0 where
+  pub name : Option Forms
+  pub location : Option Forms
+
+abbrev pub press_of : Publisher → Press
+press_of p = record { name = option_map forms_of p.name; location = option_map forms_of p.location }
+
+-- an address by its parts
+pub record Address : Type 0 where
+  pub value : Parts
+  pub visit_date : Option Date
+
+abbrev pub address_of : QualifiedUrl → Address
+address_of u = record { value = u.value; visit_date = u.visit_date }
+
+abbrev pub scheme_and_number : String Global × String Global → List ℕ × List ℕ
+scheme_and_number e = (string_bytes e.0, string_bytes e.1)
+
+-- the serial numbers, each scheme with its number, in the order of the schemes
+abbrev pub serials : SerialNumber → List (List ℕ × List ℕ)
+serials s = map scheme_and_number s.0.entries
+
+-- the number under a scheme
+abbrev pub serial : List ℕ → SerialNumber → Option (List ℕ)
+serial scheme s = option_map string_bytes (get_by_text s.0 scheme)
+
+-- a language with its region, by their texts
+pub record Language : Type 0 where
+  pub language : List ℕ
+  pub region : Option (List ℕ)
+
+abbrev pub language_of : LanguageIdentifier → Language
+language_of l = record { language = string_bytes l.language; region = option_map string_bytes l.region }

@@ -1,0 +1,33 @@
+-- Texts by their chunks.
+use Rattle.std.specs.Prelude.{ℕ, List, map, Option, Some, None, option_map, string_bytes, unwrap_or}
+use Rattle.lit_model.specs.declared.text.StringChunk.{StringChunk}
+use Rattle.lit_model.specs.declared.text.ChunkKind.{ChunkKind}
+use Rattle.lit_model.specs.declared.text.ChunkedString.{ChunkedString}
+use Rattle.lit_model.specs.declared.text.FormatString.{FormatString}
+use Rattle.lit_model.specs.declared.text.LongShortForm.{LongShortForm}
+use Rattle.lit_model.specs.declared.text.LongShortForm.TheVariants.{Long, Short}
+
+-- a piece of a text, by its bytes
+pub record Chunk : Type 0 where
+  pub value : List ℕ
+  pub kind : ChunkKind
+
+abbrev pub chunk_of : StringChunk → Chunk
+chunk_of c = record { value = string_bytes c.value; kind = c.kind }
+
+-- a text in pieces
+abbrev pub chunks : ChunkedString → List Chunk
+chunks t = map chunk_of t.0.items
+
+-- a text with its short form
+pub record Forms : Type 0 where
+  pub value : List Chunk
+  pub short : Option (List Chunk)
+
+abbrev pub forms_of : FormatString → Forms
+forms_of t = record { value = chunks t.value; short = option_map chunks t.short }
+
+-- the text in a form: the short form where it is asked for and there is one
+abbrev pub select : LongShortForm → FormatString → ChunkedString
+select Long t = t.value
+select Short t = unwrap_or t.short t.value

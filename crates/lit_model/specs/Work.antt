@@ -1,0 +1,85 @@
+-- Entries without where their texts lie.
+use Rattle.std.specs.Prelude.{ℕ, List, map, length, Option, option_map, string_bytes}
+use Rattle.lit_model.specs.declared.date.Date.{Date}
+use Rattle.lit_model.specs.declared.entry.Entry.{Entry, out-Entry}
+use Rattle.lit_model.specs.declared.entry_type.EntryType.{EntryType}
+use Rattle.lit_model.specs.Entry.{parents_of, preorder}
+use Rattle.lit_model.specs.MaybeTyped.{MaybeView, maybe_view}
+use Rattle.lit_model.specs.Numeric.{NumericView, numeric_view}
+use Rattle.lit_model.specs.Page.{PartView, pages_view}
+use Rattle.lit_model.specs.Person.{Named, named, Group, group_of}
+use Rattle.lit_model.specs.Source.{Press, press_of, Address, address_of, serials, Language, language_of}
+use Rattle.lit_model.specs.Text.{Forms, forms_of}
+
+-- an entry's own fields
+pub record Own : Type 0 where
+  pub key : List ℕ
+  pub entry_type : EntryType
+  pub title : Option Forms
+  pub authors : Option (List Named)
+  pub editors : Option (List Named)
+  pub date : Option Date
+  pub url : Option Address
+  pub affiliated : Option (List Group)
+  pub publisher : Option Press
+  pub location : Option Forms
+  pub organization : Option Forms
+  pub issue : Option (MaybeView NumericView)
+  pub volume : Option (MaybeView NumericView)
+  pub edition : Option (MaybeView NumericView)
+  pub chapter : Option (MaybeView NumericView)
+  pub volume_total : Option NumericView
+  pub page_total : Option NumericView
+  pub page_range : Option (MaybeView (List PartView))
+  pub runtime : Option Forms
+  pub serial_number : Option (List (List ℕ × List ℕ))
+  pub language : Option Language
+  pub archive : Option Forms
+  pub archive_location : Option Forms
+  pub call_number : Option Forms
+  pub note : Option Forms
+  pub abstract_ : Option Forms
+  pub genre : Option Forms
+
+abbrev pub own_of : Entry → Own
+own_of e = record {
+  key = string_bytes (out-Entry e).key;
+  entry_type = (out-Entry e).entry_type;
+  title = option_map forms_of (out-Entry e).title;
+  authors = option_map (λ v. map named v.items) (out-Entry e).authors;
+  editors = option_map (λ v. map named v.items) (out-Entry e).editors;
+  date = (out-Entry e).date;
+  url = option_map address_of (out-Entry e).url;
+  affiliated = option_map (λ v. map group_of v.items) (out-Entry e).affiliated;
+  publisher = option_map press_of (out-Entry e).publisher;
+  location = option_map forms_of (out-Entry e).location;
+  organization = option_map forms_of (out-Entry e).organization;
+  issue = option_map (maybe_view numeric_view) (out-Entry e).issue;
+  volume = option_map (maybe_view numeric_view) (out-Entry e).volume;
+  edition = option_map (maybe_view numeric_view) (out-Entry e).edition;
+  chapter = option_map (maybe_view numeric_view) (out-Entry e).chapter;
+  volume_total = option_map numeric_view (out-Entry e).volume_total;
+  page_total = option_map numeric_view (out-Entry e).page_total;
+  page_range = option_map (maybe_view pages_view) (out-Entry e).page_range;
+  runtime = option_map forms_of (out-Entry e).runtime;
+  serial_number = option_map serials (out-Entry e).serial_number;
+  language = option_map language_of (out-Entry e).language;
+  archive = option_map forms_of (out-Entry e).archive;
+  archive_location = option_map forms_of (out-Entry e).archive_location;
+  call_number = option_map forms_of (out-Entry e).call_number;
+  note = option_map forms_of (out-Entry e).note;
+  abstract_ = option_map forms_of (out-Entry e).abstract_;
+  genre = option_map forms_of (out-Entry e).genre;
+}
+
+-- an entry's own fields, and how many parents it has
+pub record Work : Type 0 where
+  pub own : Own
+  pub parent_count : ℕ
+
+abbrev pub work_of : Entry → Work
+work_of e = record { own = own_of e; parent_count = length (parents_of e) }
+
+-- The entry and its parents in preorder. Two entries show the same list exactly where they agree in every field, at every level.
+abbrev pub works : Entry → List Work
+works e = map work_of (preorder e)

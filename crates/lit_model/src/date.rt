@@ -1,0 +1,107 @@
+//! Dates.
+
+ghost use Rattle.std.specs.Prelude.{◌≡◌, ◌↔◌, ◌≤◌, IsSome, IfSome};
+ghost use Rattle.std.specs.Option.{ForSome};
+
+/// A season (CSL 1.0.2, Terms: Seasons).
+#[derive(Clone, Copy, Debug, PartialEq, Eq, PartialOrd, Ord, Hash)]
+pub enum Season {
+    Spring,
+    Summer,
+    Autumn,
+    Winter,
+}
+
+/// A date: a year, and what more is known.
+#[derive(Clone, Copy, Debug, PartialEq, Eq, Hash)]
+pub struct Date {
+    year: i32,
+    month: Option<u8>,
+    day: Option<u8>,
+    season: Option<Season>,
+    approximate: bool,
+    pub ghost month_of_year: { ForSome month (λ m. m ≤ 11) },
+    pub ghost day_of_month: { ForSome day (λ d. d ≤ 30) },
+}
+
+impl Date {
+    ghost use Rattle.lit_model.specs.Date.{IsOnCalendar, date_parts};
+
+    /// A date, where the month is at most 11 and the day at most 30: both count from 0, so January is month 0. Otherwise `None`.
+    pub fn new(
+        year: i32,
+        month: Option<u8>,
+        day: Option<u8>,
+        season: Option<Season>,
+        approximate: bool,
+    ) -> Option<Date>
+        ensures calendar { IsSome result ↔ IsOnCalendar month day }
+        ensures value { IfSome result (λ d. date_parts d ≡ record { year = year; month = month; day = day; season = season; approximate = approximate }) }
+    {
+        if month.is_some_and(|m| m > 11) || day.is_some_and(|d| d > 30) {
+            return None;
+        }
+        Some(Date {
+            year,
+            month,
+            day,
+            season,
+            approximate,
+        })
+    }
+
+    /// The year; 0 is the year before the year 1.
+    pub fn year(&self) -> i32
+        ensures { result ≡ (date_parts self.now).year }
+    {
+        self.year
+    }
+
+    /// The month, from 0 for January to 11, where it is known.
+    pub fn month(&self) -> Option<u8>
+        ensures value { result ≡ (date_parts self.now).month }
+        ensures range { IfSome result (λ m. m ≤ 11) }
+    {
+        self.month
+    }
+
+    /// The day, from 0 for the first of the month to 30, where it is known.
+    pub fn day(&self) -> Option<u8>
+        ensures value { result ≡ (date_parts self.now).day }
+        ensures range { IfSome result (λ d. d ≤ 30) }
+    {
+        self.day
+    }
+
+    /// The season, where it is known.
+    pub fn season(&self) -> Option<Season>
+        ensures { result ≡ (date_parts self.now).season }
+    {
+        self.season
+    }
+
+    /// The date is about right.
+    pub fn approximate(&self) -> bool
+        ensures { result ≡ (date_parts self.now).approximate }
+    {
+        self.approximate
+    }
+}
+
+#[cfg(test)]
+mod tests {
+    use super::*;
+
+    #[test]
+    fn months_end_at_eleven_and_days_at_thirty(rt: HostRuntime) {
+        let date = Date::new(2014, Some(11), Some(30), None, false);
+        assert!(rt; date.is_some_and(|date| date.year() == 2014));
+        assert!(rt; date.is_some_and(|date| date.month() == Some(11)));
+        assert_eq!(rt; Date::new(2014, Some(12), None, None, false), None);
+        assert_eq!(rt; Date::new(2014, None, Some(31), None, false), None);
+        let spring = Date::new(0, None, None, Some(Season::Spring), true);
+        assert!(rt; spring.is_some_and(|date| date.season() == Some(Season::Spring)));
+        assert!(rt; spring.is_some_and(|date| date.approximate()));
+        assert!(rt; spring.is_some_and(|date| date.day().is_none()));
+    }
+}

@@ -1,0 +1,162 @@
+//! Given names whose letters are marked, as `Karl J.`.
+
+ghost use Rattle.std.specs.Prelude.{◌≡◌, true, [], option_copied, chars, OnOk, OnErr, IfOk};
+ghost use Rattle.unicode.specs.GeneralCategory.{general_category};
+ghost use Rattle.std.specs.Fmt.{WritesInCalls};
+ghost use Rattle.lit_model.specs.Initials.{is_capital, is_single_capital, without_dot, single_letter, name_text, gap_after, names_text, given_words, person_first_name};
+
+use crate::person::Person;
+use crate::sink::{Noting, Sink};
+use std::fmt;
+use unicode::properties::GeneralCategory;
+
+fn is_capital(c: char) -> bool
+    ensures { result ≡ is_capital (general_category c) }
+{
+    matches!(
+        GeneralCategory::for_char(c),
+        GeneralCategory::UppercaseLetter
+    )
+}
+
+/// The text is one uppercase letter.
+fn is_single_capital(text: &str) -> bool
+    ensures { result ≡ is_single_capital (chars text.now) }
+{
+    let mut rest = text.chars();
+    match rest.next() {
+        None => false,
+        Some(first) => match rest.next() {
+            None => is_capital(first),
+            Some(_second) => false,
+        },
+    }
+}
+
+fn without_dot(word: &str) -> &str
+    ensures { result.now ≡ without_dot word.now }
+{
+    match word.strip_suffix('.') {
+        Some(front) => front,
+        None => word,
+    }
+}
+
+/// The letter of a word that is one uppercase letter, with or without a dot.
+fn single_letter(word: &str) -> Option<&str>
+    ensures { option_copied result ≡ single_letter word.now }
+{
+    let letter = without_dot(word);
+    if is_single_capital(letter) {
+        Some(letter)
+    } else {
+        None
+    }
+}
+
+/// What a word leaves to be written before the next: the white space that ends the text, or else a space.
+fn gap_after<'a>(text: &'a str, letter: Option<&str>) -> &'a str
+    ensures { result.now ≡ gap_after text.now (option_copied letter.entry) }
+{
+    if letter.is_none() {
+        return " ";
+    }
+    let end = text.trim_end().len();
+    if end < text.len() { &text[end..] } else { " " }
+}
+
+fn put_name<S: Sink>(sink: &mut S, text: &str, letter: Option<&str>, word: &str) -> fmt::Result
+    ensures ok { OnOk result (WritesInCalls S.write_str_gives sink.old (name_text text.now (option_copied letter.entry) word.now) sink.new) }
+    ensures kept { OnOk result (S.refused sink.new ≡ S.refused sink.old) }
+    ensures err { OnErr result (S.refused sink.new ≡ true) }
+{
+    match letter {
+        None => sink.put(word),
+        Some(letter) => sink.put_all(&[letter, text.trim_end()]),
+    }
+}
+
+fn put_names<S: Sink>(sink: &mut S, text: &str, given: &str) -> fmt::Result
+    ensures ok { OnOk result (WritesInCalls S.write_str_gives sink.old (names_text text.now [] (given_words given.now)) sink.new) }
+    ensures kept { OnOk result (S.refused sink.new ≡ S.refused sink.old) }
+    ensures err { OnErr result (S.refused sink.new ≡ true) }
+{
+    let mut gap = "";
+    for word in given.split_whitespace() {
+        let letter = single_letter(word);
+        sink.put(gap)?;
+        put_name(sink, text, letter, word)?;
+        gap = gap_after(text, letter);
+    }
+    Ok(())
+}
+
+impl Person {
+    /// Writes the given name to a sink. A word that is one uppercase letter (general category Lu), with or without a dot, is written as the letter and the text `delimiter`, any other as it stands. A space separates words, unless white space is there; no white space ends the whole. It fails only where the sink refuses a text; what the sink holds then is left open.
+    pub fn first_name_with_delimiter_into<S: Sink>(
+        &self,
+        sink: &mut S,
+        delimiter: Option<&str>,
+    ) -> fmt::Result
+        ensures ok { OnOk result (WritesInCalls S.write_str_gives sink.old (person_first_name (option_copied delimiter.entry) self.now) sink.new) }
+        ensures kept { OnOk result (S.refused sink.new ≡ S.refused sink.old) }
+        ensures err { OnErr result (S.refused sink.new ≡ true) }
+    {
+        let text = delimiter.unwrap_or("");
+        match &self.given_name {
+            None => Ok(()),
+            Some(given) => put_names(sink, text, given.as_str()),
+        }
+    }
+
+    /// Writes the given name to any writer, as [`Person::first_name_with_delimiter_into`] does to a sink. It fails only where the writer refuses a text; what the writer holds then is left open.
+    pub fn first_name_with_delimiter<W: fmt::Write>(
+        &self,
+        w: &mut W,
+        delimiter: Option<&str>,
+    ) -> fmt::Result
+        ensures { OnOk result (WritesInCalls W.write_str_gives w.old (person_first_name (option_copied delimiter.entry) self.now) w.new) }
+    {
+        let mut sink = Noting::new(w);
+        let result = self.first_name_with_delimiter_into(&mut sink, delimiter);
+        // It does nothing: the proof reads what `w` holds from the reference that comes back.
+        sink.into_inner();
+        result
+    }
+}
+
+#[cfg(test)]
+mod tests {
+    use super::*;
+    use crate::memory::Memory;
+    use std::alloc::Global;
+    use std::test::Fail;
+
+    fn with_given(alloc: Global, given: &str) -> Result<Person, Memory> {
+        Ok(Person {
+            name: String::from_str(alloc, "Nemo")?,
+            given_name: Some(String::from_str(alloc, given)?),
+            prefix: None,
+            suffix: None,
+            alias: None,
+            comma_suffix: false,
+        })
+    }
+
+    #[test]
+    fn letters_are_marked(rt: HostRuntime) -> Result<(), Fail> {
+        for (given, text, wanted) in [
+            ("Karl J", ".", "Karl J."),
+            ("E. P.", ". ", "E. P."),
+            ("E P Karl", ".", "E. P. Karl"),
+            ("E  P.", "", "E P"),
+            ("e \u{c9} Jr.", ". ", "e \u{c9}. Jr."),
+        ] {
+            let person = with_given(rt.alloc(), given)?;
+            let mut written = String::new(rt.alloc());
+            person.first_name_with_delimiter(&mut written, Some(text))?;
+            assert_eq!(rt; written.as_str(), wanted, "of {given}");
+        }
+        Ok(())
+    }
+}

@@ -1,0 +1,174 @@
+//! Given names cut down to their initials.
+
+ghost use Rattle.std.specs.Prelude.{◌≡◌, true, map, option_to_list, option_copied, OnOk, OnErr, IfOk};
+ghost use Rattle.std.specs.Fmt.{WritesInCalls};
+ghost use Rattle.lit_model.specs.Initials.{first_grapheme, initials_of, gap, word_text, before_piece, before_word, end_text, initials, person_initials};
+
+use crate::person::Person;
+use crate::sink::{Noting, Sink};
+use std::fmt;
+use unicode_segmentation::UnicodeSegmentation;
+
+/// What an initial stands after.
+#[derive(Clone, Copy)]
+enum Before {
+    /// No other initial.
+    Nothing,
+    /// Another word.
+    Word,
+    /// Another piece of its word.
+    Piece,
+}
+
+/// How initials are written.
+#[derive(Clone, Copy)]
+struct Shortened<'a> {
+    /// What follows each.
+    text: &'a str,
+    /// A hyphen in a name is kept.
+    hyphen: bool,
+}
+
+impl Shortened<'_> {
+    fn put_gap<S: Sink>(&self, sink: &mut S, before: Before) -> fmt::Result
+        ensures ok { OnOk result (WritesInCalls S.write_str_gives sink.old (gap self.now.text.now self.now.hyphen before) sink.new) }
+        ensures kept { OnOk result (S.refused sink.new ≡ S.refused sink.old) }
+        ensures err { OnErr result (S.refused sink.new ≡ true) }
+    {
+        match before {
+            Before::Nothing => Ok(()),
+            Before::Word => sink.put(self.text),
+            Before::Piece if self.hyphen => sink.put_all(&[self.text.trim_end(), "-"]),
+            Before::Piece => sink.put(self.text),
+        }
+    }
+
+    /// Writes the initial of a piece, unless that is empty.
+    fn put_piece<S: Sink>(
+        &self,
+        sink: &mut S,
+        piece: &str,
+        before: Before,
+    ) -> Result<Before, fmt::Error>
+        ensures place { IfOk result (λ b. b ≡ before_piece before (option_to_list (first_grapheme piece.now))) }
+        ensures ok { OnOk result (WritesInCalls S.write_str_gives sink.old (word_text self.now.text.now self.now.hyphen before (option_to_list (first_grapheme piece.now))) sink.new) }
+        ensures kept { OnOk result (S.refused sink.new ≡ S.refused sink.old) }
+        ensures err { OnErr result (S.refused sink.new ≡ true) }
+    {
+        match piece.graphemes(true).next() {
+            None => Ok(before),
+            Some(initial) => {
+                self.put_gap(sink, before)?;
+                sink.put(initial)?;
+                Ok(Before::Piece)
+            }
+        }
+    }
+
+    /// Writes the initials of a word.
+    fn put_word<S: Sink>(
+        &self,
+        sink: &mut S,
+        word: &str,
+        before: Before,
+    ) -> Result<Before, fmt::Error>
+        ensures place { IfOk result (λ b. b ≡ before_piece before (initials_of word.now)) }
+        ensures ok { OnOk result (WritesInCalls S.write_str_gives sink.old (word_text self.now.text.now self.now.hyphen before (initials_of word.now)) sink.new) }
+        ensures kept { OnOk result (S.refused sink.new ≡ S.refused sink.old) }
+        ensures err { OnErr result (S.refused sink.new ≡ true) }
+    {
+        let mut rest = word;
+        let mut place = before;
+        while let Some((piece, after)) = rest.split_once('-') {
+            place = self.put_piece(sink, piece, place)?;
+            rest = after;
+        }
+        let last = self.put_piece(sink, rest, place)?;
+        Ok(last)
+    }
+
+    /// Writes the initials of all words of a given name.
+    fn put_words<S: Sink>(&self, sink: &mut S, given: &str) -> fmt::Result
+        ensures ok { OnOk result (WritesInCalls S.write_str_gives sink.old (initials self.now.text.now self.now.hyphen given.now) sink.new) }
+        ensures kept { OnOk result (S.refused sink.new ≡ S.refused sink.old) }
+        ensures err { OnErr result (S.refused sink.new ≡ true) }
+    {
+        let mut place = Before::Nothing;
+        for word in given.split_whitespace() {
+            let last = self.put_word(sink, word, place)?;
+            place = last.before_word();
+        }
+        self.put_end(sink, place)?;
+        Ok(())
+    }
+
+    fn put_end<S: Sink>(&self, sink: &mut S, place: Before) -> fmt::Result
+        ensures ok { OnOk result (WritesInCalls S.write_str_gives sink.old (end_text self.now.text.now place) sink.new) }
+        ensures kept { OnOk result (S.refused sink.new ≡ S.refused sink.old) }
+        ensures err { OnErr result (S.refused sink.new ≡ true) }
+    {
+        match place {
+            Before::Nothing => Ok(()),
+            Before::Word => sink.put(self.text.trim_end()),
+            Before::Piece => sink.put(self.text.trim_end()),
+        }
+    }
+}
+
+impl Before {
+    /// What the next word stands after.
+    fn before_word(self) -> Before
+        ensures { result ≡ before_word self }
+    {
+        match self {
+            Before::Nothing => Before::Nothing,
+            Before::Word => Before::Word,
+            Before::Piece => Before::Word,
+        }
+    }
+}
+
+impl Person {
+    /// Writes the initials of the given name to a sink: the first grapheme of each piece between white space or `-`, each followed by the text `delimiter`. Between the pieces of one word, where hyphens are kept, that text loses its trailing white space and a `-` follows; so does the last one lose it. It fails only where the sink refuses a text; what the sink holds then is left open.
+    pub fn initials_into<S: Sink>(
+        &self,
+        sink: &mut S,
+        delimiter: Option<&str>,
+        with_hyphen: bool,
+    ) -> fmt::Result
+        ensures ok { OnOk result (WritesInCalls S.write_str_gives sink.old (person_initials (option_copied delimiter.entry) with_hyphen self.now) sink.new) }
+        ensures kept { OnOk result (S.refused sink.new ≡ S.refused sink.old) }
+        ensures err { OnErr result (S.refused sink.new ≡ true) }
+    {
+        let text = delimiter.unwrap_or("");
+        match &self.given_name {
+            None => Ok(()),
+            Some(given) => {
+                let shortened = Shortened {
+                    text,
+                    hyphen: with_hyphen,
+                };
+                shortened.put_words(sink, given.as_str())
+            }
+        }
+    }
+
+    /// Writes the initials of the given name to any writer, as [`Person::initials_into`] does to a sink. It fails only where the writer refuses a text; what the writer holds then is left open.
+    pub fn initials<W: fmt::Write>(
+        &self,
+        w: &mut W,
+        delimiter: Option<&str>,
+        with_hyphen: bool,
+    ) -> fmt::Result
+        ensures { OnOk result (WritesInCalls W.write_str_gives w.old (person_initials (option_copied delimiter.entry) with_hyphen self.now) w.new) }
+    {
+        let mut sink = Noting::new(w);
+        let result = self.initials_into(&mut sink, delimiter, with_hyphen);
+        // It does nothing: the proof reads what `w` holds from the reference that comes back.
+        sink.into_inner();
+        result
+    }
+}
+
+#[cfg(test)]
+mod tests;

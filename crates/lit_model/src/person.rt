@@ -1,0 +1,278 @@
+//! Persons, and what they did for a work.
+
+ghost use Rattle.std.specs.Prelude.{◌≡◌, not, ◌||◌, ◌++◌, option_copied, string_bytes, chars, map, IfOk};
+ghost use Rattle.std.specs.List.{list_any, list_all};
+ghost use Rattle.unicode.specs.Binary.{is_alphabetic};
+ghost use Rattle.lit_model.specs.Name.{is_institutional, is_cjk_script, letters, are_cjk, is_cjk, is_particle_word, name_particle, name_without_particle, without, first_without, name_without_article};
+ghost use Rattle.lit_model.specs.Person.{named, role_of, group_of};
+ghost use Rattle.unicode.specs.Script.{script};
+
+use crate::memory::Memory;
+use crate::text::copy_text;
+use std::alloc::Global;
+use unicode::properties::{GeneralCategory, Script, is_alphabetic};
+
+/// A person or an institution.
+#[derive(PartialEq, Eq, Hash, Drop)]
+pub struct Person {
+    /// The family name, or the whole name of an institution.
+    pub name: String,
+    /// The given name.
+    pub given_name: Option<String>,
+    /// What stands before the family name, as `von`.
+    pub prefix: Option<String>,
+    /// What stands after the name, as `Jr.`.
+    pub suffix: Option<String>,
+    /// Another name.
+    pub alias: Option<String>,
+    /// A comma stands before the suffix.
+    pub comma_suffix: bool,
+}
+
+/// What a person did for a work.
+#[derive(PartialEq, Eq, Drop)]
+pub enum PersonRole {
+    Translator,
+    Afterword,
+    Foreword,
+    Introduction,
+    Annotator,
+    Commentator,
+    Holder,
+    Compiler,
+    Founder,
+    Collaborator,
+    Organizer,
+    CastMember,
+    Composer,
+    Producer,
+    ExecutiveProducer,
+    Writer,
+    Cinematography,
+    Director,
+    Illustrator,
+    Narrator,
+    /// Something else.
+    Unknown(String),
+}
+
+/// Persons with one role.
+#[derive(PartialEq, Eq, Drop)]
+pub struct PersonsWithRoles {
+    /// The persons, in order.
+    pub names: Vec<Person>,
+    /// What they did.
+    pub role: PersonRole,
+}
+
+impl Person {
+    /// An institution: no given name, no prefix and no suffix. One that is present and empty counts.
+    pub fn is_institutional(&self) -> bool
+        ensures { result ≡ is_institutional self.now }
+    {
+        self.given_name.is_none() && self.prefix.is_none() && self.suffix.is_none()
+    }
+
+    /// A name in a Chinese, Japanese or Korean script: the name and the given name together have a letter (Unicode Alphabetic), and each is of script Han, Hiragana, Katakana, Hangul or Bopomofo.
+    pub fn is_cjk(&self) -> bool
+        ensures { result ≡ is_cjk self.now }
+    {
+        match &self.given_name {
+            Some(given) => is_cjk_name(self.name.as_str(), given.as_str()),
+            None => is_cjk_name(self.name.as_str(), ""),
+        }
+    }
+
+    /// The particle of the name, as `van der`: its longest front of words, cut at each space, that begin with a lowercase letter (general category Ll), but never its last word.
+    pub fn name_particle(&self) -> Option<&str>
+        ensures { option_copied result ≡ name_particle (string_bytes self.now.name) }
+    {
+        let name = self.name.as_str();
+        let rest = self.name_without_particle();
+        let front = name.len() - rest.len();
+        if front == 0 {
+            return None;
+        }
+        Some(&name[..front - 1])
+    }
+
+    /// The name after its particle and the space behind that; the whole name where it has no particle.
+    pub fn name_without_particle(&self) -> &str
+        ensures { result.now ≡ name_without_particle (string_bytes self.now.name) }
+    {
+        let mut rest = self.name.as_str();
+        while let Some((word, after)) = rest.split_once(' ') {
+            if !is_particle_word(word) {
+                break;
+            }
+            rest = after;
+        }
+        rest
+    }
+
+    /// The name without an English article before it, `The`, `A` or `An` with a capital or not; the whole name where nothing else would be left.
+    pub fn name_without_article(&self) -> &str
+        ensures { result.now ≡ name_without_article (string_bytes self.now.name) }
+    {
+        let name = self.name.as_str();
+        first_without(&["The ", "the ", "A ", "a ", "An ", "an "], name).unwrap_or(name)
+    }
+}
+
+impl Person {
+    /// A copy. The error: there was no memory for it.
+    pub fn clone(&self, alloc: Global) -> Result<Person, Memory>
+        ensures { IfOk result (λ p. named p ≡ named self.now) }
+    {
+        let name = String::from_str(alloc, self.name.as_str())?;
+        let given_name = copy_text(&self.given_name, alloc)?;
+        let prefix = copy_text(&self.prefix, alloc)?;
+        let suffix = copy_text(&self.suffix, alloc)?;
+        let alias = copy_text(&self.alias, alloc)?;
+        Ok(Person {
+            name,
+            given_name,
+            prefix,
+            suffix,
+            alias,
+            comma_suffix: self.comma_suffix,
+        })
+    }
+}
+
+impl PersonRole {
+    /// A copy. The error: there was no memory for it.
+    pub fn clone(&self, alloc: Global) -> Result<PersonRole, Memory>
+        ensures { IfOk result (λ r. role_of r ≡ role_of self.now) }
+    {
+        match self {
+            PersonRole::Translator => Ok(PersonRole::Translator),
+            PersonRole::Afterword => Ok(PersonRole::Afterword),
+            PersonRole::Foreword => Ok(PersonRole::Foreword),
+            PersonRole::Introduction => Ok(PersonRole::Introduction),
+            PersonRole::Annotator => Ok(PersonRole::Annotator),
+            PersonRole::Commentator => Ok(PersonRole::Commentator),
+            PersonRole::Holder => Ok(PersonRole::Holder),
+            PersonRole::Compiler => Ok(PersonRole::Compiler),
+            PersonRole::Founder => Ok(PersonRole::Founder),
+            PersonRole::Collaborator => Ok(PersonRole::Collaborator),
+            PersonRole::Organizer => Ok(PersonRole::Organizer),
+            PersonRole::CastMember => Ok(PersonRole::CastMember),
+            PersonRole::Composer => Ok(PersonRole::Composer),
+            PersonRole::Producer => Ok(PersonRole::Producer),
+            PersonRole::ExecutiveProducer => Ok(PersonRole::ExecutiveProducer),
+            PersonRole::Writer => Ok(PersonRole::Writer),
+            PersonRole::Cinematography => Ok(PersonRole::Cinematography),
+            PersonRole::Director => Ok(PersonRole::Director),
+            PersonRole::Illustrator => Ok(PersonRole::Illustrator),
+            PersonRole::Narrator => Ok(PersonRole::Narrator),
+            PersonRole::Unknown(text) => {
+                let copy = String::from_str(alloc, text.as_str())?;
+                Ok(PersonRole::Unknown(copy))
+            }
+        }
+    }
+}
+
+impl PersonsWithRoles {
+    /// A copy. The error: there was no memory for it.
+    pub fn clone(&self, alloc: Global) -> Result<PersonsWithRoles, Memory>
+        ensures { IfOk result (λ g. group_of g ≡ group_of self.now) }
+    {
+        let names = copy_persons(&self.names, alloc)?;
+        let role = self.role.clone(alloc)?;
+        Ok(PersonsWithRoles { names, role })
+    }
+}
+
+/// A copy of each person, in order.
+pub(crate) fn copy_persons(persons: &[Person], alloc: Global) -> Result<Vec<Person>, Memory>
+    ensures { IfOk result (λ v. map named v.items ≡ map named persons.now) }
+{
+    let mut copies = Vec::with_capacity(alloc, persons.len())?;
+    for person in persons {
+        copies.push(person.clone(alloc)?)?;
+    }
+    Ok(copies)
+}
+
+/// A copy of each group, in order.
+pub(crate) fn copy_groups(
+    groups: &[PersonsWithRoles],
+    alloc: Global,
+) -> Result<Vec<PersonsWithRoles>, Memory>
+    ensures { IfOk result (λ v. map group_of v.items ≡ map group_of groups.now) }
+{
+    let mut copies = Vec::with_capacity(alloc, groups.len())?;
+    for group in groups {
+        copies.push(group.clone(alloc)?)?;
+    }
+    Ok(copies)
+}
+
+fn is_cjk_script(script: Script) -> bool
+    ensures { result ≡ is_cjk_script script }
+{
+    matches!(
+        script,
+        Script::Han | Script::Hiragana | Script::Katakana | Script::Hangul | Script::Bopomofo
+    )
+}
+
+fn is_cjk_name(name: &str, given: &str) -> bool
+    ensures { result ≡ are_cjk (letters name.now ++ letters given.now) }
+{
+    if !has_letter(name) && !has_letter(given) {
+        return false;
+    }
+    is_cjk_text(name) && is_cjk_text(given)
+}
+
+fn has_letter(text: &str) -> bool
+    ensures { result ≡ list_any is_alphabetic (chars text.now) }
+{
+    text.chars().any(|c| is_alphabetic(c))
+}
+
+/// Each letter of the text is of a Chinese, Japanese or Korean script.
+fn is_cjk_text(text: &str) -> bool
+    ensures { result ≡ list_all (λ c. not (is_alphabetic c) || is_cjk_script (script c)) (chars text.now) }
+{
+    text.chars().all(|c| !is_alphabetic(c) || is_cjk_script(Script::for_char(c)))
+}
+
+/// The word begins with a lowercase letter.
+fn is_particle_word(word: &str) -> bool
+    ensures { result ≡ is_particle_word word.now }
+{
+    match word.chars().next() {
+        Some(first) => matches!(
+            GeneralCategory::for_char(first),
+            GeneralCategory::LowercaseLetter
+        ),
+        None => false,
+    }
+}
+
+/// The text behind the article that it begins with, where there is any.
+fn without<'a>(article: &str, text: &'a str) -> Option<&'a str>
+    ensures { option_copied result ≡ without article.now text.now }
+{
+    let rest = text.strip_prefix(article)?;
+    if rest.is_empty() { None } else { Some(rest) }
+}
+
+/// The same for the first of the articles that the text begins with.
+fn first_without<'a>(articles: &[&str], text: &'a str) -> Option<&'a str>
+    ensures { option_copied result ≡ first_without (map (λ a. a.now) articles.now) text.now }
+{
+    for article in articles {
+        if let Some(rest) = without(article, text) {
+            return Some(rest);
+        }
+    }
+    None
+}
+
+#[cfg(test)]
+mod tests;

@@ -1,0 +1,93 @@
+use super::*;
+use std::test::Fail;
+
+fn person(alloc: Global, name: &str) -> Result<Person, Memory> {
+    Ok(Person {
+        name: String::from_str(alloc, name)?,
+        given_name: None,
+        prefix: None,
+        suffix: None,
+        alias: None,
+        comma_suffix: false,
+    })
+}
+
+fn with_given(alloc: Global, name: &str, given: &str) -> Result<Person, Memory> {
+    let mut person = person(alloc, name)?;
+    person.given_name = Some(String::from_str(alloc, given)?);
+    Ok(person)
+}
+
+#[test]
+fn particles(rt: HostRuntime) -> Result<(), Fail> {
+    for (name, particle, rest) in [
+        ("van der Berg", Some("van der"), "Berg"),
+        ("van Gogh", Some("van"), "Gogh"),
+        ("della", None, "della"),
+        ("Berg van", None, "Berg van"),
+        ("van  Gogh", Some("van"), " Gogh"),
+        ("van ", Some("van"), ""),
+        ("\u{e9}cole de Paris", Some("\u{e9}cole de"), "Paris"),
+        ("", None, ""),
+    ] {
+        let person = person(rt.alloc(), name)?;
+        assert_eq!(rt; person.name_particle(), particle, "of {name}");
+        assert_eq!(rt; person.name_without_particle(), rest, "of {name}");
+    }
+    Ok(())
+}
+
+#[test]
+fn articles(rt: HostRuntime) -> Result<(), Fail> {
+    for (name, rest) in [
+        ("The Times", "Times"),
+        ("The ", "The "),
+        ("the Times", "Times"),
+        ("An Army", "Army"),
+        ("A", "A"),
+        ("Anarchy", "Anarchy"),
+        ("THE TIMES", "THE TIMES"),
+    ] {
+        let person = person(rt.alloc(), name)?;
+        assert_eq!(rt; person.name_without_article(), rest, "of {name}");
+    }
+    Ok(())
+}
+
+#[test]
+fn scripts(rt: HostRuntime) -> Result<(), Fail> {
+    for (name, given, cjk) in [
+        ("\u{5c71}\u{7530}", "\u{592a}\u{90ce}", true),
+        ("\u{3084}\u{307e}\u{3060}", "", true),
+        ("\u{ae40}", "\u{bbfc} 2", true),
+        ("\u{30de}\u{30fc}\u{30af}", "\u{4e00}\u{90ce}", false),
+        ("\u{5c71}", "Taro", false),
+        ("12", "", false),
+        ("Gogh", "Vincent", false),
+    ] {
+        let person = with_given(rt.alloc(), name, given)?;
+        assert_eq!(rt; person.is_cjk(), cjk, "of {name}");
+    }
+    Ok(())
+}
+
+#[test]
+fn institutions(rt: HostRuntime) -> Result<(), Fail> {
+    let times = person(rt.alloc(), "The Times")?;
+    assert!(rt; times.is_institutional());
+    let empty = with_given(rt.alloc(), "The Times", "")?;
+    assert!(rt; !empty.is_institutional());
+    Ok(())
+}
+
+#[test]
+fn copies_are_equal(rt: HostRuntime) -> Result<(), Fail> {
+    let alloc = rt.alloc();
+    let role = PersonRole::Unknown(String::from_str(alloc, "muse")?);
+    let names = vec![in alloc; with_given(alloc, "Gogh", "Vincent")?]?;
+    let group = PersonsWithRoles { names, role };
+    let copy = group.clone(alloc)?;
+    assert!(rt; copy == group);
+    assert!(rt; copy.role != PersonRole::Writer);
+    Ok(())
+}

@@ -1,0 +1,432 @@
+//! Selections: an entry, or one of its parents, by their types and fields.
+
+ghost use Rattle.std.specs.Prelude.{◌≡◌, ◌++◌, map, option_copied, IfOk, OnOk};
+ghost use Rattle.std.specs.List.{list_all};
+ghost use Rattle.lit_model.specs.Entry.{groups_of};
+ghost use Rattle.lit_model.specs.Person.{same_role, with_role};
+ghost use Rattle.lit_model.specs.Select.{rule_of, is_among, has_field, has_parent, parent_among, fits, bound_by, bound_select, matches, container, collection, original, event, chapter, part, volume_title, audio_video, is_untitled_part, first_parent, container_of, collection_of, full_of};
+
+use crate::entry::Entry;
+use crate::entry_type::EntryType;
+use crate::memory::Memory;
+use crate::person::{Person, PersonRole};
+use std::alloc::Global;
+
+/// A field that a clause asks for.
+#[derive(Clone, Copy, Debug, PartialEq, Eq, PartialOrd, Ord, Hash)]
+pub enum Field {
+    Date,
+    Url,
+    Issue,
+    Volume,
+}
+
+/// What a clause selects.
+#[derive(Clone, Copy, Debug, PartialEq, Eq, PartialOrd, Ord, Hash)]
+pub enum Bind {
+    /// Nothing: the clause is a test.
+    Nothing,
+    /// The entry.
+    Child,
+    /// The first direct parent that fits.
+    Parent,
+}
+
+/// A test of an entry and of its direct parents.
+#[derive(Clone, Copy)]
+pub struct Clause<'a> {
+    /// The types that the entry may have. None at all: every type.
+    pub own: &'a [EntryType],
+    /// The fields that the entry itself must have, all of them.
+    pub fields: &'a [Field],
+    /// The types of which a direct parent must have one, where a parent is asked for. None at all: every type.
+    pub parent: Option<&'a [EntryType]>,
+    /// What is selected.
+    pub bind: Bind,
+}
+
+static CONTAINER: [Clause<'static>; 5] = [
+    Clause {
+        own: &[EntryType::Chapter],
+        fields: &[],
+        parent: Some(&[
+            EntryType::Book,
+            EntryType::Anthology,
+            EntryType::Proceedings,
+        ]),
+        bind: Bind::Parent,
+    },
+    Clause {
+        own: &[EntryType::Anthos],
+        fields: &[],
+        parent: Some(&[EntryType::Anthology]),
+        bind: Bind::Parent,
+    },
+    Clause {
+        own: &[EntryType::Entry],
+        fields: &[],
+        parent: Some(&[]),
+        bind: Bind::Parent,
+    },
+    Clause {
+        own: &[EntryType::Article],
+        fields: &[],
+        parent: Some(&[
+            EntryType::Proceedings,
+            EntryType::Periodical,
+            EntryType::Newspaper,
+            EntryType::Blog,
+            EntryType::Web,
+        ]),
+        bind: Bind::Parent,
+    },
+    Clause {
+        own: &[],
+        fields: &[],
+        parent: Some(&[EntryType::Reference, EntryType::Web, EntryType::Blog]),
+        bind: Bind::Parent,
+    },
+];
+
+/// The work that holds an entry: the book of a chapter, the journal of an article, the site of anything.
+fn container() -> &'static [Clause<'static>]
+    ensures { map rule_of result.now ≡ container }
+{
+    &CONTAINER
+}
+
+static COLLECTION: [Clause<'static>; 1] = [Clause {
+    own: &[
+        EntryType::Book,
+        EntryType::Anthology,
+        EntryType::Proceedings,
+        EntryType::Reference,
+        EntryType::Report,
+    ],
+    fields: &[],
+    parent: Some(&[
+        EntryType::Book,
+        EntryType::Anthology,
+        EntryType::Periodical,
+        EntryType::Reference,
+    ]),
+    bind: Bind::Parent,
+}];
+
+/// The collection of a work that stands in no other.
+fn collection() -> &'static [Clause<'static>]
+    ensures { map rule_of result.now ≡ collection }
+{
+    &COLLECTION
+}
+
+static ORIGINAL: [Clause<'static>; 1] = [Clause {
+    own: &[],
+    fields: &[],
+    parent: Some(&[EntryType::Original]),
+    bind: Bind::Parent,
+}];
+
+/// The work that was translated or printed again.
+fn original() -> &'static [Clause<'static>]
+    ensures { map rule_of result.now ≡ original }
+{
+    &ORIGINAL
+}
+
+static EVENT: [Clause<'static>; 1] = [Clause {
+    own: &[],
+    fields: &[],
+    parent: Some(&[
+        EntryType::Exhibition,
+        EntryType::Conference,
+        EntryType::Misc,
+    ]),
+    bind: Bind::Parent,
+}];
+
+/// The event at which a work was shown: its first parent that is an exhibition, a conference or anything else.
+pub fn event() -> &'static [Clause<'static>]
+    ensures { map rule_of result.now ≡ event }
+{
+    &EVENT
+}
+
+static CHAPTER: [Clause<'static>; 4] = [
+    Clause {
+        own: &[EntryType::Anthos],
+        fields: &[],
+        parent: Some(&[EntryType::Anthology]),
+        bind: Bind::Child,
+    },
+    Clause {
+        own: &[],
+        fields: &[],
+        parent: Some(&[EntryType::Reference]),
+        bind: Bind::Child,
+    },
+    Clause {
+        own: &[EntryType::Article],
+        fields: &[],
+        parent: Some(&[EntryType::Proceedings]),
+        bind: Bind::Child,
+    },
+    Clause {
+        own: &[],
+        fields: &[],
+        parent: Some(&[EntryType::Book]),
+        bind: Bind::Child,
+    },
+];
+
+/// The work whose volume numbers a chapter: an entry of an anthology, a reference work, proceedings or a book.
+pub fn chapter() -> &'static [Clause<'static>]
+    ensures { map rule_of result.now ≡ chapter }
+{
+    &CHAPTER
+}
+
+static PART: [Clause<'static>; 1] = [Clause {
+    own: &[],
+    fields: &[],
+    parent: Some(&[
+        EntryType::Article,
+        EntryType::Blog,
+        EntryType::Book,
+        EntryType::Legislation,
+    ]),
+    bind: Bind::Child,
+}];
+
+/// The work whose volume numbers a part: an entry of an article, a blog, a book or a law.
+pub fn part() -> &'static [Clause<'static>]
+    ensures { map rule_of result.now ≡ part }
+{
+    &PART
+}
+
+static VOLUME_TITLE: [Clause<'static>; 4] = [
+    Clause {
+        own: &[EntryType::Anthos],
+        fields: &[],
+        parent: Some(&[EntryType::Anthology]),
+        bind: Bind::Parent,
+    },
+    Clause {
+        own: &[EntryType::Entry],
+        fields: &[],
+        parent: Some(&[]),
+        bind: Bind::Parent,
+    },
+    Clause {
+        own: &[],
+        fields: &[],
+        parent: Some(&[EntryType::Reference]),
+        bind: Bind::Parent,
+    },
+    Clause {
+        own: &[EntryType::Article],
+        fields: &[],
+        parent: Some(&[EntryType::Proceedings]),
+        bind: Bind::Parent,
+    },
+];
+
+/// The work whose title is the title of a volume.
+pub fn volume_title() -> &'static [Clause<'static>]
+    ensures { map rule_of result.now ≡ volume_title }
+{
+    &VOLUME_TITLE
+}
+
+static AUDIO_VIDEO: [Clause<'static>; 2] = [
+    Clause {
+        own: &[],
+        fields: &[],
+        parent: Some(&[EntryType::Audio, EntryType::Video]),
+        bind: Bind::Parent,
+    },
+    Clause {
+        own: &[EntryType::Audio, EntryType::Video],
+        fields: &[],
+        parent: None,
+        bind: Bind::Child,
+    },
+];
+
+/// The recording: the first parent that is one, or else the entry itself where it is one.
+pub fn audio_video() -> &'static [Clause<'static>]
+    ensures { map rule_of result.now ≡ audio_video }
+{
+    &AUDIO_VIDEO
+}
+
+/// The type is among these, or there are none.
+fn is_among(entry_type: EntryType, types: &[EntryType]) -> bool
+    ensures { result ≡ is_among entry_type types.now }
+{
+    types.is_empty() || types.contains(&entry_type)
+}
+
+impl Entry {
+    fn has_field(&self, field: Field) -> bool
+        ensures { result ≡ has_field self.now field }
+    {
+        match field {
+            Field::Date => self.date.is_some(),
+            Field::Url => self.url.is_some(),
+            Field::Issue => self.issue.is_some(),
+            Field::Volume => self.volume.is_some(),
+        }
+    }
+
+    fn has_fields(&self, fields: &[Field]) -> bool
+        ensures { result ≡ list_all (has_field self.now) fields.now }
+    {
+        fields.iter().all(|field| self.has_field(*field))
+    }
+
+    /// The first direct parent of one of these types; of any type where there are none.
+    fn parent_among(&self, types: &[EntryType]) -> Option<&Entry>
+        ensures { option_copied result ≡ parent_among types.now self.now }
+    {
+        self.parents.iter().find(|p| is_among(p.entry_type, types))
+    }
+}
+
+impl Clause<'_> {
+    /// The entry has one of the types, all the fields, and a parent such as is asked for.
+    fn fits(&self, entry: &Entry) -> bool
+        ensures { result ≡ fits entry.now (rule_of self.now) }
+    {
+        is_among(entry.entry_type, self.own)
+            && entry.has_fields(self.fields)
+            && self.has_parent(entry)
+    }
+
+    fn has_parent(&self, entry: &Entry) -> bool
+        ensures { result ≡ has_parent (rule_of self.now).parent entry.now }
+    {
+        match self.parent {
+            None => true,
+            Some(types) => entry.parent_among(types).is_some(),
+        }
+    }
+
+    /// What it selects of an entry that matches it.
+    fn bound<'e>(&self, entry: &'e Entry) -> Option<&'e Entry>
+        ensures { option_copied result ≡ bound_by self.now.bind (rule_of self.now).parent entry.now }
+    {
+        match self.bind {
+            Bind::Nothing => None,
+            Bind::Child => Some(entry),
+            Bind::Parent => entry.parent_among(self.parent?),
+        }
+    }
+}
+
+impl Entry {
+    /// Some clause matches the entry.
+    pub fn matches(&self, clauses: &[Clause<'_>]) -> bool
+        ensures { result ≡ matches (map rule_of clauses.now) self.now }
+    {
+        for clause in clauses {
+            if clause.fits(self) {
+                return true;
+            }
+        }
+        false
+    }
+
+    /// What the first clause that matches the entry selects: nothing, the entry, or its first direct parent that fits.
+    pub fn bound_select(&self, clauses: &[Clause<'_>]) -> Option<&Entry>
+        ensures { option_copied result ≡ bound_select (map rule_of clauses.now) self.now }
+    {
+        for clause in clauses {
+            if clause.fits(self) {
+                return clause.bound(self);
+            }
+        }
+        None
+    }
+}
+
+impl Entry {
+    fn is_untitled_part(&self) -> bool
+        ensures { result ≡ is_untitled_part self.now }
+    {
+        (self.entry_type == EntryType::Chapter || self.entry_type == EntryType::Scene)
+            && self.title.is_none()
+    }
+
+    /// The work that the entry is a part of: from a chapter or a scene without a title up to its first parent, and on, as long as there is one.
+    pub fn get_full(&self) -> &Entry
+        ensures { result.now ≡ full_of self.now }
+    {
+        let mut entry = self;
+        loop {
+            if !entry.is_untitled_part() {
+                return entry;
+            }
+            match entry.parents.first() {
+                None => return entry,
+                Some(parent) => entry = parent,
+            }
+        }
+    }
+
+    /// The work that holds the entry, as a journal holds an article.
+    pub fn get_container(&self) -> Option<&Entry>
+        ensures { option_copied result ≡ container_of self.now }
+    {
+        self.bound_select(container())
+    }
+
+    /// The collection that the entry stands in: where another work holds it, that work's first parent.
+    pub fn get_collection(&self) -> Option<&Entry>
+        ensures { option_copied result ≡ collection_of self.now }
+    {
+        match self.get_container() {
+            Some(container) => container.parents.first(),
+            None => self.bound_select(collection()),
+        }
+    }
+
+    /// The work that the entry translates or prints again.
+    pub fn get_original(&self) -> Option<&Entry>
+        ensures { option_copied result ≡ bound_select original self.now }
+    {
+        self.bound_select(original())
+    }
+
+    /// The entry's own further persons of a role, in order. The error: there was no memory for the list.
+    pub fn affiliated_with_role(
+        &self,
+        alloc: Global,
+        role: &PersonRole,
+    ) -> Result<Vec<&Person>, Memory>
+        ensures { IfOk result (λ v. map (λ p. p.now) v.items ≡ with_role (λ r. same_role r role.now) (groups_of self.now)) }
+    {
+        let mut persons = Vec::new(alloc);
+        if let Some(groups) = &self.affiliated {
+            for group in groups {
+                if group.role == *role {
+                    push_all(&mut persons, &group.names)?;
+                }
+            }
+        }
+        Ok(persons)
+    }
+}
+
+fn push_all<'a>(persons: &mut Vec<&'a Person>, more: &'a [Person]) -> Result<(), Memory>
+    ensures { OnOk result (map (λ p. p.now) persons.new.items ≡ map (λ p. p.now) persons.old.items ++ more.now) }
+{
+    for person in more {
+        persons.push(person)?;
+    }
+    Ok(())
+}
+
+#[cfg(test)]
+mod tests;

@@ -1,0 +1,168 @@
+//! Where a work can be had: its publisher, its address and its numbers.
+
+ghost use Rattle.std.specs.Prelude.{◌≡◌, codes, option_copied, IfOk};
+ghost use Rattle.lit_model.specs.Source.{press_of, address_of, serials, serial, language_of};
+
+use crate::date::Date;
+use crate::memory::Memory;
+use crate::text::{FormatString, copy_forms, copy_text};
+use std::alloc::Global;
+use std::collections::BTreeMap;
+use url::Url;
+
+/// Who published a work, and where.
+#[derive(PartialEq, Eq, Drop)]
+pub struct Publisher {
+    /// The name.
+    pub name: Option<FormatString>,
+    /// The place.
+    pub location: Option<FormatString>,
+}
+
+/// A web address.
+#[derive(PartialEq, Eq, Drop)]
+pub struct QualifiedUrl {
+    /// The address.
+    pub value: Url,
+    /// When it was visited.
+    pub visit_date: Option<Date>,
+}
+
+/// Numbers that name a work, each under the name of its scheme, as `doi`.
+#[derive(PartialEq, Eq, Drop)]
+pub struct SerialNumber(pub BTreeMap<String, String>);
+
+/// A language, and a region where it is spoken (BCP 47).
+#[derive(PartialEq, Eq, Drop)]
+pub struct LanguageIdentifier {
+    /// The language, as `en`.
+    pub language: String,
+    /// The region, as `US`.
+    pub region: Option<String>,
+}
+
+impl SerialNumber {
+    /// The number under the name of a scheme.
+    pub fn get(&self, scheme: &str) -> Option<&str>
+        ensures { option_copied result ≡ serial scheme.now self.now }
+    {
+        match self.0.get(scheme) {
+            None => None,
+            Some(number) => Some(number.as_str()),
+        }
+    }
+
+    /// The digital object identifier.
+    pub fn doi(&self) -> Option<&str>
+        ensures { option_copied result ≡ serial (codes "doi") self.now }
+    {
+        self.get("doi")
+    }
+
+    /// The international standard book number.
+    pub fn isbn(&self) -> Option<&str>
+        ensures { option_copied result ≡ serial (codes "isbn") self.now }
+    {
+        self.get("isbn")
+    }
+
+    /// The international standard serial number.
+    pub fn issn(&self) -> Option<&str>
+        ensures { option_copied result ≡ serial (codes "issn") self.now }
+    {
+        self.get("issn")
+    }
+
+    /// The number in PubMed.
+    pub fn pmid(&self) -> Option<&str>
+        ensures { option_copied result ≡ serial (codes "pmid") self.now }
+    {
+        self.get("pmid")
+    }
+
+    /// The number in PubMed Central.
+    pub fn pmcid(&self) -> Option<&str>
+        ensures { option_copied result ≡ serial (codes "pmcid") self.now }
+    {
+        self.get("pmcid")
+    }
+}
+
+impl Publisher {
+    /// A copy. The error: there was no memory for it.
+    pub fn clone(&self, alloc: Global) -> Result<Publisher, Memory>
+        ensures { IfOk result (λ p. press_of p ≡ press_of self.now) }
+    {
+        let name = copy_forms(&self.name, alloc)?;
+        let location = copy_forms(&self.location, alloc)?;
+        Ok(Publisher { name, location })
+    }
+}
+
+impl QualifiedUrl {
+    /// A copy. The error: there was no memory for it.
+    pub fn clone(&self, _alloc: Global) -> Result<QualifiedUrl, Memory>
+        ensures { IfOk result (λ u. address_of u ≡ address_of self.now) }
+    {
+        let value = self.value.clone()?;
+        Ok(QualifiedUrl {
+            value,
+            visit_date: self.visit_date,
+        })
+    }
+}
+
+impl SerialNumber {
+    /// A copy. The error: there was no memory for it.
+    pub fn clone(&self, _alloc: Global) -> Result<SerialNumber, Memory>
+        ensures { IfOk result (λ s. serials s ≡ serials self.now) }
+    {
+        let numbers = self.0.clone()?;
+        Ok(SerialNumber(numbers))
+    }
+}
+
+impl LanguageIdentifier {
+    /// A copy. The error: there was no memory for it.
+    pub fn clone(&self, alloc: Global) -> Result<LanguageIdentifier, Memory>
+        ensures { IfOk result (λ l. language_of l ≡ language_of self.now) }
+    {
+        let language = String::from_str(alloc, self.language.as_str())?;
+        let region = copy_text(&self.region, alloc)?;
+        Ok(LanguageIdentifier { language, region })
+    }
+}
+
+#[cfg(test)]
+mod tests {
+    use super::*;
+    use std::test::Fail;
+
+    #[test]
+    fn numbers_are_found_and_copied(rt: HostRuntime) -> Result<(), Fail> {
+        let alloc = rt.alloc();
+        let mut numbers = BTreeMap::new(alloc);
+        let scheme = String::from_str(alloc, "doi")?;
+        let number = String::from_str(alloc, "10.1007/BF02731494")?;
+        numbers.insert(scheme, number).map_err(Memory::from)?;
+        let serial = SerialNumber(numbers);
+        assert_eq!(rt; serial.doi(), Some("10.1007/BF02731494"));
+        assert_eq!(rt; serial.isbn(), None);
+        let copy = serial.clone(alloc)?;
+        assert!(rt; copy == serial);
+        Ok(())
+    }
+
+    #[test]
+    fn addresses_are_copied(rt: HostRuntime) -> Result<(), Fail> {
+        let alloc = rt.alloc();
+        let value = Url::parse(alloc, "https://aeon.co/essays").map_err(|_| Memory)?;
+        let url = QualifiedUrl {
+            value,
+            visit_date: Date::new(2015, Some(8), None, None, false),
+        };
+        let copy = url.clone(alloc)?;
+        assert!(rt; copy == url);
+        Ok(())
+    }
+}

@@ -1,0 +1,175 @@
+//! Texts that a style prints.
+
+ghost use Rattle.std.specs.Prelude.{◌≡◌, map, option_map, string_bytes, IfOk};
+ghost use Rattle.lit_model.specs.Text.{chunk_of, chunks, forms_of, select};
+
+use crate::memory::Memory;
+use std::alloc::Global;
+
+/// Which of two forms of a text a style asks for (CSL 1.0.2, Text: form).
+#[derive(Clone, Copy, Debug, Default, PartialEq, Eq, PartialOrd, Ord, Hash)]
+pub enum LongShortForm {
+    /// The whole text.
+    #[default]
+    Long,
+    /// A shortened text, where there is one.
+    Short,
+}
+
+/// How a chunk of text may be changed.
+#[derive(Clone, Copy, Debug, Default, PartialEq, Eq, Hash)]
+pub enum ChunkKind {
+    /// As a style pleases.
+    #[default]
+    Normal,
+    /// Not at all.
+    Verbatim,
+    /// Not at all, and it is mathematics.
+    Math,
+}
+
+/// A piece of a text.
+#[derive(PartialEq, Eq, Drop)]
+pub struct StringChunk {
+    /// The text.
+    pub value: String,
+    /// How it may be changed.
+    pub kind: ChunkKind,
+}
+
+/// A text in pieces.
+#[derive(PartialEq, Eq, Drop)]
+pub struct ChunkedString(pub Vec<StringChunk>);
+
+/// A text, with a short form where there is one.
+#[derive(PartialEq, Eq, Drop)]
+pub struct FormatString {
+    /// The whole text.
+    pub value: ChunkedString,
+    /// The short form.
+    pub short: Option<ChunkedString>,
+}
+
+impl FormatString {
+    /// The text in a form: the short form where it is asked for and there is one, else the whole text.
+    pub fn select(&self, form: LongShortForm) -> &ChunkedString
+        ensures { result.now ≡ select form self.now }
+    {
+        match form {
+            LongShortForm::Long => &self.value,
+            LongShortForm::Short => match &self.short {
+                Some(short) => short,
+                None => &self.value,
+            },
+        }
+    }
+}
+
+impl StringChunk {
+    /// A copy. The error: there was no memory for it.
+    pub fn clone(&self, alloc: Global) -> Result<StringChunk, Memory>
+        ensures { IfOk result (λ c. chunk_of c ≡ chunk_of self.now) }
+    {
+        let value = String::from_str(alloc, self.value.as_str())?;
+        Ok(StringChunk {
+            value,
+            kind: self.kind,
+        })
+    }
+}
+
+impl ChunkedString {
+    /// A copy. The error: there was no memory for it.
+    pub fn clone(&self, alloc: Global) -> Result<ChunkedString, Memory>
+        ensures { IfOk result (λ t. chunks t ≡ chunks self.now) }
+    {
+        let mut copies = Vec::with_capacity(alloc, self.0.len())?;
+        for chunk in &self.0 {
+            copies.push(chunk.clone(alloc)?)?;
+        }
+        Ok(ChunkedString(copies))
+    }
+}
+
+impl FormatString {
+    /// A copy. The error: there was no memory for it.
+    pub fn clone(&self, alloc: Global) -> Result<FormatString, Memory>
+        ensures { IfOk result (λ t. forms_of t ≡ forms_of self.now) }
+    {
+        let value = self.value.clone(alloc)?;
+        let short = copy_short(&self.short, alloc)?;
+        Ok(FormatString { value, short })
+    }
+}
+
+fn copy_short(short: &Option<ChunkedString>, alloc: Global) -> Result<Option<ChunkedString>, Memory>
+    ensures { IfOk result (λ t. option_map chunks t ≡ option_map chunks short.now) }
+{
+    match short {
+        None => Ok(None),
+        Some(short) => {
+            let copy = short.clone(alloc)?;
+            Ok(Some(copy))
+        }
+    }
+}
+
+/// A copy of a text, where there is one.
+pub(crate) fn copy_text(text: &Option<String>, alloc: Global) -> Result<Option<String>, Memory>
+    ensures { IfOk result (λ t. option_map string_bytes t ≡ option_map string_bytes text.now) }
+{
+    match text {
+        None => Ok(None),
+        Some(text) => {
+            let copy = String::from_str(alloc, text.as_str())?;
+            Ok(Some(copy))
+        }
+    }
+}
+
+/// A copy of a text with its forms, where there is one.
+pub(crate) fn copy_forms(
+    text: &Option<FormatString>,
+    alloc: Global,
+) -> Result<Option<FormatString>, Memory>
+    ensures { IfOk result (λ t. option_map forms_of t ≡ option_map forms_of text.now) }
+{
+    match text {
+        None => Ok(None),
+        Some(text) => {
+            let copy = text.clone(alloc)?;
+            Ok(Some(copy))
+        }
+    }
+}
+
+#[cfg(test)]
+mod tests {
+    use super::*;
+    use std::test::Fail;
+
+    fn text(alloc: Global, value: &str) -> Result<ChunkedString, Memory> {
+        let mut chunks = Vec::new(alloc);
+        chunks.push(StringChunk {
+            value: String::from_str(alloc, value)?,
+            kind: ChunkKind::Verbatim,
+        })?;
+        Ok(ChunkedString(chunks))
+    }
+
+    #[test]
+    fn the_short_form_counts_where_there_is_one(rt: HostRuntime) -> Result<(), Fail> {
+        let alloc = rt.alloc();
+        let mut title = FormatString {
+            value: text(alloc, "Nature")?,
+            short: None,
+        };
+        assert!(rt; *title.select(LongShortForm::Short) == title.value);
+        title.short = Some(text(alloc, "Nat.")?);
+        assert!(rt; *title.select(LongShortForm::Short) != title.value);
+        assert!(rt; *title.select(LongShortForm::Long) == title.value);
+        let copy = title.clone(alloc)?;
+        assert!(rt; copy == title);
+        Ok(())
+    }
+}
