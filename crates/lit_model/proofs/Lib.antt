@@ -27,3 +27,4 @@ pub mod RoundTrip
 pub mod Writable
 pub mod PageRoundTrip
 pub mod Equal
+pub mod PageEqual
