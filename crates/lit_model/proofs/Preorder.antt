@@ -4,7 +4,7 @@ use Rattle.std.specs.List.{flat_map}
 use Rattle.std.specs.Option.{option_or}
 use Rattle.std.proofs.lemmas.List.Folds.{flat_map-map}
 use Rattle.lit_model.specs.Entry.{parents_of, preorder_step, preorder, first_some}
-use Rattle.lit_model.specs.declared.entry.Entry.{Entry, Entry-F, out-Entry, roll-Entry, roll-out-Entry, para-Entry, para-roll-Entry}
+use Rattle.lit_model.specs.declared.entry.Entry.{Entry, out-Entry, roll-Entry, roll-out-Entry, para-Entry, para-roll-Entry}
 
 -- an entry stands first, before its parents' preorders
 pub preorder_out : (e : Entry) → preorder e ≡ e ∷ flat_map preorder (parents_of e)

@@ -1,17 +1,15 @@
 -- Lemmas on the initials of a given name.
-use Rattle.std.proofs.Common.{◌≡◌, ◌≢◌, ℕ, ◌+◌, ◌<◌, Bool, true, false, cond, not, List, [], ◌∷◌, ◌++◌, length, get_or, map, Option, Some, None, eqb, refl, sym, ap, ◌∙◌, subst, arith, append_assoc, append-nil, chars, encode_utf8}
+use Rattle.std.proofs.Common.{◌≡◌, ◌≢◌, ℕ, ◌<◌, Bool, true, false, cond, not, List, [], ◌∷◌, ◌++◌, length, get_or, map, Option, Some, None, eqb, refl, sym, ap, ◌∙◌, subst, arith, append_assoc, append-nil, chars, encode_utf8}
 use Rattle.std.specs.Prelude.{filter, filter_map, slice_get, option_to_list, IsUtf8, encode_utf8_all, ⊤}
 use Rattle.std.specs.Char.{is_whitespace, is_not_whitespace}
 use Rattle.std.specs.List.{All, slice_split, onto_first, cons_option}
 use Rattle.std.specs.Str.{NonePass, NoCharPasses, EmptyOrStartsWithPassing}
-use Rattle.std.proofs.lemmas.Bool.Decides.{eqb_tells}
-use Rattle.std.proofs.lemmas.List.Elements.{All-nil, All-cons, All-from_get_or}
+use Rattle.std.proofs.lemmas.List.Elements.{All-nil, All-cons}
 use Rattle.std.proofs.lemmas.List.Splits.{slice_split_none, slice_split_at}
 use Rattle.std.proofs.lemmas.Str.{encodes-append, encodes-chars, chars_from_encodes, IsUtf8-past_char, chars_past_char, chars-nil}
 use Rattle.unicode_segmentation.specs.Grapheme.{graphemes}
 use Rattle.lit_model.specs.Initials.{is_nonempty, char_words, given_words, first_grapheme, initials_of, gap, word_text, before_piece, before_word, end_text, words_text}
 use Rattle.lit_model.specs.declared.initials.Before.{Before}
-use Rattle.lit_model.specs.declared.initials.Before.TheVariants.{Nothing, Word, Piece}
 use Rattle.lit_model.proofs.Particles.{lacks}
 
 -- ---- pieces of a word

@@ -1,9 +1,9 @@
 -- The whole that an entry is a part of, a step at a time.
-use Rattle.std.proofs.Common.{◌≡◌, List, [], ◌∷◌, Option, Some, None, Bool, true, false, if◌then◌else◌, map, refl, sym, ap, ◌∙◌}
+use Rattle.std.proofs.Common.{◌≡◌, List, [], ◌∷◌, Some, None, Bool, true, false, if◌then◌else◌, map, refl, sym, ap, ◌∙◌}
 use Rattle.std.specs.Prelude.{slice_get}
 use Rattle.lit_model.specs.Entry.{parents_of}
 use Rattle.lit_model.specs.Select.{is_untitled_part, first_full, full_step, full_of}
-use Rattle.lit_model.specs.declared.entry.Entry.{Entry, Entry-F, out-Entry, roll-Entry, roll-out-Entry, para-Entry, para-roll-Entry}
+use Rattle.lit_model.specs.declared.entry.Entry.{Entry, out-Entry, roll-Entry, roll-out-Entry, para-Entry, para-roll-Entry}
 
 abbrev full_among : List Entry → Entry → Entry
 full_among [] e = e

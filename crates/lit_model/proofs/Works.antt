@@ -4,7 +4,7 @@ use Rattle.std.specs.List.{flat_map}
 use Rattle.std.proofs.lemmas.List.{map-append, length-map}
 use Rattle.std.proofs.lemmas.List.Folds.{flat_map-map}
 use Rattle.lit_model.specs.Entry.{parents_of, preorder}
-use Rattle.lit_model.specs.Work.{Own, Work, own_of, work_of, works}
+use Rattle.lit_model.specs.Work.{Work, own_of, work_of, works}
 use Rattle.lit_model.specs.declared.entry.Entry.{Entry}
 use Rattle.lit_model.proofs.Preorder.{preorder_out}
 

@@ -1,5 +1,5 @@
 -- The parts of a person's name: particle, article, and whether it is of an institution or in a CJK script.
-use Rattle.std.specs.Prelude.{◌≡◌, ℕ, Bool, true, false, not, ◌&&◌, ◌||◌, ◌==◌, List, [], ◌∷◌, ◌++◌, map, filter, drop, length, Option, Some, None, is_some, option_map, unwrap_or, string_bytes, codes, nat_lt, chars, if◌then◌else◌}
+use Rattle.std.specs.Prelude.{ℕ, Bool, true, false, not, ◌&&◌, ◌==◌, List, [], ◌∷◌, ◌++◌, filter, drop, length, Option, Some, None, is_some, option_map, unwrap_or, string_bytes, codes, nat_lt, chars, if◌then◌else◌}
 use Rattle.std.specs.Option.{option_or}
 use Rattle.std.specs.List.{list_all, slice_split, join_with_byte, starts_with}
 use Rattle.unicode.specs.Binary.{is_alphabetic}

@@ -1,5 +1,5 @@
 -- Persons by their texts.
-use Rattle.std.specs.Prelude.{◌≡◌, ℕ, Bool, List, [], map, Option, Some, None, option_map, string_bytes, flat_map, if◌then◌else◌}
+use Rattle.std.specs.Prelude.{ℕ, Bool, List, [], map, Option, option_map, string_bytes, flat_map, if◌then◌else◌}
 use Rattle.lit_model.specs.declared.person.Person.{Person}
 use Rattle.lit_model.specs.declared.person.PersonRole.{PersonRole}
 use Rattle.lit_model.specs.declared.person.PersonRole.TheVariants.{Unknown}

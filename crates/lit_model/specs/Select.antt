@@ -1,7 +1,6 @@
 -- Selections: which of an entry and its direct parents a list of clauses selects.
-use Rattle.std.specs.Prelude.{◌≡◌, ℕ, Bool, true, false, not, ◌&&◌, ◌||◌, List, [], ◌∷◌, map, Option, Some, None, is_some, is_none, option_map, option_and_then, option_copied, find, slice_get, if◌then◌else◌}
+use Rattle.std.specs.Prelude.{Bool, true, ◌&&◌, ◌||◌, List, [], ◌∷◌, Option, Some, None, is_some, is_none, option_map, option_and_then, find, slice_get, if◌then◌else◌}
 use Rattle.std.specs.List.{list_any, list_all}
-use Rattle.std.specs.declared.alloc.Global.{Global}
 use denote.Enum.Bare.{sameb}
 use Rattle.lit_model.specs.declared.entry.Entry.{Entry, Entry-F, out-Entry, para-Entry}
 use Rattle.lit_model.specs.declared.entry_type.EntryType.{EntryType}

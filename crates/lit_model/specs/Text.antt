@@ -1,5 +1,5 @@
 -- Texts by their chunks.
-use Rattle.std.specs.Prelude.{ℕ, List, map, Option, Some, None, option_map, string_bytes, unwrap_or}
+use Rattle.std.specs.Prelude.{ℕ, List, map, Option, option_map, string_bytes, unwrap_or}
 use Rattle.lit_model.specs.declared.text.StringChunk.{StringChunk}
 use Rattle.lit_model.specs.declared.text.ChunkKind.{ChunkKind}
 use Rattle.lit_model.specs.declared.text.ChunkedString.{ChunkedString}

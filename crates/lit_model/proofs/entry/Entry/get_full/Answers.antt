@@ -1,4 +1,4 @@
-use Rattle.std.proofs.Common.{◌≡◌, Some, None, sym, ap, ◌∙◌}
+use Rattle.std.proofs.Common.{sym, ap, ◌∙◌}
 use Rattle.std.specs.Prelude.{slice_get}
 use Rattle.lit_model.proofs.Whole.{full_whole, full_alone, full_up}
 use Rattle.lit_model.proofs.entry.Entry.get_full.Goals as goal
