@@ -1,5 +1,6 @@
 //! Tests over all crates. What is expected stands here as written out by hand.
 
+mod formatting;
 mod program;
 mod stack;
 mod tree;
