@@ -24,7 +24,7 @@ pub use entry_type::EntryType;
 pub use maybe_typed::MaybeTyped;
 pub use memory::Memory;
 pub use numeric::{
-    GrammarGender, NumberForm, Numeric, NumericDelimiter, NumericError, NumericValue,
+    GrammarGender, NumberForm, Numeric, NumericDelimiter, NumericError, NumericValue, Ordinals,
 };
 pub use page::{PageRanges, PageRangesPart};
 pub use person::{Person, PersonRole, PersonsWithRoles};
