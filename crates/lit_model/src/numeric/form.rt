@@ -9,7 +9,7 @@ ghost use Rattle.lit_model.specs.NumericForm.{roman_text, ordinal_text, long_ord
 use super::roman::put_roman;
 use super::write::{delimiter_str, put_integer};
 use super::{GrammarGender, NumberForm, Numeric, NumericDelimiter, NumericValue};
-use crate::sink::{Noting, Sink};
+use crate::sink::{Noting, Put, Sink};
 use std::fmt;
 
 /// The ordinals of a locale (CSL 1.0.2, Ordinals).
@@ -148,7 +148,7 @@ impl Numeric {
         ensures err { OnErr result (S.refused sink.new ≡ true) }
     {
         if !self.will_transform() {
-            return self.write_into(sink);
+            return self.put_into(sink);
         }
         match &self.value {
             NumericValue::Number(number) => put_in_form(sink, *number, form, gender, ordinals),

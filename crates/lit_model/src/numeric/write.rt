@@ -6,7 +6,7 @@ ghost use Rattle.lit_model.specs.Numeric.{numeric_view, value_view};
 ghost use Rattle.lit_model.specs.NumericText.{integer_text, delimiter_text, numbers_text, value_text, numeric_text};
 
 use super::{Numeric, NumericDelimiter, NumericValue};
-use crate::sink::{Displaying, Noting, Sink};
+use crate::sink::{Noting, Put, Sink, display_text};
 use itoa::Buffer;
 use std::fmt;
 
@@ -129,16 +129,14 @@ impl Numeric {
         sink.into_inner();
         result
     }
+}
 
-    /// Writes the number with its prefix and suffix to a sink. It fails only where the sink refuses
-    /// a text; what the sink holds then is left open.
+/// The number with its prefix and suffix.
+impl Put for Numeric {
+    ghost text = { λ n. numeric_text (numeric_view n) };
+
     #[tactic(auto, using(crate::proofs::Writes::three_writes))]
-    pub fn write_into<S: Sink>(&self, sink: &mut S) -> fmt::Result
-        ensures ok { OnOk result (WritesInCalls S.write_str_gives sink.old
-            (numeric_text (numeric_view self.now)) sink.new) }
-        ensures kept { OnOk result (S.refused sink.new ≡ S.refused sink.old) }
-        ensures err { OnErr result (S.refused sink.new ≡ true) }
-    {
+    fn put_into<S: Sink>(&self, sink: &mut S) -> fmt::Result {
         sink.put(text_or_empty(&self.prefix))?;
         self.value.write_into(sink, false)?;
         sink.put(text_or_empty(&self.suffix))?;
@@ -152,9 +150,6 @@ impl fmt::Display for Numeric {
     ghost styled_output = { λ n spec. Some (numeric_text (numeric_view n)) };
 
     fn fmt<W: fmt::Write>(&self, f: &mut fmt::Formatter<W>) -> fmt::Result {
-        let mut sink = Displaying::new(f);
-        let result = self.write_into(&mut sink);
-        sink.into_inner();
-        result
+        display_text(self, f)
     }
 }

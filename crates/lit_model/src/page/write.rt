@@ -8,7 +8,7 @@ ghost use Rattle.lit_model.specs.PageText.{part_text, pages_text};
 
 use super::{PageRanges, PageRangesPart};
 use crate::numeric::Numeric;
-use crate::sink::{Displaying, Sink};
+use crate::sink::{Put, Sink, display_text};
 use std::fmt;
 
 /// Writes two pages joined by a `-`.
@@ -19,42 +19,34 @@ fn put_range<S: Sink>(sink: &mut S, first: &Numeric, last: &Numeric) -> fmt::Res
     ensures kept { OnOk result (S.refused sink.new ≡ S.refused sink.old) }
     ensures err { OnErr result (S.refused sink.new ≡ true) }
 {
-    first.write_into(sink)?;
+    first.put_into(sink)?;
     sink.put("-")?;
-    last.write_into(sink)?;
+    last.put_into(sink)?;
     Ok(())
 }
 
-impl PageRangesPart {
-    /// Writes the part to a sink. It fails only where the sink refuses a text; what the sink holds
-    /// then is left open.
-    pub fn write_into<S: Sink>(&self, sink: &mut S) -> fmt::Result
-        ensures ok { OnOk result (WritesInCalls S.write_str_gives sink.old
-            (part_text (part_view self.now)) sink.new) }
-        ensures kept { OnOk result (S.refused sink.new ≡ S.refused sink.old) }
-        ensures err { OnErr result (S.refused sink.new ≡ true) }
-    {
+/// The part, as it stands among others.
+impl Put for PageRangesPart {
+    ghost text = { λ part. part_text (part_view part) };
+
+    fn put_into<S: Sink>(&self, sink: &mut S) -> fmt::Result {
         match self {
             PageRangesPart::Ampersand => sink.put(" & "),
             PageRangesPart::Comma => sink.put(", "),
             PageRangesPart::EscapedRange(first, last) => put_range(sink, first, last),
-            PageRangesPart::SinglePage(page) => page.write_into(sink),
+            PageRangesPart::SinglePage(page) => page.put_into(sink),
             PageRangesPart::Range(first, last) => put_range(sink, first, last),
         }
     }
 }
 
-impl PageRanges {
-    /// Writes the pages to a sink. It fails only where the sink refuses a text; what the sink holds
-    /// then is left open.
-    pub fn write_into<S: Sink>(&self, sink: &mut S) -> fmt::Result
-        ensures ok { OnOk result (WritesInCalls S.write_str_gives sink.old
-            (pages_text (pages_view self.now)) sink.new) }
-        ensures kept { OnOk result (S.refused sink.new ≡ S.refused sink.old) }
-        ensures err { OnErr result (S.refused sink.new ≡ true) }
-    {
+/// The parts in order.
+impl Put for PageRanges {
+    ghost text = { λ pages. pages_text (pages_view pages) };
+
+    fn put_into<S: Sink>(&self, sink: &mut S) -> fmt::Result {
         for part in &self.ranges {
-            part.write_into(sink)?;
+            part.put_into(sink)?;
         }
         Ok(())
     }
@@ -66,9 +58,6 @@ impl fmt::Display for PageRanges {
     ghost styled_output = { λ pages spec. Some (pages_text (pages_view pages)) };
 
     fn fmt<W: fmt::Write>(&self, f: &mut fmt::Formatter<W>) -> fmt::Result {
-        let mut sink = Displaying::new(f);
-        let result = self.write_into(&mut sink);
-        sink.into_inner();
-        result
+        display_text(self, f)
     }
 }

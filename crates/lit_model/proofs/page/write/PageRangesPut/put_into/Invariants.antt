@@ -2,7 +2,7 @@ use Rattle.std.proofs.Common.{◌≡◌, take}
 use Rattle.std.specs.Fmt.{WritesInCalls}
 use Rattle.lit_model.specs.Page.{parts_view}
 use Rattle.lit_model.specs.PageText.{pages_text}
-use Rattle.lit_model.proofs.page.PageRanges.write_into.Given as goal
+use Rattle.lit_model.proofs.page.write.PageRangesPut.put_into.Given as goal
 
 -- so far the sink took the parts before this one, and refused nothing
 abbrev pub invariant-loop-part : goal.invariant-loop-part
