@@ -20,3 +20,4 @@ pub mod Text
 pub mod Work
 pub mod Roman
 pub mod NumericForm
+pub mod NumericError

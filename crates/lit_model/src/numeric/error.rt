@@ -1,6 +1,7 @@
 //! Why a text is no number.
 
-ghost use Rattle.std.specs.Prelude.{◌≡◌};
+ghost use Rattle.std.specs.Prelude.{◌≡◌, Some};
+ghost use Rattle.lit_model.specs.NumericError.{error_text};
 ghost use Rattle.lit_model.specs.declared.numeric.error.NumericError.TheVariants as errors;
 
 use crate::memory::Memory as OutOfMemory;
@@ -18,6 +19,8 @@ pub enum NumericError {
 }
 
 impl fmt::Display for NumericError {
+    ghost output = { λ e. Some (error_text e) };
+
     fn fmt<W: fmt::Write>(&self, f: &mut fmt::Formatter<W>) -> fmt::Result {
         match self {
             NumericError::Memory => f.write_str("out of memory"),
