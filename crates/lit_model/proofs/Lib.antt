@@ -28,3 +28,8 @@ pub mod Writable
 pub mod PageRoundTrip
 pub mod Equal
 pub mod PageEqual
+pub mod ByValue
+pub mod TextEqual
+pub mod PersonEqual
+pub mod SourceEqual
+pub mod MaybeEqual

@@ -54,3 +54,6 @@ impl MaybeTyped<PageRanges> {
         }
     }
 }
+
+#[cfg(test)]
+mod tests;

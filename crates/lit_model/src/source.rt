@@ -134,35 +134,4 @@ impl LanguageIdentifier {
 }
 
 #[cfg(test)]
-mod tests {
-    use super::*;
-    use std::test::Fail;
-
-    #[test]
-    fn numbers_are_found_and_copied(rt: HostRuntime) -> Result<(), Fail> {
-        let alloc = rt.alloc();
-        let mut numbers = BTreeMap::new(alloc);
-        let scheme = String::from_str(alloc, "doi")?;
-        let number = String::from_str(alloc, "10.1007/BF02731494")?;
-        numbers.insert(scheme, number).map_err(Memory::from)?;
-        let serial = SerialNumber(numbers);
-        assert_eq!(rt; serial.doi(), Some("10.1007/BF02731494"));
-        assert_eq!(rt; serial.isbn(), None);
-        let copy = serial.clone(alloc)?;
-        assert!(rt; copy == serial);
-        Ok(())
-    }
-
-    #[test]
-    fn addresses_are_copied(rt: HostRuntime) -> Result<(), Fail> {
-        let alloc = rt.alloc();
-        let value = Url::parse(alloc, "https://aeon.co/essays").map_err(|_| Memory)?;
-        let url = QualifiedUrl {
-            value,
-            visit_date: Date::new(2015, Some(8), None, None, false),
-        };
-        let copy = url.clone(alloc)?;
-        assert!(rt; copy == url);
-        Ok(())
-    }
-}
+mod tests;

@@ -144,32 +144,4 @@ pub(crate) fn copy_forms(
 }
 
 #[cfg(test)]
-mod tests {
-    use super::*;
-    use std::test::Fail;
-
-    fn text(alloc: Global, value: &str) -> Result<ChunkedString, Memory> {
-        let mut chunks = Vec::new(alloc);
-        chunks.push(StringChunk {
-            value: String::from_str(alloc, value)?,
-            kind: ChunkKind::Verbatim,
-        })?;
-        Ok(ChunkedString(chunks))
-    }
-
-    #[test]
-    fn the_short_form_counts_where_there_is_one(rt: HostRuntime) -> Result<(), Fail> {
-        let alloc = rt.alloc();
-        let mut title = FormatString {
-            value: text(alloc, "Nature")?,
-            short: None,
-        };
-        assert!(rt; *title.select(LongShortForm::Short) == title.value);
-        title.short = Some(text(alloc, "Nat.")?);
-        assert!(rt; *title.select(LongShortForm::Short) != title.value);
-        assert!(rt; *title.select(LongShortForm::Long) == title.value);
-        let copy = title.clone(alloc)?;
-        assert!(rt; copy == title);
-        Ok(())
-    }
-}
+mod tests;

@@ -1,3 +1,6 @@
+ghost use Rattle.std.specs.Prelude.{◌≡◌, ◌↔◌, IsTrue};
+ghost use Rattle.lit_model.specs.Person.{named, role_of, group_of};
+
 use super::*;
 use std::test::Fail;
 
@@ -16,6 +19,27 @@ fn with_given(alloc: Global, name: &str, given: &str) -> Result<Person, Memory> 
     let mut person = person(alloc, name)?;
     person.given_name = Some(String::from_str(alloc, given)?);
     Ok(person)
+}
+
+/// Whether the two persons are equal: they are where their texts are.
+fn same_person(a: &Person, b: &Person) -> bool
+    ensures { IsTrue result ↔ (named a.now ≡ named b.now) }
+{
+    *a == *b
+}
+
+/// The same for roles.
+fn same_role(a: &PersonRole, b: &PersonRole) -> bool
+    ensures { IsTrue result ↔ (role_of a.now ≡ role_of b.now) }
+{
+    *a == *b
+}
+
+/// The same for persons with their role.
+fn same_group(a: &PersonsWithRoles, b: &PersonsWithRoles) -> bool
+    ensures { IsTrue result ↔ (group_of a.now ≡ group_of b.now) }
+{
+    *a == *b
 }
 
 #[test]
@@ -87,7 +111,27 @@ fn copies_are_equal(rt: HostRuntime) -> Result<(), Fail> {
     let names = vec![in alloc; with_given(alloc, "Gogh", "Vincent")?]?;
     let group = PersonsWithRoles { names, role };
     let copy = group.clone(alloc)?;
-    assert!(rt; copy == group);
+    assert!(rt; same_group(&copy, &group));
     assert!(rt; copy.role != PersonRole::Writer);
+    Ok(())
+}
+
+#[test]
+fn persons_are_equal_by_their_texts(rt: HostRuntime) -> Result<(), Fail> {
+    let alloc = rt.alloc();
+    let van_gogh = with_given(alloc, "Gogh", "Vincent")?;
+    assert!(rt; same_person(&van_gogh, &van_gogh.clone(alloc)?));
+    assert!(rt; !same_person(&van_gogh, &person(alloc, "Gogh")?));
+    let muse = PersonRole::Unknown(String::from_str(alloc, "muse")?);
+    assert!(rt; same_role(&muse, &muse.clone(alloc)?));
+    assert!(rt; !same_role(&muse, &PersonRole::Writer));
+    let names = Vec::new(alloc);
+    let nobody = PersonsWithRoles {
+        names,
+        role: muse.clone(alloc)?,
+    };
+    let names = vec![in alloc; van_gogh]?;
+    let group = PersonsWithRoles { names, role: muse };
+    assert!(rt; !same_group(&group, &nobody));
     Ok(())
 }

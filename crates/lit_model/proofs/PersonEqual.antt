@@ -1,0 +1,28 @@
+-- `==` of persons compares their texts.
+use Rattle.std.proofs.Common.{◌≡◌, ap, rules}
+use Rattle.std.specs.Bool.{Decides, beq}
+use Rattle.lit_model.specs.Person.{Named, named, role_of, Group, group_of}
+use Rattle.lit_model.specs.declared.person.Person.{Person}
+use Rattle.lit_model.specs.declared.person.PersonRole.{PersonRole}
+use Rattle.lit_model.specs.declared.person.PersonsWithRoles.{PersonsWithRoles}
+use Rattle.lit_model.specs.contracts.person.PersonPartialEq.TheImpl.{eq-value as eq_person}
+use Rattle.lit_model.specs.contracts.person.PersonRolePartialEq.TheImpl.{eq-value as eq_role}
+use Rattle.lit_model.specs.contracts.person.PersonsWithRolesPartialEq.TheImpl.{eq-value as eq_group}
+use Rattle.lit_model.proofs.PageEqual.{pointwise_view}
+use Rattle.lit_model.proofs.ByValue.{both, through, text_decides, optional_text}
+
+commas_decide : (a b : Person) → Decides (beq a.comma_suffix b.comma_suffix) (a.comma_suffix ≡ b.comma_suffix)
+commas_decide a b = search rules
+
+pub person_decides : (a b : Person) → Decides (eq_person.it a b) (named a ≡ named b)
+person_decides a b = through _ (both _ _ (text_decides a.name b.name) (both _ _ (optional_text a.given_name b.given_name) (both _ _ (optional_text a.prefix b.prefix) (both _ _ (optional_text a.suffix b.suffix) (both _ _ (optional_text a.alias b.alias) (commas_decide a b))))))
+    (λ h. let e = h.0 in let f = h.1.0 in let g = h.1.1.0 in let i = h.1.1.1.0 in let j = h.1.1.1.1.0 in let k = h.1.1.1.1.1 in cc)
+    (λ h. (ap (λ (n : Named). n.name) h, (ap (λ (n : Named). n.given_name) h, (ap (λ (n : Named). n.prefix) h, (ap (λ (n : Named). n.suffix) h, (ap (λ (n : Named). n.alias) h, ap (λ (n : Named). n.comma_suffix) h))))))
+
+pub role_decides : (a b : PersonRole) → Decides (eq_role.it a b) (role_of a ≡ role_of b)
+role_decides a b = search rules
+
+pub group_decides : (a b : PersonsWithRoles) → Decides (eq_group.it a b) (group_of a ≡ group_of b)
+group_decides a b = through _ (both _ _ (pointwise_view eq_person.it named person_decides a.names.items b.names.items) (role_decides a.role b.role))
+    (λ h. let e = h.0 in let f = h.1 in cc)
+    (λ h. (ap (λ (g : Group). g.names) h, ap (λ (g : Group). g.role) h))
