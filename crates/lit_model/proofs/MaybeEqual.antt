@@ -1,10 +1,10 @@
 -- `==` of values that may be texts compares the values, or the texts.
-use Rattle.std.proofs.Common.{◌≡◌, Bool, rules}
+use Rattle.std.proofs.Common.{◌≡◌}
 use Rattle.std.specs.Bool.{Decides}
 use Rattle.std.specs.declared.cmp.PartialEq.{Ghosts}
 use denote.RattleType.{RattleType}
 use mir.Syntax.{Dict}
-use Rattle.lit_model.specs.MaybeTyped.{typed, text, maybe_view}
+use Rattle.lit_model.specs.MaybeTyped.{maybe_view}
 use Rattle.lit_model.specs.declared.maybe_typed.MaybeTyped.{MaybeTyped}
 use Rattle.lit_model.specs.declared.maybe_typed.MaybeTyped.TheVariants as of_kind
 use Rattle.lit_model.specs.contracts.maybe_typed.MaybeTypedPartialEq.TheImpl.{eq-value as eq_maybe}

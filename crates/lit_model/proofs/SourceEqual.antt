@@ -1,5 +1,5 @@
 -- `==` of publishers, addresses, serial numbers and languages compares their texts.
-use Rattle.std.proofs.Common.{◌≡◌, ℕ, ℤ, Bool, ◌&&◌, List, ap, rules}
+use Rattle.std.proofs.Common.{◌≡◌, ℕ, ℤ, ◌≤◌, Bool, ◌&&◌, List, Option, Some, None, refl, ap, rules}
 use Rattle.std.specs.Prelude.{String, string_bytes, option_map, nat_eq}
 use Rattle.std.specs.Bool.{Decides, beq}
 use Rattle.std.specs.Ordering.{int_eq}
@@ -9,13 +9,18 @@ use Rattle.lit_model.specs.declared.date.Season.{Season}
 use Rattle.lit_model.specs.contracts.date.SeasonPartialEq.TheImpl.{eq-value as eq_season}
 use Rattle.std.specs.Str.{bytes_eq}
 use Rattle.std.proofs.lemmas.Slice.Eq.{bytes_eq-Decides}
-use Rattle.url.specs.Parts.{serialize}
+use Rattle.std.specs.Option.{ForSome}
+use Rattle.std.specs.Coded.{Π_prop, →_prop, le_prop}
+use mathlib.Core.HLevel.{is_prop→PathP}
+use Rattle.url.specs.Parts.{serialize, IsValid}
+use Rattle.url.specs.Canonical.{IsCanonical}
+use Rattle.url.proofs.Theorems.{serialize_injective}
 use Rattle.lit_model.specs.declared.date.Date.{Date}
 use Rattle.lit_model.specs.contracts.date.DatePartialEq.TheImpl.{eq-value as eq_date}
 use Rattle.lit_model.specs.declared.source.QualifiedUrl.{QualifiedUrl}
 use Rattle.lit_model.specs.contracts.source.QualifiedUrlPartialEq.TheImpl.{eq-value as eq_url}
 use Rattle.std.specs.declared.alloc.Global.{Global}
-use Rattle.lit_model.specs.Source.{Press, press_of, scheme_and_number, serials, language_of}
+use Rattle.lit_model.specs.Source.{Press, press_of, Address, address_of, scheme_and_number, serials, language_of}
 use Rattle.lit_model.specs.Text.{forms_of}
 use Rattle.lit_model.specs.declared.source.Publisher.{Publisher}
 use Rattle.lit_model.specs.declared.source.SerialNumber.{SerialNumber}
@@ -66,3 +71,33 @@ date_decides a b = through _ (both _ _ (years a.year b.year) (both _ _ (option_s
 
 pub url_decides : (a b : QualifiedUrl) → Decides (eq_url.it a b) ((serialize a.value ≡ serialize b.value) × (option_map date_parts a.visit_date ≡ option_map date_parts b.visit_date))
 url_decides a b = both _ _ (bytes_eq-Decides (serialize a.value) (serialize b.value)) (option_view eq_date.it date_parts date_decides a.visit_date b.visit_date)
+
+month_prop : (o : Option ℕ) → IsProp (ForSome o (λ m. m ≤ 11))
+month_prop o = Π_prop (λ x. →_prop le_prop)
+
+day_prop : (o : Option ℕ) → IsProp (ForSome o (λ d. d ≤ 30))
+day_prop o = Π_prop (λ x. →_prop le_prop)
+
+-- dates of the same parts are the same
+same_date : (a b : Date) → date_parts a ≡ date_parts b → a ≡ b
+same_date a b h = λ i. record {
+  year = (h i).year;
+  month = (h i).month;
+  day = (h i).day;
+  season = (h i).season;
+  approximate = (h i).approximate;
+  month_of_year = is_prop→PathP (λ j. ForSome (h j).month (λ m. m ≤ 11)) (λ j. month_prop (h j).month) a.month_of_year b.month_of_year i;
+  day_of_month = is_prop→PathP (λ j. ForSome (h j).day (λ d. d ≤ 30)) (λ j. day_prop (h j).day) a.day_of_month b.day_of_month i;
+}
+
+same_optional_date : (x y : Option Date) → option_map date_parts x ≡ option_map date_parts y → x ≡ y
+same_optional_date None None h = refl
+same_optional_date None (Some y) h = cc
+same_optional_date (Some x) None h = cc
+same_optional_date (Some x) (Some y) h = let e : date_parts x ≡ date_parts y = cc in ap (λ (d : Date). Some d) (same_date x y e)
+
+-- of addresses as the parser gives them
+pub address_decides : (a b : QualifiedUrl) → IsValid a.value → IsValid b.value → IsCanonical a.value → IsCanonical b.value → Decides (eq_url.it a b) (address_of a ≡ address_of b)
+address_decides a b valid_a valid_b canonical_a canonical_b = through _ (url_decides a b)
+    (λ h. λ i. record { value = serialize_injective a.value b.value valid_a canonical_a valid_b canonical_b h.0 i; visit_date = same_optional_date a.visit_date b.visit_date h.1 i })
+    (λ h. (ap (λ (u : Address). serialize u.value) h, ap (λ (u : Address). option_map date_parts u.visit_date) h))

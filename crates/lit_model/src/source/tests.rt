@@ -1,11 +1,14 @@
 ghost use Rattle.std.specs.Prelude.{◌≡◌, ◌↔◌, IsTrue, option_map};
-ghost use Rattle.lit_model.specs.Source.{press_of, serials, language_of};
+ghost use Rattle.lit_model.specs.Source.{press_of, address_of, serials, language_of};
 ghost use Rattle.lit_model.specs.Date.{date_parts};
+ghost use Rattle.url.specs.Canonical.{IsCanonical};
 ghost use Rattle.url.specs.Parts.{serialize};
 
 use super::*;
 use crate::text::ChunkedString;
+use std::net::{IpAddr, Ipv4Addr};
 use std::test::Fail;
+use url::Host;
 
 /// Whether the two publishers are equal: they are where their texts are.
 fn same_publisher(a: &Publisher, b: &Publisher) -> bool
@@ -14,10 +17,14 @@ fn same_publisher(a: &Publisher, b: &Publisher) -> bool
     *a == *b
 }
 
-/// Whether the two addresses are equal: they are where their texts and dates are.
+/// Whether the two addresses are equal: they are where their texts and dates are. Where each is as the parser gives it, they are where their parts are: a setter can make two of one text whose hosts are of different kinds.
 fn same_url(a: &QualifiedUrl, b: &QualifiedUrl) -> bool
-    ensures { IsTrue result ↔ (serialize a.now.value ≡ serialize b.now.value) × (option_map date_parts a.now.visit_date ≡ option_map date_parts b.now.visit_date) }
+    ensures texts { IsTrue result ↔ (serialize a.now.value ≡ serialize b.now.value) × (option_map date_parts a.now.visit_date ≡ option_map date_parts b.now.visit_date) }
+    ensures parts { IsCanonical a.now.value → IsCanonical b.now.value → (IsTrue result ↔ (address_of a.now ≡ address_of b.now)) }
 {
+    // That an address is valid is known once its text is read.
+    let _text = a.value.as_str();
+    let _other = b.value.as_str();
     *a == *b
 }
 
@@ -90,5 +97,26 @@ fn publishers_and_languages_are_equal_by_their_texts(rt: HostRuntime) -> Result<
     assert!(rt; same_language(&copy, &english));
     copy.region = None;
     assert!(rt; !same_language(&copy, &english));
+    Ok(())
+}
+
+#[test]
+fn addresses_of_one_text_are_equal(rt: HostRuntime) -> Result<(), Fail> {
+    let alloc = rt.alloc();
+    let parsed = Url::parse(alloc, "foo://1.2.3.4/").map_err(|_| Memory)?;
+    let mut changed = Url::parse(alloc, "foo://h/").map_err(|_| Memory)?;
+    let address = IpAddr::V4(Ipv4Addr::new(1, 2, 3, 4));
+    changed.set_ip_host(address).map_err(|_| Memory)?;
+    assert!(rt; matches!(parsed.host(), Some(Host::Domain(_))));
+    assert!(rt; matches!(changed.host(), Some(Host::Ipv4(_))));
+    let parsed = QualifiedUrl {
+        value: parsed,
+        visit_date: None,
+    };
+    let changed = QualifiedUrl {
+        value: changed,
+        visit_date: None,
+    };
+    assert!(rt; same_url(&parsed, &changed));
     Ok(())
 }
