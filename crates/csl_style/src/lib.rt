@@ -1,8 +1,35 @@
-//! What a style says: for now the values of its formatting.
+//! What a style says (CSL 1.0.2): its nodes, its macros, its options and its locales.
 #![tactic(auto)]
 
+pub mod affixes;
+pub mod date;
+pub mod element;
 pub mod formatting;
+pub mod locale;
+pub mod names;
+pub mod number;
+pub mod taxonomy;
+pub mod term;
+pub mod text;
 
+pub use affixes::Affixes;
+pub use date::{Date, DateAnyForm, DateForm, DatePart, DatePartName, DateParts};
+pub use element::{
+    Choose, ChooseBranch, ChooseMatch, CslMacro, Group, Layout, LayoutRenderingElement, Names,
+    NamesChild, RenderingElement, Substitute, TestPosition,
+};
 pub use formatting::{
     Display, FontStyle, FontVariant, FontWeight, Formatting, TextDecoration, VerticalAlign,
 };
+pub use locale::{Locale, OrdinalMatch, OrdinalSlot, OrdinalTerm, TermEntry};
+pub use names::{
+    DelimiterBehavior, EtAl, InheritableNameOptions, InheritedNameOptions, Name, NameAnd,
+    NameAsSortOrder, NameForm, NameOptions, NamePart, NamePartName,
+};
+pub use number::{Label, LabelPluralize, Number, VariablelessLabel};
+pub use taxonomy::{
+    DateVariable, Kind, Locator, NameVariable, NumberOrPageVariable, NumberVariable, PageVariable,
+    StandardVariable, Variable,
+};
+pub use term::{OtherTerm, Term, TermForm};
+pub use text::{Text, TextTarget};

@@ -1,0 +1,72 @@
+//! Dates (CSL 1.0.2, Date).
+
+use crate::affixes::Affixes;
+use crate::formatting::{Display, Formatting};
+use crate::taxonomy::DateVariable;
+
+/// The form of a localized date.
+#[derive(Clone, Copy, Debug, PartialEq, Eq, PartialOrd, Ord, Hash)]
+pub enum DateForm {
+    Numeric,
+    Text,
+}
+
+/// Which parts of a localized date are written (CSL 1.0.2, Date: date-parts).
+#[derive(Clone, Copy, Debug, Default, PartialEq, Eq, PartialOrd, Ord, Hash)]
+pub enum DateParts {
+    #[default]
+    YearMonthDay,
+    YearMonth,
+    Year,
+}
+
+/// A part of a date.
+#[derive(Clone, Copy, Debug, PartialEq, Eq, PartialOrd, Ord, Hash)]
+pub enum DatePartName {
+    Day,
+    Month,
+    Year,
+}
+
+/// How a part of a date is written (CSL 1.0.2, Date-part: form). Each part knows some of these: a
+/// day `Numeric`, `NumericLeadingZeros` and `Ordinal`, a month all but `Ordinal`, a year `Long`
+/// and `Short`.
+#[derive(Clone, Copy, Debug, PartialEq, Eq, PartialOrd, Ord, Hash)]
+pub enum DateAnyForm {
+    Numeric,
+    NumericLeadingZeros,
+    Ordinal,
+    Long,
+    Short,
+}
+
+/// A `cs:date-part`.
+#[derive(Drop)]
+pub struct DatePart {
+    pub name: DatePartName,
+    /// How it is written. Where it is not set, or the part does not know it: a day `Numeric`, a
+    /// month or a year `Long`.
+    pub form: Option<DateAnyForm>,
+    pub formatting: Formatting,
+    pub affixes: Affixes,
+    /// Whether the part loses its periods (CSL 1.0.2, Strip-periods).
+    pub strip_periods: bool,
+}
+
+/// A `cs:date`, of a style or of a locale.
+#[derive(Drop)]
+pub struct Date {
+    /// The variable. A date of a locale has none.
+    pub variable: Option<DateVariable>,
+    /// Where it is set, the locale's date of this form is written.
+    pub form: Option<DateForm>,
+    /// Which parts are written.
+    pub parts: Option<DateParts>,
+    /// The parts in order.
+    pub date_part: Vec<DatePart>,
+    /// What stands between two parts that print something.
+    pub delimiter: Option<String>,
+    pub formatting: Formatting,
+    pub affixes: Affixes,
+    pub display: Option<Display>,
+}

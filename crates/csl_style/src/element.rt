@@ -1,0 +1,138 @@
+//! The nodes that hold nodes (CSL 1.0.2, Rendering Elements): groups, choices, names with their
+//! substitutes, layouts and macros.
+
+use crate::affixes::Affixes;
+use crate::date::Date;
+use crate::formatting::{Display, Formatting};
+use crate::names::{EtAl, InheritableNameOptions, Name};
+use crate::number::{Label, Number, VariablelessLabel};
+use crate::taxonomy::{DateVariable, Kind, Locator, NameVariable, Variable};
+use crate::text::Text;
+
+/// A node that a layout, a macro or a group may hold.
+#[cycle(element)]
+#[derive(Drop)]
+pub enum LayoutRenderingElement {
+    Text(Text),
+    Number(Number),
+    Label(Label),
+    Date(Date),
+    Names(Names),
+    Choose(Choose),
+    Group(Group),
+}
+
+/// How the tests of a branch are taken together (CSL 1.0.2, Choose: match).
+#[derive(Clone, Copy, Debug, Default, PartialEq, Eq, PartialOrd, Ord, Hash)]
+pub enum ChooseMatch {
+    #[default]
+    All,
+    Any,
+    None,
+}
+
+/// Where a cite stands among those of the same entry (CSL 1.0.2, Choose: position).
+#[derive(Clone, Copy, Debug, PartialEq, Eq, PartialOrd, Ord, Hash)]
+pub enum TestPosition {
+    First,
+    Subsequent,
+    Ibid,
+    IbidWithLocator,
+    NearNote,
+}
+
+/// A `cs:choose`.
+#[cycle(element)]
+#[derive(Drop)]
+pub struct Choose {
+    pub if_: ChooseBranch,
+    pub else_if: Vec<ChooseBranch>,
+    /// What is printed where no branch is chosen.
+    pub otherwise: Option<Vec<LayoutRenderingElement>>,
+}
+
+/// A `cs:if` or `cs:else-if`.
+#[cycle(element)]
+#[derive(Drop)]
+pub struct ChooseBranch {
+    pub disambiguate: Option<bool>,
+    pub is_numeric: Option<Vec<Variable>>,
+    pub is_uncertain_date: Option<Vec<DateVariable>>,
+    pub locator: Option<Vec<Locator>>,
+    pub position: Option<Vec<TestPosition>>,
+    pub type_: Option<Vec<Kind>>,
+    pub variable: Option<Vec<Variable>>,
+    pub match_: ChooseMatch,
+    /// What is printed where the branch is chosen.
+    pub children: Vec<LayoutRenderingElement>,
+}
+
+/// A `cs:names`.
+#[cycle(element)]
+#[derive(Drop)]
+pub struct Names {
+    /// The variables whose persons are written.
+    pub variable: Vec<NameVariable>,
+    /// How they are written. Of each sort the first counts. In a substitute, a `Names` without
+    /// children takes those of the names around it.
+    pub children: Vec<NamesChild>,
+    pub options: InheritableNameOptions,
+    /// What stands between the lists of two variables.
+    pub delimiter: Option<String>,
+    pub formatting: Formatting,
+    pub affixes: Affixes,
+    pub display: Option<Display>,
+}
+
+/// A child of a `cs:names`.
+#[cycle(element)]
+#[derive(Drop)]
+pub enum NamesChild {
+    Name(Name),
+    EtAl(EtAl),
+    /// It stands behind the names where a `Name` comes before it, else before them.
+    Label(VariablelessLabel),
+    Substitute(Substitute),
+}
+
+/// A `cs:substitute`: what is printed where there are no persons.
+#[cycle(element)]
+#[derive(Drop)]
+pub struct Substitute {
+    pub children: Vec<LayoutRenderingElement>,
+}
+
+/// A `cs:group`.
+#[cycle(element)]
+#[derive(Drop)]
+pub struct Group {
+    pub children: Vec<LayoutRenderingElement>,
+    /// What stands between two children that print something.
+    pub delimiter: Option<String>,
+    pub formatting: Formatting,
+    pub affixes: Affixes,
+    pub display: Option<Display>,
+}
+
+/// A `cs:layout`. Its affixes are written by who lists several entries.
+#[derive(Drop)]
+pub struct Layout {
+    pub elements: Vec<LayoutRenderingElement>,
+    /// What stands between two elements that print something.
+    pub delimiter: Option<String>,
+    pub formatting: Formatting,
+}
+
+/// A layout, or a node that it may hold.
+#[derive(Drop)]
+pub enum RenderingElement {
+    Layout(Layout),
+    Other(LayoutRenderingElement),
+}
+
+/// A `cs:macro`: nodes that a text may print by their name.
+#[derive(Drop)]
+pub struct CslMacro {
+    pub name: String,
+    pub children: Vec<LayoutRenderingElement>,
+}

@@ -1,0 +1,61 @@
+//! Locales: the terms, ordinals and dates of a language (CSL 1.0.2, Locale).
+
+use crate::date::Date;
+use crate::term::{Term, TermForm};
+use lit_model::GrammarGender;
+
+/// A term in one form (CSL 1.0.2, Terms).
+#[derive(Drop)]
+pub struct TermEntry {
+    pub term: Term,
+    pub form: TermForm,
+    /// The text for one.
+    pub single: String,
+    /// The text for several, where it is another.
+    pub multiple: Option<String>,
+    /// The gender of what the term names.
+    pub gender: Option<GrammarGender>,
+}
+
+/// Which numbers an ordinal is for (CSL 1.0.2, Ordinals).
+#[derive(Clone, Copy, Debug, PartialEq, Eq, PartialOrd, Ord, Hash)]
+pub enum OrdinalSlot {
+    /// Those that no other slot is for.
+    Default,
+    /// A number from 0 to 99: one digit or two.
+    Two(u8),
+    /// A number from 1 to 10, whose ordinal is a word.
+    Long(u8),
+}
+
+/// Which digits of a number are compared with a slot (CSL 1.0.2, Ordinals: match).
+#[derive(Clone, Copy, Debug, PartialEq, Eq, PartialOrd, Ord, Hash)]
+pub enum OrdinalMatch {
+    LastDigit,
+    LastTwoDigits,
+    WholeNumber,
+}
+
+/// An ordinal: what stands behind a number, or the word for it.
+#[derive(Drop)]
+pub struct OrdinalTerm {
+    pub slot: OrdinalSlot,
+    /// Where it is not set: the last digit for the slots 0 to 9, the last two for 10 to 99.
+    pub matching: Option<OrdinalMatch>,
+    /// The gender it is for, or none for a neutral one.
+    pub gender: Option<GrammarGender>,
+    pub text: String,
+}
+
+/// What a language writes (CSL 1.0.2, Locale).
+#[derive(Drop)]
+pub struct Locale {
+    pub terms: Vec<TermEntry>,
+    pub ordinals: Vec<OrdinalTerm>,
+    /// The localized dates.
+    pub dates: Vec<Date>,
+    /// Whether a comma or period behind a closing quote goes before it.
+    pub punctuation_in_quote: bool,
+    /// Whether only the first day of a month is written as an ordinal.
+    pub limit_day_ordinals_to_day_1: bool,
+}

@@ -1,0 +1,45 @@
+//! Numbers and the labels beside them (CSL 1.0.2, Number and Label).
+
+use crate::affixes::Affixes;
+use crate::formatting::{Display, Formatting};
+use crate::taxonomy::{NumberOrPageVariable, NumberVariable};
+use crate::term::TermForm;
+use lit_model::NumberForm;
+
+/// A `cs:number`.
+#[derive(Drop)]
+pub struct Number {
+    pub variable: NumberVariable,
+    pub form: NumberForm,
+    pub formatting: Formatting,
+    pub affixes: Affixes,
+    pub display: Option<Display>,
+}
+
+/// When a label is in the plural (CSL 1.0.2, Label: plural).
+#[derive(Clone, Copy, Debug, Default, PartialEq, Eq, PartialOrd, Ord, Hash)]
+pub enum LabelPluralize {
+    /// Where what it stands beside is.
+    #[default]
+    Contextual,
+    Always,
+    Never,
+}
+
+/// How a label is written, whatever it stands beside.
+#[derive(Drop)]
+pub struct VariablelessLabel {
+    pub form: TermForm,
+    pub plural: LabelPluralize,
+    pub formatting: Formatting,
+    pub affixes: Affixes,
+    /// Whether the term loses its periods (CSL 1.0.2, Strip-periods).
+    pub strip_periods: bool,
+}
+
+/// A `cs:label`.
+#[derive(Drop)]
+pub struct Label {
+    pub variable: NumberOrPageVariable,
+    pub label: VariablelessLabel,
+}

@@ -1,0 +1,226 @@
+//! What a style may ask of an entry, and the kinds of entries (CSL 1.0.2, Appendix III: Types;
+//! Appendix IV: Variables).
+
+/// A variable that holds a number.
+#[derive(Clone, Copy, Debug, PartialEq, Eq, PartialOrd, Ord, Hash)]
+pub enum NumberVariable {
+    ChapterNumber,
+    CitationNumber,
+    CollectionNumber,
+    Edition,
+    FirstReferenceNoteNumber,
+    Issue,
+    Locator,
+    Number,
+    NumberOfPages,
+    NumberOfVolumes,
+    PageFirst,
+    PartNumber,
+    PrintingNumber,
+    Section,
+    SupplementNumber,
+    Version,
+    Volume,
+}
+
+/// A variable that holds pages.
+#[derive(Clone, Copy, Debug, PartialEq, Eq, PartialOrd, Ord, Hash)]
+pub enum PageVariable {
+    Page,
+}
+
+/// A variable that holds a text.
+#[derive(Clone, Copy, Debug, PartialEq, Eq, PartialOrd, Ord, Hash)]
+pub enum StandardVariable {
+    Abstract,
+    Annote,
+    Archive,
+    ArchiveCollection,
+    ArchiveLocation,
+    ArchivePlace,
+    Authority,
+    CallNumber,
+    CitationKey,
+    CitationLabel,
+    CollectionTitle,
+    ContainerTitle,
+    ContainerTitleShort,
+    Dimensions,
+    Division,
+    DOI,
+    Event,
+    EventTitle,
+    EventPlace,
+    Genre,
+    ISBN,
+    ISSN,
+    Jurisdiction,
+    Keyword,
+    Language,
+    License,
+    Medium,
+    Note,
+    OriginalPublisher,
+    OriginalPublisherPlace,
+    OriginalTitle,
+    PartTitle,
+    PMCID,
+    PMID,
+    Publisher,
+    PublisherPlace,
+    References,
+    ReviewedGenre,
+    ReviewedTitle,
+    Scale,
+    Source,
+    Status,
+    Title,
+    TitleShort,
+    URL,
+    VolumeTitle,
+    YearSuffix,
+}
+
+/// A variable that holds persons.
+#[derive(Clone, Copy, Debug, PartialEq, Eq, PartialOrd, Ord, Hash)]
+pub enum NameVariable {
+    Author,
+    Chair,
+    CollectionEditor,
+    Compiler,
+    Composer,
+    ContainerAuthor,
+    Contributor,
+    Curator,
+    Director,
+    Editor,
+    EditorialDirector,
+    EditorTranslator,
+    ExecutiveProducer,
+    Guest,
+    Host,
+    Illustrator,
+    Interviewer,
+    Narrator,
+    Organizer,
+    OriginalAuthor,
+    Performer,
+    Producer,
+    Recipient,
+    ReviewedAuthor,
+    ScriptWriter,
+    SeriesCreator,
+    Translator,
+}
+
+/// A variable that holds a date.
+#[derive(Clone, Copy, Debug, PartialEq, Eq, PartialOrd, Ord, Hash)]
+pub enum DateVariable {
+    Accessed,
+    AvailableDate,
+    EventDate,
+    Issued,
+    OriginalDate,
+    Submitted,
+}
+
+/// A variable of any of the five sorts.
+#[derive(Clone, Copy, Debug, PartialEq, Eq, PartialOrd, Ord, Hash)]
+pub enum Variable {
+    Standard(StandardVariable),
+    Number(NumberVariable),
+    Page(PageVariable),
+    Date(DateVariable),
+    Name(NameVariable),
+}
+
+/// A variable that a label may name.
+#[derive(Clone, Copy, Debug, PartialEq, Eq, PartialOrd, Ord, Hash)]
+pub enum NumberOrPageVariable {
+    Number(NumberVariable),
+    Page(PageVariable),
+}
+
+/// What a locator counts (CSL 1.0.2, Locators).
+#[derive(Clone, Copy, Debug, PartialEq, Eq, PartialOrd, Ord, Hash)]
+pub enum Locator {
+    Act,
+    Appendix,
+    Book,
+    Canon,
+    Chapter,
+    Column,
+    Equation,
+    Figure,
+    Folio,
+    Issue,
+    Line,
+    Note,
+    Number,
+    Opus,
+    Page,
+    Paragraph,
+    Part,
+    Rule,
+    Scene,
+    Section,
+    SubVerbo,
+    Supplement,
+    Table,
+    Timestamp,
+    Verse,
+    Version,
+    Volume,
+    /// What the locator says itself: no style has a term for it.
+    Custom,
+}
+
+/// The kind of an entry, as styles name it.
+#[derive(Clone, Copy, Debug, PartialEq, Eq, PartialOrd, Ord, Hash)]
+pub enum Kind {
+    Article,
+    ArticleJournal,
+    ArticleMagazine,
+    ArticleNewspaper,
+    Bill,
+    Book,
+    Broadcast,
+    Chapter,
+    Classic,
+    Collection,
+    Dataset,
+    Document,
+    Entry,
+    EntryDictionary,
+    EntryEncyclopedia,
+    Event,
+    Figure,
+    Graphic,
+    Hearing,
+    Interview,
+    LegalCase,
+    Legislation,
+    Manuscript,
+    Map,
+    MotionPicture,
+    MusicalScore,
+    Pamphlet,
+    PaperConference,
+    Patent,
+    Performance,
+    Periodical,
+    PersonalCommunication,
+    Post,
+    PostWeblog,
+    Regulation,
+    Report,
+    Review,
+    ReviewBook,
+    Software,
+    Song,
+    Speech,
+    Standard,
+    Thesis,
+    Treaty,
+    Webpage,
+}

@@ -1,0 +1,72 @@
+//! The terms that a locale may translate (CSL 1.0.2, Terms).
+
+use crate::taxonomy::{Locator, NameVariable, NumberVariable, PageVariable};
+use lit_model::Season;
+
+/// A term.
+#[derive(Clone, Copy, Debug, PartialEq, Eq, PartialOrd, Ord, Hash)]
+pub enum Term {
+    /// What persons are called, as `editor`.
+    Name(NameVariable),
+    /// What a number is called, as `volume`.
+    Number(NumberVariable),
+    /// What pages are called.
+    Page(PageVariable),
+    /// What a locator is called, as `paragraph`.
+    Locator(Locator),
+    /// Any other term.
+    Other(OtherTerm),
+}
+
+/// A term that names no variable.
+#[derive(Clone, Copy, Debug, PartialEq, Eq, PartialOrd, Ord, Hash)]
+pub enum OtherTerm {
+    And,
+    EtAl,
+    /// What stands behind the years 1 to 999.
+    Ad,
+    /// What stands behind the years before year 1.
+    Bc,
+    PageRangeDelimiter,
+    OpenQuote,
+    CloseQuote,
+    OpenInnerQuote,
+    CloseInnerQuote,
+    /// The month of this number, from 0 for January to 11. No month has a number above 11.
+    Month(u8),
+    Season(Season),
+    Accessed,
+    AndOthers,
+    Anonymous,
+    At,
+    AvailableAt,
+    By,
+    Circa,
+    Cited,
+    Forthcoming,
+    From,
+    Ibid,
+    In,
+    InPress,
+    Internet,
+    Interview,
+    Letter,
+    NoDate,
+    Online,
+    PresentedAt,
+    Reference,
+    Retrieved,
+    Scale,
+    Version,
+}
+
+/// The form of a term (CSL 1.0.2, Terms: form).
+#[derive(Clone, Copy, Debug, Default, PartialEq, Eq, PartialOrd, Ord, Hash)]
+pub enum TermForm {
+    #[default]
+    Long,
+    Short,
+    Verb,
+    VerbShort,
+    Symbol,
+}
