@@ -33,3 +33,7 @@ pub mod TextEqual
 pub mod PersonEqual
 pub mod SourceEqual
 pub mod MaybeEqual
+pub mod Depth
+pub mod EntryStep
+pub mod Prefix
+pub mod EntryEqual

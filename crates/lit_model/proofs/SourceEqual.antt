@@ -79,7 +79,7 @@ day_prop : (o : Option ℕ) → IsProp (ForSome o (λ d. d ≤ 30))
 day_prop o = Π_prop (λ x. →_prop le_prop)
 
 -- dates of the same parts are the same
-same_date : (a b : Date) → date_parts a ≡ date_parts b → a ≡ b
+pub same_date : (a b : Date) → date_parts a ≡ date_parts b → a ≡ b
 same_date a b h = λ i. record {
   year = (h i).year;
   month = (h i).month;

@@ -2,7 +2,8 @@
 use Rattle.std.specs.Prelude.{ℕ, List, map, Option, option_map, string_bytes, String}
 use Rattle.std.specs.declared.alloc.Global.{Global}
 use Rattle.std.specs.BTreeMap.{get_by_text}
-use Rattle.url.specs.Parts.{Parts}
+use Rattle.url.specs.Parts.{Parts, serialize}
+use Rattle.lit_model.specs.Date.{Parts as DateParts, date_parts}
 use Rattle.lit_model.specs.declared.date.Date.{Date}
 use Rattle.lit_model.specs.declared.source.Publisher.{Publisher}
 use Rattle.lit_model.specs.declared.source.QualifiedUrl.{QualifiedUrl}
@@ -25,6 +26,14 @@ pub record Address : Type 0 where
 
 abbrev pub address_of : QualifiedUrl → Address
 address_of u = record { value = u.value; visit_date = u.visit_date }
+
+-- an address by its text
+pub record AddressText : Type 0 where
+  pub text : List ℕ
+  pub visit_date : Option DateParts
+
+abbrev pub address_text : QualifiedUrl → AddressText
+address_text u = record { text = serialize u.value; visit_date = option_map date_parts u.visit_date }
 
 abbrev pub scheme_and_number : String Global × String Global → List ℕ × List ℕ
 scheme_and_number e = (string_bytes e.0, string_bytes e.1)

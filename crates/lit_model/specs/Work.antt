@@ -1,5 +1,5 @@
 -- Entries without where their texts lie.
-use Rattle.std.specs.Prelude.{ℕ, List, map, length, Option, option_map, string_bytes}
+use Rattle.std.specs.Prelude.{ℕ, List, map, length, Option, None, option_map, string_bytes}
 use Rattle.lit_model.specs.declared.date.Date.{Date}
 use Rattle.lit_model.specs.declared.entry.Entry.{Entry, out-Entry}
 use Rattle.lit_model.specs.declared.entry_type.EntryType.{EntryType}
@@ -8,7 +8,7 @@ use Rattle.lit_model.specs.MaybeTyped.{MaybeView, maybe_view}
 use Rattle.lit_model.specs.Numeric.{NumericView, numeric_view}
 use Rattle.lit_model.specs.Page.{PartView, pages_view}
 use Rattle.lit_model.specs.Person.{Named, named, Group, group_of}
-use Rattle.lit_model.specs.Source.{Press, press_of, Address, address_of, serials, Language, language_of}
+use Rattle.lit_model.specs.Source.{Press, press_of, Address, address_of, AddressText, address_text, serials, Language, language_of}
 use Rattle.lit_model.specs.Text.{Forms, forms_of}
 
 -- an entry's own fields
@@ -83,3 +83,20 @@ work_of e = record { own = own_of e; parent_count = length (parents_of e) }
 -- The entry and its parents in preorder. Two entries show the same list exactly where they agree in every field, at every level.
 abbrev pub works : Entry → List Work
 works e = map work_of (preorder e)
+
+-- an entry's own fields with its address by the text alone, and how many parents it has
+pub record Spelled : Type 0 where
+  pub own : Own
+  pub address : Option AddressText
+  pub parent_count : ℕ
+
+abbrev pub spelled_of : Entry → Spelled
+spelled_of e = record {
+  own = record (own_of e) { url = None };
+  address = option_map address_text (out-Entry e).url;
+  parent_count = length (parents_of e);
+}
+
+-- The same of the entry and its parents, in preorder. Two addresses of one text may differ in their parts, so this tells less than `works`.
+abbrev pub spelled : Entry → List Spelled
+spelled e = map spelled_of (preorder e)

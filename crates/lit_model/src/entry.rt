@@ -405,3 +405,6 @@ impl Entry {
         self.map(|entry| entry.url.as_ref())
     }
 }
+
+#[cfg(test)]
+mod tests;
