@@ -32,14 +32,15 @@ use Rattle.lit_model.specs.contracts.source.QualifiedUrlPartialEq.TheImpl.{eq-va
 use Rattle.lit_model.specs.contracts.source.SerialNumberPartialEq.TheImpl.{eq-value as eq_serials}
 use Rattle.lit_model.specs.contracts.text.FormatStringPartialEq.TheImpl.{eq-value as eq_forms}
 use Rattle.lit_model.specs.Date.{Parts, date_parts}
-use Rattle.lit_model.specs.Entry.{parents_of}
+use Rattle.lit_model.specs.Entry.{parents_of, preorder}
+use Rattle.url.specs.Parts.{serialize}
 use Rattle.lit_model.specs.MaybeTyped.{maybe_view}
 use Rattle.lit_model.specs.Numeric.{numeric_view}
 use Rattle.lit_model.specs.Page.{pages_view}
 use Rattle.lit_model.specs.Person.{Named, named, Group, group_of}
-use Rattle.lit_model.specs.Source.{AddressText, address_text, press_of, serials, language_of}
+use Rattle.lit_model.specs.Source.{Address, address_of, AddressText, address_text, press_of, serials, language_of}
 use Rattle.lit_model.specs.Text.{forms_of}
-use Rattle.lit_model.specs.Work.{Own, Spelled, spelled_of, spelled}
+use Rattle.lit_model.specs.Work.{own_of, Work, work_of, works, Spelled, spelled_of, spelled}
 use Rattle.lit_model.proofs.ByValue.{both, through, option_view, option_same, text_decides}
 use Rattle.lit_model.proofs.Depth.{EachOf, depth_of, parents_less}
 use Rattle.lit_model.proofs.EntryStep.{same_people, same_groups, same_maybe_number, same_maybe_pages, same_fields, eq_out}
@@ -191,3 +192,26 @@ decides_below (suc n) a b p = one_level a b (lists_decide eq_entry.it spelled (�
 
 pub entries_decide : (a b : Entry) → Decides (eq_entry.it a b) (spelled a ≡ spelled b)
 entries_decide a b = decides_below (suc (depth_of a)) a b (omega arith)
+
+-- ---- what shows the same is spelled alike
+
+spell : Address → AddressText
+spell u = record { text = serialize u.value; visit_date = option_map date_parts u.visit_date }
+
+spell_optional : (u : Option QualifiedUrl) → option_map spell (option_map address_of u) ≡ option_map address_text u
+unfolding spell
+spell_optional None = refl
+spell_optional (Some u) = refl
+
+abbrev spelled_by : Work → Spelled
+spelled_by w = record { own = record w.own { url = None }; address = option_map spell w.own.url; parent_count = w.parent_count }
+
+spelled_as : (e : Entry) → spelled_by (work_of e) ≡ spelled_of e
+spelled_as e = ap (λ (t : Option AddressText). let s : Spelled = record { own = record (own_of e) { url = None }; address = t; parent_count = length (parents_of e) } in s) (spell_optional (out-Entry e).url)
+
+each_spelled : (es : List Entry) → map spelled_by (map work_of es) ≡ map spelled_of es
+each_spelled [] = refl
+each_spelled (e ∷ es) = λ i. spelled_as e i ∷ each_spelled es i
+
+pub shown_spelled : (a b : Entry) → works a ≡ works b → spelled a ≡ spelled b
+shown_spelled a b h = sym (each_spelled (preorder a)) ∙ ap (map spelled_by) h ∙ each_spelled (preorder b)

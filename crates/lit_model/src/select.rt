@@ -33,7 +33,7 @@ pub enum Bind {
 }
 
 /// A test of an entry and of its direct parents.
-#[derive(Clone, Copy)]
+#[derive(Clone, Copy, PartialEq, Eq)]
 pub struct Clause<'a> {
     /// The types that the entry may have. None at all: every type.
     pub own: &'a [EntryType],

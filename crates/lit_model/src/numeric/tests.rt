@@ -1,5 +1,6 @@
 ghost use Rattle.std.specs.Prelude.{◌≡◌, ◌↔◌, IsTrue, Some, None, codes};
 ghost use Rattle.lit_model.specs.Numeric.{numeric_view};
+ghost use Rattle.lit_model.specs.contracts.numeric.NumericHash.TheImpl.{hash_input-value as hash_number};
 
 use super::*;
 use std::test::Fail;
@@ -36,6 +37,13 @@ impl Ordinals for Word {
     fn long(&self, _number: i32, _gender: Option<GrammarGender>) -> Option<&str> {
         Some("second")
     }
+}
+
+/// Equal numbers feed a hasher the same.
+fn hashed_alike(a: &Numeric, b: &Numeric)
+    ensures { numeric_view a.now ≡ numeric_view b.now → hash_number.it a.now ≡ hash_number.it b.now }
+{
+    let _same = *a == *b;
 }
 
 /// Whether the two numbers are equal: they are where their values are.

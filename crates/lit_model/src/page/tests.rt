@@ -1,9 +1,17 @@
 ghost use Rattle.std.specs.Prelude.{◌≡◌, ◌↔◌, IsTrue};
 ghost use Rattle.lit_model.specs.Page.{pages_view};
+ghost use Rattle.lit_model.specs.contracts.page.PageRangesHash.TheImpl.{hash_input-value as hash_pages};
 
 use super::*;
 use crate::numeric::NumericError;
 use std::test::Fail;
+
+/// Equal pages feed a hasher the same.
+fn hashed_alike(a: &PageRanges, b: &PageRanges)
+    ensures { pages_view a.now ≡ pages_view b.now → hash_pages.it a.now ≡ hash_pages.it b.now }
+{
+    let _same = *a == *b;
+}
 
 /// Whether the pages are equal: they are where their parts are.
 fn same(a: &PageRanges, b: &PageRanges) -> bool

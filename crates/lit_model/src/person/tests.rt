@@ -1,5 +1,6 @@
 ghost use Rattle.std.specs.Prelude.{◌≡◌, ◌↔◌, IsTrue};
 ghost use Rattle.lit_model.specs.Person.{named, role_of, group_of};
+ghost use Rattle.lit_model.specs.contracts.person.PersonHash.TheImpl.{hash_input-value as hash_person};
 
 use super::*;
 use std::test::Fail;
@@ -26,6 +27,13 @@ fn same_person(a: &Person, b: &Person) -> bool
     ensures { IsTrue result ↔ (named a.now ≡ named b.now) }
 {
     *a == *b
+}
+
+/// Persons of the same texts feed a hasher the same.
+fn hashed_alike(a: &Person, b: &Person)
+    ensures { named a.now ≡ named b.now → hash_person.it a.now ≡ hash_person.it b.now }
+{
+    let _same = *a == *b;
 }
 
 /// The same for roles.
