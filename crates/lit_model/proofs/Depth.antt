@@ -26,4 +26,4 @@ pub parents_less : (e : Entry) (n : ℕ) → depth_of e ≤ n → EachOf (λ y. 
 unfolding block.the_depth out-Entry denote.Hole.Carrier.out
 parents_less e n p = subst (EachOf (λ y. depth block.the_members block.the_sigs block.the_carrier block.member-Entry y < n)) (list-listed Entry (parents_of e))
     (each_listed block.the_members block.the_family (λ j y. depth block.the_members block.the_sigs block.the_carrier j y < n) block.member-Entry _ (children (list this) Entry (parents_of e))
-      (depth_falls block.the_members block.the_sigs block.the_carrier block.member-Entry e n p))
+    (depth_falls block.the_members block.the_sigs block.the_carrier block.member-Entry e n p))

@@ -1,8 +1,7 @@
 -- `==` of two entries: true exactly where they are spelled alike.
-use Rattle.std.proofs.Common.{◌≡◌, ◌&&◌, ℕ, zero, suc, ◌<◌, Bool, arith, subst, List, [], ◌∷◌, map, length, refl, sym, ap, rules, ◌∙◌}
-use Rattle.std.specs.Prelude.{Option, None, Some, option_map, string_bytes, Vec}
+use Rattle.std.proofs.Common.{◌≡◌, ℕ, zero, suc, ◌<◌, Bool, arith, subst, List, [], ◌∷◌, map, length, refl, sym, ap, rules, ◌∙◌}
+use Rattle.std.specs.Prelude.{Option, None, Some, option_map, Vec}
 use Rattle.std.specs.Bool.{Decides}
-use Rattle.std.specs.Option.{option_eq}
 use Rattle.std.specs.Cmp.Lexicographic.{pointwise}
 use Rattle.std.specs.declared.alloc.Global.{Global}
 use Rattle.std.proofs.lemmas.List.{length-map}
@@ -31,19 +30,19 @@ use Rattle.lit_model.specs.contracts.source.PublisherPartialEq.TheImpl.{eq-value
 use Rattle.lit_model.specs.contracts.source.QualifiedUrlPartialEq.TheImpl.{eq-value as eq_url}
 use Rattle.lit_model.specs.contracts.source.SerialNumberPartialEq.TheImpl.{eq-value as eq_serials}
 use Rattle.lit_model.specs.contracts.text.FormatStringPartialEq.TheImpl.{eq-value as eq_forms}
-use Rattle.lit_model.specs.Date.{Parts, date_parts}
+use Rattle.lit_model.specs.Date.{date_parts}
 use Rattle.lit_model.specs.Entry.{parents_of, preorder}
 use Rattle.url.specs.Parts.{serialize}
 use Rattle.lit_model.specs.MaybeTyped.{maybe_view}
 use Rattle.lit_model.specs.Numeric.{numeric_view}
 use Rattle.lit_model.specs.Page.{pages_view}
-use Rattle.lit_model.specs.Person.{Named, named, Group, group_of}
+use Rattle.lit_model.specs.Person.{named, group_of}
 use Rattle.lit_model.specs.Source.{Address, address_of, AddressText, address_text, press_of, serials, language_of}
 use Rattle.lit_model.specs.Text.{forms_of}
 use Rattle.lit_model.specs.Work.{own_of, Work, work_of, works, Spelled, spelled_of, spelled}
 use Rattle.lit_model.proofs.ByValue.{both, through, option_view, option_same, text_decides}
 use Rattle.lit_model.proofs.Depth.{EachOf, depth_of, parents_less}
-use Rattle.lit_model.proofs.EntryStep.{same_people, same_groups, same_maybe_number, same_maybe_pages, same_fields, eq_out}
+use Rattle.lit_model.proofs.EntryStep.{same_people, same_groups, same_maybe_number, same_maybe_pages, eq_out}
 use Rattle.lit_model.proofs.MaybeEqual.{maybe_decides, pages_decide}
 use Rattle.lit_model.proofs.PageEqual.{numeric_decides, pointwise_view}
 use Rattle.lit_model.proofs.PersonEqual.{person_decides, group_decides}
@@ -84,98 +83,153 @@ same_count xs ys h = simp length-map at (ap length h)
 one_level : (a b : Entry) → Decides (pointwise eq_entry.it (parents_of a) (parents_of b)) (map spelled (parents_of a) ≡ map spelled (parents_of b)) → Decides (eq_entry.it a b) (spelled a ≡ spelled b)
 one_level a b parents = subst (λ q. Decides q (spelled a ≡ spelled b)) (sym (eq_out a b)) (through _
     (both _ _ (text_decides (out-Entry a).key (out-Entry b).key)
-      (both _ _ (types_decide (out-Entry a).entry_type (out-Entry b).entry_type)
-      (both _ _ (option_view eq_forms.it forms_of forms_decide (out-Entry a).title (out-Entry b).title)
-      (both _ _ (option_view same_people (λ v. map named v.items) people_decide (out-Entry a).authors (out-Entry b).authors)
-      (both _ _ (option_view same_people (λ v. map named v.items) people_decide (out-Entry a).editors (out-Entry b).editors)
-      (both _ _ (option_same eq_date.it dates_same (out-Entry a).date (out-Entry b).date)
-      (both _ _ (option_view eq_url.it address_text url_text_decides (out-Entry a).url (out-Entry b).url)
-      (both _ _ (option_view same_groups (λ v. map group_of v.items) groups_decide (out-Entry a).affiliated (out-Entry b).affiliated)
-      (both _ _ (option_view eq_press.it press_of press_decides (out-Entry a).publisher (out-Entry b).publisher)
-      (both _ _ (option_view eq_forms.it forms_of forms_decide (out-Entry a).location (out-Entry b).location)
-      (both _ _ (option_view eq_forms.it forms_of forms_decide (out-Entry a).organization (out-Entry b).organization)
-      (both _ _ (option_view same_maybe_number (maybe_view numeric_view) maybe_number_decides (out-Entry a).issue (out-Entry b).issue)
-      (both _ _ (option_view same_maybe_number (maybe_view numeric_view) maybe_number_decides (out-Entry a).volume (out-Entry b).volume)
-      (both _ _ (option_view same_maybe_number (maybe_view numeric_view) maybe_number_decides (out-Entry a).edition (out-Entry b).edition)
-      (both _ _ (option_view same_maybe_number (maybe_view numeric_view) maybe_number_decides (out-Entry a).chapter (out-Entry b).chapter)
-      (both _ _ (option_view eq_numeric.it numeric_view numeric_decides (out-Entry a).volume_total (out-Entry b).volume_total)
-      (both _ _ (option_view eq_numeric.it numeric_view numeric_decides (out-Entry a).page_total (out-Entry b).page_total)
-      (both _ _ (option_view same_maybe_pages (maybe_view pages_view) maybe_pages_decide (out-Entry a).page_range (out-Entry b).page_range)
-      (both _ _ (option_view eq_forms.it forms_of forms_decide (out-Entry a).runtime (out-Entry b).runtime)
-      (both _ _ (option_view eq_serials.it serials serials_decide (out-Entry a).serial_number (out-Entry b).serial_number)
-      (both _ _ (option_view eq_language.it language_of language_decides (out-Entry a).language (out-Entry b).language)
-      (both _ _ (option_view eq_forms.it forms_of forms_decide (out-Entry a).archive (out-Entry b).archive)
-      (both _ _ (option_view eq_forms.it forms_of forms_decide (out-Entry a).archive_location (out-Entry b).archive_location)
-      (both _ _ (option_view eq_forms.it forms_of forms_decide (out-Entry a).call_number (out-Entry b).call_number)
-      (both _ _ (option_view eq_forms.it forms_of forms_decide (out-Entry a).note (out-Entry b).note)
-      (both _ _ (option_view eq_forms.it forms_of forms_decide (out-Entry a).abstract_ (out-Entry b).abstract_)
-      (both _ _ (option_view eq_forms.it forms_of forms_decide (out-Entry a).genre (out-Entry b).genre)
-      (parents))))))))))))))))))))))))))))
+    (both _ _ (types_decide (out-Entry a).entry_type (out-Entry b).entry_type)
+    (both _ _ (option_view eq_forms.it forms_of forms_decide (out-Entry a).title (out-Entry b).title)
+    (both _ _ (option_view same_people (λ v. map named v.items) people_decide (out-Entry a).authors (out-Entry b).authors)
+    (both _ _ (option_view same_people (λ v. map named v.items) people_decide (out-Entry a).editors (out-Entry b).editors)
+    (both _ _ (option_same eq_date.it dates_same (out-Entry a).date (out-Entry b).date)
+    (both _ _ (option_view eq_url.it address_text url_text_decides (out-Entry a).url (out-Entry b).url)
+    (both _ _ (option_view same_groups (λ v. map group_of v.items) groups_decide (out-Entry a).affiliated (out-Entry b).affiliated)
+    (both _ _ (option_view eq_press.it press_of press_decides (out-Entry a).publisher (out-Entry b).publisher)
+    (both _ _ (option_view eq_forms.it forms_of forms_decide (out-Entry a).location (out-Entry b).location)
+    (both _ _ (option_view eq_forms.it forms_of forms_decide (out-Entry a).organization (out-Entry b).organization)
+    (both _ _ (option_view same_maybe_number (maybe_view numeric_view) maybe_number_decides (out-Entry a).issue (out-Entry b).issue)
+    (both _ _ (option_view same_maybe_number (maybe_view numeric_view) maybe_number_decides (out-Entry a).volume (out-Entry b).volume)
+    (both _ _ (option_view same_maybe_number (maybe_view numeric_view) maybe_number_decides (out-Entry a).edition (out-Entry b).edition)
+    (both _ _ (option_view same_maybe_number (maybe_view numeric_view) maybe_number_decides (out-Entry a).chapter (out-Entry b).chapter)
+    (both _ _ (option_view eq_numeric.it numeric_view numeric_decides (out-Entry a).volume_total (out-Entry b).volume_total)
+    (both _ _ (option_view eq_numeric.it numeric_view numeric_decides (out-Entry a).page_total (out-Entry b).page_total)
+    (both _ _ (option_view same_maybe_pages (maybe_view pages_view) maybe_pages_decide (out-Entry a).page_range (out-Entry b).page_range)
+    (both _ _ (option_view eq_forms.it forms_of forms_decide (out-Entry a).runtime (out-Entry b).runtime)
+    (both _ _ (option_view eq_serials.it serials serials_decide (out-Entry a).serial_number (out-Entry b).serial_number)
+    (both _ _ (option_view eq_language.it language_of language_decides (out-Entry a).language (out-Entry b).language)
+    (both _ _ (option_view eq_forms.it forms_of forms_decide (out-Entry a).archive (out-Entry b).archive)
+    (both _ _ (option_view eq_forms.it forms_of forms_decide (out-Entry a).archive_location (out-Entry b).archive_location)
+    (both _ _ (option_view eq_forms.it forms_of forms_decide (out-Entry a).call_number (out-Entry b).call_number)
+    (both _ _ (option_view eq_forms.it forms_of forms_decide (out-Entry a).note (out-Entry b).note)
+    (both _ _ (option_view eq_forms.it forms_of forms_decide (out-Entry a).abstract_ (out-Entry b).abstract_)
+    (both _ _ (option_view eq_forms.it forms_of forms_decide (out-Entry a).genre (out-Entry b).genre)
+    (parents))))))))))))))))))))))))))))
     (λ h.
-      let count = same_count (parents_of a) (parents_of b) h.1.1.1.1.1.1.1.1.1.1.1.1.1.1.1.1.1.1.1.1.1.1.1.1.1.1.1 in
-      shown_same spelled_of tells a b (λ i. record {
-        own = record { key = h.0 i;
-          entry_type = h.1.0 i;
-          title = h.1.1.0 i;
-          authors = h.1.1.1.0 i;
-          editors = h.1.1.1.1.0 i;
-          date = h.1.1.1.1.1.0 i;
-          url = None;
-          affiliated = h.1.1.1.1.1.1.1.0 i;
-          publisher = h.1.1.1.1.1.1.1.1.0 i;
-          location = h.1.1.1.1.1.1.1.1.1.0 i;
-          organization = h.1.1.1.1.1.1.1.1.1.1.0 i;
-          issue = h.1.1.1.1.1.1.1.1.1.1.1.0 i;
-          volume = h.1.1.1.1.1.1.1.1.1.1.1.1.0 i;
-          edition = h.1.1.1.1.1.1.1.1.1.1.1.1.1.0 i;
-          chapter = h.1.1.1.1.1.1.1.1.1.1.1.1.1.1.0 i;
-          volume_total = h.1.1.1.1.1.1.1.1.1.1.1.1.1.1.1.0 i;
-          page_total = h.1.1.1.1.1.1.1.1.1.1.1.1.1.1.1.1.0 i;
-          page_range = h.1.1.1.1.1.1.1.1.1.1.1.1.1.1.1.1.1.0 i;
-          runtime = h.1.1.1.1.1.1.1.1.1.1.1.1.1.1.1.1.1.1.0 i;
-          serial_number = h.1.1.1.1.1.1.1.1.1.1.1.1.1.1.1.1.1.1.1.0 i;
-          language = h.1.1.1.1.1.1.1.1.1.1.1.1.1.1.1.1.1.1.1.1.0 i;
-          archive = h.1.1.1.1.1.1.1.1.1.1.1.1.1.1.1.1.1.1.1.1.1.0 i;
-          archive_location = h.1.1.1.1.1.1.1.1.1.1.1.1.1.1.1.1.1.1.1.1.1.1.0 i;
-          call_number = h.1.1.1.1.1.1.1.1.1.1.1.1.1.1.1.1.1.1.1.1.1.1.1.0 i;
-          note = h.1.1.1.1.1.1.1.1.1.1.1.1.1.1.1.1.1.1.1.1.1.1.1.1.0 i;
-          abstract_ = h.1.1.1.1.1.1.1.1.1.1.1.1.1.1.1.1.1.1.1.1.1.1.1.1.1.0 i;
-          genre = h.1.1.1.1.1.1.1.1.1.1.1.1.1.1.1.1.1.1.1.1.1.1.1.1.1.1.0 i };
-        address = h.1.1.1.1.1.1.0 i;
-        parent_count = count i;
-      }) h.1.1.1.1.1.1.1.1.1.1.1.1.1.1.1.1.1.1.1.1.1.1.1.1.1.1.1)
+    let count = same_count (parents_of a) (parents_of b) h.1.1.1.1.1.1.1.1.1.1.1.1.1.1.1.1.1.1.1.1.1.1.1.1.1.1.1 in
+    shown_same spelled_of tells a b (λ i. record {
+      own = record {
+        key = h.0 i;
+        entry_type = h.1.0 i;
+        title = h.1.1.0 i;
+        authors = h.1.1.1.0 i;
+        editors = h.1.1.1.1.0 i;
+        date = h.1.1.1.1.1.0 i;
+        url = None;
+        affiliated = h.1.1.1.1.1.1.1.0 i;
+        publisher = h.1.1.1.1.1.1.1.1.0 i;
+        location = h.1.1.1.1.1.1.1.1.1.0 i;
+        organization = h.1.1.1.1.1.1.1.1.1.1.0 i;
+        issue = h.1.1.1.1.1.1.1.1.1.1.1.0 i;
+        volume = h.1.1.1.1.1.1.1.1.1.1.1.1.0 i;
+        edition = h.1.1.1.1.1.1.1.1.1.1.1.1.1.0 i;
+        chapter = h.1.1.1.1.1.1.1.1.1.1.1.1.1.1.0 i;
+        volume_total = h.1.1.1.1.1.1.1.1.1.1.1.1.1.1.1.0 i;
+        page_total = h.1.1.1.1.1.1.1.1.1.1.1.1.1.1.1.1.0 i;
+        page_range = h.1.1.1.1.1.1.1.1.1.1.1.1.1.1.1.1.1.0 i;
+        runtime = h.1.1.1.1.1.1.1.1.1.1.1.1.1.1.1.1.1.1.0 i;
+        serial_number = h.1.1.1.1.1.1.1.1.1.1.1.1.1.1.1.1.1.1.1.0 i;
+        language = h.1.1.1.1.1.1.1.1.1.1.1.1.1.1.1.1.1.1.1.1.0 i;
+        archive = h.1.1.1.1.1.1.1.1.1.1.1.1.1.1.1.1.1.1.1.1.1.0 i;
+        archive_location = h.1.1.1.1.1.1.1.1.1.1.1.1.1.1.1.1.1.1.1.1.1.1.0 i;
+        call_number = h.1.1.1.1.1.1.1.1.1.1.1.1.1.1.1.1.1.1.1.1.1.1.1.0 i;
+        note = h.1.1.1.1.1.1.1.1.1.1.1.1.1.1.1.1.1.1.1.1.1.1.1.1.0 i;
+        abstract_ = h.1.1.1.1.1.1.1.1.1.1.1.1.1.1.1.1.1.1.1.1.1.1.1.1.1.0 i;
+        genre = h.1.1.1.1.1.1.1.1.1.1.1.1.1.1.1.1.1.1.1.1.1.1.1.1.1.1.0 i;
+      };
+      address = h.1.1.1.1.1.1.0 i;
+      parent_count = count i;
+    }) h.1.1.1.1.1.1.1.1.1.1.1.1.1.1.1.1.1.1.1.1.1.1.1.1.1.1.1)
     (λ h.
-      let same = same_shown spelled_of tells a b h in
-      let own = same.0 in
-      let parents = same.1 in
-      (ap (λ (s : Spelled). s.own.key) own,
-      (ap (λ (s : Spelled). s.own.entry_type) own,
-      (ap (λ (s : Spelled). s.own.title) own,
-      (ap (λ (s : Spelled). s.own.authors) own,
-      (ap (λ (s : Spelled). s.own.editors) own,
-      (ap (λ (s : Spelled). s.own.date) own,
-      (ap (λ (s : Spelled). s.address) own,
-      (ap (λ (s : Spelled). s.own.affiliated) own,
-      (ap (λ (s : Spelled). s.own.publisher) own,
-      (ap (λ (s : Spelled). s.own.location) own,
-      (ap (λ (s : Spelled). s.own.organization) own,
-      (ap (λ (s : Spelled). s.own.issue) own,
-      (ap (λ (s : Spelled). s.own.volume) own,
-      (ap (λ (s : Spelled). s.own.edition) own,
-      (ap (λ (s : Spelled). s.own.chapter) own,
-      (ap (λ (s : Spelled). s.own.volume_total) own,
-      (ap (λ (s : Spelled). s.own.page_total) own,
-      (ap (λ (s : Spelled). s.own.page_range) own,
-      (ap (λ (s : Spelled). s.own.runtime) own,
-      (ap (λ (s : Spelled). s.own.serial_number) own,
-      (ap (λ (s : Spelled). s.own.language) own,
-      (ap (λ (s : Spelled). s.own.archive) own,
-      (ap (λ (s : Spelled). s.own.archive_location) own,
-      (ap (λ (s : Spelled). s.own.call_number) own,
-      (ap (λ (s : Spelled). s.own.note) own,
-      (ap (λ (s : Spelled). s.own.abstract_) own,
-      (ap (λ (s : Spelled). s.own.genre) own,
-      parents)))))))))))))))))))))))))))))
+    let same = same_shown spelled_of tells a b h in
+    let own = same.0 in
+    let parents = same.1 in (
+      ap (λ (s : Spelled). s.own.key) own,
+      (
+        ap (λ (s : Spelled). s.own.entry_type) own,
+        (
+          ap (λ (s : Spelled). s.own.title) own,
+          (
+            ap (λ (s : Spelled). s.own.authors) own,
+            (
+              ap (λ (s : Spelled). s.own.editors) own,
+              (
+                ap (λ (s : Spelled). s.own.date) own,
+                (
+                  ap (λ (s : Spelled). s.address) own,
+                  (
+                    ap (λ (s : Spelled). s.own.affiliated) own,
+                    (
+                      ap (λ (s : Spelled). s.own.publisher) own,
+                      (
+                        ap (λ (s : Spelled). s.own.location) own,
+                        (
+                          ap (λ (s : Spelled). s.own.organization) own,
+                          (
+                            ap (λ (s : Spelled). s.own.issue) own,
+                            (
+                              ap (λ (s : Spelled). s.own.volume) own,
+                              (
+                                ap (λ (s : Spelled). s.own.edition) own,
+                                (
+                                  ap (λ (s : Spelled). s.own.chapter) own,
+                                  (
+                                    ap (λ (s : Spelled). s.own.volume_total) own,
+                                    (
+                                      ap (λ (s : Spelled). s.own.page_total) own,
+                                      (
+                                        ap (λ (s : Spelled). s.own.page_range) own,
+                                        (
+                                          ap (λ (s : Spelled). s.own.runtime) own,
+                                          (
+                                            ap (λ (s : Spelled). s.own.serial_number) own,
+                                            (
+                                              ap (λ (s : Spelled). s.own.language) own,
+                                              (
+                                                ap (λ (s : Spelled). s.own.archive) own,
+                                                (
+                                                  ap (λ (s : Spelled). s.own.archive_location) own,
+                                                  (
+                                                    ap (λ (s : Spelled). s.own.call_number) own,
+                                                    (
+                                                      ap (λ (s : Spelled). s.own.note) own,
+                                                      (
+                                                        ap (λ (s : Spelled). s.own.abstract_) own,
+                                                        (
+                                                          ap (λ (s : Spelled). s.own.genre) own,
+                                                          parents,
+                                                        ),
+                                                      ),
+                                                    ),
+                                                  ),
+                                                ),
+                                              ),
+                                            ),
+                                          ),
+                                        ),
+                                      ),
+                                    ),
+                                  ),
+                                ),
+                              ),
+                            ),
+                          ),
+                        ),
+                      ),
+                    ),
+                  ),
+                ),
+              ),
+            ),
+          ),
+        ),
+      ),
+    )))
 
 lists_decide : {A B : Type 0} (E : A → A → Bool) (v : A → B) (P : A → Type 0) → ((x y : A) → P x → Decides (E x y) (v x ≡ v y)) → (xs ys : List A) → EachOf P xs → Decides (pointwise E xs ys) (map v xs ≡ map v ys)
 lists_decide E v P d [] [] p = (λ h. refl, λ h. refl)

@@ -1,11 +1,11 @@
 -- `==` of two entries: that of each field in turn, and of the parents one by one.
-use Rattle.std.proofs.Common.{◌≡◌, ℕ, ◌<◌, ◌≤◌, Bool, true, ◌&&◌, List, [], ◌∷◌, refl, ap}
+use Rattle.std.proofs.Common.{◌≡◌, ◌<◌, Bool, true, ◌&&◌, List, [], ◌∷◌, refl, ap}
 use Rattle.std.specs.Prelude.{string_bytes, Vec}
 use Rattle.std.specs.Option.{option_eq}
 use Rattle.std.specs.Str.{bytes_eq}
 use Rattle.std.specs.Cmp.Lexicographic.{pointwise}
 use Rattle.std.specs.declared.alloc.Global.{Global}
-use denote.Hole.Compared.{Rel, Agree, Local, compared_is}
+use denote.Hole.Compared.{Local, compared_is}
 use Rattle.lit_model.specs.declared.entry.Entry.{Entry, out-Entry}
 use Rattle.lit_model.specs.declared.entry.Entry.TheBlock as block
 use Rattle.lit_model.specs.declared.person.Person.{Person}

@@ -1,5 +1,5 @@
 -- What an entry shows, from its own fields and what its parents show.
-use Rattle.std.proofs.Common.{◌≡◌, List, length, map, ap, ◌∙◌}
+use Rattle.std.proofs.Common.{◌≡◌, List, length, map, ap}
 use Rattle.std.proofs.lemmas.List.{length-map}
 use Rattle.lit_model.specs.Entry.{parents_of}
 use Rattle.lit_model.specs.Work.{Work, own_of, work_of, works}
