@@ -1,1 +1,2 @@
 pub mod Formatting
+pub mod Reaches

@@ -1,0 +1,4 @@
+pub mod Marks
+pub mod Edges
+pub mod Searching
+pub mod Ranking
