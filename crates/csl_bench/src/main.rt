@@ -5,6 +5,7 @@
 #![tactic(auto)]
 
 mod literature;
+mod tree;
 
 use anyhow::{Result, bail};
 use std::alloc::Global;
@@ -15,7 +16,15 @@ use std::rt::Env;
 const SMALL: usize = 10;
 
 /// The works, by name.
-const WORKS: [&str; 5] = ["numeric", "pages", "initials", "particle", "clone_entry"];
+const WORKS: [&str; 7] = [
+    "numeric",
+    "pages",
+    "initials",
+    "particle",
+    "clone_entry",
+    "stack",
+    "drain",
+];
 
 /// Does a work, and answers its checksum.
 fn checksum(alloc: Global, work: &str, size: usize) -> Result<usize> {
@@ -29,6 +38,10 @@ fn checksum(alloc: Global, work: &str, size: usize) -> Result<usize> {
         literature::particle(alloc, size)
     } else if work == "clone_entry" {
         literature::clone_entry(alloc, size)
+    } else if work == "stack" {
+        tree::stack(alloc, size)
+    } else if work == "drain" {
+        tree::drain(alloc, size)
     } else {
         bail!("no such work: {work}");
     }
