@@ -1,1 +1,7 @@
 pub mod Formatting
+pub mod Dressing
+pub mod Names
+pub mod Node
+pub mod View
+pub mod Meaning
+pub mod Leads
