@@ -5,3 +5,6 @@ pub mod Node
 pub mod View
 pub mod Meaning
 pub mod Leads
+pub mod Reaches
+pub mod Calls
+pub mod Cyclic

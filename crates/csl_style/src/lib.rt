@@ -8,6 +8,7 @@ pub mod formatting;
 pub mod locale;
 pub mod names;
 pub mod number;
+mod places;
 pub mod taxonomy;
 pub mod term;
 pub mod text;
