@@ -2,6 +2,7 @@
 #![tactic(auto)]
 
 pub mod affixes;
+mod cycles;
 pub mod date;
 pub mod element;
 pub mod formatting;
