@@ -6,7 +6,7 @@ use Rattle.csl_style.specs.View.{Definition}
 use Rattle.csl_style.specs.Meaning.{place, body, rank_of, is_below, body_below, IsAcyclic}
 use Rattle.csl_style.specs.Leads.{OneCalls, BodyCalls, Leads, at_once, by_way_of}
 use Rattle.csl_style.specs.Calls.{all_called, name_at, children_at, IsCallGraph}
-use Rattle.csl_style.specs.Cyclic.{IsFirstCyclic, NoneReturns}
+use Rattle.csl_style.specs.Cyclic.{IsFirstCyclic}
 use Rattle.csl_style.proofs.Edges.{edge-from}
 use Rattle.csl_style.proofs.Meanings.{body-none}
 use Rattle.csl_style.proofs.Called.{place-is, all-from, all-into, all-below-by}
@@ -68,16 +68,6 @@ module _ (ds : List Definition) (g : Graph) (is : IsCallGraph ds g) where
       }
 
   module _ (ranks : List ℕ) (ok : ArePlaceRanks g ranks) where
-    down : {i j : ℕ} → Reaches g i j → slice_index ranks j < slice_index ranks i
-    down (along_edge {a = i} {b = j} h) = ok.fall i j h
-    down (along_edges {a = i} {b = k} {c = j} h l) = let x = ok.fall i k h in let y = down l in omega arith
-
-    returns-not : NoneReturns ds
-    returns-not name l =
-        let (i, p) = starts l in
-        let less = down (to-places l i i p p) in
-        omega arith
-
     small-by : (name : List ℕ) (o : Option ℕ) → place name ds ≡ o → is_below (option_map (slice_index ranks) o) (length ds) ≡ true
     small-by name None p = refl
     small-by name (Some i) p =
@@ -111,6 +101,3 @@ module _ (ds : List Definition) (g : Graph) (is : IsCallGraph ds g) where
 
   pub acyclic : HasRanks g → IsAcyclic ds
   acyclic (ranks, ok) = acyclic-by ranks ok
-
-  pub none-returns : HasRanks g → NoneReturns ds
-  none-returns (ranks, ok) = returns-not ranks ok

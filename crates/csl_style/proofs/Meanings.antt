@@ -96,18 +96,8 @@ unfolding meaning followed
 meaning-unfolds ds name (ranks, ok) =
     deep-enough ds ranks ok (length ds) (length ds) (suc (length ds)) name (place name ds) refl (ok.small name) (omega arith) (omega arith)
 
-cond-true : {A : Type 0} (b : Bool) (x y : A) → b ≡ true → (if b then x else y) ≡ x
-cond-true true x y h = refl
-cond-true false x y h = grind arith
-
-cond-false : {A : Type 0} (b : Bool) (x y : A) → b ≡ false → (if b then x else y) ≡ y
-cond-false false x y h = refl
-cond-false true x y h = grind arith
-
-pub body-here : (name : List ℕ) (ms : List CslMacro) (i : ℕ) (m : CslMacro) → i < length ms → m ≡ get_or ms i m → bytes_eq (string_bytes m.name) name ≡ true
-    → body name (definitions (drop i ms)) ≡ Some (views m.children.items)
-body-here name ms i m h is e = rw (drop_more ms i m h) (rw (← is) (cond-true (bytes_eq (string_bytes m.name) name) _ _ e))
-
-pub body-past : (name : List ℕ) (ms : List CslMacro) (i : ℕ) (m : CslMacro) → i < length ms → m ≡ get_or ms i m → bytes_eq (string_bytes m.name) name ≡ false
-    → body name (definitions (drop i ms)) ≡ body name (definitions (drop (i + 1) ms))
-body-past name ms i m h is e = rw (drop_more ms i m h) (rw (← is) (cond-false (bytes_eq (string_bytes m.name) name) _ _ e))
+-- what is answered for the first macro of a name, in the terms of what it holds
+pub meaning-of : {A : Type 0} (ds : List Definition) (name : List ℕ) (f : A → Nodes) (o : Option A) → IsAcyclic ds → option_map f o ≡ body name ds
+    → option_map (λ m. fills (meaning ds) (f m)) o ≡ meaning ds name
+meaning-of ds name f None ok e = ap (option_map (fills (meaning ds))) e ∙ sym (meaning-unfolds ds name ok)
+meaning-of ds name f (Some m) ok e = ap (option_map (fills (meaning ds))) e ∙ sym (meaning-unfolds ds name ok)

@@ -8,3 +8,4 @@ pub mod Leads
 pub mod Reaches
 pub mod Calls
 pub mod Cyclic
+pub mod Style
