@@ -5,6 +5,7 @@
 #![tactic(auto)]
 
 mod literature;
+mod style;
 mod tree;
 
 use anyhow::{Result, bail};
@@ -16,7 +17,7 @@ use std::rt::Env;
 const SMALL: usize = 10;
 
 /// The works, by name.
-const WORKS: [&str; 7] = [
+const WORKS: [&str; 9] = [
     "numeric",
     "pages",
     "initials",
@@ -24,6 +25,8 @@ const WORKS: [&str; 7] = [
     "clone_entry",
     "stack",
     "drain",
+    "style_chain",
+    "style_dense",
 ];
 
 /// Does a work, and answers its checksum.
@@ -42,6 +45,10 @@ fn checksum(alloc: Global, work: &str, size: usize) -> Result<usize> {
         tree::stack(alloc, size)
     } else if work == "drain" {
         tree::drain(alloc, size)
+    } else if work == "style_chain" {
+        style::chain(alloc, size)
+    } else if work == "style_dense" {
+        style::dense(alloc, size)
     } else {
         bail!("no such work: {work}");
     }
