@@ -85,3 +85,6 @@ impl Elem {
         })
     }
 }
+
+#[cfg(test)]
+mod tests;
