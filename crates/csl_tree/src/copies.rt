@@ -35,7 +35,7 @@ impl ElemMeta {
     }
 }
 
-fn clone_meta(meta: &Option<ElemMeta>, alloc: Global) -> Result<Option<ElemMeta>, Memory>
+pub(crate) fn clone_meta(meta: &Option<ElemMeta>, alloc: Global) -> Result<Option<ElemMeta>, Memory>
     ensures { IfOk result (λ copy. optional_meta copy ≡ optional_meta meta.now) }
 {
     match meta {
