@@ -17,7 +17,7 @@ use std::rt::Env;
 const SMALL: usize = 10;
 
 /// The works, by name.
-const WORKS: [&str; 9] = [
+const WORKS: [&str; 11] = [
     "numeric",
     "pages",
     "initials",
@@ -25,6 +25,8 @@ const WORKS: [&str; 9] = [
     "clone_entry",
     "stack",
     "drain",
+    "simplify",
+    "simplify_deep",
     "style_chain",
     "style_dense",
 ];
@@ -45,6 +47,10 @@ fn checksum(alloc: Global, work: &str, size: usize) -> Result<usize> {
         tree::stack(alloc, size)
     } else if work == "drain" {
         tree::drain(alloc, size)
+    } else if work == "simplify" {
+        tree::simplify(alloc, size)
+    } else if work == "simplify_deep" {
+        tree::simplify_deep(alloc, size)
     } else if work == "style_chain" {
         style::chain(alloc, size)
     } else if work == "style_dense" {

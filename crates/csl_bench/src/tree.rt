@@ -1,7 +1,8 @@
 //! Works over the tree of content.
 
 use anyhow::{Result, bail};
-use csl_tree::NonEmptyStack;
+use csl_style::Display;
+use csl_tree::{Elem, ElemChild, ElemChildren, Formatting, NonEmptyStack, simplify_children};
 use std::alloc::Global;
 use std::num::NonZeroUsize;
 
@@ -52,4 +53,64 @@ pub fn drain(alloc: Global, size: usize) -> Result<usize> {
         }
     }
     Ok(total(&stack))
+}
+
+fn text(alloc: Global, text: &str) -> Result<ElemChild> {
+    let text = String::from_str(alloc, text)?;
+    Ok(ElemChild::Text(Formatting::default().add_text(text)))
+}
+
+/// Two texts of one formatting.
+fn texts(alloc: Global) -> Result<Vec<ElemChild>> {
+    let mut children = Vec::new(alloc);
+    children.push(text(alloc, "so ")?)?;
+    children.push(text(alloc, "on")?)?;
+    Ok(children)
+}
+
+fn elem(children: Vec<ElemChild>, display: Option<Display>) -> ElemChild {
+    ElemChild::Elem(Elem {
+        children: ElemChildren(children),
+        display,
+        meta: None,
+    })
+}
+
+/// A tree of so many blocks, with an element that shows nothing of its own before each.
+fn wide(alloc: Global, size: usize) -> Result<ElemChildren> {
+    let mut children = Vec::new(alloc);
+    for _ in 0..size {
+        children.push(elem(texts(alloc)?, None))?;
+        children.push(elem(texts(alloc)?, Some(Display::Block)))?;
+    }
+    Ok(ElemChildren(children))
+}
+
+/// A tree of so many blocks, each in the next.
+fn deep(alloc: Global, size: usize) -> Result<ElemChildren> {
+    let mut children = texts(alloc)?;
+    for _ in 0..size {
+        let mut around = texts(alloc)?;
+        around.push(elem(children, Some(Display::Block)))?;
+        children = around;
+    }
+    Ok(ElemChildren(children))
+}
+
+/// One round of simplification, and how many children and bytes of text it leaves.
+fn simplified(alloc: Global, children: &ElemChildren) -> Result<usize> {
+    let left = simplify_children(alloc, children)?;
+    Ok(left.str_len().wrapping_add(left.0.len()))
+}
+
+/// Simplifies a wide tree once.
+pub fn simplify(alloc: Global, size: usize) -> Result<usize> {
+    let children = wide(alloc, size)?;
+    simplified(alloc, &children)
+}
+
+/// Simplifies a deep tree once.
+pub fn simplify_deep(alloc: Global, size: usize) -> Result<usize> {
+    let children = deep(alloc, size)?;
+    simplified(alloc, &children)
 }
