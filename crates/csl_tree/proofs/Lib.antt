@@ -4,3 +4,4 @@ pub mod Nested
 pub mod Joins
 pub mod Appended
 pub mod Rejects
+pub mod MetaEqual
