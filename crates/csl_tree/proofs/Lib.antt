@@ -5,3 +5,5 @@ pub mod Joins
 pub mod Appended
 pub mod Rejects
 pub mod MetaEqual
+pub mod Searches
+pub mod Removals

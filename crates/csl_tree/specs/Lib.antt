@@ -4,3 +4,5 @@ pub mod Html
 pub mod Writing
 pub mod Content
 pub mod Stack
+pub mod Places
+pub mod Search
