@@ -7,3 +7,6 @@ pub mod Rejects
 pub mod TreeTokens
 pub mod Rounds
 pub mod RoundSteps
+pub mod MetaEqual
+pub mod Searches
+pub mod Removals

@@ -6,3 +6,5 @@ pub mod Content
 pub mod Stack
 pub mod Tree
 pub mod Simplify
+pub mod Places
+pub mod Search

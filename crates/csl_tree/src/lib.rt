@@ -9,6 +9,8 @@ mod copies;
 mod css;
 pub mod elem;
 pub mod formatting;
+mod places;
+mod search;
 pub mod simplify;
 pub mod stack;
 mod write;
