@@ -23,7 +23,7 @@ pub fn simplify_children(alloc: Global, children: &ElemChildren) -> Result<ElemC
     ensures kept { IfOk result (λ r. styled (tree r) ≡ styled (tree children.now)) }
     ensures normal { IfOk result (λ r. (tree r ≡ tree children.now) ↔ IsTrue (is_normal (tree children.now))) }
     ensures fewer { IfOk result (λ r. OnFalse (is_normal (tree children.now)) (nodes (tree r) < nodes (tree children.now))) }
-    ensures written { IfOk result (λ r. tokens r ≡ tokens_of (round (tree children.now))) }
+    ensures as_tokens { IfOk result (λ r. tokens r ≡ tokens_of (round (tree children.now))) }
 {
     let mut simplified = Vec::new(alloc);
     for child in &children.0 {

@@ -32,7 +32,7 @@ simplify::simplify_children-returns t c =
     tree_out new ∙ all_put _ c.deref-child-items.result.now _ _ c.loop-child-test.false c.loop-child.invariant
     ∙ ap (λ l. round (row l)) c.deref-child-items.ensures.value ∙ sym (ap round (tree_out c.args.children.now)) in
     let r = is_rounded (tree c.args.children.now) (tree new) made in
-    record { round = made; kept = r.kept; normal = r.normal; fewer = r.fewer; written = tokens_are new ∙ ap tokens_of made }
+    record { round = made; kept = r.kept; normal = r.normal; fewer = r.fewer; as_tokens = tokens_are new ∙ ap tokens_of made }
 
 pub elem::Elem::simplify-returns : goal.elem::Elem::simplify-returns
 elem::Elem::simplify-returns t c =
