@@ -17,7 +17,7 @@ use std::rt::Env;
 const SMALL: usize = 10;
 
 /// The works, by name.
-const WORKS: [&str; 11] = [
+const WORKS: [&str; 13] = [
     "numeric",
     "pages",
     "initials",
@@ -25,6 +25,8 @@ const WORKS: [&str; 11] = [
     "clone_entry",
     "stack",
     "drain",
+    "search",
+    "search_deep",
     "simplify",
     "simplify_deep",
     "style_chain",
@@ -47,6 +49,10 @@ fn checksum(alloc: Global, work: &str, size: usize) -> Result<usize> {
         tree::stack(alloc, size)
     } else if work == "drain" {
         tree::drain(alloc, size)
+    } else if work == "search" {
+        tree::search(alloc, size)
+    } else if work == "search_deep" {
+        tree::search_deep(alloc, size)
     } else if work == "simplify" {
         tree::simplify(alloc, size)
     } else if work == "simplify_deep" {

@@ -2,7 +2,9 @@
 
 use anyhow::{Result, bail};
 use csl_style::Display;
-use csl_tree::{Elem, ElemChild, ElemChildren, Formatting, NonEmptyStack, simplify_children};
+use csl_tree::{
+    Elem, ElemChild, ElemChildren, ElemMeta, Formatting, NonEmptyStack, simplify_children,
+};
 use std::alloc::Global;
 use std::num::NonZeroUsize;
 
@@ -113,4 +115,48 @@ pub fn simplify(alloc: Global, size: usize) -> Result<usize> {
 pub fn simplify_deep(alloc: Global, size: usize) -> Result<usize> {
     let children = deep(alloc, size)?;
     simplified(alloc, &children)
+}
+
+/// An element that a date made.
+fn date(alloc: Global) -> Result<ElemChild> {
+    Ok(ElemChild::Elem(Elem {
+        children: ElemChildren(texts(alloc)?),
+        display: None,
+        meta: Some(ElemMeta::Date),
+    }))
+}
+
+/// How many bytes of text the searches find: the date, no names, the last text, and the date once
+/// more, which is taken out.
+fn found(children: &mut ElemChildren) -> usize {
+    let mut sum: usize = 0;
+    if let Some(date) = children.find_meta(&ElemMeta::Date) {
+        sum = sum.wrapping_add(date.str_len());
+    }
+    if let Some(names) = children.find_names() {
+        sum = sum.wrapping_add(names.str_len());
+    }
+    if let Some(last) = children.last_text() {
+        sum = sum.wrapping_add(last.text.len());
+    }
+    if let Some(date) = children.remove_any_meta() {
+        sum = sum.wrapping_add(date.str_len());
+    }
+    sum
+}
+
+/// Searches a wide tree for what stands at its end.
+pub fn search(alloc: Global, size: usize) -> Result<usize> {
+    let mut children = wide(alloc, size)?;
+    children.0.push(date(alloc)?)?;
+    let sum = found(&mut children);
+    Ok(sum.wrapping_add(children.str_len()))
+}
+
+/// Searches a deep tree for what stands at its end.
+pub fn search_deep(alloc: Global, size: usize) -> Result<usize> {
+    let mut children = deep(alloc, size)?;
+    children.0.push(date(alloc)?)?;
+    let sum = found(&mut children);
+    Ok(sum.wrapping_add(children.str_len()))
 }
