@@ -5,6 +5,8 @@
 #![tactic(auto)]
 
 mod literature;
+mod style;
+mod tree;
 
 use anyhow::{Result, bail};
 use std::alloc::Global;
@@ -15,7 +17,21 @@ use std::rt::Env;
 const SMALL: usize = 10;
 
 /// The works, by name.
-const WORKS: [&str; 5] = ["numeric", "pages", "initials", "particle", "clone_entry"];
+const WORKS: [&str; 13] = [
+    "numeric",
+    "pages",
+    "initials",
+    "particle",
+    "clone_entry",
+    "stack",
+    "drain",
+    "search",
+    "search_deep",
+    "simplify",
+    "simplify_deep",
+    "style_chain",
+    "style_dense",
+];
 
 /// Does a work, and answers its checksum.
 fn checksum(alloc: Global, work: &str, size: usize) -> Result<usize> {
@@ -29,6 +45,22 @@ fn checksum(alloc: Global, work: &str, size: usize) -> Result<usize> {
         literature::particle(alloc, size)
     } else if work == "clone_entry" {
         literature::clone_entry(alloc, size)
+    } else if work == "stack" {
+        tree::stack(alloc, size)
+    } else if work == "drain" {
+        tree::drain(alloc, size)
+    } else if work == "search" {
+        tree::search(alloc, size)
+    } else if work == "search_deep" {
+        tree::search_deep(alloc, size)
+    } else if work == "simplify" {
+        tree::simplify(alloc, size)
+    } else if work == "simplify_deep" {
+        tree::simplify_deep(alloc, size)
+    } else if work == "style_chain" {
+        style::chain(alloc, size)
+    } else if work == "style_dense" {
+        style::dense(alloc, size)
     } else {
         bail!("no such work: {work}");
     }

@@ -1,1 +1,11 @@
 pub mod Formatting
+pub mod Dressing
+pub mod Names
+pub mod Node
+pub mod View
+pub mod Meaning
+pub mod Leads
+pub mod Reaches
+pub mod Calls
+pub mod Cyclic
+pub mod Style

@@ -2,12 +2,15 @@
 #![tactic(auto)]
 
 pub mod affixes;
+mod cycles;
 pub mod date;
 pub mod element;
 pub mod formatting;
 pub mod locale;
 pub mod names;
 pub mod number;
+mod places;
+pub mod style;
 pub mod taxonomy;
 pub mod term;
 pub mod text;
@@ -27,6 +30,9 @@ pub use names::{
     NameAsSortOrder, NameForm, NameOptions, NamePart, NamePartName,
 };
 pub use number::{Label, LabelPluralize, Number, VariablelessLabel};
+pub use style::{
+    DemoteNonDroppingParticle, PageRangeFormat, Scope, Style, StyleError, StyleSettings,
+};
 pub use taxonomy::{
     DateVariable, Kind, Locator, NameVariable, NumberOrPageVariable, NumberVariable, PageVariable,
     StandardVariable, Variable,

@@ -4,3 +4,9 @@ pub mod Nested
 pub mod Joins
 pub mod Appended
 pub mod Rejects
+pub mod TreeTokens
+pub mod Rounds
+pub mod RoundSteps
+pub mod MetaEqual
+pub mod Searches
+pub mod Removals

@@ -4,3 +4,7 @@ pub mod Html
 pub mod Writing
 pub mod Content
 pub mod Stack
+pub mod Tree
+pub mod Simplify
+pub mod Places
+pub mod Search

@@ -135,7 +135,7 @@ fn join_last(last: &mut ElemChild, more: &str, formatting: Formatting) -> Result
 }
 
 /// Appends a text that is not empty.
-fn push_text_to(
+pub(crate) fn push_text_to(
     children: &mut Vec<ElemChild>,
     alloc: Global,
     more: &str,

@@ -9,9 +9,13 @@ mod copies;
 mod css;
 pub mod elem;
 pub mod formatting;
+mod places;
+mod search;
+pub mod simplify;
 pub mod stack;
 mod write;
 
 pub use elem::{BufWriteFormat, Elem, ElemChild, ElemChildren, ElemMeta};
 pub use formatting::{Formatted, Formatting};
+pub use simplify::simplify_children;
 pub use stack::NonEmptyStack;

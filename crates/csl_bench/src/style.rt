@@ -1,0 +1,78 @@
+//! Works over the macros of a style.
+
+use anyhow::{Result, bail};
+use csl_style::formatting::Formatting;
+use csl_style::{
+    Affixes, CslMacro, Layout, LayoutRenderingElement, Style, StyleError, StyleSettings, Text,
+    TextTarget,
+};
+use std::alloc::Global;
+
+fn name(alloc: Global, number: usize) -> Result<String> {
+    let name = format!(in alloc; "macro {number}")?;
+    Ok(name)
+}
+
+/// The macro of a number, which calls those from a first number up to an end.
+fn calls(alloc: Global, number: usize, first: usize, end: usize) -> Result<CslMacro> {
+    let mut children = Vec::new(alloc);
+    for called in first..end {
+        children.push(LayoutRenderingElement::Text(Text {
+            target: TextTarget::Macro {
+                name: name(alloc, called)?,
+            },
+            formatting: Formatting::default(),
+            affixes: Affixes::default(),
+            display: None,
+            quotes: false,
+            strip_periods: false,
+        }))?;
+    }
+    Ok(CslMacro {
+        name: name(alloc, number)?,
+        children,
+    })
+}
+
+fn layout(alloc: Global) -> Layout {
+    Layout {
+        elements: Vec::new(alloc),
+        delimiter: None,
+        formatting: Formatting::default(),
+    }
+}
+
+/// Makes a style of the macros, and counts them.
+fn made(alloc: Global, macros: Vec<CslMacro>) -> Result<usize> {
+    let locales = Vec::new(alloc);
+    let settings = StyleSettings::default();
+    match Style::new(alloc, settings, macros, layout(alloc), None, locales) {
+        Ok(style) => Ok(style.macros().len()),
+        Err(StyleError::Memory) => bail!("out of memory"),
+        Err(StyleError::CyclicMacro(_)) => bail!("a macro leads back to itself"),
+        Err(StyleError::ChicagoPageFormat) => bail!("no such page format"),
+    }
+}
+
+/// Makes a style in which each macro calls the next, and counts the macros.
+pub fn chain(alloc: Global, size: usize) -> Result<usize> {
+    let mut macros = Vec::new(alloc);
+    for number in 0..size {
+        macros.push(calls(
+            alloc,
+            number,
+            number + 1,
+            size.min(number.saturating_add(2)),
+        )?)?;
+    }
+    made(alloc, macros)
+}
+
+/// Makes a style in which each macro calls every later one, and counts the macros.
+pub fn dense(alloc: Global, size: usize) -> Result<usize> {
+    let mut macros = Vec::new(alloc);
+    for number in 0..size {
+        macros.push(calls(alloc, number, number + 1, size)?)?;
+    }
+    made(alloc, macros)
+}

@@ -1,0 +1,162 @@
+//! Works over the tree of content.
+
+use anyhow::{Result, bail};
+use csl_style::Display;
+use csl_tree::{
+    Elem, ElemChild, ElemChildren, ElemMeta, Formatting, NonEmptyStack, simplify_children,
+};
+use std::alloc::Global;
+use std::num::NonZeroUsize;
+
+/// A stack of the numbers up to so many.
+fn numbers(alloc: Global, size: usize) -> Result<NonEmptyStack<usize>> {
+    let mut stack = NonEmptyStack::new(alloc, 0)?;
+    for i in 0..size {
+        if stack.push(i).is_err() {
+            bail!("out of memory");
+        }
+    }
+    Ok(stack)
+}
+
+/// The sum of a stack's items.
+fn total(stack: &NonEmptyStack<usize>) -> usize {
+    let mut sum: usize = 0;
+    for item in stack.iter() {
+        sum = sum.wrapping_add(*item);
+    }
+    sum
+}
+
+/// Fills a stack, takes half of it and one more, and adds up what is left and how many were taken.
+pub fn stack(alloc: Global, size: usize) -> Result<usize> {
+    let mut stack = numbers(alloc, size)?;
+    let mut taken = 0;
+    if let Some(half) = NonZeroUsize::new(stack.len().get() / 2) {
+        let items = stack.drain(half)?;
+        taken = items.len();
+    }
+    if stack.pop().is_some() {
+        taken += 1;
+    }
+    Ok(total(&stack).wrapping_add(taken))
+}
+
+/// Takes the last item of a full stack and puts it back, as often as there are items.
+pub fn drain(alloc: Global, size: usize) -> Result<usize> {
+    let mut stack = numbers(alloc, size)?;
+    for _ in 0..size {
+        if let Some(last) = NonZeroUsize::new(stack.len().get() - 1) {
+            for item in stack.drain(last)? {
+                if stack.push(item).is_err() {
+                    bail!("out of memory");
+                }
+            }
+        }
+    }
+    Ok(total(&stack))
+}
+
+fn text(alloc: Global, text: &str) -> Result<ElemChild> {
+    let text = String::from_str(alloc, text)?;
+    Ok(ElemChild::Text(Formatting::default().add_text(text)))
+}
+
+/// Two texts of one formatting.
+fn texts(alloc: Global) -> Result<Vec<ElemChild>> {
+    let mut children = Vec::new(alloc);
+    children.push(text(alloc, "so ")?)?;
+    children.push(text(alloc, "on")?)?;
+    Ok(children)
+}
+
+fn elem(children: Vec<ElemChild>, display: Option<Display>) -> ElemChild {
+    ElemChild::Elem(Elem {
+        children: ElemChildren(children),
+        display,
+        meta: None,
+    })
+}
+
+/// A tree of so many blocks, with an element that shows nothing of its own before each.
+fn wide(alloc: Global, size: usize) -> Result<ElemChildren> {
+    let mut children = Vec::new(alloc);
+    for _ in 0..size {
+        children.push(elem(texts(alloc)?, None))?;
+        children.push(elem(texts(alloc)?, Some(Display::Block)))?;
+    }
+    Ok(ElemChildren(children))
+}
+
+/// A tree of so many blocks, each in the next.
+fn deep(alloc: Global, size: usize) -> Result<ElemChildren> {
+    let mut children = texts(alloc)?;
+    for _ in 0..size {
+        let mut around = texts(alloc)?;
+        around.push(elem(children, Some(Display::Block)))?;
+        children = around;
+    }
+    Ok(ElemChildren(children))
+}
+
+/// One round of simplification, and how many children and bytes of text it leaves.
+fn simplified(alloc: Global, children: &ElemChildren) -> Result<usize> {
+    let left = simplify_children(alloc, children)?;
+    Ok(left.str_len().wrapping_add(left.0.len()))
+}
+
+/// Simplifies a wide tree once.
+pub fn simplify(alloc: Global, size: usize) -> Result<usize> {
+    let children = wide(alloc, size)?;
+    simplified(alloc, &children)
+}
+
+/// Simplifies a deep tree once.
+pub fn simplify_deep(alloc: Global, size: usize) -> Result<usize> {
+    let children = deep(alloc, size)?;
+    simplified(alloc, &children)
+}
+
+/// An element that a date made.
+fn date(alloc: Global) -> Result<ElemChild> {
+    Ok(ElemChild::Elem(Elem {
+        children: ElemChildren(texts(alloc)?),
+        display: None,
+        meta: Some(ElemMeta::Date),
+    }))
+}
+
+/// How many bytes of text the searches find: the date, no names, the last text, and the date once
+/// more, which is taken out.
+fn found(children: &mut ElemChildren) -> usize {
+    let mut sum: usize = 0;
+    if let Some(date) = children.find_meta(&ElemMeta::Date) {
+        sum = sum.wrapping_add(date.str_len());
+    }
+    if let Some(names) = children.find_names() {
+        sum = sum.wrapping_add(names.str_len());
+    }
+    if let Some(last) = children.last_text() {
+        sum = sum.wrapping_add(last.text.len());
+    }
+    if let Some(date) = children.remove_any_meta() {
+        sum = sum.wrapping_add(date.str_len());
+    }
+    sum
+}
+
+/// Searches a wide tree for what stands at its end.
+pub fn search(alloc: Global, size: usize) -> Result<usize> {
+    let mut children = wide(alloc, size)?;
+    children.0.push(date(alloc)?)?;
+    let sum = found(&mut children);
+    Ok(sum.wrapping_add(children.str_len()))
+}
+
+/// Searches a deep tree for what stands at its end.
+pub fn search_deep(alloc: Global, size: usize) -> Result<usize> {
+    let mut children = deep(alloc, size)?;
+    children.0.push(date(alloc)?)?;
+    let sum = found(&mut children);
+    Ok(sum.wrapping_add(children.str_len()))
+}

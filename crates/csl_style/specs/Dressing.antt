@@ -1,0 +1,43 @@
+-- What stands around the text that a node prints (CSL 1.0.2, Formatting, Affixes, Display, Quotes, Strip-periods), as data.
+use Rattle.std.specs.Prelude.{ℕ, Bool, List, Option, option_map, String, string_bytes}
+use Rattle.std.specs.Option.{option_or}
+use Rattle.std.specs.declared.alloc.Global.{Global}
+use Rattle.csl_style.specs.declared.formatting.Formatting.{Formatting}
+use Rattle.csl_style.specs.declared.formatting.Display.{Display}
+use Rattle.csl_style.specs.declared.affixes.Affixes.{Affixes}
+use Rattle.csl_style.specs.Formatting.{over}
+
+abbrev pub text_if : Option (String Global) → Option (List ℕ)
+text_if o = option_map string_bytes o
+
+pub record AffixTexts : Type 0 where
+  pub prefix : Option (List ℕ)
+  pub suffix : Option (List ℕ)
+
+abbrev pub affix_texts : Affixes → AffixTexts
+affix_texts a = record { prefix = text_if a.prefix; suffix = text_if a.suffix }
+
+pub record Dressing : Type 0 where
+  pub formatting : Formatting
+  pub affixes : AffixTexts
+  pub display : Option Display
+
+abbrev pub dressed_in : Formatting → Affixes → Option Display → Dressing
+dressed_in f a d = record { formatting = f; affixes = affix_texts a; display = d }
+
+-- of a text node
+pub record TextDressing : Type 0 where
+  pub dressing : Dressing
+  pub quotes : Bool
+  pub strip_periods : Bool
+
+-- what is set, else what the other has, of a formatting and of affixes; the place on the page is its own
+abbrev pub dressing_over : Dressing → Dressing → Dressing
+dressing_over d base = record {
+  formatting = over d.formatting base.formatting;
+  affixes = record {
+    prefix = option_or d.affixes.prefix base.affixes.prefix;
+    suffix = option_or d.affixes.suffix base.affixes.suffix;
+  };
+  display = d.display;
+}

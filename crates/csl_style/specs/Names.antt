@@ -1,0 +1,151 @@
+-- How a names node writes its persons (CSL 1.0.2, Names, Name, Et-al, Label, Substitute, Inheritable Name Options), as data.
+use Rattle.std.specs.Prelude.{ℕ, Bool, true, false, ◌&&◌, List, [], ◌∷◌, map, Option, Some, None, is_none, String, string_bytes}
+use Rattle.std.specs.Option.{option_or}
+use Rattle.csl_style.specs.declared.formatting.Formatting.{Formatting}
+use Rattle.csl_style.specs.declared.taxonomy.NameVariable.{NameVariable}
+use Rattle.csl_style.specs.declared.term.OtherTerm.{OtherTerm}
+use Rattle.csl_style.specs.declared.term.TermForm.{TermForm}
+use Rattle.csl_style.specs.declared.number.LabelPluralize.{LabelPluralize}
+use Rattle.csl_style.specs.declared.number.VariablelessLabel.{VariablelessLabel}
+use Rattle.csl_style.specs.declared.names.NameAnd.{NameAnd}
+use Rattle.csl_style.specs.declared.names.NameForm.{NameForm}
+use Rattle.csl_style.specs.declared.names.NameAsSortOrder.{NameAsSortOrder}
+use Rattle.csl_style.specs.declared.names.DelimiterBehavior.{DelimiterBehavior}
+use Rattle.csl_style.specs.declared.names.NamePartName.{NamePartName}
+use Rattle.csl_style.specs.declared.names.NamePart.{NamePart}
+use Rattle.csl_style.specs.declared.names.Name.{Name}
+use Rattle.csl_style.specs.declared.names.EtAl.{EtAl}
+use Rattle.csl_style.specs.declared.names.options.InheritableNameOptions.{InheritableNameOptions}
+use Rattle.csl_style.specs.Dressing.{AffixTexts, affix_texts, Dressing, dressing_over, text_if}
+
+-- the options that a node sets
+pub record SetOptions : Type 0 where
+  pub and : Option NameAnd
+  pub delimiter : Option (List ℕ)
+  pub delimiter_precedes_et_al : Option DelimiterBehavior
+  pub delimiter_precedes_last : Option DelimiterBehavior
+  pub et_al_min : Option ℕ
+  pub et_al_use_first : Option ℕ
+  pub et_al_subsequent_min : Option ℕ
+  pub et_al_subsequent_use_first : Option ℕ
+  pub et_al_use_last : Option Bool
+  pub form : Option NameForm
+  pub initialize : Option Bool
+  pub initialize_with : Option (List ℕ)
+  pub name_as_sort_order : Option NameAsSortOrder
+  pub sort_separator : Option (List ℕ)
+  pub names_delimiter : Option (List ℕ)
+
+abbrev pub set_options : InheritableNameOptions → SetOptions
+set_options o = record {
+  and = o.and;
+  delimiter = text_if o.delimiter;
+  delimiter_precedes_et_al = o.delimiter_precedes_et_al;
+  delimiter_precedes_last = o.delimiter_precedes_last;
+  et_al_min = o.et_al_min;
+  et_al_use_first = o.et_al_use_first;
+  et_al_subsequent_min = o.et_al_subsequent_min;
+  et_al_subsequent_use_first = o.et_al_subsequent_use_first;
+  et_al_use_last = o.et_al_use_last;
+  form = o.form;
+  initialize = o.initialize;
+  initialize_with = text_if o.initialize_with;
+  name_as_sort_order = o.name_as_sort_order;
+  sort_separator = text_if o.sort_separator;
+  names_delimiter = text_if o.names_delimiter;
+}
+
+-- each option that is set, else that of the base
+abbrev pub set_over : SetOptions → SetOptions → SetOptions
+set_over o base = record {
+  and = option_or o.and base.and;
+  delimiter = option_or o.delimiter base.delimiter;
+  delimiter_precedes_et_al = option_or o.delimiter_precedes_et_al base.delimiter_precedes_et_al;
+  delimiter_precedes_last = option_or o.delimiter_precedes_last base.delimiter_precedes_last;
+  et_al_min = option_or o.et_al_min base.et_al_min;
+  et_al_use_first = option_or o.et_al_use_first base.et_al_use_first;
+  et_al_subsequent_min = option_or o.et_al_subsequent_min base.et_al_subsequent_min;
+  et_al_subsequent_use_first = option_or o.et_al_subsequent_use_first base.et_al_subsequent_use_first;
+  et_al_use_last = option_or o.et_al_use_last base.et_al_use_last;
+  form = option_or o.form base.form;
+  initialize = option_or o.initialize base.initialize;
+  initialize_with = option_or o.initialize_with base.initialize_with;
+  name_as_sort_order = option_or o.name_as_sort_order base.name_as_sort_order;
+  sort_separator = option_or o.sort_separator base.sort_separator;
+  names_delimiter = option_or o.names_delimiter base.names_delimiter;
+}
+
+pub record NamePartNode : Type 0 where
+  pub name : NamePartName
+  pub formatting : Formatting
+  pub affixes : AffixTexts
+
+abbrev pub view_part : NamePart → NamePartNode
+view_part p = record { name = p.name; formatting = p.formatting; affixes = affix_texts p.affixes }
+
+pub record NameNode : Type 0 where
+  pub options : SetOptions
+  pub formatting : Formatting
+  pub parts : List NamePartNode
+
+abbrev pub view_name : Name → NameNode
+view_name n = record { options = set_options n.options; formatting = n.formatting; parts = map view_part n.parts.items }
+
+pub record EtAlNode : Type 0 where
+  pub term : OtherTerm
+  pub formatting : Formatting
+
+abbrev pub view_et_al : EtAl → EtAlNode
+view_et_al e = record { term = e.term; formatting = e.formatting }
+
+-- a label, whatever it stands beside
+pub record LabelNode : Type 0 where
+  pub form : TermForm
+  pub plural : LabelPluralize
+  pub formatting : Formatting
+  pub affixes : AffixTexts
+  pub strip_periods : Bool
+
+abbrev pub view_label : VariablelessLabel → LabelNode
+view_label l = record {
+  form = l.form;
+  plural = l.plural;
+  formatting = l.formatting;
+  affixes = affix_texts l.affixes;
+  strip_periods = l.strip_periods;
+}
+
+-- the label of names, before or behind them
+pub record NamesLabel : Type 0 where
+  pub label : LabelNode
+  pub is_behind : Bool
+
+-- A names node but its substitutes. It may hold several name children: the first one writes the names.
+pub record NamesNode : Type 0 where
+  pub variables : List NameVariable
+  pub options : SetOptions
+  pub delimiter : Option (List ℕ)
+  pub dressing : Dressing
+  pub name_children : List NameNode
+  pub et_al : Option EtAlNode
+  pub label : Option NamesLabel
+
+abbrev first_of : List NameNode → Option NameNode
+first_of [] = None
+first_of (x ∷ xs) = Some x
+
+abbrev pub first_name : NamesNode → Option NameNode
+first_name n = first_of n.name_children
+
+-- A names node without children in a substitute, under the node that it stands in for: it has that node's name, et al. and label,
+-- its own variables and place on the page, and all else field by field from itself, else from that node.
+abbrev pub in_place_of : NamesNode → NamesNode → NamesNode
+in_place_of original own = record {
+  variables = own.variables;
+  options = set_over own.options original.options;
+  delimiter = option_or own.delimiter original.delimiter;
+  dressing = dressing_over own.dressing original.dressing;
+  name_children = original.name_children;
+  et_al = original.et_al;
+  label = original.label;
+}

@@ -1,0 +1,84 @@
+-- A style (CSL 1.0.2, Style Structure), and why one is refused.
+use Rattle.std.specs.Prelude.{◌≡◌, ℕ, ◌++◌, Bool, true, false, List, Option, Some, None, ⊤, string_bytes, codes}
+use Rattle.csl_style.specs.declared.element.CslMacro.{CslMacro}
+use Rattle.csl_style.specs.declared.element.Layout.{Layout}
+use Rattle.csl_style.specs.declared.locale.Locale.{Locale}
+use Rattle.csl_style.specs.declared.style.settings.PageRangeFormat.{PageRangeFormat}
+use Rattle.csl_style.specs.declared.style.settings.PageRangeFormat.TheVariants.{Expanded, Minimal, MinimalTwo, Chicago15, Chicago16}
+use Rattle.csl_style.specs.declared.style.settings.StyleSettings.{StyleSettings}
+use Rattle.csl_style.specs.declared.style.settings.DemoteNonDroppingParticle.TheVariants.{DisplayAndSort}
+use Rattle.csl_style.specs.declared.style.error.StyleError.{StyleError}
+use Rattle.csl_style.specs.declared.style.error.StyleError.TheVariants.{Memory, CyclicMacro, ChicagoPageFormat}
+use Rattle.csl_style.specs.Names.{SetOptions, set_options}
+use Rattle.csl_style.specs.View.{Definition}
+use Rattle.csl_style.specs.Cyclic.{IsFirstCyclic, NoneReturns}
+
+pub record StyleParts : Type 0 where
+  pub settings : StyleSettings
+  pub macros : List CslMacro
+  pub citation : Layout
+  pub bibliography : Option Layout
+  pub locales : List Locale
+
+abbrev pub style_of : StyleSettings → List CslMacro → Layout → Option Layout → List Locale → StyleParts
+style_of settings macros citation bibliography locales = record {
+  settings = settings;
+  macros = macros;
+  citation = citation;
+  bibliography = bibliography;
+  locales = locales;
+}
+
+-- the page formats that no style here may have
+abbrev is_chicago_format : PageRangeFormat → Bool
+is_chicago_format Expanded = false
+is_chicago_format Minimal = false
+is_chicago_format MinimalTwo = false
+is_chicago_format Chicago15 = true
+is_chicago_format Chicago16 = true
+
+abbrev pub is_chicago : Option PageRangeFormat → Bool
+is_chicago None = false
+is_chicago (Some format) = is_chicago_format format
+
+-- Why a style is refused: for the first macro that leads back to itself; where there is none, for a Chicago page format.
+-- Memory may lack before either is seen.
+abbrev pub IsRefusal : Option PageRangeFormat → List Definition → StyleError → Type 0
+IsRefusal format ds Memory = ⊤
+IsRefusal format ds (CyclicMacro name) = IsFirstCyclic ds (string_bytes name)
+IsRefusal format ds ChicagoPageFormat = NoneReturns ds × (is_chicago format ≡ true)
+
+-- what a refusal prints
+abbrev pub refusal_text : StyleError → List ℕ
+refusal_text Memory = codes "out of memory"
+refusal_text (CyclicMacro name) = codes "the macro '" ++ (string_bytes name ++ codes "' leads back to itself")
+refusal_text ChicagoPageFormat = codes "Chicago page formats are not supported"
+
+-- no option is set
+abbrev pub unset : SetOptions
+unset = record {
+  and = None;
+  delimiter = None;
+  delimiter_precedes_et_al = None;
+  delimiter_precedes_last = None;
+  et_al_min = None;
+  et_al_use_first = None;
+  et_al_subsequent_min = None;
+  et_al_subsequent_use_first = None;
+  et_al_use_last = None;
+  form = None;
+  initialize = None;
+  initialize_with = None;
+  name_as_sort_order = None;
+  sort_separator = None;
+  names_delimiter = None;
+}
+
+-- the settings of a style that sets nothing
+pub record AreDefaults (s : StyleSettings) : Type 0 where
+  pub page_range_format : s.page_range_format ≡ None
+  pub demote : s.demote_non_dropping_particle ≡ DisplayAndSort
+  pub hyphen : s.initialize_with_hyphen ≡ true
+  pub names : set_options s.names ≡ unset
+  pub citation_names : set_options s.citation_names ≡ unset
+  pub bibliography_names : set_options s.bibliography_names ≡ unset

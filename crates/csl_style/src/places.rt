@@ -1,0 +1,145 @@
+//! Which macros of a style call which, by their places in its list.
+
+ghost use Rattle.std.specs.Prelude.{◌≡◌, ◌<◌, [], ◌∷◌, ◌++◌, length, IfOk, OnOk, IfSome};
+ghost use Rattle.std.specs.Option.{option_to_list};
+ghost use Rattle.csl_style.specs.Reaches.{InRange};
+ghost use Rattle.csl_style.specs.View.{
+    definitions, view, view_choose, view_branch, view_names, view_child, views, branches_of, substitutes,
+};
+ghost use Rattle.csl_style.specs.Meaning.{place};
+ghost use Rattle.csl_style.specs.Calls.{called, all_called, branches_called, substitutes_called, IsCallGraph};
+
+use crate::element::{Choose, CslMacro, LayoutRenderingElement, NamesChild};
+use crate::text::TextTarget;
+use std::alloc::{AllocError, Global};
+
+/// The place of the first macro of a name.
+fn place(name: &str, macros: &[CslMacro]) -> Option<usize>
+    ensures value { result ≡ place name.now (definitions macros.now) }
+    ensures within { IfSome result (λ i. i < length macros.now) }
+{
+    for (i, m) in macros.iter().enumerate() {
+        if m.name.as_str() == name {
+            return Some(i);
+        }
+    }
+    None
+}
+
+/// Adds the place of the first macro of a name, where there is one.
+fn add_place(
+    name: &str,
+    macros: &[CslMacro],
+    places: &mut Vec<usize>,
+) -> Result<(), AllocError>
+    ensures { OnOk result (places.new.items ≡ places.old.items ++ option_to_list (place name.now (definitions macros.now))) }
+{
+    match place(name, macros) {
+        Some(i) => {
+            places.push(i)?;
+            Ok(())
+        }
+        None => Ok(()),
+    }
+}
+
+/// Adds the places that an element calls.
+#[cycle(called)]
+fn add_called(
+    element: &LayoutRenderingElement,
+    macros: &[CslMacro],
+    places: &mut Vec<usize>,
+) -> Result<(), AllocError>
+    ensures { OnOk result (places.new.items ≡ places.old.items ++ called (definitions macros.now) (view element.now)) }
+{
+    match element {
+        LayoutRenderingElement::Text(text) => match &text.target {
+            TextTarget::Macro { name } => add_place(name.as_str(), macros, places),
+            TextTarget::Variable { var: _, form: _ } => Ok(()),
+            TextTarget::Term {
+                term: _,
+                form: _,
+                plural: _,
+            } => Ok(()),
+            TextTarget::Value { val: _ } => Ok(()),
+        },
+        LayoutRenderingElement::Number(_) => Ok(()),
+        LayoutRenderingElement::Label(_) => Ok(()),
+        LayoutRenderingElement::Date(_) => Ok(()),
+        LayoutRenderingElement::Names(names) => {
+            for child in &names.children {
+                add_child_called(child, macros, places)?;
+            }
+            Ok(())
+        }
+        LayoutRenderingElement::Choose(choose) => add_choose_called(choose, macros, places),
+        LayoutRenderingElement::Group(group) => add_all_called(&group.children, macros, places),
+    }
+}
+
+/// Adds the places that elements call.
+#[cycle(called)]
+fn add_all_called(
+    elements: &Vec<LayoutRenderingElement>,
+    macros: &[CslMacro],
+    places: &mut Vec<usize>,
+) -> Result<(), AllocError>
+    ensures { OnOk result (places.new.items ≡ places.old.items ++ all_called (definitions macros.now) (views elements.now.items)) }
+{
+    for element in elements {
+        add_called(element, macros, places)?;
+    }
+    Ok(())
+}
+
+/// Adds the places that the branches of a choose call, and then those of its otherwise.
+#[cycle(called)]
+fn add_choose_called(
+    choose: &Choose,
+    macros: &[CslMacro],
+    places: &mut Vec<usize>,
+) -> Result<(), AllocError>
+    ensures { OnOk result (places.new.items ≡ places.old.items ++ called (definitions macros.now) (view_choose choose.now)) }
+{
+    add_all_called(&choose.if_.children, macros, places)?;
+    for branch in &choose.else_if {
+        add_all_called(&branch.children, macros, places)?;
+    }
+    match &choose.otherwise {
+        Some(otherwise) => add_all_called(otherwise, macros, places),
+        None => Ok(()),
+    }
+}
+
+/// Adds the places that a child of names calls: those of a substitute.
+#[cycle(called)]
+fn add_child_called(
+    child: &NamesChild,
+    macros: &[CslMacro],
+    places: &mut Vec<usize>,
+) -> Result<(), AllocError>
+    ensures { OnOk result (places.new.items ≡ places.old.items ++ substitutes_called (definitions macros.now) (substitutes (view_child child.now ∷ []))) }
+{
+    match child {
+        NamesChild::Name(_) => Ok(()),
+        NamesChild::EtAl(_) => Ok(()),
+        NamesChild::Label(_) => Ok(()),
+        NamesChild::Substitute(substitute) => {
+            add_all_called(&substitute.children, macros, places)
+        }
+    }
+}
+
+/// What each macro calls: row i lists the places that the macro at place i calls.
+pub(crate) fn call_graph(alloc: Global, macros: &[CslMacro]) -> Result<Vec<Vec<usize>>, AllocError>
+    ensures calls { IfOk result (λ graph. IsCallGraph (definitions macros.now) graph.items) }
+    ensures range { IfOk result (λ graph. InRange graph.items (length graph.items)) }
+{
+    let mut graph = Vec::new(alloc);
+    for m in macros {
+        let mut row = Vec::new(alloc);
+        add_all_called(&m.children, macros, &mut row)?;
+        graph.push(row)?;
+    }
+    Ok(graph)
+}

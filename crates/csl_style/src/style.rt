@@ -1,0 +1,196 @@
+//! A style: its settings, macros, layouts and locales. No macro of it leads back to itself (CSL
+//! 1.0.2, Style Structure; Macro).
+
+ghost use Rattle.std.specs.Prelude.{◌≡◌, false, None, IfOk, OnOk, IfErr, IfSome, option_map, option_copied};
+ghost use Rattle.csl_style.specs.Node.{fills};
+ghost use Rattle.csl_style.specs.View.{definitions, views};
+ghost use Rattle.csl_style.specs.Meaning.{body, meaning, IsAcyclic};
+ghost use Rattle.csl_style.specs.Cyclic.{NoneReturns};
+ghost use Rattle.csl_style.specs.Style.{style_of, is_chicago, IsRefusal};
+
+use crate::cycles::first_cyclic;
+use crate::element::{CslMacro, Layout};
+use crate::locale::Locale;
+use crate::places::call_graph;
+use std::alloc::Global;
+use std::marker::Model;
+
+mod error;
+mod settings;
+
+pub use error::StyleError;
+pub use settings::{DemoteNonDroppingParticle, PageRangeFormat, Scope, StyleSettings};
+
+/// A style.
+#[derive(Drop)]
+pub struct Style {
+    settings: StyleSettings,
+    macros: Vec<CslMacro>,
+    citation: Layout,
+    bibliography: Option<Layout>,
+    locales: Vec<Locale>,
+}
+
+impl Model for Style {
+    ghost use Rattle.std.specs.Prelude.{◌≡◌, false};
+    ghost use Rattle.std.specs.Coded.{codes};
+    ghost use Rattle.csl_style.specs.contracts.element.CslMacro as of_macro;
+    ghost use Rattle.csl_style.specs.contracts.element.Layout as of_layout;
+    ghost use Rattle.csl_style.specs.Style.{StyleParts};
+
+    ghost Value = { StyleParts };
+
+    ghost coded = { Prim.hlevel (codes, of_macro.the_row.coded, of_layout.the_row.coded) };
+
+    ghost use Rattle.csl_style.specs.View.{definitions};
+    ghost use Rattle.csl_style.specs.Meaning.{IsAcyclic};
+    ghost use Rattle.csl_style.specs.Style.{is_chicago};
+
+    ghost view = { λ s. record {
+      settings = s.settings;
+      macros = s.macros.items;
+      citation = s.citation;
+      bibliography = s.bibliography;
+      locales = s.locales.items;
+    } };
+
+    ghost invariant = { λ s. IsAcyclic (definitions s.macros.items) × (is_chicago s.settings.page_range_format ≡ false) };
+}
+
+/// Whether the page format is one of the two that no style may have.
+fn is_chicago(format: Option<PageRangeFormat>) -> bool
+    ensures { result ≡ is_chicago format }
+{
+    match format {
+        Some(PageRangeFormat::Chicago15) => true,
+        Some(PageRangeFormat::Chicago16) => true,
+        Some(PageRangeFormat::Expanded) => false,
+        Some(PageRangeFormat::Minimal) => false,
+        Some(PageRangeFormat::MinimalTwo) => false,
+        None => false,
+    }
+}
+
+/// Nothing where a style of these may stand, else why it is refused.
+fn find_refusal(
+    alloc: Global,
+    format: Option<PageRangeFormat>,
+    macros: &[CslMacro],
+) -> Result<(), StyleError>
+    ensures ranks { OnOk result (IsAcyclic (definitions macros.now)) }
+    ensures format { OnOk result (is_chicago format ≡ false) }
+    ensures refused { IfErr result (IsRefusal format (definitions macros.now)) }
+{
+    let graph = call_graph(alloc, macros)?;
+    if let Some(i) = first_cyclic(alloc, &graph)? {
+        return Err(StyleError::CyclicMacro(macros[i].name.clone()?));
+    }
+    if is_chicago(format) {
+        return Err(StyleError::ChicagoPageFormat);
+    }
+    Ok(())
+}
+
+/// The first macro of a name.
+fn first_macro<'s>(macros: &'s [CslMacro], name: &str) -> Option<&'s CslMacro>
+    ensures { option_map (λ m. views m.now.children.items) result
+        ≡ body name.now (definitions macros.now) }
+{
+    for m in macros {
+        if m.name.as_str() == name {
+            return Some(m);
+        }
+    }
+    None
+}
+
+impl Style {
+    /// A style of these parts. The first macro of a name counts, and the others of that name are
+    /// never looked at.
+    ///
+    /// It is refused where a macro leads back to itself (`CyclicMacro`, with the first of the list
+    /// that does), else where the page format is a Chicago one (`ChicagoPageFormat`), and, before
+    /// either is seen, for want of memory (`Memory`). Then what was handed in is dropped.
+    pub fn new(
+        alloc: Global,
+        settings: StyleSettings,
+        macros: Vec<CslMacro>,
+        citation: Layout,
+        bibliography: Option<Layout>,
+        locales: Vec<Locale>,
+    ) -> Result<Style, StyleError>
+        ensures value { IfOk result (λ style. style
+            ≡ style_of settings macros.items citation bibliography locales.items) }
+        ensures returns { OnOk result (NoneReturns (definitions macros.items)) }
+        ensures format { OnOk result (is_chicago settings.page_range_format ≡ false) }
+        ensures refused { IfErr result (IsRefusal settings.page_range_format
+            (definitions macros.items)) }
+    {
+        find_refusal(alloc, settings.page_range_format, &macros)?;
+        Ok(Style {
+            settings,
+            macros,
+            citation,
+            bibliography,
+            locales,
+        })
+    }
+
+    /// No macro leads back to itself: the macros have ranks that fall along each call. A caller
+    /// that follows names learns it here.
+    pub fn acyclic(&self)
+        ensures ranks { IsAcyclic (definitions self.now.macros) }
+        ensures returns { NoneReturns (definitions self.now.macros) }
+    {
+        let _macros = &self.macros;
+    }
+
+    /// What it sets for all of its nodes. The page format is none of the Chicago ones.
+    pub fn settings(&self) -> &StyleSettings
+        ensures value { result.now ≡ self.now.settings }
+        ensures format { is_chicago result.now.page_range_format ≡ false }
+    {
+        &self.settings
+    }
+
+    /// The macros, those that an earlier one of their name hides included.
+    pub fn macros(&self) -> &[CslMacro]
+        ensures { result.now ≡ self.now.macros }
+    {
+        &self.macros
+    }
+
+    /// The layout of a cite.
+    pub fn citation(&self) -> &Layout
+        ensures { result.now ≡ self.now.citation }
+    {
+        &self.citation
+    }
+
+    /// The layout of an entry of the bibliography. A style may have none.
+    pub fn bibliography(&self) -> Option<&Layout>
+        ensures { option_copied result ≡ self.now.bibliography }
+    {
+        self.bibliography.as_ref()
+    }
+
+    /// The locales, those that are asked first before the others.
+    pub fn locales(&self) -> &[Locale]
+        ensures { result.now ≡ self.now.locales }
+    {
+        &self.locales
+    }
+
+    /// The first macro of a name (CSL 1.0.2, Macro).
+    pub fn get_macro(&self, name: &str) -> Option<&CslMacro>
+        ensures first { option_map (λ m. views m.now.children.items) result
+            ≡ body name.now (definitions self.now.macros) }
+        ensures meaning { option_map (λ m. fills (meaning (definitions self.now.macros))
+            (views m.now.children.items)) result ≡ meaning (definitions self.now.macros) name.now }
+    {
+        first_macro(&self.macros, name)
+    }
+}
+
+#[cfg(test)]
+mod tests;

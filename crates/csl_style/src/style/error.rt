@@ -1,0 +1,47 @@
+//! Why a style is refused.
+
+ghost use Rattle.std.specs.Prelude.{◌≡◌, Some};
+ghost use Rattle.csl_style.specs.Style.{refusal_text};
+ghost use Rattle.csl_style.specs.declared.style.error.StyleError.TheVariants as errors;
+
+use std::alloc::AllocError;
+use std::error::Error;
+use std::fmt;
+
+/// Why a style is refused.
+#[derive(Debug, Drop)]
+pub enum StyleError {
+    /// There was no memory.
+    Memory,
+    /// The macro of this name leads back to itself. It is the first of the list that does.
+    CyclicMacro(String),
+    /// No macro leads back to itself, but the page format is one of the two Chicago formats, which
+    /// are not supported.
+    ChicagoPageFormat,
+}
+
+impl fmt::Display for StyleError {
+    ghost output = { λ e. Some (refusal_text e) };
+
+    fn fmt<W: fmt::Write>(&self, f: &mut fmt::Formatter<W>) -> fmt::Result {
+        match self {
+            StyleError::Memory => write!(f, "out of memory"),
+            StyleError::CyclicMacro(name) => {
+                write!(f, "the macro '{}' leads back to itself", name)
+            }
+            StyleError::ChicagoPageFormat => {
+                write!(f, "Chicago page formats are not supported")
+            }
+        }
+    }
+}
+
+impl Error for StyleError {}
+
+impl From<AllocError> for StyleError {
+    ghost from_gives = { λ _ e. e ≡ errors.Memory };
+
+    fn from(_error: AllocError) -> StyleError {
+        StyleError::Memory
+    }
+}

@@ -1,0 +1,66 @@
+//! What a style sets for all of its nodes (CSL 1.0.2, Global Options, Inheritable Name Options).
+
+ghost use Rattle.csl_style.specs.Style.{AreDefaults};
+
+use crate::names::InheritableNameOptions;
+
+/// How the second number of a page range is written (CSL 1.0.2, Appendix V: Page Range Formats).
+#[derive(Clone, Copy, Debug, PartialEq, Eq, PartialOrd, Ord, Hash)]
+pub enum PageRangeFormat {
+    Expanded,
+    Minimal,
+    MinimalTwo,
+    /// Not supported: a style with it is refused.
+    Chicago15,
+    /// Not supported: a style with it is refused.
+    Chicago16,
+}
+
+/// When a particle that stays with the family name goes behind the given name (CSL 1.0.2, Global
+/// Options: demote-non-dropping-particle).
+#[derive(Clone, Copy, Debug, Default, PartialEq, Eq, PartialOrd, Ord, Hash)]
+pub enum DemoteNonDroppingParticle {
+    /// Where a name begins with the family name, and in sorting.
+    #[default]
+    DisplayAndSort,
+    /// In sorting alone.
+    SortOnly,
+    Never,
+}
+
+/// The layout of a style that is meant.
+#[derive(Clone, Copy, Debug, PartialEq, Eq, PartialOrd, Ord, Hash)]
+pub enum Scope {
+    Citation,
+    Bibliography,
+}
+
+/// What a style sets for all of its nodes.
+#[derive(Drop)]
+pub struct StyleSettings {
+    pub page_range_format: Option<PageRangeFormat>,
+    pub demote_non_dropping_particle: DemoteNonDroppingParticle,
+    /// Whether the initials of a given name with a hyphen keep it: by default they do.
+    pub initialize_with_hyphen: bool,
+    /// The options of names everywhere.
+    pub names: InheritableNameOptions,
+    /// Those of the citation, which come before the others.
+    pub citation_names: InheritableNameOptions,
+    /// Those of the bibliography, which come before the others.
+    pub bibliography_names: InheritableNameOptions,
+}
+
+impl Default for StyleSettings {
+    ghost is_default = { λ settings. AreDefaults settings };
+
+    fn default() -> StyleSettings {
+        StyleSettings {
+            page_range_format: None,
+            demote_non_dropping_particle: DemoteNonDroppingParticle::default(),
+            initialize_with_hyphen: true,
+            names: InheritableNameOptions::default(),
+            citation_names: InheritableNameOptions::default(),
+            bibliography_names: InheritableNameOptions::default(),
+        }
+    }
+}

@@ -1,0 +1,9 @@
+use Rattle.std.proofs.Common.{◌≡◌, Bool, drop}
+use Rattle.std.specs.Prelude.{flat_map}
+use Rattle.csl_tree.specs.declared.elem.Elem.{Elem}
+use Rattle.csl_tree.specs.Search.{preorder, child_preorder, find, AnswersBy}
+use Rattle.csl_tree.proofs.elem.ElemChildren.+find_elem_by.Given as goal
+
+-- no child before this one holds an element that passes
+abbrev pub invariant-loop-child : goal.invariant-loop-child
+invariant-loop-child g l = (p : Elem → Bool) → AnswersBy (goal.F-post g l.f) p → find p (preorder l.self) ≡ find p (flat_map child_preorder (drop l.child-index l.child-items))

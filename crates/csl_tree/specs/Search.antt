@@ -1,0 +1,151 @@
+-- Searches in a tree: an element, then what stands inside it, then its right neighbours.
+use Rattle.std.specs.Prelude.{◌≡◌, ◌⊎◌, Bool, true, false, List, [], ◌∷◌, ◌++◌, Option, Some, None, is_some, flat_map, option_copied, if◌then◌else◌}
+use Rattle.std.specs.Borrow.{Bor}
+use Rattle.std.specs.List.{list_any}
+use Rattle.csl_tree.specs.Tokens.{Meta, optional_meta, Token, text, solid, markup, link, transparent, opened, closed}
+use Rattle.csl_tree.specs.declared.formatting.Formatted.{Formatted}
+use Rattle.csl_tree.specs.declared.elem.ElemMeta.{ElemMeta}
+use Rattle.csl_tree.specs.declared.elem.ElemMeta.TheVariants as meta
+use Rattle.csl_tree.specs.declared.elem.ElemChild.{ElemChild}
+use Rattle.csl_tree.specs.declared.elem.ElemChild.TheOpen.{ElemChild-F, Elem-F, ElemChildren-F, Text, Elem, Markup, Link, Transparent}
+use Rattle.csl_tree.specs.declared.elem.ElemChild.TheViews.{out-ElemChild}
+use Rattle.csl_tree.specs.declared.elem.ElemChild.TheFolds.{fold-ElemChild, fold-Elem, fold-ElemChildren, para-ElemChild, para-Elem, para-ElemChildren}
+use Rattle.csl_tree.specs.declared.elem.ElemChild.TheVariants as variants
+use Rattle.csl_tree.specs.declared.elem.Elem as elem
+use Rattle.csl_tree.specs.declared.elem.ElemChildren.{ElemChildren}
+
+-- One level of a tree, each part beside its own preorder: a child that is an element gives the element and then what is inside.
+abbrev pub Walk : Type 0
+Walk = List elem.Elem
+
+abbrev pub child_walk : ElemChild-F (ElemChild × Walk) (elem.Elem × Walk) (ElemChildren × Walk) → Walk
+child_walk (Text t) = []
+child_walk (Elem e) = e.0 ∷ e.1
+child_walk (Markup s) = []
+child_walk (Link t url) = []
+child_walk (Transparent n f) = []
+
+abbrev pub elem_walk : Elem-F (ElemChild × Walk) (elem.Elem × Walk) (ElemChildren × Walk) → Walk
+elem_walk e = e.children.1
+
+abbrev pub children_walk : ElemChildren-F (ElemChild × Walk) (elem.Elem × Walk) (ElemChildren × Walk) → Walk
+children_walk c = flat_map (λ k. k.1) c.0.items
+
+-- the elements of a tree in preorder
+abbrev pub preorder : ElemChildren → List elem.Elem
+preorder = para-ElemChildren Walk Walk Walk child_walk elem_walk children_walk
+
+-- those of one child
+abbrev pub child_preorder : ElemChild → List elem.Elem
+child_preorder = para-ElemChild Walk Walk Walk child_walk elem_walk children_walk
+
+-- the first that passes a test
+abbrev pub find : {A : Type 0} → (A → Bool) → List A → Option A
+find p [] = None
+find p (x ∷ xs) = if p x then Some x else find p xs
+
+-- the first of which something holds
+abbrev pub IsFirst : {A : Type 0} → (A → Type 0) → List A → Option A → Type 0
+IsFirst P [] o = o ≡ None
+IsFirst P (x ∷ xs) o = (P x × (o ≡ Some x)) ⊎ ((P x → ⊥) × IsFirst P xs o)
+
+-- what is asked answers the test p of the element
+abbrev pub AnswersBy : (Bor elem.Elem → Bool → Type 0) → (elem.Elem → Bool) → Type 0
+AnswersBy post p = (e : Bor elem.Elem) (r : Bool) → post e r → r ≡ p e.now
+
+abbrev pub layer_elem : ElemChild-F ElemChild elem.Elem ElemChildren → Option elem.Elem
+layer_elem (Text t) = None
+layer_elem (Elem e) = Some e
+layer_elem (Markup s) = None
+layer_elem (Link t url) = None
+layer_elem (Transparent n f) = None
+
+-- the element that a child is, if it is one
+abbrev pub elem_of : ElemChild → Option elem.Elem
+elem_of k = layer_elem (out-ElemChild k)
+
+-- an element as a child
+abbrev pub as_child : elem.Elem → ElemChild
+as_child = variants.Elem
+
+-- what made an element
+abbrev pub made_by : elem.Elem → Option Meta
+made_by e = optional_meta (elem.out-Elem e).meta
+
+abbrev pub of_names : Option ElemMeta → Bool
+of_names None = false
+of_names (Some (meta.Names names)) = true
+of_names (Some meta.Date) = false
+of_names (Some meta.Text) = false
+of_names (Some meta.Number) = false
+of_names (Some meta.Label) = false
+of_names (Some meta.CitationNumber) = false
+of_names (Some (meta.Name v n)) = false
+of_names (Some (meta.Entry n)) = false
+of_names (Some meta.CitationLabel) = false
+
+-- a `cs:names` made the element
+abbrev pub is_names : elem.Elem → Bool
+is_names e = of_names (elem.out-Elem e).meta
+
+-- something is noted of what made the element
+abbrev pub has_meta : elem.Elem → Bool
+has_meta e = is_some (elem.out-Elem e).meta
+
+-- Last text: the last child where that is a text, the last text inside it where it is an element, else none.
+abbrev pub last_of : List (Option Formatted) → Option Formatted
+last_of [] = None
+last_of (t ∷ []) = t
+last_of (t ∷ u ∷ ts) = last_of (u ∷ ts)
+
+abbrev pub child_last : ElemChild-F (Option Formatted) (Option Formatted) (Option Formatted) → Option Formatted
+child_last (Text t) = Some t
+child_last (Elem inside) = inside
+child_last (Markup s) = None
+child_last (Link t url) = None
+child_last (Transparent n f) = None
+
+abbrev pub elem_last : Elem-F (Option Formatted) (Option Formatted) (Option Formatted) → Option Formatted
+elem_last e = e.children
+
+abbrev pub children_last : ElemChildren-F (Option Formatted) (Option Formatted) (Option Formatted) → Option Formatted
+children_last c = last_of c.0.items
+
+abbrev pub last_text : ElemChildren → Option Formatted
+last_text = fold-ElemChildren (Option Formatted) (Option Formatted) (Option Formatted) child_last elem_last children_last
+
+abbrev pub last_text_of : ElemChild → Option Formatted
+last_text_of = fold-ElemChild (Option Formatted) (Option Formatted) (Option Formatted) child_last elem_last children_last
+
+abbrev pub layer_has_meta : ElemChild-F ElemChild elem.Elem ElemChildren → Bool
+layer_has_meta (Text t) = false
+layer_has_meta (Elem e) = has_meta e
+layer_has_meta (Markup s) = false
+layer_has_meta (Link t url) = false
+layer_has_meta (Transparent n f) = false
+
+-- the child is an element of which something is noted
+abbrev pub child_has_meta : ElemChild → Bool
+child_has_meta k = layer_has_meta (out-ElemChild k)
+
+-- an element opens here of which something is noted
+abbrev pub opens_meta : Token → Bool
+opens_meta (text bs f) = false
+opens_meta (solid (markup bs)) = false
+opens_meta (solid (link bs f url)) = false
+opens_meta (solid (transparent n f)) = false
+opens_meta (solid (opened d m)) = is_some m
+opens_meta (solid (closed d)) = false
+
+-- nothing is noted of any element
+abbrev pub NothingNoted : List Token → Type 0
+NothingNoted ts = list_any opens_meta ts ≡ false
+
+-- Some tokens are taken out of others: what stood before them and after them meets.
+-- They open with the first element of which something is noted.
+pub record TakenOut (old taken new : List Token) : Type 0 where
+  pub before : List Token
+  pub after : List Token
+  pub was : old ≡ before ++ (taken ++ after)
+  pub is : new ≡ before ++ after
+  pub first : NothingNoted before

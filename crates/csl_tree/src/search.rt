@@ -1,0 +1,129 @@
+//! Searches in a tree: an element, then what stands inside it, then its right neighbours.
+
+ghost use Rattle.std.specs.Prelude.{◌≡◌, Bool, false, Some, option_copied, option_map, IfSome, IfNone};
+ghost use Rattle.csl_tree.specs.Tokens.{meta_of, tokens, child_tokens};
+ghost use Rattle.csl_tree.specs.Search.{preorder, child_preorder, find, IsFirst, AnswersBy, elem_of, made_by, is_names, last_text, has_meta, child_has_meta, as_child, NothingNoted, TakenOut};
+
+use crate::elem::{Elem, ElemChild, ElemChildren, ElemMeta};
+use crate::formatting::Formatted;
+
+impl ElemChild {
+    /// The element, if the child is one.
+    fn as_elem(&self) -> Option<&Elem>
+        ensures { option_copied result ≡ elem_of self.now }
+    {
+        match self {
+            ElemChild::Elem(elem) => Some(elem),
+            ElemChild::Text(_) => None,
+            ElemChild::Markup(_) => None,
+            ElemChild::Link { text: _, url: _ } => None,
+            ElemChild::Transparent {
+                cite_idx: _,
+                format: _,
+            } => None,
+        }
+    }
+}
+
+impl ElemChildren {
+    /// The first element that `f` accepts. `f` is to answer by the element alone.
+    pub fn find_elem_by<F: Fn(&Elem) -> bool>(&self, f: &F) -> Option<&Elem>
+        requires { F.IsAlwaysCallable f.now }
+        ensures { (p : Elem → Bool) → AnswersBy (F.post f.now) p → option_copied result ≡ find p (preorder self.now) }
+    {
+        for child in &self.0 {
+            if let Some(elem) = child.as_elem() {
+                if f(elem) {
+                    return Some(elem);
+                }
+                if let Some(found) = elem.children.find_elem_by(f) {
+                    return Some(found);
+                }
+            }
+        }
+        None
+    }
+
+    /// The first element that this meta is noted of.
+    pub fn find_meta(&self, meta: &ElemMeta) -> Option<&Elem>
+        ensures { IsFirst (λ e. made_by e ≡ Some (meta_of meta.now)) (preorder self.now) (option_copied result) }
+    {
+        self.find_elem_by(&|elem: &Elem| elem.meta.as_ref() == Some(meta))
+    }
+
+    /// The first element that a `cs:names` made.
+    pub fn find_names(&self) -> Option<&Elem>
+        ensures { option_copied result ≡ find is_names (preorder self.now) }
+    {
+        self.find_elem_by(&|elem: &Elem| matches!(elem.meta, Some(ElemMeta::Names(_))))
+    }
+
+    /// The last text: the last child where that is a text, the last text inside it where it is an
+    /// element, and else none.
+    pub fn last_text(&self) -> Option<&Formatted>
+        ensures { option_copied result ≡ last_text self.now }
+    {
+        match self.0.last() {
+            Some(ElemChild::Text(text)) => Some(text),
+            Some(ElemChild::Elem(elem)) => elem.children.last_text(),
+            Some(ElemChild::Markup(_)) => None,
+            Some(ElemChild::Link { text: _, url: _ }) => None,
+            Some(
+                ElemChild::Transparent {
+                    cite_idx: _,
+                    format: _,
+                },
+            ) => None,
+            None => None,
+        }
+    }
+}
+
+impl ElemChild {
+    /// Whether the child is an element that a meta is noted of.
+    fn has_meta(&self) -> bool
+        ensures { result ≡ child_has_meta self.now }
+    {
+        match self.as_elem() {
+            Some(elem) => elem.meta.is_some(),
+            None => false,
+        }
+    }
+
+    /// Takes out the first element inside the child that a meta is noted of.
+    #[cycle(removal)]
+    fn remove_below(&mut self) -> Option<ElemChild>
+        requires { child_has_meta self.old ≡ false }
+        ensures found { result ≡ option_map as_child (find has_meta (child_preorder self.old)) }
+        ensures some { IfSome result (λ child. TakenOut (child_tokens self.old) (child_tokens child) (child_tokens self.new)) }
+        ensures none { IfNone result (NothingNoted (child_tokens self.old) × (self.new ≡ self.old)) }
+    {
+        if self.as_elem().is_none() {
+            return None;
+        }
+        self.children_mut().remove_any_meta()
+    }
+}
+
+impl ElemChildren {
+    /// Takes out the first element that a meta is noted of. The others stay in order.
+    #[cycle(removal)]
+    pub fn remove_any_meta(&mut self) -> Option<ElemChild>
+        ensures found { result ≡ option_map as_child (find has_meta (preorder self.old)) }
+        ensures some { IfSome result (λ child. TakenOut (tokens self.old) (child_tokens child) (tokens self.new)) }
+        ensures none { IfNone result (NothingNoted (tokens self.old) × (self.new ≡ self.old)) }
+    {
+        for i in 0..self.0.len() {
+            if self.0[i].has_meta() {
+                return Some(self.0.remove(i));
+            }
+            if let Some(found) = self.0[i].remove_below() {
+                return Some(found);
+            }
+        }
+        None
+    }
+}
+
+#[cfg(test)]
+mod tests;
