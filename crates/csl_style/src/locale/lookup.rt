@@ -2,7 +2,7 @@
 
 ghost use Rattle.std.specs.Prelude.{◌≡◌, map, find, option_map, option_copied};
 ghost use Rattle.csl_style.specs.Locale.{term_view, terms_of, first_some};
-ghost use Rattle.csl_style.specs.Term.{is_term, in_form, forms_for, term_text, long_gender, term_gender};
+ghost use Rattle.csl_style.specs.Term.{is_term, in_form, forms_for, found_term, term_text, long_gender, term_gender};
 ghost use Rattle.csl_style.specs.Date.{is_in_form, date_in_form};
 
 use crate::date::{Date, DateForm};
@@ -85,6 +85,19 @@ fn in_form(locales: &[Locale], term: Term, form: TermForm) -> Option<&TermEntry>
     None
 }
 
+/// The first entry of a term in a form, else in one that stands in for it.
+fn found_term(locales: &[Locale], term: Term, form: TermForm) -> Option<&TermEntry>
+    ensures { option_map (λ entry. term_view entry.now) result
+        ≡ found_term (map terms_of locales.now) term form }
+{
+    for form in forms_for(form) {
+        if let Some(entry) = in_form(locales, term, *form) {
+            return Some(entry);
+        }
+    }
+    None
+}
+
 /// The text of a term (CSL 1.0.2, Terms). It is looked for in each locale in the form that is
 /// asked for, then in the form that stands in for it, and so on to the long form. Where several
 /// are meant, the text for several counts, if the entry has one.
@@ -92,12 +105,10 @@ pub(crate) fn term(locales: &[Locale], term: Term, form: TermForm, plural: bool)
     ensures { option_map (λ text. text.now) result
         ≡ term_text (map terms_of locales.now) term form plural }
 {
-    for form in forms_for(form) {
-        if let Some(entry) = in_form(locales, term, *form) {
-            return Some(entry.text(plural));
-        }
+    match found_term(locales, term, form) {
+        Some(entry) => Some(entry.text(plural)),
+        None => None,
     }
-    None
 }
 
 /// The gender of what a term names (CSL 1.0.2, Gender-specific Ordinals): that of the first entry

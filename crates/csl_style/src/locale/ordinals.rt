@@ -162,14 +162,14 @@ pub(crate) fn long_ordinal(
     ensures { option_map (λ text. text.now) result
         ≡ long_ordinals (map ordinals_of locales.now) number gender }
 {
-    if number < 1 || number > 10 {
-        return None;
+    if number >= 1 && number <= 10 {
+        let slot = OrdinalSlot::Long(number.unsigned_abs() as u8);
+        return match in_slot(first_ordinals(locales), slot, gender) {
+            Some(ordinal) => Some(ordinal.text.as_str()),
+            None => None,
+        };
     }
-    let slot = OrdinalSlot::Long(number as u8);
-    match in_slot(first_ordinals(locales), slot, gender) {
-        Some(ordinal) => Some(ordinal.text.as_str()),
-        None => None,
-    }
+    None
 }
 
 /// The ordinals of a style's locales, as numbers ask for them.

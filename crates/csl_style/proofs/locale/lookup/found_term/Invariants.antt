@@ -1,7 +1,7 @@
 use Rattle.std.proofs.Common.{◌≡◌, map, drop}
 use Rattle.csl_style.specs.Locale.{terms_of, first_some}
 use Rattle.csl_style.specs.Term.{in_form}
-use Rattle.csl_style.proofs.locale.lookup.term.Given as goal
+use Rattle.csl_style.proofs.locale.lookup.found_term.Given as goal
 
 abbrev pub invariant-loop-form : goal.invariant-loop-form
 invariant-loop-form l =
