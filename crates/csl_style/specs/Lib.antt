@@ -1,3 +1,4 @@
+pub mod Choose
 pub mod Date
 pub mod Formatting
 pub mod Locale
