@@ -1,7 +1,8 @@
 ghost use Rattle.std.specs.Prelude.{◌≡◌, ◌↔◌, IsTrue};
+ghost use Rattle.std.specs.declared.cmp.Ordering.TheVariants.{Equal};
 
 use super::*;
-use std::test::Fail;
+use std::cmp::Ordering;
 
 /// Whether the two variables are equal: they are where they are one.
 fn same_variable(a: &Variable, b: &Variable) -> bool
@@ -15,6 +16,13 @@ fn same_kind(a: &Kind, b: &Kind) -> bool
     ensures { IsTrue result ↔ (a.now ≡ b.now) }
 {
     *a == *b
+}
+
+/// How the two variables stand in order: as equals where they are one.
+fn order(a: &Variable, b: &Variable) -> Ordering
+    ensures { (result ≡ Equal) ↔ (a.now ≡ b.now) }
+{
+    a.cmp(b)
 }
 
 #[test]
@@ -91,6 +99,8 @@ fn variables_are_equal_where_they_are_one(rt: HostRuntime) {
     assert!(rt; same_variable(&title, &title));
     assert!(rt; !same_variable(&title, &issued));
     assert!(rt; !same_variable(&title, &Variable::Standard(StandardVariable::TitleShort)));
+    assert!(rt; order(&title, &title) == Ordering::Equal);
+    assert!(rt; order(&title, &issued) == Ordering::Less);
     assert!(rt; same_kind(&Kind::Book, &Kind::Book));
     assert!(rt; !same_kind(&Kind::Book, &Kind::ReviewBook));
 }

@@ -13,6 +13,6 @@ once_given {A} s x is = record { runs = ((λ j h. let e = h.0 in cc), λ y j h. 
 pub returns : goal.returns
 returns c =
     let road = YieldsList-from_chain (once_given _ _ (ap once_item c.chain.ensures.first ∙ c.once.ensures.item))
-        (YieldsList-from_slice _ (ap (λ r. iter_rest r) c.chain.ensures.second ∙ (c.iter.ensures.rest ∙ c.deref.ensures.value)))
-        c.chain.ensures.first_done c.chain.ensures.second_done in
+    (YieldsList-from_slice _ (ap (λ r. iter_rest r) c.chain.ensures.second ∙ (c.iter.ensures.rest ∙ c.deref.ensures.value)))
+    c.chain.ensures.first_done c.chain.ensures.second_done in
     road.runs
