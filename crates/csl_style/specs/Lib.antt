@@ -1,5 +1,9 @@
+pub mod Choose
+pub mod Date
 pub mod Formatting
 pub mod Dressing
+pub mod Locale
+pub mod NameOptions
 pub mod Names
 pub mod Node
 pub mod View
@@ -8,4 +12,7 @@ pub mod Leads
 pub mod Reaches
 pub mod Calls
 pub mod Cyclic
+pub mod Ordinal
 pub mod Style
+pub mod Taxonomy
+pub mod Term

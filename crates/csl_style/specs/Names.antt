@@ -7,73 +7,12 @@ use Rattle.csl_style.specs.declared.term.OtherTerm.{OtherTerm}
 use Rattle.csl_style.specs.declared.term.TermForm.{TermForm}
 use Rattle.csl_style.specs.declared.number.LabelPluralize.{LabelPluralize}
 use Rattle.csl_style.specs.declared.number.VariablelessLabel.{VariablelessLabel}
-use Rattle.csl_style.specs.declared.names.NameAnd.{NameAnd}
-use Rattle.csl_style.specs.declared.names.NameForm.{NameForm}
-use Rattle.csl_style.specs.declared.names.NameAsSortOrder.{NameAsSortOrder}
-use Rattle.csl_style.specs.declared.names.DelimiterBehavior.{DelimiterBehavior}
 use Rattle.csl_style.specs.declared.names.NamePartName.{NamePartName}
 use Rattle.csl_style.specs.declared.names.NamePart.{NamePart}
 use Rattle.csl_style.specs.declared.names.Name.{Name}
 use Rattle.csl_style.specs.declared.names.EtAl.{EtAl}
-use Rattle.csl_style.specs.declared.names.options.InheritableNameOptions.{InheritableNameOptions}
+use Rattle.csl_style.specs.NameOptions.{SetOptions, own_options, options_over}
 use Rattle.csl_style.specs.Dressing.{AffixTexts, affix_texts, Dressing, dressing_over, text_if}
-
--- the options that a node sets
-pub record SetOptions : Type 0 where
-  pub and : Option NameAnd
-  pub delimiter : Option (List ℕ)
-  pub delimiter_precedes_et_al : Option DelimiterBehavior
-  pub delimiter_precedes_last : Option DelimiterBehavior
-  pub et_al_min : Option ℕ
-  pub et_al_use_first : Option ℕ
-  pub et_al_subsequent_min : Option ℕ
-  pub et_al_subsequent_use_first : Option ℕ
-  pub et_al_use_last : Option Bool
-  pub form : Option NameForm
-  pub initialize : Option Bool
-  pub initialize_with : Option (List ℕ)
-  pub name_as_sort_order : Option NameAsSortOrder
-  pub sort_separator : Option (List ℕ)
-  pub names_delimiter : Option (List ℕ)
-
-abbrev pub set_options : InheritableNameOptions → SetOptions
-set_options o = record {
-  and = o.and;
-  delimiter = text_if o.delimiter;
-  delimiter_precedes_et_al = o.delimiter_precedes_et_al;
-  delimiter_precedes_last = o.delimiter_precedes_last;
-  et_al_min = o.et_al_min;
-  et_al_use_first = o.et_al_use_first;
-  et_al_subsequent_min = o.et_al_subsequent_min;
-  et_al_subsequent_use_first = o.et_al_subsequent_use_first;
-  et_al_use_last = o.et_al_use_last;
-  form = o.form;
-  initialize = o.initialize;
-  initialize_with = text_if o.initialize_with;
-  name_as_sort_order = o.name_as_sort_order;
-  sort_separator = text_if o.sort_separator;
-  names_delimiter = text_if o.names_delimiter;
-}
-
--- each option that is set, else that of the base
-abbrev pub set_over : SetOptions → SetOptions → SetOptions
-set_over o base = record {
-  and = option_or o.and base.and;
-  delimiter = option_or o.delimiter base.delimiter;
-  delimiter_precedes_et_al = option_or o.delimiter_precedes_et_al base.delimiter_precedes_et_al;
-  delimiter_precedes_last = option_or o.delimiter_precedes_last base.delimiter_precedes_last;
-  et_al_min = option_or o.et_al_min base.et_al_min;
-  et_al_use_first = option_or o.et_al_use_first base.et_al_use_first;
-  et_al_subsequent_min = option_or o.et_al_subsequent_min base.et_al_subsequent_min;
-  et_al_subsequent_use_first = option_or o.et_al_subsequent_use_first base.et_al_subsequent_use_first;
-  et_al_use_last = option_or o.et_al_use_last base.et_al_use_last;
-  form = option_or o.form base.form;
-  initialize = option_or o.initialize base.initialize;
-  initialize_with = option_or o.initialize_with base.initialize_with;
-  name_as_sort_order = option_or o.name_as_sort_order base.name_as_sort_order;
-  sort_separator = option_or o.sort_separator base.sort_separator;
-  names_delimiter = option_or o.names_delimiter base.names_delimiter;
-}
 
 pub record NamePartNode : Type 0 where
   pub name : NamePartName
@@ -89,7 +28,7 @@ pub record NameNode : Type 0 where
   pub parts : List NamePartNode
 
 abbrev pub view_name : Name → NameNode
-view_name n = record { options = set_options n.options; formatting = n.formatting; parts = map view_part n.parts.items }
+view_name n = record { options = own_options n.options; formatting = n.formatting; parts = map view_part n.parts.items }
 
 pub record EtAlNode : Type 0 where
   pub term : OtherTerm
@@ -142,7 +81,7 @@ first_name n = first_of n.name_children
 abbrev pub in_place_of : NamesNode → NamesNode → NamesNode
 in_place_of original own = record {
   variables = own.variables;
-  options = set_over own.options original.options;
+  options = options_over own.options original.options;
   delimiter = option_or own.delimiter original.delimiter;
   dressing = dressing_over own.dressing original.dressing;
   name_children = original.name_children;

@@ -9,7 +9,7 @@ use Rattle.csl_style.specs.declared.style.settings.StyleSettings.{StyleSettings}
 use Rattle.csl_style.specs.declared.style.settings.DemoteNonDroppingParticle.TheVariants.{DisplayAndSort}
 use Rattle.csl_style.specs.declared.style.error.StyleError.{StyleError}
 use Rattle.csl_style.specs.declared.style.error.StyleError.TheVariants.{Memory, CyclicMacro, ChicagoPageFormat}
-use Rattle.csl_style.specs.Names.{SetOptions, set_options}
+use Rattle.csl_style.specs.NameOptions.{SetOptions, own_options}
 use Rattle.csl_style.specs.View.{Definition}
 use Rattle.csl_style.specs.Cyclic.{IsFirstCyclic, NoneReturns}
 
@@ -79,6 +79,6 @@ pub record AreDefaults (s : StyleSettings) : Type 0 where
   pub page_range_format : s.page_range_format ≡ None
   pub demote : s.demote_non_dropping_particle ≡ DisplayAndSort
   pub hyphen : s.initialize_with_hyphen ≡ true
-  pub names : set_options s.names ≡ unset
-  pub citation_names : set_options s.citation_names ≡ unset
-  pub bibliography_names : set_options s.bibliography_names ≡ unset
+  pub names : own_options s.names ≡ unset
+  pub citation_names : own_options s.citation_names ≡ unset
+  pub bibliography_names : own_options s.bibliography_names ≡ unset

@@ -2,7 +2,8 @@
 use Rattle.std.specs.Prelude.{ℕ, Bool, true, false, List, [], ◌∷◌, map, Option, Some, None, option_map, String, Vec, string_bytes}
 use Rattle.std.specs.declared.alloc.Global.{Global}
 use Rattle.csl_style.specs.Dressing.{AffixTexts, affix_texts, Dressing, dressed_in, TextDressing, text_if}
-use Rattle.csl_style.specs.Names.{SetOptions, set_options, NameNode, view_name, EtAlNode, view_et_al, LabelNode, view_label, NamesLabel, NamesNode}
+use Rattle.csl_style.specs.NameOptions.{own_options}
+use Rattle.csl_style.specs.Names.{NameNode, view_name, EtAlNode, view_et_al, LabelNode, view_label, NamesLabel, NamesNode}
 use Rattle.csl_style.specs.Node.{Target, of_variable, of_term, of_value, NumberNode, DatePartNode, DateNode, Tests, Node, text, call, number, label, date, names, choose, group, Nodes, no_nodes, node, Branches, no_branches, otherwise, branch, Substitutes, no_substitutes, substitute, LayoutNode}
 use Rattle.csl_style.specs.declared.text.Text.{Text}
 use Rattle.csl_style.specs.declared.text.TextTarget.{TextTarget}
@@ -145,7 +146,7 @@ group_step g = group (text_if g.delimiter) (dressed_in g.formatting g.affixes g.
 abbrev pub names_step : Names-F Node Child Node Part Node Node Nodes → Node
 names_step n = names (record {
   variables = n.variable.items;
-  options = set_options n.options;
+  options = own_options n.options;
   delimiter = text_if n.delimiter;
   dressing = dressed_in n.formatting n.affixes n.display;
   name_children = name_children n.children.items;

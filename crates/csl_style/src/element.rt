@@ -1,6 +1,10 @@
 //! The nodes that hold nodes (CSL 1.0.2, Rendering Elements): groups, choices, names with their
 //! substitutes, layouts and macros.
 
+ghost use Rattle.std.specs.Iterator.{AlwaysYields};
+ghost use Rattle.std.specs.Iterator.Adapters.{chain_steps, once_steps};
+ghost use Rattle.std.specs.Slice.Iter.{iter_steps};
+
 use crate::affixes::Affixes;
 use crate::date::Date;
 use crate::formatting::{Display, Formatting};
@@ -8,6 +12,8 @@ use crate::names::{EtAl, InheritableNameOptions, Name};
 use crate::number::{Label, Number, VariablelessLabel};
 use crate::taxonomy::{DateVariable, Kind, Locator, NameVariable, Variable};
 use crate::text::Text;
+use std::iter::{Chain, Once, once};
+use std::slice::Iter;
 
 /// A node that a layout, a macro or a group may hold.
 #[cycle(element)]
@@ -49,6 +55,18 @@ pub struct Choose {
     pub else_if: Vec<ChooseBranch>,
     /// What is printed where no branch is chosen.
     pub otherwise: Option<Vec<LayoutRenderingElement>>,
+}
+
+impl Choose {
+    ghost use Rattle.csl_style.specs.Choose.{branches};
+
+    /// The `if` branch, then each `else-if` in order.
+    pub fn branches(&self) -> Chain<Once<&ChooseBranch>, Iter<'_, ChooseBranch>>
+        ensures { AlwaysYields (chain_steps once_steps iter_steps) (λ branch. branch.now) result
+            (branches self.now) }
+    {
+        once(&self.if_).chain(self.else_if.iter())
+    }
 }
 
 /// A `cs:if` or `cs:else-if`.

@@ -1,8 +1,15 @@
 //! Locales: the terms, ordinals and dates of a language (CSL 1.0.2, Locale).
 
+ghost use Rattle.std.specs.Prelude.{◌≡◌};
+ghost use Rattle.csl_style.specs.Locale.{term_view};
+ghost use Rattle.csl_style.specs.Term.{numbered};
+
 use crate::date::Date;
 use crate::term::{Term, TermForm};
 use lit_model::GrammarGender;
+
+pub(crate) mod lookup;
+pub(crate) mod ordinals;
 
 /// A term in one form (CSL 1.0.2, Terms).
 #[derive(Drop)]
@@ -15,6 +22,18 @@ pub struct TermEntry {
     pub multiple: Option<String>,
     /// The gender of what the term names.
     pub gender: Option<GrammarGender>,
+}
+
+impl TermEntry {
+    /// The text for several where several are meant and there is one, else the text for one.
+    pub fn text(&self, plural: bool) -> &str
+        ensures { result.now ≡ numbered plural (term_view self.now) }
+    {
+        match &self.multiple {
+            Some(multiple) if plural => multiple.as_str(),
+            _ => self.single.as_str(),
+        }
+    }
 }
 
 /// Which numbers an ordinal is for (CSL 1.0.2, Ordinals).
@@ -59,3 +78,6 @@ pub struct Locale {
     /// Whether only the first day of a month is written as an ordinal.
     pub limit_day_ordinals_to_day_1: bool,
 }
+
+#[cfg(test)]
+mod tests;

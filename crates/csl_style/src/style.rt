@@ -1,17 +1,24 @@
 //! A style: its settings, macros, layouts and locales. No macro of it leads back to itself (CSL
 //! 1.0.2, Style Structure; Macro).
 
-ghost use Rattle.std.specs.Prelude.{◌≡◌, false, None, IfOk, OnOk, IfErr, IfSome, option_map, option_copied};
+ghost use Rattle.std.specs.Prelude.{◌≡◌, false, None, IfOk, OnOk, IfErr, map, option_map, option_copied};
 ghost use Rattle.csl_style.specs.Node.{fills};
 ghost use Rattle.csl_style.specs.View.{definitions, views};
 ghost use Rattle.csl_style.specs.Meaning.{body, meaning, IsAcyclic};
 ghost use Rattle.csl_style.specs.Cyclic.{NoneReturns};
+ghost use Rattle.csl_style.specs.Locale.{terms_of, ordinals_of};
+ghost use Rattle.csl_style.specs.Term.{term_text, term_gender};
+ghost use Rattle.csl_style.specs.Ordinal.{ordinals};
+ghost use Rattle.csl_style.specs.Date.{date_in_form};
 ghost use Rattle.csl_style.specs.Style.{style_of, is_chicago, IsRefusal};
 
 use crate::cycles::first_cyclic;
+use crate::date::{Date, DateForm};
 use crate::element::{CslMacro, Layout};
-use crate::locale::Locale;
+use crate::locale::{Locale, lookup, ordinals};
 use crate::places::call_graph;
+use crate::term::{Term, TermForm};
+use lit_model::GrammarGender;
 use std::alloc::Global;
 use std::marker::Model;
 
@@ -189,6 +196,37 @@ impl Style {
             (views m.now.children.items)) result ≡ meaning (definitions self.now.macros) name.now }
     {
         first_macro(&self.macros, name)
+    }
+
+    /// The text of a term, in the form that is asked for or one that stands in for it (CSL 1.0.2,
+    /// Terms).
+    pub fn term(&self, term: Term, form: TermForm, plural: bool) -> Option<&str>
+        ensures { option_map (λ text. text.now) result
+            ≡ term_text (map terms_of self.now.locales) term form plural }
+    {
+        lookup::term(&self.locales, term, form, plural)
+    }
+
+    /// The gender of what a term names (CSL 1.0.2, Gender-specific Ordinals).
+    pub fn gender(&self, term: Term) -> Option<GrammarGender>
+        ensures { result ≡ term_gender (map terms_of self.now.locales) term }
+    {
+        lookup::gender(&self.locales, term)
+    }
+
+    /// What stands behind a number to make it an ordinal (CSL 1.0.2, Ordinals).
+    pub fn ordinal(&self, number: i32, gender: Option<GrammarGender>) -> Option<&str>
+        ensures { option_map (λ text. text.now) result
+            ≡ ordinals (map ordinals_of self.now.locales) number gender }
+    {
+        ordinals::ordinal(&self.locales, number, gender)
+    }
+
+    /// The first localized date of a form (CSL 1.0.2, Localized Date Formats).
+    pub fn localized_date(&self, form: DateForm) -> Option<&Date>
+        ensures { option_copied result ≡ date_in_form self.now.locales form }
+    {
+        lookup::localized_date(&self.locales, form)
     }
 }
 

@@ -70,3 +70,6 @@ pub enum TermForm {
     VerbShort,
     Symbol,
 }
+
+#[cfg(test)]
+mod tests;

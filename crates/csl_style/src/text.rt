@@ -10,9 +10,14 @@ use lit_model::LongShortForm;
 #[derive(Drop)]
 pub enum TextTarget {
     /// A variable of the entry.
-    Variable { var: Variable, form: LongShortForm },
+    Variable {
+        var: Variable,
+        form: LongShortForm,
+    },
     /// The macro of this name.
-    Macro { name: String },
+    Macro {
+        name: String,
+    },
     /// A term of the locale.
     Term {
         term: Term,
@@ -20,7 +25,9 @@ pub enum TextTarget {
         plural: bool,
     },
     /// The text itself.
-    Value { val: String },
+    Value {
+        val: String,
+    },
 }
 
 /// A `cs:text`.

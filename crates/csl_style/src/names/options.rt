@@ -1,6 +1,10 @@
 //! The options of names, which a node may set and else inherits (CSL 1.0.2, Inheritable Name
 //! Options).
 
+ghost use Rattle.std.specs.Prelude.{◌≡◌, option_map, string_bytes};
+ghost use Rattle.std.specs.Option.{option_or};
+ghost use Rattle.csl_style.specs.NameOptions.{own_options, inherited_options, options_over, used_options, with_defaults, names_delimiter_of, limit_of, is_suppressed};
+
 use crate::names::{DelimiterBehavior, NameAnd, NameAsSortOrder, NameForm};
 
 /// The options that a node or a style sets. What is not set is inherited.
@@ -24,6 +28,82 @@ pub struct InheritableNameOptions {
     pub names_delimiter: Option<String>,
 }
 
+impl InheritableNameOptions {
+    /// The options that are set here.
+    pub fn as_inherited(&self) -> InheritedNameOptions<'_>
+        ensures { inherited_options result ≡ own_options self.now }
+    {
+        InheritedNameOptions {
+            and: self.and,
+            delimiter: text(&self.delimiter),
+            delimiter_precedes_et_al: self.delimiter_precedes_et_al,
+            delimiter_precedes_last: self.delimiter_precedes_last,
+            et_al_min: self.et_al_min,
+            et_al_use_first: self.et_al_use_first,
+            et_al_subsequent_min: self.et_al_subsequent_min,
+            et_al_subsequent_use_first: self.et_al_subsequent_use_first,
+            et_al_use_last: self.et_al_use_last,
+            form: self.form,
+            initialize: self.initialize,
+            initialize_with: text(&self.initialize_with),
+            name_as_sort_order: self.name_as_sort_order,
+            sort_separator: text(&self.sort_separator),
+            names_delimiter: text(&self.names_delimiter),
+        }
+    }
+
+    /// These options over others: each one that is set here, else that of `base`.
+    pub fn apply<'s>(&'s self, base: InheritedNameOptions<'s>) -> InheritedNameOptions<'s>
+        ensures { inherited_options result
+            ≡ options_over (own_options self.now) (inherited_options base.entry) }
+    {
+        InheritedNameOptions {
+            and: self.and.or(base.and),
+            delimiter: text_or(&self.delimiter, base.delimiter),
+            delimiter_precedes_et_al: self
+                .delimiter_precedes_et_al
+                .or(base.delimiter_precedes_et_al),
+            delimiter_precedes_last: self
+                .delimiter_precedes_last
+                .or(base.delimiter_precedes_last),
+            et_al_min: self.et_al_min.or(base.et_al_min),
+            et_al_use_first: self.et_al_use_first.or(base.et_al_use_first),
+            et_al_subsequent_min: self.et_al_subsequent_min.or(base.et_al_subsequent_min),
+            et_al_subsequent_use_first: self
+                .et_al_subsequent_use_first
+                .or(base.et_al_subsequent_use_first),
+            et_al_use_last: self.et_al_use_last.or(base.et_al_use_last),
+            form: self.form.or(base.form),
+            initialize: self.initialize.or(base.initialize),
+            initialize_with: text_or(&self.initialize_with, base.initialize_with),
+            name_as_sort_order: self.name_as_sort_order.or(base.name_as_sort_order),
+            sort_separator: text_or(&self.sort_separator, base.sort_separator),
+            names_delimiter: text_or(&self.names_delimiter, base.names_delimiter),
+        }
+    }
+}
+
+/// The text, else that of the base.
+fn text_or<'s>(own: &'s Option<String>, base: Option<&'s str>) -> Option<&'s str>
+    ensures { option_map (λ t. t.now) result
+        ≡ option_or (option_map string_bytes own.now) (option_map (λ t. t.now) base.entry) }
+{
+    match own {
+        Some(text) => Some(text.as_str()),
+        None => base,
+    }
+}
+
+/// The text, if there is one.
+fn text(text: &Option<String>) -> Option<&str>
+    ensures { option_map (λ t. t.now) result ≡ option_map string_bytes text.now }
+{
+    match text {
+        Some(text) => Some(text.as_str()),
+        None => None,
+    }
+}
+
 /// The options that are set somewhere around a node. The texts are borrowed from the style.
 #[derive(Clone, Copy, Default)]
 pub struct InheritedNameOptions<'s> {
@@ -42,6 +122,41 @@ pub struct InheritedNameOptions<'s> {
     pub name_as_sort_order: Option<NameAsSortOrder>,
     pub sort_separator: Option<&'s str>,
     pub names_delimiter: Option<&'s str>,
+}
+
+impl<'s> InheritedNameOptions<'s> {
+    /// The options by which names are written: each one that is set, else its default.
+    pub fn name_options(self) -> NameOptions<'s>
+        ensures { used_options result ≡ with_defaults (inherited_options self.entry) }
+    {
+        NameOptions {
+            and: self.and,
+            delimiter: self.delimiter.unwrap_or(", "),
+            delimiter_precedes_et_al: self
+                .delimiter_precedes_et_al
+                .unwrap_or(DelimiterBehavior::Contextual),
+            delimiter_precedes_last: self
+                .delimiter_precedes_last
+                .unwrap_or(DelimiterBehavior::Contextual),
+            et_al_min: self.et_al_min,
+            et_al_use_first: self.et_al_use_first,
+            et_al_subsequent_min: self.et_al_subsequent_min,
+            et_al_subsequent_use_first: self.et_al_subsequent_use_first,
+            et_al_use_last: self.et_al_use_last.unwrap_or(false),
+            form: self.form.unwrap_or(NameForm::Long),
+            initialize: self.initialize.unwrap_or(true),
+            initialize_with: self.initialize_with,
+            name_as_sort_order: self.name_as_sort_order,
+            sort_separator: self.sort_separator.unwrap_or(", "),
+        }
+    }
+
+    /// What stands between the lists of two variables: by default nothing.
+    pub fn names_delimiter(self) -> &'s str
+        ensures { result.now ≡ names_delimiter_of (inherited_options self.entry) }
+    {
+        self.names_delimiter.unwrap_or("")
+    }
 }
 
 /// The options by which names are written: each one that is set somewhere, else its default.
@@ -64,3 +179,38 @@ pub struct NameOptions<'s> {
     /// What stands behind a family name that comes first: by default `, `.
     pub sort_separator: &'s str,
 }
+
+impl NameOptions<'_> {
+    /// Whether the name at the place `idx` in a list of `len` names is left out (CSL 1.0.2, Name:
+    /// et-al-min, et-al-use-first and et-al-use-last). For a later cite each of the two limits
+    /// gives way to its subsequent one, where that is set.
+    pub fn is_suppressed(self, idx: usize, len: usize, subsequent: bool) -> bool
+        ensures { result ≡ is_suppressed (used_options self.entry) idx len subsequent }
+    {
+        let min = limit(self.et_al_min, self.et_al_subsequent_min, subsequent);
+        let first = limit(
+            self.et_al_use_first,
+            self.et_al_subsequent_use_first,
+            subsequent,
+        );
+        let (Some(min), Some(first)) = (min, first) else {
+            return false;
+        };
+        let first = first as usize;
+        if len < min as usize || idx < first {
+            return false;
+        }
+        let is_kept_last = len >= first + 2 && idx == len - 1;
+        !(self.et_al_use_last && is_kept_last)
+    }
+}
+
+/// The limit that counts for a cite.
+fn limit(own: Option<u32>, later: Option<u32>, subsequent: bool) -> Option<u32>
+    ensures { result ≡ limit_of own later subsequent }
+{
+    if subsequent { later.or(own) } else { own }
+}
+
+#[cfg(test)]
+mod tests;

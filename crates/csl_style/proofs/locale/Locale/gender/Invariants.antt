@@ -1,0 +1,9 @@
+use Rattle.std.proofs.Common.{◌≡◌, map, drop}
+use Rattle.csl_style.specs.Locale.{term_view, first_some}
+use Rattle.csl_style.specs.Term.{long_gender}
+use Rattle.csl_style.proofs.locale.Locale.gender.Given as goal
+
+abbrev pub invariant-loop-entry : goal.invariant-loop-entry
+invariant-loop-entry l =
+    first_some (long_gender l.term) (map term_view (drop l.entry-index l.entry-items))
+    ≡ first_some (long_gender l.term) (map term_view l.entry-items)

@@ -1,0 +1,9 @@
+use Rattle.std.proofs.Common.{◌≡◌, map, drop}
+use Rattle.csl_style.specs.Locale.{terms_of, first_some}
+use Rattle.csl_style.specs.Term.{in_form}
+use Rattle.csl_style.proofs.locale.lookup.found_term.Given as goal
+
+abbrev pub invariant-loop-form : goal.invariant-loop-form
+invariant-loop-form l =
+    first_some (in_form (map terms_of l.locales) l.term) (drop l.form-index l.form-items)
+    ≡ first_some (in_form (map terms_of l.locales) l.term) l.form-items

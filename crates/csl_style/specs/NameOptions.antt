@@ -1,0 +1,170 @@
+-- The options of names: which count, and which names they leave out (CSL 1.0.2, Inheritable Name Options; Name: et-al-min and those after it).
+use Rattle.std.specs.Prelude.{ℕ, ◌+◌, Bool, true, false, not, ◌&&◌, ◌==◌, nat_le, List, [], Option, Some, None, option_map, unwrap_or, string_bytes, codes, if◌then◌else◌}
+use Rattle.std.specs.Option.{option_or}
+use Rattle.csl_style.specs.declared.names.NameForm.{NameForm}
+use Rattle.csl_style.specs.declared.names.NameForm.TheVariants.{Long}
+use Rattle.csl_style.specs.declared.names.NameAnd.{NameAnd}
+use Rattle.csl_style.specs.declared.names.NameAsSortOrder.{NameAsSortOrder}
+use Rattle.csl_style.specs.declared.names.DelimiterBehavior.{DelimiterBehavior}
+use Rattle.csl_style.specs.declared.names.DelimiterBehavior.TheVariants.{Contextual}
+use Rattle.csl_style.specs.declared.names.options.InheritableNameOptions.{InheritableNameOptions}
+use Rattle.csl_style.specs.declared.names.options.InheritedNameOptions.{InheritedNameOptions}
+use Rattle.csl_style.specs.declared.names.options.NameOptions.{NameOptions}
+
+-- options, each of which is set or not
+pub record SetOptions : Type 0 where
+  pub and : Option NameAnd
+  pub delimiter : Option (List ℕ)
+  pub delimiter_precedes_et_al : Option DelimiterBehavior
+  pub delimiter_precedes_last : Option DelimiterBehavior
+  pub et_al_min : Option ℕ
+  pub et_al_use_first : Option ℕ
+  pub et_al_subsequent_min : Option ℕ
+  pub et_al_subsequent_use_first : Option ℕ
+  pub et_al_use_last : Option Bool
+  pub form : Option NameForm
+  pub initialize : Option Bool
+  pub initialize_with : Option (List ℕ)
+  pub name_as_sort_order : Option NameAsSortOrder
+  pub sort_separator : Option (List ℕ)
+  pub names_delimiter : Option (List ℕ)
+
+-- those that a node or a style sets
+abbrev pub own_options : InheritableNameOptions → SetOptions
+own_options o = record {
+  and = o.and;
+  delimiter = option_map string_bytes o.delimiter;
+  delimiter_precedes_et_al = o.delimiter_precedes_et_al;
+  delimiter_precedes_last = o.delimiter_precedes_last;
+  et_al_min = o.et_al_min;
+  et_al_use_first = o.et_al_use_first;
+  et_al_subsequent_min = o.et_al_subsequent_min;
+  et_al_subsequent_use_first = o.et_al_subsequent_use_first;
+  et_al_use_last = o.et_al_use_last;
+  form = o.form;
+  initialize = o.initialize;
+  initialize_with = option_map string_bytes o.initialize_with;
+  name_as_sort_order = o.name_as_sort_order;
+  sort_separator = option_map string_bytes o.sort_separator;
+  names_delimiter = option_map string_bytes o.names_delimiter;
+}
+
+-- those that are set somewhere around a node
+abbrev pub inherited_options : InheritedNameOptions → SetOptions
+inherited_options o = record {
+  and = o.and;
+  delimiter = option_map (λ t. t.now) o.delimiter;
+  delimiter_precedes_et_al = o.delimiter_precedes_et_al;
+  delimiter_precedes_last = o.delimiter_precedes_last;
+  et_al_min = o.et_al_min;
+  et_al_use_first = o.et_al_use_first;
+  et_al_subsequent_min = o.et_al_subsequent_min;
+  et_al_subsequent_use_first = o.et_al_subsequent_use_first;
+  et_al_use_last = o.et_al_use_last;
+  form = o.form;
+  initialize = o.initialize;
+  initialize_with = option_map (λ t. t.now) o.initialize_with;
+  name_as_sort_order = o.name_as_sort_order;
+  sort_separator = option_map (λ t. t.now) o.sort_separator;
+  names_delimiter = option_map (λ t. t.now) o.names_delimiter;
+}
+
+-- one set over another: each option that is set, else that of the base
+abbrev pub options_over : SetOptions → SetOptions → SetOptions
+options_over p base = record {
+  and = option_or p.and base.and;
+  delimiter = option_or p.delimiter base.delimiter;
+  delimiter_precedes_et_al = option_or p.delimiter_precedes_et_al base.delimiter_precedes_et_al;
+  delimiter_precedes_last = option_or p.delimiter_precedes_last base.delimiter_precedes_last;
+  et_al_min = option_or p.et_al_min base.et_al_min;
+  et_al_use_first = option_or p.et_al_use_first base.et_al_use_first;
+  et_al_subsequent_min = option_or p.et_al_subsequent_min base.et_al_subsequent_min;
+  et_al_subsequent_use_first = option_or p.et_al_subsequent_use_first base.et_al_subsequent_use_first;
+  et_al_use_last = option_or p.et_al_use_last base.et_al_use_last;
+  form = option_or p.form base.form;
+  initialize = option_or p.initialize base.initialize;
+  initialize_with = option_or p.initialize_with base.initialize_with;
+  name_as_sort_order = option_or p.name_as_sort_order base.name_as_sort_order;
+  sort_separator = option_or p.sort_separator base.sort_separator;
+  names_delimiter = option_or p.names_delimiter base.names_delimiter;
+}
+
+-- the options by which names are written
+pub record UsedOptions : Type 0 where
+  pub and : Option NameAnd
+  pub delimiter : List ℕ
+  pub delimiter_precedes_et_al : DelimiterBehavior
+  pub delimiter_precedes_last : DelimiterBehavior
+  pub et_al_min : Option ℕ
+  pub et_al_use_first : Option ℕ
+  pub et_al_subsequent_min : Option ℕ
+  pub et_al_subsequent_use_first : Option ℕ
+  pub et_al_use_last : Bool
+  pub form : NameForm
+  pub initialize : Bool
+  pub initialize_with : Option (List ℕ)
+  pub name_as_sort_order : Option NameAsSortOrder
+  pub sort_separator : List ℕ
+
+abbrev pub used_options : NameOptions → UsedOptions
+used_options o = record {
+  and = o.and;
+  delimiter = o.delimiter.now;
+  delimiter_precedes_et_al = o.delimiter_precedes_et_al;
+  delimiter_precedes_last = o.delimiter_precedes_last;
+  et_al_min = o.et_al_min;
+  et_al_use_first = o.et_al_use_first;
+  et_al_subsequent_min = o.et_al_subsequent_min;
+  et_al_subsequent_use_first = o.et_al_subsequent_use_first;
+  et_al_use_last = o.et_al_use_last;
+  form = o.form;
+  initialize = o.initialize;
+  initialize_with = option_map (λ t. t.now) o.initialize_with;
+  name_as_sort_order = o.name_as_sort_order;
+  sort_separator = o.sort_separator.now;
+}
+
+-- each option that is set, else its default
+abbrev pub with_defaults : SetOptions → UsedOptions
+with_defaults o = record {
+  and = o.and;
+  delimiter = unwrap_or o.delimiter (codes ", ");
+  delimiter_precedes_et_al = unwrap_or o.delimiter_precedes_et_al Contextual;
+  delimiter_precedes_last = unwrap_or o.delimiter_precedes_last Contextual;
+  et_al_min = o.et_al_min;
+  et_al_use_first = o.et_al_use_first;
+  et_al_subsequent_min = o.et_al_subsequent_min;
+  et_al_subsequent_use_first = o.et_al_subsequent_use_first;
+  et_al_use_last = unwrap_or o.et_al_use_last false;
+  form = unwrap_or o.form Long;
+  initialize = unwrap_or o.initialize true;
+  initialize_with = o.initialize_with;
+  name_as_sort_order = o.name_as_sort_order;
+  sort_separator = unwrap_or o.sort_separator (codes ", ");
+}
+
+-- what stands between the lists of two variables
+abbrev pub names_delimiter_of : SetOptions → List ℕ
+names_delimiter_of o = unwrap_or o.names_delimiter []
+
+-- the limit of a first cite, or that of a later one, where it is set
+abbrev pub limit_of : Option ℕ → Option ℕ → Bool → Option ℕ
+limit_of own later subsequent = if subsequent then option_or later own else own
+
+-- the last of a list that is longer than what stands first by two names or more
+abbrev pub is_kept_last : ℕ → ℕ → ℕ → Bool
+is_kept_last first idx len = nat_le (first + 2) len && (idx + 1 == len)
+
+-- a list of min names or more loses those from first on, but not the last one where it is kept
+abbrev pub is_cut : Option ℕ → Option ℕ → Bool → ℕ → ℕ → Bool
+is_cut None first use_last idx len = false
+is_cut (Some min) None use_last idx len = false
+is_cut (Some min) (Some first) use_last idx len =
+    nat_le min len && (nat_le first idx && not (use_last && is_kept_last first idx len))
+
+-- the name at this place of a list so long is left out
+abbrev pub is_suppressed : UsedOptions → ℕ → ℕ → Bool → Bool
+is_suppressed o idx len subsequent =
+    is_cut (limit_of o.et_al_min o.et_al_subsequent_min subsequent)
+    (limit_of o.et_al_use_first o.et_al_subsequent_use_first subsequent)
+    o.et_al_use_last idx len

@@ -1,0 +1,50 @@
+-- The term that a style's locales have (CSL 1.0.2, Terms and Locale).
+use Rattle.std.specs.Prelude.{ℕ, Bool, true, false, ◌&&◌, List, [], ◌∷◌, Option, None, option_map, option_and_then, unwrap_or, find, if◌then◌else◌}
+use denote.Enum.Bare.{sameb}
+use Rattle.lit_model.specs.declared.numeric.GrammarGender.{GrammarGender}
+use Rattle.csl_style.specs.declared.term.Term.{Term}
+use Rattle.csl_style.specs.declared.term.TermForm.{TermForm}
+use Rattle.csl_style.specs.declared.term.TermForm.TheVariants.{Long, Short, Verb, VerbShort, Symbol}
+use Rattle.csl_style.specs.contracts.term.TermPartialEq.TheImpl.{eq-value}
+use Rattle.csl_style.specs.contracts.term.TermForm.{the_type}
+use Rattle.csl_style.specs.Locale.{TermView, first_some}
+
+-- the two terms are one, as `==` has it
+abbrev pub same_term : Term → Term → Bool
+same_term = eq-value.it
+
+-- the forms in which a term is looked for, in this order
+abbrev pub forms_for : TermForm → List TermForm
+forms_for Long = Long ∷ []
+forms_for Short = Short ∷ Long ∷ []
+forms_for Verb = Verb ∷ Long ∷ []
+forms_for VerbShort = VerbShort ∷ Verb ∷ Long ∷ []
+forms_for Symbol = Symbol ∷ Short ∷ Long ∷ []
+
+-- it is the term in that form
+abbrev pub is_term : Term → TermForm → TermView → Bool
+is_term term form t = same_term t.term term && sameb the_type t.form form
+
+-- the first of the term in that form, over the locales in order
+abbrev pub in_form : List (List TermView) → Term → TermForm → Option TermView
+in_form locales term form = first_some (find (is_term term form)) locales
+
+-- the first that is found in the order of the forms
+abbrev pub found_term : List (List TermView) → Term → TermForm → Option TermView
+found_term locales term form = first_some (in_form locales term) (forms_for form)
+
+-- its text for one, or for several where it has another
+abbrev pub numbered : Bool → TermView → List ℕ
+numbered plural t = if plural then unwrap_or t.multiple t.single else t.single
+
+-- the text of the term
+abbrev pub term_text : List (List TermView) → Term → TermForm → Bool → Option (List ℕ)
+term_text locales term form plural = option_map (numbered plural) (found_term locales term form)
+
+-- the gender, where it is the term in the long form
+abbrev pub long_gender : Term → TermView → Option GrammarGender
+long_gender term t = if is_term term Long t then t.gender else None
+
+-- the gender of what the term names: the first that the term has in the long form, over the locales in order
+abbrev pub term_gender : List (List TermView) → Term → Option GrammarGender
+term_gender locales term = first_some (first_some (long_gender term)) locales

@@ -1,0 +1,106 @@
+ghost use Rattle.std.specs.Prelude.{◌≡◌, ◌↔◌, IsTrue};
+ghost use Rattle.std.specs.declared.cmp.Ordering.TheVariants.{Equal};
+
+use super::*;
+use std::cmp::Ordering;
+
+/// Whether the two variables are equal: they are where they are one.
+fn same_variable(a: &Variable, b: &Variable) -> bool
+    ensures { IsTrue result ↔ (a.now ≡ b.now) }
+{
+    *a == *b
+}
+
+/// The same for kinds.
+fn same_kind(a: &Kind, b: &Kind) -> bool
+    ensures { IsTrue result ↔ (a.now ≡ b.now) }
+{
+    *a == *b
+}
+
+/// How the two variables stand in order: as equals where they are one.
+fn order(a: &Variable, b: &Variable) -> Ordering
+    ensures { (result ≡ Equal) ↔ (a.now ≡ b.now) }
+{
+    a.cmp(b)
+}
+
+#[test]
+fn kinds_by_their_names(rt: HostRuntime) {
+    for (name, kind) in [
+        ("article", Kind::Article),
+        ("article-journal", Kind::ArticleJournal),
+        ("article-magazine", Kind::ArticleMagazine),
+        ("article-newspaper", Kind::ArticleNewspaper),
+        ("bill", Kind::Bill),
+        ("book", Kind::Book),
+        ("broadcast", Kind::Broadcast),
+        ("chapter", Kind::Chapter),
+        ("classic", Kind::Classic),
+        ("collection", Kind::Collection),
+        ("dataset", Kind::Dataset),
+        ("document", Kind::Document),
+        ("entry", Kind::Entry),
+        ("entry-dictionary", Kind::EntryDictionary),
+        ("entry-encyclopedia", Kind::EntryEncyclopedia),
+        ("event", Kind::Event),
+        ("figure", Kind::Figure),
+        ("graphic", Kind::Graphic),
+        ("hearing", Kind::Hearing),
+        ("interview", Kind::Interview),
+        ("legal_case", Kind::LegalCase),
+        ("legislation", Kind::Legislation),
+        ("manuscript", Kind::Manuscript),
+        ("map", Kind::Map),
+        ("motion_picture", Kind::MotionPicture),
+        ("musical_score", Kind::MusicalScore),
+        ("pamphlet", Kind::Pamphlet),
+        ("paper-conference", Kind::PaperConference),
+        ("patent", Kind::Patent),
+        ("performance", Kind::Performance),
+        ("periodical", Kind::Periodical),
+        ("personal_communication", Kind::PersonalCommunication),
+        ("post", Kind::Post),
+        ("post-weblog", Kind::PostWeblog),
+        ("regulation", Kind::Regulation),
+        ("report", Kind::Report),
+        ("review", Kind::Review),
+        ("review-book", Kind::ReviewBook),
+        ("software", Kind::Software),
+        ("song", Kind::Song),
+        ("speech", Kind::Speech),
+        ("standard", Kind::Standard),
+        ("thesis", Kind::Thesis),
+        ("treaty", Kind::Treaty),
+        ("webpage", Kind::Webpage),
+    ] {
+        assert!(rt; Kind::from_name(name) == Some(kind), "{name}");
+    }
+}
+
+#[test]
+fn other_names_are_no_kinds(rt: HostRuntime) {
+    for name in [
+        "comic",
+        "",
+        "Article",
+        "article-",
+        "article_journal",
+        "legal-case",
+    ] {
+        assert!(rt; Kind::from_name(name).is_none(), "{name}");
+    }
+}
+
+#[test]
+fn variables_are_equal_where_they_are_one(rt: HostRuntime) {
+    let title = Variable::Standard(StandardVariable::Title);
+    let issued = Variable::Date(DateVariable::Issued);
+    assert!(rt; same_variable(&title, &title));
+    assert!(rt; !same_variable(&title, &issued));
+    assert!(rt; !same_variable(&title, &Variable::Standard(StandardVariable::TitleShort)));
+    assert!(rt; order(&title, &title) == Ordering::Equal);
+    assert!(rt; order(&title, &issued) == Ordering::Less);
+    assert!(rt; same_kind(&Kind::Book, &Kind::Book));
+    assert!(rt; !same_kind(&Kind::Book, &Kind::ReviewBook));
+}
