@@ -1,5 +1,5 @@
 -- A derived comparison of two values of an enum, as `==` or `cmp`, gives the answer for one value exactly where they are one.
-use Rattle.std.proofs.Common.{◌≡◌, ◌↔◌, List, [], ◌∷◌, ◌⊎◌, inl, inr, refl, ap, ◌∙◌}
+use Rattle.std.proofs.Common.{◌≡◌, ◌↔◌, ℕ, zero, suc, List, [], ◌∷◌, inl, inr, refl, ap}
 use denote.Struct.Field.{Field}
 use denote.Struct.Values.{Values}
 use denote.Enum.Declared.{Choice, Record, values_one, left_or, right_or}
@@ -35,3 +35,12 @@ module _ {A : Type 0} (r before after : A) where
   pub alone : {V : Type 0} (compare : V → V → A) → ((x y : V) → (compare x y ≡ r) ↔ (x ≡ y)) → (x y : V × Unit {0}) → (compare x.0 y.0 ≡ r) ↔ (x ≡ y)
   alone {V} compare t x y =
       let e = t x.0 y.0 in (λ h. ap (λ (v : V). let p : V × Unit {0} = (v, tt) in p) (e.0 h), λ h. e.1 (ap (λ (p : V × Unit {0}). p.0) h))
+
+-- n times the same proof, as for n variants without a field
+abbrev pub Copies : Type 0 → ℕ → Type 0
+Copies U zero = Unit {0}
+Copies U (suc n) = U × Copies U n
+
+pub copies : {U : Type 0} → U → (n : ℕ) → Copies U n
+copies u zero = tt
+copies u (suc n) = (u, copies u n)
