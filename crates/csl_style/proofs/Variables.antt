@@ -1,19 +1,32 @@
 -- `==` and the order of variables tell which are one.
-use Rattle.std.proofs.Common.{◌≡◌, ap, rules}
+use Rattle.std.proofs.Common.{◌≡◌, ◌↔◌, true, false, rules}
+use Rattle.std.proofs.lemmas.Bool.{false≢true}
+use Rattle.std.specs.declared.cmp.Ordering.TheVariants.{Less, Equal, Greater}
 use Rattle.std.specs.Bool.{Decides}
 use Rattle.csl_style.specs.declared.taxonomy.Variable.{Variable}
-use Rattle.csl_style.specs.declared.taxonomy.Variable.TheVariants.{Standard, Number, Page, Date, Name}
+use Rattle.csl_style.specs.contracts.taxonomy.Variable.{enum as variables}
+use Rattle.csl_style.specs.contracts.taxonomy.VariableOrd.TheImpl.{cmp-value as cmp_variable}
 use Rattle.csl_style.specs.declared.taxonomy.StandardVariable.{StandardVariable}
 use Rattle.csl_style.specs.declared.taxonomy.NumberVariable.{NumberVariable}
 use Rattle.csl_style.specs.declared.taxonomy.PageVariable.{PageVariable}
 use Rattle.csl_style.specs.declared.taxonomy.DateVariable.{DateVariable}
 use Rattle.csl_style.specs.declared.taxonomy.NameVariable.{NameVariable}
 use Rattle.csl_style.specs.contracts.taxonomy.VariablePartialEq.TheImpl.{eq-value as eq_variable}
+use Rattle.csl_style.specs.contracts.taxonomy.StandardVariable.{enum as standards}
+use Rattle.csl_style.specs.contracts.taxonomy.StandardVariableOrd.TheImpl.{cmp-value as cmp_standard}
 use Rattle.csl_style.specs.contracts.taxonomy.StandardVariablePartialEq.TheImpl.{eq-value as eq_standard}
+use Rattle.csl_style.specs.contracts.taxonomy.NumberVariable.{enum as numbers}
+use Rattle.csl_style.specs.contracts.taxonomy.NumberVariableOrd.TheImpl.{cmp-value as cmp_number}
 use Rattle.csl_style.specs.contracts.taxonomy.NumberVariablePartialEq.TheImpl.{eq-value as eq_number}
+use Rattle.csl_style.specs.contracts.taxonomy.PageVariableOrd.TheImpl.{cmp-value as cmp_page}
 use Rattle.csl_style.specs.contracts.taxonomy.PageVariablePartialEq.TheImpl.{eq-value as eq_page}
+use Rattle.csl_style.specs.contracts.taxonomy.DateVariable.{enum as dates}
+use Rattle.csl_style.specs.contracts.taxonomy.DateVariableOrd.TheImpl.{cmp-value as cmp_date}
 use Rattle.csl_style.specs.contracts.taxonomy.DateVariablePartialEq.TheImpl.{eq-value as eq_date}
+use Rattle.csl_style.specs.contracts.taxonomy.NameVariable.{enum as names}
+use Rattle.csl_style.specs.contracts.taxonomy.NameVariableOrd.TheImpl.{cmp-value as cmp_name}
 use Rattle.csl_style.specs.contracts.taxonomy.NameVariablePartialEq.TheImpl.{eq-value as eq_name}
+use Rattle.csl_style.proofs.Alike.{values_tell, bare, alone, copies}
 
 pub standard_decides : (a b : StandardVariable) → Decides (eq_standard.it a b) (a ≡ b)
 standard_decides a b = search rules
@@ -31,9 +44,26 @@ pub name_decides : (a b : NameVariable) → Decides (eq_name.it a b) (a ≡ b)
 name_decides a b = search rules
 
 pub variable_decides : (a b : Variable) → Decides (eq_variable.it a b) (a ≡ b)
-variable_decides (Standard x) (Standard y) = let d = standard_decides x y in (λ h. ap Standard (d.0 h), λ h. let e : x ≡ y = cc in d.1 e)
-variable_decides (Number x) (Number y) = let d = number_decides x y in (λ h. ap Number (d.0 h), λ h. let e : x ≡ y = cc in d.1 e)
-variable_decides (Page x) (Page y) = let d = page_decides x y in (λ h. ap Page (d.0 h), λ h. let e : x ≡ y = cc in d.1 e)
-variable_decides (Date x) (Date y) = let d = date_decides x y in (λ h. ap Date (d.0 h), λ h. let e : x ≡ y = cc in d.1 e)
-variable_decides (Name x) (Name y) = let d = name_decides x y in (λ h. ap Name (d.0 h), λ h. let e : x ≡ y = cc in d.1 e)
-variable_decides a b = ((λ h. cc), λ h. cc)
+variable_decides a b =
+    values_tell true false false false≢true false≢true variables _
+    (alone true false false eq_standard.it standard_decides, (alone true false false eq_number.it number_decides, (alone true false false eq_page.it page_decides, (alone true false false eq_date.it date_decides, (alone true false false eq_name.it name_decides, tt))))) a b
+
+standard_ordered : (a b : StandardVariable) → (cmp_standard.it a b ≡ Equal) ↔ (a ≡ b)
+standard_ordered a b = values_tell Equal Less Greater (λ e. cc) (λ e. cc) standards _ (copies (bare Equal Less Greater) 47) a b
+
+number_ordered : (a b : NumberVariable) → (cmp_number.it a b ≡ Equal) ↔ (a ≡ b)
+number_ordered a b = values_tell Equal Less Greater (λ e. cc) (λ e. cc) numbers _ (copies (bare Equal Less Greater) 17) a b
+
+page_ordered : (a b : PageVariable) → (cmp_page.it a b ≡ Equal) ↔ (a ≡ b)
+page_ordered a b = search rules
+
+date_ordered : (a b : DateVariable) → (cmp_date.it a b ≡ Equal) ↔ (a ≡ b)
+date_ordered a b = values_tell Equal Less Greater (λ e. cc) (λ e. cc) dates _ (copies (bare Equal Less Greater) 6) a b
+
+name_ordered : (a b : NameVariable) → (cmp_name.it a b ≡ Equal) ↔ (a ≡ b)
+name_ordered a b = values_tell Equal Less Greater (λ e. cc) (λ e. cc) names _ (copies (bare Equal Less Greater) 27) a b
+
+pub variable_ordered : (a b : Variable) → (cmp_variable.it a b ≡ Equal) ↔ (a ≡ b)
+variable_ordered a b =
+    values_tell Equal Less Greater (λ e. cc) (λ e. cc) variables _
+    (alone Equal Less Greater cmp_standard.it standard_ordered, (alone Equal Less Greater cmp_number.it number_ordered, (alone Equal Less Greater cmp_page.it page_ordered, (alone Equal Less Greater cmp_date.it date_ordered, (alone Equal Less Greater cmp_name.it name_ordered, tt))))) a b

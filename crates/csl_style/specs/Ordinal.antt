@@ -1,5 +1,5 @@
 -- The ordinals of a style's locales (CSL 1.0.2, Ordinals and Gender-specific Ordinals).
-use Rattle.std.specs.Prelude.{ℕ, ◌%◌, Bool, true, false, ◌&&◌, ◌==◌, nat_lt, nat_le, List, [], ◌∷◌, ℤ, unsigned_abs, Option, Some, None, option_map, find, if◌then◌else◌}
+use Rattle.std.specs.Prelude.{ℕ, ◌%◌, Bool, false, ◌&&◌, ◌==◌, nat_lt, nat_le, List, [], ◌∷◌, unsigned_abs, Option, Some, None, option_map, find, if◌then◌else◌}
 use Rattle.std.specs.Option.{option_or, option_eq}
 use denote.Enum.Bare.{sameb}
 use Rattle.lit_model.specs.declared.numeric.GrammarGender.{GrammarGender}

@@ -1,5 +1,5 @@
 -- The term that a style's locales have (CSL 1.0.2, Terms and Locale).
-use Rattle.std.specs.Prelude.{ℕ, Bool, true, false, ◌&&◌, List, [], ◌∷◌, Option, None, option_map, option_and_then, unwrap_or, find, if◌then◌else◌}
+use Rattle.std.specs.Prelude.{ℕ, Bool, ◌&&◌, List, [], ◌∷◌, Option, None, option_map, unwrap_or, find, if◌then◌else◌}
 use denote.Enum.Bare.{sameb}
 use Rattle.lit_model.specs.declared.numeric.GrammarGender.{GrammarGender}
 use Rattle.csl_style.specs.declared.term.Term.{Term}

@@ -1,4 +1,4 @@
-use Rattle.std.proofs.Common.{◌≡◌, map, sym, ap, ◌∙◌, slice_index_or, Option, None, Some, option_map}
+use Rattle.std.proofs.Common.{◌≡◌, map, sym, ap, ◌∙◌, slice_index_or, None, Some, option_map}
 use Rattle.csl_style.specs.Locale.{term_view, terms_of, first_some}
 use Rattle.csl_style.specs.Term.{in_form}
 use Rattle.csl_style.specs.declared.term.TermForm.TheVariants.{Long}

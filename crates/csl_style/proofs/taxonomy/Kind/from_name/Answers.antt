@@ -1,6 +1,5 @@
 -- Where no name fitted, each kind's name is another.
-use Rattle.std.proofs.Common.{◌≡◌, Option, None, Some}
-use Rattle.csl_style.specs.declared.taxonomy.Kind.{Kind}
+use Rattle.std.proofs.Common.{◌≡◌, None, Some}
 use Rattle.csl_style.specs.declared.taxonomy.Kind.TheVariants as kinds
 use Rattle.csl_style.specs.Taxonomy.{name_of}
 use Rattle.csl_style.proofs.taxonomy.Kind.from_name.Goals as goal
