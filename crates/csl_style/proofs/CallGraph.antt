@@ -1,11 +1,11 @@
 -- What leads to what, by names and by places.
-use Rattle.std.proofs.Common.{◌≡◌, ℕ, ◌<◌, List, length, slice_index, Option, Some, None, option_map, true, refl, sym, ap, ◌∙◌, subst, arith, Contains}
+use Rattle.std.proofs.Common.{◌≡◌, ℕ, List, length, slice_index, Option, Some, None, option_map, true, refl, sym, ◌∙◌, subst, arith, Contains}
 use Rattle.std.proofs.lemmas.Bool.Decides.{nat_tests}
-use Rattle.csl_style.specs.Reaches.{Graph, HasEdge, Reaches, along_edge, along_edges, row_at, HasRanks, ArePlaceRanks, IsFirstCyclicPlace}
+use Rattle.csl_style.specs.Reaches.{Graph, HasEdge, Reaches, along_edge, along_edges, HasRanks, ArePlaceRanks, IsFirstCyclicPlace}
 use Rattle.csl_style.specs.View.{Definition}
 use Rattle.csl_style.specs.Meaning.{place, body, rank_of, is_below, body_below, IsAcyclic}
 use Rattle.csl_style.specs.Leads.{OneCalls, BodyCalls, Leads, at_once, by_way_of}
-use Rattle.csl_style.specs.Calls.{all_called, name_at, children_at, IsCallGraph}
+use Rattle.csl_style.specs.Calls.{name_at, children_at, IsCallGraph}
 use Rattle.csl_style.specs.Cyclic.{IsFirstCyclic}
 use Rattle.csl_style.proofs.Edges.{edge-from}
 use Rattle.csl_style.proofs.Meanings.{body-none}

@@ -5,7 +5,7 @@ use Rattle.std.specs.Str.{bytes_eq}
 use Rattle.std.proofs.lemmas.Bool.Decides.{nat_tests}
 use Rattle.std.proofs.lemmas.Slice.Eq.{bytes_eq-Decides}
 use Rattle.std.proofs.lemmas.List.Elements.{Contains-get_or, Contains-append_left, Contains-append_right, Contains-append_cases}
-use Rattle.csl_style.specs.Reaches.{Graph, InRange, row_at, HasEdge}
+use Rattle.csl_style.specs.Reaches.{Graph, InRange, row_at}
 use Rattle.csl_style.specs.Node.{Node, text, call, number, label, date, names, choose, group, Nodes, no_nodes, node, Branches, no_branches, otherwise, branch, Substitutes, no_substitutes, substitute}
 use Rattle.csl_style.specs.View.{Definition, definitions, views}
 use Rattle.csl_style.specs.Meaning.{place, body, is_below, calls_below, all_below, branches_below, substitutes_below}

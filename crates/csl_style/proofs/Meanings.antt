@@ -1,12 +1,10 @@
 -- A name means what the first macro of that name means, in an acyclic style.
-use Rattle.std.proofs.Common.{◌≡◌, ℕ, zero, suc, ◌<◌, ◌≤◌, ◌+◌, List, [], ◌∷◌, length, slice_index, Option, Some, None, option_map, Bool, true, false, if◌then◌else◌, refl, sym, ap, ap₂, ◌∙◌, subst, ◌&&◌, arith, rules, drop, get_or, string_bytes}
+use Rattle.std.proofs.Common.{◌≡◌, ℕ, zero, suc, ◌≤◌, List, [], ◌∷◌, length, slice_index, Option, Some, None, option_map, Bool, true, false, if◌then◌else◌, refl, sym, ap, ap₂, ◌∙◌, ◌&&◌, arith}
 use Rattle.std.proofs.lemmas.Bool.Decides.{nat_tests}
 use Rattle.std.specs.Str.{bytes_eq}
-use Rattle.std.proofs.lemmas.List.{drop_more}
-use Rattle.csl_style.specs.Node.{Node, text, call, number, label, date, names, choose, group, Nodes, no_nodes, node, Branches, no_branches, otherwise, branch, Substitutes, no_substitutes, substitute, Full, Fulls, none, more, named, chosen, grouped, Cases, else_case, case, Insteads, instead, fill, fills, fill_branches, fill_substitutes, fill_within, fill_call, within}
+use Rattle.csl_style.specs.Node.{Node, text, call, number, label, date, names, choose, group, Nodes, no_nodes, node, Branches, no_branches, otherwise, branch, Substitutes, no_substitutes, substitute, Fulls, more, named, chosen, grouped, else_case, case, instead, fill, fills, fill_branches, fill_substitutes, fill_within, fill_call, within}
 use Rattle.csl_style.specs.Names.{NamesNode}
-use Rattle.csl_style.specs.View.{Definition, definitions, views}
-use Rattle.csl_style.specs.declared.element.CslMacro.{CslMacro}
+use Rattle.csl_style.specs.View.{Definition}
 use Rattle.csl_style.specs.Meaning.{place, body, followed, meaning, rank_of, is_below, calls_below, all_below, branches_below, substitutes_below, body_below, AreRanks, IsAcyclic}
 
 -- two ways to read names that agree on the calls below a rank
@@ -88,7 +86,7 @@ module _ (ds : List Definition) (ranks : List ℕ) (ok : AreRanks ds ranks) wher
   deep-enough (suc bound) (suc n) zero name (Some at) e h ln lm = absurd (omega arith)
   deep-enough (suc bound) (suc n) (suc m) name (Some at) e h ln lm =
       let same : (other : List ℕ) → is_below (rank_of ranks ds other) (slice_index ranks at) ≡ true → followed ds n other ≡ followed ds m other =
-          λ other below. deep-enough bound n m other (place other ds) refl (below-more (rank_of ranks ds other) (slice_index ranks at) bound below (grind (arith, nat_tests))) (omega arith) (omega arith) in
+      λ other below. deep-enough bound n m other (place other ds) refl (below-more (rank_of ranks ds other) (slice_index ranks at) bound below (grind (arith, nat_tests))) (omega arith) (omega arith) in
       body-agree (rank_of ranks ds) (slice_index ranks at) (followed ds n) (followed ds m) same (body name ds) (ok.fall name (slice_index ranks at) (ap (option_map (slice_index ranks)) e))
 
 pub meaning-unfolds : (ds : List Definition) (name : List ℕ) → IsAcyclic ds → meaning ds name ≡ option_map (fills (meaning ds)) (body name ds)

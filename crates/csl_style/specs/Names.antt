@@ -1,5 +1,5 @@
 -- How a names node writes its persons (CSL 1.0.2, Names, Name, Et-al, Label, Substitute, Inheritable Name Options), as data.
-use Rattle.std.specs.Prelude.{ℕ, Bool, true, false, ◌&&◌, List, [], ◌∷◌, map, Option, Some, None, is_none, String, string_bytes}
+use Rattle.std.specs.Prelude.{ℕ, Bool, List, [], ◌∷◌, map, Option, Some, None}
 use Rattle.std.specs.Option.{option_or}
 use Rattle.csl_style.specs.declared.formatting.Formatting.{Formatting}
 use Rattle.csl_style.specs.declared.taxonomy.NameVariable.{NameVariable}
@@ -12,7 +12,7 @@ use Rattle.csl_style.specs.declared.names.NamePart.{NamePart}
 use Rattle.csl_style.specs.declared.names.Name.{Name}
 use Rattle.csl_style.specs.declared.names.EtAl.{EtAl}
 use Rattle.csl_style.specs.NameOptions.{SetOptions, own_options, options_over}
-use Rattle.csl_style.specs.Dressing.{AffixTexts, affix_texts, Dressing, dressing_over, text_if}
+use Rattle.csl_style.specs.Dressing.{AffixTexts, affix_texts, Dressing, dressing_over}
 
 pub record NamePartNode : Type 0 where
   pub name : NamePartName

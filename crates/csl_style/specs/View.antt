@@ -1,10 +1,10 @@
 -- The node that each value of a style stands for. Nothing else matches on the declared values.
-use Rattle.std.specs.Prelude.{ℕ, Bool, true, false, List, [], ◌∷◌, map, Option, Some, None, option_map, String, Vec, string_bytes}
+use Rattle.std.specs.Prelude.{ℕ, Bool, true, false, List, [], ◌∷◌, map, Option, Some, None, option_map, Vec, string_bytes}
 use Rattle.std.specs.declared.alloc.Global.{Global}
-use Rattle.csl_style.specs.Dressing.{AffixTexts, affix_texts, Dressing, dressed_in, TextDressing, text_if}
+use Rattle.csl_style.specs.Dressing.{affix_texts, dressed_in, TextDressing, text_if}
 use Rattle.csl_style.specs.NameOptions.{own_options}
-use Rattle.csl_style.specs.Names.{NameNode, view_name, EtAlNode, view_et_al, LabelNode, view_label, NamesLabel, NamesNode}
-use Rattle.csl_style.specs.Node.{Target, of_variable, of_term, of_value, NumberNode, DatePartNode, DateNode, Tests, Node, text, call, number, label, date, names, choose, group, Nodes, no_nodes, node, Branches, no_branches, otherwise, branch, Substitutes, no_substitutes, substitute, LayoutNode}
+use Rattle.csl_style.specs.Names.{NameNode, view_name, EtAlNode, view_et_al, LabelNode, view_label, NamesLabel}
+use Rattle.csl_style.specs.Node.{of_variable, of_term, of_value, NumberNode, DatePartNode, DateNode, Tests, Node, text, call, number, label, date, names, choose, group, Nodes, no_nodes, node, Branches, no_branches, otherwise, branch, Substitutes, no_substitutes, substitute, LayoutNode}
 use Rattle.csl_style.specs.declared.text.Text.{Text}
 use Rattle.csl_style.specs.declared.text.TextTarget.{TextTarget}
 use Rattle.csl_style.specs.declared.text.TextTarget.TheVariants as target

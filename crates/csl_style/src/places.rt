@@ -4,7 +4,15 @@ ghost use Rattle.std.specs.Prelude.{◌≡◌, ◌<◌, [], ◌∷◌, ◌++◌,
 ghost use Rattle.std.specs.Option.{option_to_list};
 ghost use Rattle.csl_style.specs.Reaches.{InRange};
 ghost use Rattle.csl_style.specs.View.{
-    definitions, view, view_choose, view_branch, view_names, view_child, views, branches_of, substitutes,
+  definitions,
+  view,
+  view_choose,
+  view_branch,
+  view_names,
+  view_child,
+  views,
+  branches_of,
+  substitutes,
 };
 ghost use Rattle.csl_style.specs.Meaning.{place};
 ghost use Rattle.csl_style.specs.Calls.{called, all_called, branches_called, substitutes_called, IsCallGraph};
@@ -27,11 +35,7 @@ fn place(name: &str, macros: &[CslMacro]) -> Option<usize>
 }
 
 /// Adds the place of the first macro of a name, where there is one.
-fn add_place(
-    name: &str,
-    macros: &[CslMacro],
-    places: &mut Vec<usize>,
-) -> Result<(), AllocError>
+fn add_place(name: &str, macros: &[CslMacro], places: &mut Vec<usize>) -> Result<(), AllocError>
     ensures { OnOk result (places.new.items ≡ places.old.items ++ option_to_list (place name.now (definitions macros.now))) }
 {
     match place(name, macros) {

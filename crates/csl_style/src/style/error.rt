@@ -29,9 +29,7 @@ impl fmt::Display for StyleError {
             StyleError::CyclicMacro(name) => {
                 write!(f, "the macro '{}' leads back to itself", name)
             }
-            StyleError::ChicagoPageFormat => {
-                write!(f, "Chicago page formats are not supported")
-            }
+            StyleError::ChicagoPageFormat => { write!(f, "Chicago page formats are not supported") }
         }
     }
 }

@@ -1,8 +1,7 @@
 use super::*;
 use crate::affixes::Affixes;
 use crate::element::{
-    Choose, ChooseBranch, ChooseMatch, Group, LayoutRenderingElement, Names, NamesChild,
-    Substitute,
+    Choose, ChooseBranch, ChooseMatch, Group, LayoutRenderingElement, Names, NamesChild, Substitute,
 };
 use crate::formatting::Formatting;
 use crate::names::InheritableNameOptions;
@@ -83,9 +82,7 @@ fn names_or(
     let mut variable = Vec::new(alloc);
     variable.push(NameVariable::Author)?;
     let mut names = Vec::new(alloc);
-    names.push(NamesChild::Substitute(Substitute {
-        children,
-    }))?;
+    names.push(NamesChild::Substitute(Substitute { children }))?;
     Ok(LayoutRenderingElement::Names(Names {
         variable,
         children: names,
@@ -182,9 +179,7 @@ fn a_hidden_macro_makes_no_cycle(rt: HostRuntime) -> Result<(), Fail> {
 }
 
 #[test]
-fn a_substitute_in_a_branch_returns_before_the_pages_count(
-    rt: HostRuntime,
-) -> Result<(), Fail> {
+fn a_substitute_in_a_branch_returns_before_the_pages_count(rt: HostRuntime) -> Result<(), Fail> {
     let alloc = rt.alloc();
     let again = vec![in alloc; call(alloc, "a")?]?;
     let names = vec![in alloc; names_or(alloc, again)?]?;
@@ -203,11 +198,23 @@ fn a_substitute_in_a_branch_returns_before_the_pages_count(
 fn chicago_pages_are_refused(rt: HostRuntime) -> Result<(), Fail> {
     let alloc = rt.alloc();
     let text = "Chicago page formats are not supported";
-    let older = refused(alloc, with_format(PageRangeFormat::Chicago15), Vec::new(alloc))?;
+    let older = refused(
+        alloc,
+        with_format(PageRangeFormat::Chicago15),
+        Vec::new(alloc),
+    )?;
     assert_eq!(rt; older.as_deref(), Some(text));
-    let newer = refused(alloc, with_format(PageRangeFormat::Chicago16), Vec::new(alloc))?;
+    let newer = refused(
+        alloc,
+        with_format(PageRangeFormat::Chicago16),
+        Vec::new(alloc),
+    )?;
     assert_eq!(rt; newer.as_deref(), Some(text));
-    let minimal = refused(alloc, with_format(PageRangeFormat::Minimal), Vec::new(alloc))?;
+    let minimal = refused(
+        alloc,
+        with_format(PageRangeFormat::Minimal),
+        Vec::new(alloc),
+    )?;
     assert!(rt; minimal.is_none());
     Ok(())
 }
@@ -273,11 +280,16 @@ fn a_style_hands_out_what_it_was_made_of(rt: HostRuntime) -> Result<(), Fail> {
     let settings = with_format(PageRangeFormat::MinimalTwo);
     let style = Style::new(alloc, settings, macros, cite, Some(entry), locales)?;
     style.acyclic();
-    assert_eq!(rt; style.settings().page_range_format, Some(PageRangeFormat::MinimalTwo));
+    assert_eq!(rt;
+        style.settings().page_range_format,
+        Some(PageRangeFormat::MinimalTwo)
+    );
     assert!(rt; style.settings().initialize_with_hyphen);
     assert_eq!(rt; style.macros().len(), 3);
     assert_eq!(rt; only_value(&style.citation().elements), Some("cite"));
-    let entry = style.bibliography().and_then(|layout| only_value(&layout.elements));
+    let entry = style
+        .bibliography()
+        .and_then(|layout| only_value(&layout.elements));
     assert_eq!(rt; entry, Some("entry"));
     assert_eq!(rt; style.locales().len(), 1);
     assert!(rt; style.locales()[0].punctuation_in_quote);

@@ -1,4 +1,4 @@
-use Rattle.std.proofs.Common.{◌≡◌, ℕ, ◌<◌, None, IfSome, length, string_bytes, true, sym, ap, ◌∙◌, subst, arith, rules}
+use Rattle.std.proofs.Common.{◌≡◌, ◌<◌, None, IfSome, length, string_bytes, sym, ap, ◌∙◌, subst, arith, rules}
 use Rattle.csl_style.specs.Reaches.{Graph, HasRanks, IsFirstCyclicPlace}
 use Rattle.csl_style.specs.declared.element.CslMacro.{CslMacro}
 use Rattle.csl_style.specs.View.{definitions}

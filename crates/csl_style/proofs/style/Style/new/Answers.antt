@@ -1,4 +1,4 @@
-use Rattle.std.proofs.Common.{◌≡◌, List, ap, subst, sym, IfErr}
+use Rattle.std.proofs.Common.{◌≡◌, List, subst, sym}
 use Rattle.std.proofs.lemmas.Result.{err_from_is_err_and}
 use Rattle.csl_style.specs.declared.element.CslMacro.{CslMacro}
 use Rattle.csl_style.specs.View.{definitions}
@@ -11,7 +11,7 @@ pub returns-in_err-find_refusal-clause-refused : goal.returns-in_err-find_refusa
 returns-in_err-find_refusal-clause-refused c =
     let (e, is, same) = err_from_is_err_and c.from_residual.result c.from_residual.ensures.1 in
     let refused : IsRefusal c.args.settings.page_range_format (definitions c.args.macros.items) c.in_err-find_refusal.field-0.0 =
-        subst (λ (ms : List CslMacro). IsRefusal c.args.settings.page_range_format (definitions ms) c.in_err-find_refusal.field-0.0) c.deref.ensures.value c.in_err-find_refusal.ensures.refused in
+    subst (λ (ms : List CslMacro). IsRefusal c.args.settings.page_range_format (definitions ms) c.in_err-find_refusal.field-0.0) c.deref.ensures.value c.in_err-find_refusal.ensures.refused in
     let equal : c.in_err-find_refusal.field-0.0 ≡ e = sym same in
     rw is (subst (IsRefusal c.args.settings.page_range_format (definitions c.args.macros.items)) equal refused)
 
