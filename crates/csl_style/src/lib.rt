@@ -24,7 +24,7 @@ pub use element::{
 pub use formatting::{
     Display, FontStyle, FontVariant, FontWeight, Formatting, TextDecoration, VerticalAlign,
 };
-pub use locale::{Locale, OrdinalMatch, OrdinalSlot, OrdinalTerm, TermEntry};
+pub use locale::{Locale, LocaleOrdinals, OrdinalMatch, OrdinalSlot, OrdinalTerm, TermEntry};
 pub use names::{
     DelimiterBehavior, EtAl, InheritableNameOptions, InheritedNameOptions, Name, NameAnd,
     NameAsSortOrder, NameForm, NameOptions, NamePart, NamePartName,
@@ -39,3 +39,6 @@ pub use taxonomy::{
 };
 pub use term::{OtherTerm, Term, TermForm};
 pub use text::{Text, TextTarget};
+
+#[cfg(test)]
+mod tests;

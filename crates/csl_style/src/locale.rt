@@ -11,6 +11,8 @@ use lit_model::GrammarGender;
 pub(crate) mod lookup;
 pub(crate) mod ordinals;
 
+pub use ordinals::LocaleOrdinals;
+
 /// A term in one form (CSL 1.0.2, Terms).
 #[derive(Drop)]
 pub struct TermEntry {

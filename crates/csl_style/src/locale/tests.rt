@@ -1,3 +1,5 @@
+ghost use Rattle.std.specs.Prelude.{◌≡◌, ◌↔◌, IsTrue};
+
 use super::lookup::{gender, localized_date, term};
 use super::ordinals::{LocaleOrdinals, long_ordinal, ordinal};
 use super::*;
@@ -15,6 +17,13 @@ const AND: Term = Term::Other(OtherTerm::And);
 const VOLUME: Term = Term::Number(NumberVariable::Volume);
 
 const PAGE: Term = Term::Locator(Locator::Page);
+
+/// Whether the two slots are equal: they are where they are one.
+fn same_slot(a: &OrdinalSlot, b: &OrdinalSlot) -> bool
+    ensures { IsTrue result ↔ (a.now ≡ b.now) }
+{
+    *a == *b
+}
 
 /// A locale that says nothing.
 fn silent(alloc: Global) -> Locale {
@@ -252,4 +261,12 @@ fn the_first_date_of_a_form(rt: HostRuntime) -> Result<(), Fail> {
     assert!(rt; matches!(&numeric, Some(date) if date.parts == Some(DateParts::YearMonth)));
     assert!(rt; localized_date(&[], DateForm::Text).is_none());
     Ok(())
+}
+
+#[test]
+fn slots_are_equal_where_they_are_one(rt: HostRuntime) {
+    assert!(rt; same_slot(&OrdinalSlot::Two(3), &OrdinalSlot::Two(3)));
+    assert!(rt; !same_slot(&OrdinalSlot::Two(3), &OrdinalSlot::Two(4)));
+    assert!(rt; !same_slot(&OrdinalSlot::Two(3), &OrdinalSlot::Long(3)));
+    assert!(rt; !same_slot(&OrdinalSlot::Default, &OrdinalSlot::Long(3)));
 }
