@@ -7,3 +7,5 @@ pub mod Rejects
 pub mod MetaEqual
 pub mod Searches
 pub mod Removals
+pub mod Walks
+pub mod LastPlace

@@ -111,3 +111,18 @@ fn remove_any_meta_leaves_the_rest(rt: HostRuntime) -> Result<(), Fail> {
     assert!(rt; tree.remove_any_meta() == None);
     Ok(())
 }
+
+#[test]
+fn last_text_mut_lends_the_last_text(rt: HostRuntime) -> Result<(), Fail> {
+    let alloc = rt.alloc();
+    let inner = elem(None, vec![in alloc; text(alloc, "b")?]?);
+    let mut tree = ElemChildren(vec![in alloc; text(alloc, "a")?, inner]?);
+    if let Some(last) = tree.last_text_mut() {
+        last.text.push_str("c")?;
+    }
+    let inner = elem(None, vec![in alloc; text(alloc, "bc")?]?);
+    assert!(rt; tree == ElemChildren(vec![in alloc; text(alloc, "a")?, inner]?));
+    let mut linked = ElemChildren(vec![in alloc; text(alloc, "a")?, link(alloc, "b")?]?);
+    assert!(rt; linked.last_text_mut() == None);
+    Ok(())
+}
