@@ -9,3 +9,4 @@ pub mod Searches
 pub mod Removals
 pub mod Walks
 pub mod LastPlace
+pub mod NamesPlace

@@ -5,4 +5,5 @@ pub mod Writing
 pub mod Content
 pub mod Stack
 pub mod Places
+pub mod Named
 pub mod Search
