@@ -10,3 +10,4 @@ pub mod Removals
 pub mod Walks
 pub mod LastPlace
 pub mod NamesPlace
+pub mod NamesFirst

@@ -17,7 +17,7 @@ use Rattle.csl_tree.specs.declared.elem.ElemChildren.{ElemChildren}
 use Rattle.csl_tree.specs.Search.{of_names, elem_of}
 use Rattle.csl_tree.proofs.Walks as walks
 
-abbrev layer_found : ElemChild-F ElemChild elem.Elem ElemChildren → Found
+abbrev pub layer_found : ElemChild-F ElemChild elem.Elem ElemChildren → Found
 layer_found (Text t) = absent
 layer_found (Elem e) = find_from (of_names e.meta) (names_find e.children)
 layer_found (Markup s) = absent
@@ -77,7 +77,7 @@ at : (xs : List ElemChild) (j i : ℕ) (p : List ℕ) → first_found j (map fin
 at [] j i p e h = cc
 at (x ∷ xs) j i p e h = at_or x xs (find_of_child x) j i p (first_found (j + 1) (map find_of_child xs)) (λ f. at xs (j + 1) i p f h) refl e h
 
-record Inside (o : Option ElemChildren) (p : List ℕ) : Type 0 where
+pub record Inside (o : Option ElemChildren) (p : List ℕ) : Type 0 where
   pub inner : ElemChildren
   pub is : o ≡ Some inner
   pub found : names_find inner ≡ Some p
@@ -87,7 +87,7 @@ inside_of true d r p e h = cc
 inside_of false d None p e h = cc
 inside_of false d (Some q) p e h = record { inner = d; is = refl; found = e ∙ ap Some (ap below_path h) }
 
-inside : (x : ElemChild-F ElemChild elem.Elem ElemChildren) (p : List ℕ) → layer_found x ≡ below p → Inside (layer_children x) p
+pub inside : (x : ElemChild-F ElemChild elem.Elem ElemChildren) (p : List ℕ) → layer_found x ≡ below p → Inside (layer_children x) p
 inside (Text t) p h = cc
 inside (Elem e) p h = inside_of (of_names e.meta) e.children (names_find e.children) p refl h
 inside (Markup s) p h = cc

@@ -2,7 +2,7 @@
 
 ghost use Rattle.std.specs.Prelude.{◌≡◌, ◌<◌, Some, None, IsTrue, is_some, vec_len, IfSome, IfNone, option_map};
 ghost use Rattle.std.specs.Borrow.{sem};
-ghost use Rattle.csl_tree.specs.Search.{elem_of};
+ghost use Rattle.csl_tree.specs.Search.{preorder, find, is_names, elem_of};
 ghost use Rattle.csl_tree.specs.Places.{child_at};
 ghost use Rattle.csl_tree.specs.Named.{is_here, is_found, find_of_child, found_or, names_find, names_below, names_index, names_items, lends_names_items, lends_names_child, lends_elem, lends_that_names, lends_names, more_here, here_index, first_names};
 
@@ -132,7 +132,7 @@ impl ElemChildren {
     /// reference is given back, nothing else has changed.
     pub fn find_names_mut(&mut self) -> Option<&mut Elem>
         ensures* writes_back { sem 𝓛 (lends_names self.entry result) }
-        ensures value { option_map (λ e. e.now) result ≡ first_names self.old }
+        ensures value { option_map (λ e. e.now) result ≡ find is_names (preorder self.old) }
     {
         if self.names_at().is_some() {
             Some(self.that_names_mut())
