@@ -10,3 +10,7 @@ pub mod RoundSteps
 pub mod MetaEqual
 pub mod Searches
 pub mod Removals
+pub mod Walks
+pub mod LastPlace
+pub mod NamesPlace
+pub mod NamesFirst

@@ -117,10 +117,10 @@ layer_last_is (Markup s) = refl
 layer_last_is (Link t u) = refl
 layer_last_is (Transparent n f) = refl
 
-last_child_out : (k : ElemChild) → last_text_of k ≡ layer_last (out-ElemChild k)
+pub last_child_out : (k : ElemChild) → last_text_of k ≡ layer_last (out-ElemChild k)
 last_child_out k = fold_out-ElemChild last_steps last_steps last_steps child_last elem_last children_last k ∙ layer_last_is (out-ElemChild k)
 
-last_out : (c : ElemChildren) → last_text c ≡ last_of (map last_text_of c.0.items)
+pub last_out : (c : ElemChildren) → last_text c ≡ last_of (map last_text_of c.0.items)
 last_out c = fold_out-ElemChildren last_steps last_steps last_steps child_last elem_last children_last c
 
 -- what the last child, if there is one, has for its last text

@@ -7,4 +7,5 @@ pub mod Stack
 pub mod Tree
 pub mod Simplify
 pub mod Places
+pub mod Named
 pub mod Search

@@ -9,6 +9,7 @@ mod copies;
 mod css;
 pub mod elem;
 pub mod formatting;
+mod named;
 mod places;
 mod search;
 pub mod simplify;

@@ -1,10 +1,14 @@
-//! Places in a tree, lent to be written.
+//! Places in a tree, lent to be written. When the reference is given back, nothing else has
+//! changed.
 
-ghost use Rattle.std.specs.Prelude.{◌≡◌, Some, IsTrue, is_some};
+ghost use Rattle.std.specs.Prelude.{◌≡◌, ◌<◌, Some, IsTrue, is_some, option_map, vec_len};
 ghost use Rattle.std.specs.Borrow.{sem};
-ghost use Rattle.csl_tree.specs.Places.{children_of, lends_children};
+ghost use Rattle.csl_tree.specs.Search.{last_text};
+ghost use Rattle.csl_tree.specs.Places.{children_of, text_of_child, lends_children, lends_text, child_at, lends_items};
+ghost use Rattle.csl_tree.specs.Places.{last, ends_in_elem, last_items, lends_last_child, lends_last_items, lends_last_text, lends_that_text};
 
 use crate::elem::{ElemChild, ElemChildren};
+use crate::formatting::Formatted;
 
 impl ElemChild {
     /// The children of an element, to be written.
@@ -16,6 +20,86 @@ impl ElemChild {
         match self {
             ElemChild::Elem(elem) => &mut elem.children,
             _ => unreachable!(),
+        }
+    }
+
+    /// The text of a text, to be written.
+    fn text_mut(&mut self) -> &mut Formatted
+        requires { IsTrue (is_some (text_of_child self.old)) }
+        ensures* writes_back { sem 𝓛 (lends_text self.entry result) }
+        ensures value { Some result.now ≡ text_of_child self.old }
+    {
+        match self {
+            ElemChild::Text(text) => text,
+            _ => unreachable!(),
+        }
+    }
+}
+
+impl ElemChildren {
+    /// Whether the last child is an element.
+    fn ends_in_elem(&mut self) -> bool
+        ensures value { result ≡ ends_in_elem self.old }
+        ensures unchanged { self.new ≡ self.old }
+    {
+        match self.0.last() {
+            Some(ElemChild::Elem(_)) => true,
+            _ => false,
+        }
+    }
+
+    /// The last child, to be written.
+    fn last_child_mut(&mut self) -> &mut ElemChild
+        requires { 0 < vec_len self.old.0 }
+        ensures* writes_back { sem 𝓛 (lends_last_child self.entry result) }
+        ensures value { result.now ≡ child_at self.old (last self.old) }
+    {
+        let last = self.0.len() - 1;
+        &mut self.0[last]
+    }
+
+    /// The list of the children, to be written.
+    pub(crate) fn items_mut(&mut self) -> &mut Vec<ElemChild>
+        ensures* writes_back { sem 𝓛 (lends_items self.entry result) }
+        ensures value { result.now ≡ self.old.0 }
+    {
+        &mut self.0
+    }
+
+    /// The children among which the tree ends, to be written.
+    #[cycle(inner)]
+    fn last_items_mut(&mut self) -> &mut Vec<ElemChild>
+        ensures* writes_back { sem 𝓛 (lends_last_items self.entry result) }
+        ensures value { result.now ≡ last_items self.old }
+    {
+        if self.ends_in_elem() {
+            self.last_child_mut().children_mut().last_items_mut()
+        } else {
+            self.items_mut()
+        }
+    }
+
+    /// The last text, to be written, where there is one.
+    fn that_text_mut(&mut self) -> &mut Formatted
+        requires { IsTrue (is_some (last_text self.old)) }
+        ensures* writes_back { sem 𝓛 (lends_that_text self.entry result) }
+        ensures value { Some result.now ≡ last_text self.old }
+    {
+        let items = self.last_items_mut();
+        let last = items.len() - 1;
+        let child = &mut items[last];
+        child.text_mut()
+    }
+
+    /// The last text, as `last_text` finds it, to be written.
+    pub fn last_text_mut(&mut self) -> Option<&mut Formatted>
+        ensures* writes_back { sem 𝓛 (lends_last_text self.entry result) }
+        ensures value { option_map (λ t. t.now) result ≡ last_text self.old }
+    {
+        if self.last_text().is_some() {
+            Some(self.that_text_mut())
+        } else {
+            None
         }
     }
 }

@@ -111,3 +111,34 @@ fn remove_any_meta_leaves_the_rest(rt: HostRuntime) -> Result<(), Fail> {
     assert!(rt; tree.remove_any_meta() == None);
     Ok(())
 }
+
+#[test]
+fn last_text_mut_lends_the_last_text(rt: HostRuntime) -> Result<(), Fail> {
+    let alloc = rt.alloc();
+    let inner = elem(None, vec![in alloc; text(alloc, "b")?]?);
+    let mut tree = ElemChildren(vec![in alloc; text(alloc, "a")?, inner]?);
+    if let Some(last) = tree.last_text_mut() {
+        last.text.push_str("c")?;
+    }
+    let inner = elem(None, vec![in alloc; text(alloc, "bc")?]?);
+    assert!(rt; tree == ElemChildren(vec![in alloc; text(alloc, "a")?, inner]?));
+    let mut linked = ElemChildren(vec![in alloc; text(alloc, "a")?, link(alloc, "b")?]?);
+    assert!(rt; linked.last_text_mut() == None);
+    Ok(())
+}
+
+#[test]
+fn find_names_mut_lends_the_first(rt: HostRuntime) -> Result<(), Fail> {
+    let alloc = rt.alloc();
+    let mut tree = two_names(alloc)?;
+    if let Some(found) = tree.find_names_mut() {
+        found.meta = Some(ElemMeta::Label);
+    }
+    let inner = elem(Some(ElemMeta::Label), vec![in alloc; text(alloc, "x")?]?);
+    let outer = elem(None, vec![in alloc; inner]?);
+    let later = elem(Some(names(alloc, "y")?), vec![in alloc; text(alloc, "y")?]?);
+    assert!(rt; tree == ElemChildren(vec![in alloc; outer, later]?));
+    let mut none = ElemChildren(vec![in alloc; text(alloc, "a")?]?);
+    assert!(rt; none.find_names_mut() == None);
+    Ok(())
+}

@@ -1,0 +1,149 @@
+-- The place of the first element that a `cs:names` made, lent to be written.
+use Rattle.std.specs.Prelude.{ℕ, ◌+◌, Bool, true, false, List, [], ◌∷◌, Option, Some, None, ◌||◌, if◌then◌else◌}
+use Rattle.std.specs.Borrow.{Fml, MutBor, Lends, LendsIf}
+use Rattle.std.specs.declared.vec.Vec.{Vec}
+use Rattle.std.specs.declared.alloc.Global.{Global}
+use Rattle.csl_tree.specs.Search.{of_names, elem_of}
+use Rattle.csl_tree.specs.Places.{child_at, put_child, get_at, put_at, items_row}
+use Rattle.csl_tree.specs.declared.elem.ElemChild.{ElemChild}
+use Rattle.csl_tree.specs.declared.elem.ElemChild.TheOpen.{ElemChild-F, Elem-F, ElemChildren-F, Text, Elem, Markup, Link, Transparent}
+use Rattle.csl_tree.specs.declared.elem.ElemChild.TheFolds.{fold-ElemChild, fold-ElemChildren}
+use Rattle.csl_tree.specs.declared.elem.ElemChild.TheVariants as variants
+use Rattle.csl_tree.specs.declared.elem.Elem as elem
+use Rattle.csl_tree.specs.declared.elem.ElemChildren.{ElemChildren}
+use Rattle.csl_tree.specs.contracts.elem.ElemChildren as children
+use Rattle.csl_tree.specs.contracts.elem.ElemChild as child
+use Rattle.csl_tree.specs.contracts.elem.Elem as elem_rows
+
+-- where a child has the first element of names: nowhere, it is the one, or below it at the end of a path
+pub data Found : Type 0 where
+  absent : Found
+  here : Found
+  below : List ℕ → Found
+
+abbrev pub find_child : ElemChild-F Found Found (Option (List ℕ)) → Found
+find_child (Text t) = absent
+find_child (Elem r) = r
+find_child (Markup s) = absent
+find_child (Link t u) = absent
+find_child (Transparent n f) = absent
+
+abbrev pub find_inside : Option (List ℕ) → Found
+find_inside None = absent
+find_inside (Some p) = below p
+
+abbrev pub find_from : Bool → Option (List ℕ) → Found
+find_from true r = here
+find_from false r = find_inside r
+
+abbrev pub find_elem : Elem-F Found Found (Option (List ℕ)) → Found
+find_elem e = find_from (of_names e.meta) e.children
+
+-- the path to the children among which the element is, with its index last
+abbrev pub found_or : ℕ → Found → Option (List ℕ) → Option (List ℕ)
+found_or i absent o = o
+found_or i here o = Some (i ∷ [])
+found_or i (below p) o = Some (i ∷ p)
+
+abbrev pub first_found : ℕ → List Found → Option (List ℕ)
+first_found i [] = None
+first_found i (r ∷ rs) = found_or i r (first_found (i + 1) rs)
+
+abbrev pub find_children : ElemChildren-F Found Found (Option (List ℕ)) → Option (List ℕ)
+find_children c = first_found 0 c.0.items
+
+-- the path to the first element of names: an index at each level
+abbrev pub names_find : ElemChildren → Option (List ℕ)
+names_find = fold-ElemChildren Found Found (Option (List ℕ)) find_child find_elem find_children
+
+abbrev pub find_of_child : ElemChild → Found
+find_of_child = fold-ElemChild Found Found (Option (List ℕ)) find_child find_elem find_children
+
+-- the path less its last index
+abbrev pub levels : List ℕ → List ℕ
+levels [] = []
+levels (i ∷ []) = []
+levels (i ∷ j ∷ p) = i ∷ levels (j ∷ p)
+
+abbrev pub some_levels : Option (List ℕ) → List ℕ
+some_levels None = []
+some_levels (Some p) = levels p
+
+abbrev pub names_path : ElemChildren → List ℕ
+names_path c = some_levels (names_find c)
+
+abbrev pub more : List ℕ → Bool
+more [] = false
+more (i ∷ p) = true
+
+abbrev pub head : List ℕ → ℕ
+head [] = 0
+head (i ∷ p) = i
+
+-- whether the element is below a child, and which child that is
+abbrev pub names_below : ElemChildren → Bool
+names_below c = more (names_path c)
+
+abbrev pub names_index : ElemChildren → ℕ
+names_index c = head (names_path c)
+
+abbrev pub names_items : ElemChildren → Vec ElemChild Global
+names_items c = (get_at (names_path c) c).0
+
+abbrev pub put_names_items : ElemChildren → Vec ElemChild Global → ElemChildren
+put_names_items c v = put_at (names_path c) c (record { 0 = v })
+
+abbrev pub lends_names_items : MutBor ElemChildren → MutBor (Vec ElemChild Global) → Fml
+lends_names_items s r = Lends children.the_row items_row s r (put_names_items s.now)
+
+abbrev pub lends_names_child : MutBor ElemChildren → MutBor ElemChild → Fml
+lends_names_child s r = Lends children.the_row child.the_row s r (put_child s.now (names_index s.now))
+
+abbrev pub is_found : Found → Bool
+is_found absent = false
+is_found here = true
+is_found (below p) = true
+
+abbrev pub is_here : Found → Bool
+is_here absent = false
+is_here here = true
+is_here (below p) = false
+
+-- the first child of a list that is an element of names
+abbrev pub more_here : List ElemChild → Bool
+more_here [] = false
+more_here (k ∷ ks) = is_here (find_of_child k) || more_here ks
+
+abbrev pub here_index : List ElemChild → ℕ
+here_index [] = 0
+here_index (k ∷ ks) = if is_here (find_of_child k) then 0 else here_index ks + 1
+
+-- the last index of a path
+abbrev pub end_of : List ℕ → ℕ
+end_of [] = 0
+end_of (i ∷ []) = i
+end_of (i ∷ j ∷ p) = end_of (j ∷ p)
+
+abbrev pub elem_at : Option (List ℕ) → ElemChildren → Option elem.Elem
+elem_at None c = None
+elem_at (Some p) c = elem_of (child_at (get_at (levels p) c) (end_of p))
+
+abbrev pub put_elem_at : Option (List ℕ) → ElemChildren → elem.Elem → ElemChildren
+put_elem_at None c e = c
+put_elem_at (Some p) c e = put_at (levels p) c (put_child (get_at (levels p) c) (end_of p) (variants.Elem e))
+
+-- the first element of names, in preorder, and the tree with another element there
+abbrev pub first_names : ElemChildren → Option elem.Elem
+first_names c = elem_at (names_find c) c
+
+abbrev pub put_first_names : ElemChildren → elem.Elem → ElemChildren
+put_first_names c e = put_elem_at (names_find c) c e
+
+abbrev pub lends_elem : MutBor ElemChild → MutBor elem.Elem → Fml
+lends_elem s r = Lends child.the_row elem_rows.the_row s r (λ e. variants.Elem e)
+
+abbrev pub lends_that_names : MutBor ElemChildren → MutBor elem.Elem → Fml
+lends_that_names s r = Lends children.the_row elem_rows.the_row s r (put_first_names s.now)
+
+abbrev pub lends_names : MutBor ElemChildren → Option (MutBor elem.Elem) → Fml
+lends_names s r = LendsIf children.the_row elem_rows.the_row s r (put_first_names s.now) s.now

@@ -1,0 +1,143 @@
+//! The first element that a `cs:names` made, lent to be written.
+
+ghost use Rattle.std.specs.Prelude.{◌≡◌, ◌<◌, Some, None, IsTrue, is_some, vec_len, IfSome, IfNone, option_map};
+ghost use Rattle.std.specs.Borrow.{sem};
+ghost use Rattle.csl_tree.specs.Search.{preorder, find, is_names, elem_of};
+ghost use Rattle.csl_tree.specs.Places.{child_at};
+ghost use Rattle.csl_tree.specs.Named.{is_here, is_found, find_of_child, found_or, names_find, names_below, names_index, names_items, lends_names_items, lends_names_child, lends_elem, lends_that_names, lends_names, more_here, here_index, first_names};
+
+use crate::elem::{Elem, ElemChild, ElemChildren, ElemMeta};
+
+impl ElemChild {
+    /// Whether a `cs:names` made the child.
+    fn is_names(&self) -> bool
+        ensures { result ≡ is_here (find_of_child self.now) }
+    {
+        match self {
+            ElemChild::Elem(elem) => match elem.meta {
+                Some(ElemMeta::Names(_)) => true,
+                _ => false,
+            },
+            _ => false,
+        }
+    }
+
+    /// Whether a `cs:names` made the child or an element inside it.
+    #[cycle(find)]
+    fn has_names(&self) -> bool
+        ensures { result ≡ is_found (find_of_child self.now) }
+    {
+        if self.is_names() {
+            return true;
+        }
+        match self {
+            ElemChild::Elem(elem) => elem.children.names_at().is_some(),
+            _ => false,
+        }
+    }
+
+    /// The element of an element, to be written.
+    fn elem_mut(&mut self) -> &mut Elem
+        requires { IsTrue (is_here (find_of_child self.old)) }
+        ensures* writes_back { sem 𝓛 (lends_elem self.entry result) }
+        ensures value { Some result.now ≡ elem_of self.old }
+    {
+        match self {
+            ElemChild::Elem(elem) => elem,
+            _ => unreachable!(),
+        }
+    }
+}
+
+/// The first child that a `cs:names` made.
+fn first_of_names(items: &Vec<ElemChild>) -> usize
+    requires { IsTrue (more_here items.now.items) }
+    ensures index { result < vec_len items.now }
+    ensures here { result ≡ here_index items.now.items }
+{
+    for i in 0..items.len() {
+        if items[i].is_names() {
+            return i;
+        }
+    }
+    unreachable!()
+}
+
+impl ElemChildren {
+    /// The first child that is, or holds, an element that a `cs:names` made.
+    #[cycle(find)]
+    fn names_at(&self) -> Option<usize>
+        ensures index { IfSome result (λ i. i < vec_len self.now.0) }
+        ensures found { IfSome result (λ i. IsTrue (is_found (find_of_child (child_at self.now i)))) }
+        ensures some { IfSome result (λ i. names_find self.now ≡ found_or i (find_of_child (child_at self.now i)) None) }
+        ensures none { IfNone result (names_find self.now ≡ None) }
+    {
+        for i in 0..self.0.len() {
+            if self.0[i].has_names() {
+                return Some(i);
+            }
+        }
+        None
+    }
+
+    /// Whether the first element that a `cs:names` made is inside a child.
+    fn names_below(&mut self) -> bool
+        ensures value { result ≡ names_below self.old }
+        ensures unchanged { self.new ≡ self.old }
+    {
+        match self.names_at() {
+            Some(i) => !self.0[i].is_names(),
+            None => false,
+        }
+    }
+
+    /// That child, to be written.
+    fn names_child_mut(&mut self) -> &mut ElemChild
+        requires { IsTrue (names_below self.old) }
+        ensures* writes_back { sem 𝓛 (lends_names_child self.entry result) }
+        ensures value { result.now ≡ child_at self.old (names_index self.old) }
+    {
+        match self.names_at() {
+            Some(i) => &mut self.0[i],
+            None => unreachable!(),
+        }
+    }
+
+    /// The children among which the first element that a `cs:names` made is, to be written.
+    #[cycle(names)]
+    fn names_items_mut(&mut self) -> &mut Vec<ElemChild>
+        ensures* writes_back { sem 𝓛 (lends_names_items self.entry result) }
+        ensures value { result.now ≡ names_items self.old }
+    {
+        if self.names_below() {
+            self.names_child_mut().children_mut().names_items_mut()
+        } else {
+            self.items_mut()
+        }
+    }
+
+    /// That element, to be written, where there is one.
+    fn that_names_mut(&mut self) -> &mut Elem
+        requires { IsTrue (is_some (names_find self.old)) }
+        ensures* writes_back { sem 𝓛 (lends_that_names self.entry result) }
+        ensures value { Some result.now ≡ first_names self.old }
+    {
+        let items = self.names_items_mut();
+        let first = first_of_names(items);
+        let child = &mut items[first];
+        child.elem_mut()
+    }
+
+    /// The first element that a `cs:names` made, as `find_names` finds it, to be written. When the
+    /// reference is given back, nothing else has changed.
+    pub fn find_names_mut(&mut self) -> Option<&mut Elem>
+        ensures* writes_back { sem 𝓛 (lends_names self.entry result) }
+        ensures value { option_map (λ e. e.now) result ≡ find is_names (preorder self.old) }
+    {
+        if self.names_at().is_some() {
+            Some(self.that_names_mut())
+        } else {
+            None
+        }
+    }
+}
