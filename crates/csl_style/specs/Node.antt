@@ -188,7 +188,7 @@ abbrev mutual
 abbrev pub fill_layout : (List ℕ → Option Fulls) → LayoutNode → FullLayout
 fill_layout env l = record { delimiter = l.delimiter; formatting = l.formatting; elements = fills env l.elements }
 
--- A count of what is inside, by which a recursion falls.
+-- A count of what is inside, by which a recursion falls. A names node without children counts alike in a substitute and elsewhere.
 abbrev mutual
   pub size : Full → ℕ
   size (printed t d) = 0
@@ -198,7 +198,7 @@ abbrev mutual
   size (labelled v l) = 0
   size (dated d) = 0
   size (named n is) = suc (insteads_size is)
-  size (shorthand written n) = 0
+  size (shorthand written n) = 1
   size (chosen cs) = suc (cases_size cs)
   size (grouped delimiter d fs) = suc (sizes fs)
 

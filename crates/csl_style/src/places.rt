@@ -3,19 +3,9 @@
 ghost use Rattle.std.specs.Prelude.{◌≡◌, ◌<◌, [], ◌∷◌, ◌++◌, length, IfOk, OnOk, IfSome};
 ghost use Rattle.std.specs.Option.{option_to_list};
 ghost use Rattle.csl_style.specs.Reaches.{InRange};
-ghost use Rattle.csl_style.specs.View.{
-  definitions,
-  view,
-  view_choose,
-  view_branch,
-  view_names,
-  view_child,
-  views,
-  branches_of,
-  substitutes,
-};
+ghost use Rattle.csl_style.specs.View.{definitions, view, view_choose, view_child, views, substitutes};
 ghost use Rattle.csl_style.specs.Meaning.{place};
-ghost use Rattle.csl_style.specs.Calls.{called, all_called, branches_called, substitutes_called, IsCallGraph};
+ghost use Rattle.csl_style.specs.Calls.{called, all_called, substitutes_called, IsCallGraph};
 
 use crate::element::{Choose, CslMacro, LayoutRenderingElement, NamesChild};
 use crate::text::TextTarget;

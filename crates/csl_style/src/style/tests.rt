@@ -4,8 +4,10 @@ use crate::element::{
     Choose, ChooseBranch, ChooseMatch, Group, LayoutRenderingElement, Names, NamesChild, Substitute,
 };
 use crate::formatting::Formatting;
+use crate::locale::{OrdinalSlot, OrdinalTerm, TermEntry};
 use crate::names::InheritableNameOptions;
 use crate::taxonomy::NameVariable;
+use crate::term::OtherTerm;
 use crate::text::{Text, TextTarget};
 use std::alloc::AllocError;
 use std::test::Fail;
@@ -292,7 +294,11 @@ fn a_style_hands_out_what_it_was_made_of(rt: HostRuntime) -> Result<(), Fail> {
         .and_then(|layout| only_value(&layout.elements));
     assert_eq!(rt; entry, Some("entry"));
     assert_eq!(rt; style.locales().len(), 1);
-    assert!(rt; style.locales()[0].punctuation_in_quote);
+    let quotes = style
+        .locales()
+        .first()
+        .map(|locale| locale.punctuation_in_quote);
+    assert_eq!(rt; quotes, Some(true));
     let first = style.get_macro("a").and_then(|m| only_value(&m.children));
     assert_eq!(rt; first, Some("first"));
     let other = style.get_macro("b").and_then(|m| only_value(&m.children));
@@ -311,5 +317,52 @@ fn settings_by_default(rt: HostRuntime) -> Result<(), Fail> {
     );
     assert!(rt; settings.initialize_with_hyphen);
     assert!(rt; settings.names.et_al_min.is_none());
+    Ok(())
+}
+
+#[test]
+fn a_style_asks_its_locales(rt: HostRuntime) -> Result<(), Fail> {
+    let alloc = rt.alloc();
+    let and = TermEntry {
+        term: Term::Other(OtherTerm::And),
+        form: TermForm::Long,
+        single: String::from_str(alloc, "and")?,
+        multiple: None,
+        gender: Some(GrammarGender::Feminine),
+    };
+    let th = OrdinalTerm {
+        slot: OrdinalSlot::Default,
+        matching: None,
+        gender: None,
+        text: String::from_str(alloc, "th")?,
+    };
+    let locale = Locale {
+        terms: vec![in alloc; and]?,
+        ordinals: vec![in alloc; th]?,
+        dates: Vec::new(alloc),
+        punctuation_in_quote: false,
+        limit_day_ordinals_to_day_1: false,
+    };
+    let locales = vec![in alloc; locale]?;
+    let settings = StyleSettings::default();
+    let style = Style::new(
+        alloc,
+        settings,
+        Vec::new(alloc),
+        layout(Vec::new(alloc)),
+        None,
+        locales,
+    )?;
+    let and = Term::Other(OtherTerm::And);
+    assert_eq!(rt; style.term(and, TermForm::Short, true), Some("and"));
+    assert!(rt;
+        style
+            .term(Term::Other(OtherTerm::By), TermForm::Long, false)
+            .is_none()
+    );
+    assert_eq!(rt; style.gender(and), Some(GrammarGender::Feminine));
+    assert_eq!(rt; style.ordinal(-4, None), Some("th"));
+    assert!(rt; style.localized_date(DateForm::Text).is_none());
+    assert!(rt; style.bibliography().is_none());
     Ok(())
 }
