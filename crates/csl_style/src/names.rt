@@ -21,10 +21,9 @@ pub enum NameForm {
 }
 
 /// What stands before the last name (CSL 1.0.2, Name: and).
-#[derive(Clone, Copy, Debug, Default, PartialEq, Eq, PartialOrd, Ord, Hash)]
+#[derive(Clone, Copy, Debug, PartialEq, Eq, PartialOrd, Ord, Hash)]
 pub enum NameAnd {
     /// The term `and`.
-    #[default]
     Text,
     /// An ampersand.
     Symbol,
