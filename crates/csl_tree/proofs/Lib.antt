@@ -7,3 +7,4 @@ pub mod Rejects
 pub mod TreeTokens
 pub mod Rounds
 pub mod RoundSteps
+pub mod NormalForms
