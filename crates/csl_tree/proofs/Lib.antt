@@ -8,3 +8,5 @@ pub mod TreeTokens
 pub mod Rounds
 pub mod RoundSteps
 pub mod NormalForms
+pub mod MetaEqual
+pub mod NormalTest

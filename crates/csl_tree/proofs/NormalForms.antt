@@ -181,3 +181,7 @@ end_equal t u e i = (
   λ h. sym (rounds_kept (nodes t) t) ∙ ap styled h ∙ rounds_kept (nodes u) u,
   λ h. styled_tells (rounds (nodes t) t) (rounds (nodes u) u) (ends_normal t) (ends_normal u) (no_empty_ever (nodes t) t e) (no_empty_ever (nodes u) u i) (rounds_kept (nodes t) t ∙ h ∙ sym (rounds_kept (nodes u) u)),
 )
+
+-- a normal tree that has the normal form of another is it
+pub reached : (t u : Tree) → is_normal t ≡ true → normal_form t ≡ normal_form u → t ≡ normal_form u
+reached t u n h = sym (normal_form-normal t n) ∙ h

@@ -1,9 +1,13 @@
 -- An output tree as a list of tokens: each text, and around each element where it opens and where it closes.
 -- It forgets how the texts are stored, and nothing else.
-use Rattle.std.specs.Prelude.{ℕ, Bool, true, false, List, [], ◌∷◌, ◌++◌, Option, Some, None, ◌==◌, string_bytes, length}
+use Rattle.std.specs.Prelude.{ℕ, Bool, true, false, List, [], ◌∷◌, ◌++◌, Option, Some, None, ◌==◌, string_bytes, length, map, Vec}
 use Rattle.std.specs.List.{flat_map, list_any, list_all}
 use Rattle.std.specs.Char.{is_not_whitespace}
 use Rattle.std.specs.Str.{chars}
+use Rattle.std.specs.declared.alloc.Global.{Global}
+use Rattle.lit_model.specs.declared.person.Person.{Person}
+use Rattle.lit_model.specs.Person.{Named, named}
+use Rattle.csl_style.specs.declared.taxonomy.NameVariable.{NameVariable}
 use Rattle.csl_style.specs.declared.formatting.Display.{Display}
 use Rattle.csl_tree.specs.declared.formatting.Formatting.{Formatting}
 use Rattle.csl_tree.specs.declared.formatting.Formatted.{Formatted}
@@ -17,20 +21,28 @@ use Rattle.csl_tree.specs.declared.elem.ElemChildren.{ElemChildren}
 
 -- which node made an element
 pub data Meta : Type 0 where
+  of_names : List (List Named × NameVariable) → Meta
   of_date : Meta
   of_text : Meta
   of_number : Meta
   of_label : Meta
   of_citation_number : Meta
+  of_name : NameVariable → ℕ → Meta
   of_entry : ℕ → Meta
   of_citation_label : Meta
 
+-- the persons of a variable
+abbrev pub names_of : Vec Person Global × NameVariable → List Named × NameVariable
+names_of n = (map named n.0.items, n.1)
+
 abbrev pub meta_of : ElemMeta → Meta
+meta_of (meta.Names names) = of_names (map names_of names.items)
 meta_of meta.Date = of_date
 meta_of meta.Text = of_text
 meta_of meta.Number = of_number
 meta_of meta.Label = of_label
 meta_of meta.CitationNumber = of_citation_number
+meta_of (meta.Name v n) = of_name v n
 meta_of (meta.Entry n) = of_entry n
 meta_of meta.CitationLabel = of_citation_label
 

@@ -1,11 +1,13 @@
 //! Copies of a tree and of its parts. A copy is equal to what it was made of.
 
-ghost use Rattle.std.specs.Prelude.{◌≡◌, IfOk};
-ghost use Rattle.csl_tree.specs.Tokens.{tokens, elem_tokens, child_tokens, text_tokens, meta_of, optional_meta};
+ghost use Rattle.std.specs.Prelude.{◌≡◌, map, IfOk};
+ghost use Rattle.lit_model.specs.Person.{named};
+ghost use Rattle.csl_tree.specs.Tokens.{tokens, elem_tokens, child_tokens, text_tokens, names_of, meta_of, optional_meta};
 
 use crate::elem::{Elem, ElemChild, ElemChildren, ElemMeta};
 use crate::formatting::Formatted;
-use lit_model::Memory;
+use csl_style::NameVariable;
+use lit_model::{Memory, Person};
 use std::alloc::Global;
 
 impl Formatted {
@@ -18,17 +20,48 @@ impl Formatted {
     }
 }
 
+/// A copy of each person, in order.
+fn copy_persons(persons: &[Person], alloc: Global) -> Result<Vec<Person>, Memory>
+    ensures { IfOk result (λ copies. map named copies.items ≡ map named persons.now) }
+{
+    let mut copies = Vec::with_capacity(alloc, persons.len())?;
+    for person in persons {
+        copies.push(person.clone(alloc)?)?;
+    }
+    Ok(copies)
+}
+
+/// A copy of the persons of each variable, in order.
+fn copy_names(
+    names: &[(Vec<Person>, NameVariable)],
+    alloc: Global,
+) -> Result<Vec<(Vec<Person>, NameVariable)>, Memory>
+    ensures { IfOk result (λ copies. map names_of copies.items ≡ map names_of names.now) }
+{
+    let mut copies = Vec::with_capacity(alloc, names.len())?;
+    for name in names {
+        let persons = copy_persons(&name.0, alloc)?;
+        copies.push((persons, name.1))?;
+    }
+    Ok(copies)
+}
+
 impl ElemMeta {
     /// An equal meta. The only error is want of memory.
-    pub fn clone(&self, _alloc: Global) -> Result<ElemMeta, Memory>
+    pub fn clone(&self, alloc: Global) -> Result<ElemMeta, Memory>
         ensures { IfOk result (λ copy. meta_of copy ≡ meta_of self.now) }
     {
         Ok(match self {
+            ElemMeta::Names(names) => {
+                let names = copy_names(names, alloc)?;
+                ElemMeta::Names(names)
+            }
             ElemMeta::Date => ElemMeta::Date,
             ElemMeta::Text => ElemMeta::Text,
             ElemMeta::Number => ElemMeta::Number,
             ElemMeta::Label => ElemMeta::Label,
             ElemMeta::CitationNumber => ElemMeta::CitationNumber,
+            ElemMeta::Name(variable, index) => ElemMeta::Name(*variable, *index),
             ElemMeta::Entry(index) => ElemMeta::Entry(*index),
             ElemMeta::CitationLabel => ElemMeta::CitationLabel,
         })

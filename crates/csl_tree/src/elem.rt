@@ -5,7 +5,8 @@ ghost use Rattle.csl_tree.specs.declared.elem.Elem.{out-Elem};
 ghost use Rattle.csl_tree.specs.Tokens.{tokens, elem_tokens, child_tokens, leaf_text, is_empty, has_content, has_visible, optional_meta, text_tokens};
 
 use crate::formatting::{Formatted, Formatting};
-use csl_style::Display;
+use csl_style::{Display, NameVariable};
+use lit_model::Person;
 use std::alloc::Global;
 
 /// Some children in order.
@@ -54,6 +55,8 @@ pub enum ElemChild {
 /// Which node of a style made an element.
 #[derive(PartialEq, Eq, Hash, Drop)]
 pub enum ElemMeta {
+    /// A `cs:names`, with the persons of each of its variables.
+    Names(Vec<(Vec<Person>, NameVariable)>),
     /// A `cs:date`.
     Date,
     /// A `cs:text` of a variable.
@@ -64,6 +67,8 @@ pub enum ElemMeta {
     Label,
     /// The number of a citation.
     CitationNumber,
+    /// One name of a `cs:names`: its variable, and its index among the persons of that variable.
+    Name(NameVariable, usize),
     /// A whole entry, with its index among the items of the citation.
     Entry(usize),
     /// The label of a citation.
@@ -236,3 +241,6 @@ impl From<Formatted> for ElemChild {
         ElemChild::Text(formatted)
     }
 }
+
+#[cfg(test)]
+mod tests;

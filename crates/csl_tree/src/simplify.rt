@@ -143,7 +143,10 @@ impl ElemChild {
         ensures { result ≡ is_normal_behind last (child_tree self.now) }
     {
         match self {
-            ElemChild::Text(text) => last != Some(text.formatting),
+            ElemChild::Text(text) => match last {
+                None => true,
+                Some(last) => !(last == text.formatting),
+            },
             ElemChild::Elem(elem) => !elem.may_inline() && elem.children.is_normal(),
             ElemChild::Markup(_) => true,
             ElemChild::Link { text: _, url: _ } => true,
