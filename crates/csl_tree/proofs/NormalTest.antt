@@ -1,6 +1,6 @@
 -- Whether a tree is normal, told child by child.
-use Rattle.std.proofs.Common.{◌≡◌, ℕ, ◌+◌, ◌<◌, Bool, true, false, not, ◌&&◌, cond, List, [], ◌∷◌, ◌≤◌, length, drop, get_or, refl, sym, ap, ◌∙◌, add-one, drop-cons, drop_of_length-le, arith}
-use Rattle.std.specs.Prelude.{Option, Some, None, if◌then◌else◌}
+use Rattle.std.proofs.Common.{◌≡◌, ℕ, ◌+◌, ◌<◌, Bool, true, false, not, ◌&&◌, List, ◌∷◌, ◌≤◌, length, drop, get_or, refl, sym, ap, ◌∙◌, add-one, drop-cons, drop_of_length-le}
+use Rattle.std.specs.Prelude.{Option, Some, None}
 use Rattle.csl_tree.specs.declared.formatting.Formatting.{Formatting}
 use Rattle.csl_tree.specs.declared.elem.ElemChild.{ElemChild}
 use Rattle.csl_tree.specs.declared.elem.ElemChild.TheOpen.{ElemChild-F, Text, Elem, Markup, Link, Transparent}
@@ -9,7 +9,7 @@ use Rattle.csl_tree.specs.declared.elem.ElemChild.TheFolds.{fold_out-ElemChild, 
 use Rattle.csl_tree.specs.declared.elem.Elem as elem
 use Rattle.csl_tree.specs.declared.elem.ElemChildren.{ElemChildren}
 use Rattle.csl_tree.specs.Formatting.{same_formatting}
-use Rattle.csl_tree.specs.Tree.{Leaf, Tree, nothing, text_then, leaf_then, element_then, ◌⊕◌, row, child_level, elem_level, children_level, child_tree, elem_tree, tree}
+use Rattle.csl_tree.specs.Tree.{Tree, nothing, text_then, leaf_then, element_then, ◌⊕◌, row, child_level, elem_level, children_level, child_tree, elem_tree, tree}
 use Rattle.csl_tree.specs.Simplify.{is_plain, is_nothing, begins_with, is_normal, is_normal_behind, ends_in}
 use Rattle.csl_tree.specs.declared.formatting.Formatted.{Formatted}
 use Rattle.csl_tree.specs.declared.elem.ElemChild.TheVariants as variants
