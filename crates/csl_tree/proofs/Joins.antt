@@ -87,7 +87,7 @@ pub same_formatting-refl : (f : Formatting) → same_formatting f f ≡ true
 same_formatting-refl f = grind (arith, common_steps)
 
 -- texts of one formatting, in front of what follows, are one text in front of it
-text_before-same : (x y : List ℕ) (f : Formatting) (c : List Token) → same_formatting f f ≡ true → text_before (x ++ y) f c ≡ text_before x f (text_before y f c)
+pub text_before-same : (x y : List ℕ) (f : Formatting) (c : List Token) → same_formatting f f ≡ true → text_before (x ++ y) f c ≡ text_before x f (text_before y f c)
 text_before-same x y f [] e = rw e
 text_before-same x y f (text z h ∷ b) e =
     elim (same_formatting f h) as (λ s. cond s (text ((x ++ y) ++ z) f ∷ b) (text (x ++ y) f ∷ text z h ∷ b) ≡ text_before x f (cond s (text (y ++ z) f ∷ b) (text y f ∷ text z h ∷ b))) [

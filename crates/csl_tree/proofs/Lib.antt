@@ -7,6 +7,7 @@ pub mod Rejects
 pub mod TreeTokens
 pub mod Rounds
 pub mod RoundSteps
+pub mod NormalForms
 pub mod MetaEqual
 pub mod Searches
 pub mod Removals
@@ -14,3 +15,4 @@ pub mod Walks
 pub mod LastPlace
 pub mod NamesPlace
 pub mod NamesFirst
+pub mod NormalTest

@@ -67,7 +67,7 @@ round_behind-⊕ b (element_then d m inner t) u = round_behind-⊕ (b ⊕ stands
 
 -- ---- one child
 
-text_tree : (f : Formatted) → child_tree (variants.Text f) ≡ text_then (string_bytes f.text) f.formatting nothing
+pub text_tree : (f : Formatted) → child_tree (variants.Text f) ≡ text_then (string_bytes f.text) f.formatting nothing
 text_tree f = ap child_tree (sym (variants.rolls-Text f)) ∙ fold-roll-ElemChild Tree Tree Tree child_level elem_level children_level (Text f)
 
 elem_child_tree : (e : elem.Elem) → child_tree (variants.Elem e) ≡ elem_tree e

@@ -1,5 +1,5 @@
 -- Simplification of a tree: one round of it, the value that it keeps, and when there is nothing left to do.
-use Rattle.std.specs.Prelude.{ℕ, ◌+◌, Bool, true, false, not, ◌&&◌, List, [], ◌∷◌, ◌++◌, map, Option, Some, None, if◌then◌else◌}
+use Rattle.std.specs.Prelude.{ℕ, zero, suc, ◌+◌, Bool, true, false, not, ◌&&◌, List, [], ◌∷◌, ◌++◌, map, Option, Some, None, if◌then◌else◌}
 use Rattle.csl_style.specs.declared.formatting.Display.{Display}
 use Rattle.csl_tree.specs.declared.formatting.Formatting.{Formatting}
 use Rattle.csl_tree.specs.Formatting.{same_formatting}
@@ -79,3 +79,35 @@ nodes nothing = 0
 nodes (text_then bs f t) = 1 + nodes t
 nodes (leaf_then l t) = 1 + nodes t
 nodes (element_then d m inside t) = 1 + (nodes inside + nodes t)
+
+-- rounds in a row
+abbrev pub rounds : ℕ → Tree → Tree
+rounds zero t = t
+rounds (suc n) t = rounds n (round t)
+
+-- the normal form: as many rounds as the tree has nodes
+abbrev pub normal_form : Tree → Tree
+normal_form t = rounds (nodes t) t
+
+abbrev pub is_filled : List ℕ → Bool
+is_filled [] = false
+is_filled (b ∷ bs) = true
+
+-- no text is empty, at any depth
+abbrev pub has_no_empty_text : Tree → Bool
+has_no_empty_text nothing = true
+has_no_empty_text (text_then bs f t) = is_filled bs && has_no_empty_text t
+has_no_empty_text (leaf_then l t) = has_no_empty_text t
+has_no_empty_text (element_then d m inside t) = has_no_empty_text inside && has_no_empty_text t
+
+-- the formatting of a text that ends a tree
+abbrev pub ends_in : Tree → Option Formatting
+ends_in nothing = None
+ends_in (text_then bs f t) = if is_nothing t then Some f else ends_in t
+ends_in (leaf_then l t) = ends_in t
+ends_in (element_then d m inside t) = ends_in t
+
+-- normal, and no text that begins it has the formatting of a text before it
+abbrev pub is_normal_behind : Option Formatting → Tree → Bool
+is_normal_behind None t = is_normal t
+is_normal_behind (Some f) t = not (begins_with f t) && is_normal t

@@ -18,5 +18,5 @@ mod write;
 
 pub use elem::{BufWriteFormat, Elem, ElemChild, ElemChildren, ElemMeta};
 pub use formatting::{Formatted, Formatting};
-pub use simplify::simplify_children;
+pub use simplify::{simplify_children, simplify_fully};
 pub use stack::NonEmptyStack;

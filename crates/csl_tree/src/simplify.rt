@@ -4,12 +4,13 @@
 ghost use Rattle.std.specs.Prelude.{◌≡◌, ◌<◌, ◌↔◌, IsTrue, OnOk, IfOk};
 ghost use Rattle.std.specs.Bool.{OnFalse};
 ghost use Rattle.csl_tree.specs.Tokens.{tokens};
-ghost use Rattle.csl_tree.specs.Tree.{tree, elem_tree, child_tree, row, tokens_of};
-ghost use Rattle.csl_tree.specs.Simplify.{round, round_behind, inside, with_inside, styled, is_normal, nodes};
+ghost use Rattle.csl_tree.specs.Tree.{Tree, tree, elem_tree, child_tree, row, tokens_of};
+ghost use Rattle.csl_tree.specs.Simplify.{round, round_behind, inside, with_inside, styled, is_normal, is_normal_behind, ends_in, has_no_empty_text, normal_form, nodes};
 
 use crate::content::push_text_to;
 use crate::copies::clone_meta;
 use crate::elem::{Elem, ElemChild, ElemChildren};
+use crate::formatting::Formatting;
 use lit_model::Memory;
 use std::alloc::Global;
 
@@ -83,6 +84,77 @@ impl Elem {
             display: self.display,
             meta,
         })
+    }
+}
+
+/// The normal form of some children: rounds of simplification until nothing changes, which are at
+/// most as many as there are nodes. Children without empty texts end equal exactly if they show
+/// the same. The only error is want of memory.
+pub fn simplify_fully(alloc: Global, children: &ElemChildren) -> Result<ElemChildren, Memory>
+    ensures rounds { IfOk result (λ r. tree r ≡ normal_form (tree children.now)) }
+    ensures normal { IfOk result (λ r. IsTrue (is_normal (tree r))) }
+    ensures tells { IfOk result (λ r. (u : Tree) → IsTrue (has_no_empty_text (tree children.now)) → IsTrue (has_no_empty_text u) → (tree r ≡ normal_form u) ↔ (styled (tree children.now) ≡ styled u)) }
+{
+    let mut simplified = simplify_children(alloc, children)?;
+    while !simplified.is_normal() {
+        simplified = simplify_children(alloc, &simplified)?;
+    }
+    Ok(simplified)
+}
+
+impl ElemChildren {
+    /// Whether at no depth an element has neither display nor meta, or neighbouring texts have
+    /// equal formatting.
+    #[cycle(normal)]
+    fn is_normal(&self) -> bool
+        ensures { result ≡ is_normal (tree self.now) }
+    {
+        let mut last: Option<Formatting> = None;
+        for child in &self.0 {
+            if !child.is_normal_behind(last) {
+                return false;
+            }
+            last = child.text_formatting();
+        }
+        true
+    }
+}
+
+impl ElemChild {
+    /// The formatting of a text, and of nothing else.
+    fn text_formatting(&self) -> Option<Formatting>
+        ensures { result ≡ ends_in (child_tree self.now) }
+    {
+        match self {
+            ElemChild::Text(text) => Some(text.formatting),
+            ElemChild::Elem(_) => None,
+            ElemChild::Markup(_) => None,
+            ElemChild::Link { text: _, url: _ } => None,
+            ElemChild::Transparent {
+                cite_idx: _,
+                format: _,
+            } => None,
+        }
+    }
+
+    /// Whether it is normal inside, and stands apart from a text before it.
+    #[cycle(normal)]
+    fn is_normal_behind(&self, last: Option<Formatting>) -> bool
+        ensures { result ≡ is_normal_behind last (child_tree self.now) }
+    {
+        match self {
+            ElemChild::Text(text) => match last {
+                None => true,
+                Some(last) => !(last == text.formatting),
+            },
+            ElemChild::Elem(elem) => !elem.may_inline() && elem.children.is_normal(),
+            ElemChild::Markup(_) => true,
+            ElemChild::Link { text: _, url: _ } => true,
+            ElemChild::Transparent {
+                cite_idx: _,
+                format: _,
+            } => true,
+        }
     }
 }
 

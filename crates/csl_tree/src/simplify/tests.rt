@@ -147,3 +147,18 @@ fn element_has_a_round_inside(rt: HostRuntime) -> Result<(), Fail> {
     assert!(rt; once == ElemChildren(vec![in alloc; wanted]?));
     Ok(())
 }
+
+#[test]
+fn rounds_end_in_one_text(rt: HostRuntime) -> Result<(), Fail> {
+    let alloc = rt.alloc();
+    let inside = vec![in alloc; text(alloc, "a")?, text(alloc, "b")?]?;
+    let source = ElemChildren(vec![in alloc; plain(inside)]?);
+    let wanted = ElemChildren(vec![in alloc; text(alloc, "ab")?]?);
+    assert!(rt; simplify_fully(alloc, &source)? == wanted);
+    let innermost = plain(vec![in alloc; text(alloc, "a")?]?);
+    let inner = plain(vec![in alloc; innermost]?);
+    let source = ElemChildren(vec![in alloc; plain(vec![in alloc; inner]?)]?);
+    let wanted = ElemChildren(vec![in alloc; text(alloc, "a")?]?);
+    assert!(rt; simplify_fully(alloc, &source)? == wanted);
+    Ok(())
+}

@@ -1,0 +1,8 @@
+use Rattle.std.proofs.Common.{sym, ap, ◌∙◌, not}
+use Rattle.std.proofs.Common.{arith}
+use Rattle.std.proofs.lemmas.Grind.{common_steps}
+use Rattle.csl_tree.proofs.NormalTest.{text_apart}
+use Rattle.csl_tree.proofs.elem.+normal.Goals as goal
+
+pub ElemChild::is_normal_behind-returns-in-Some : goal.ElemChild::is_normal_behind-returns-in-Some
+ElemChild::is_normal_behind-returns-in-Some t c = rw (c.in-Text.is, c.in-Some.is) (ap not (grind (arith, common_steps, c.eq.ensures)) ∙ sym (text_apart c.in-Some.last c.in-Text.text))
