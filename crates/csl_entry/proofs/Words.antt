@@ -1,0 +1,183 @@
+use Rattle.std.proofs.Common.{ℕ, zero, suc, ◌+◌, ◌-◌, ◌*◌, ◌^◌, ◌<◌, ◌≤◌, ◌≡◌, ◌⊎◌, inl, inr, List, [], ◌∷◌, ◌++◌, length, refl, sym, ◌∙◌, ap, subst, lit<, lit≤, reverse, length-append, ◌↔◌, Bool, true, false, ◌==◌, if◌then◌else◌, arith}
+use Rattle.std.proofs.Math.Nat.{pow-suc, pow-le-pow_right, one-le-pow}
+use Rattle.std.proofs.lemmas.Bool.{cases_order}
+use Rattle.std.proofs.lemmas.Grind.{reverse_onto}
+use Rattle.std.proofs.lemmas.Bool.Decides.{nat_tests}
+use Rattle.csl_entry.specs.Letters.{AreLetters, IsWord, IsEarlier, StandsBefore, word_value, place_of, counted_on, counted, letters}
+
+-- the value of the word of so many a
+abbrev pub ones : ℕ → ℕ
+ones zero = 0
+ones (suc n) = 26 ^ n + ones n
+
+product_low : (a p : ℕ) → 1 ≤ a → p ≤ a * p
+product_low a p h = grind arith
+
+product_high : (a b p : ℕ) → a ≤ b → a * p ≤ b * p
+product_high a b p h = grind arith
+
+next_power : (n : ℕ) → 26 ^ suc n ≡ 26 * 26 ^ n
+next_power n = grind (arith, pow-suc)
+
+pub value_low : (w : List ℕ) → AreLetters w → ones (length w) ≤ word_value w
+value_low [] h = omega arith
+value_low (c ∷ cs) h = omega (arith, h.0, product_low (c - 96) (26 ^ length cs) (omega (arith, h.0)), value_low cs h.2)
+
+pub value_high : (w : List ℕ) → AreLetters w → word_value w < ones (suc (length w))
+value_high [] h = omega arith
+value_high (c ∷ cs) h = omega (arith, next_power (length cs), product_high (c - 96) 26 (26 ^ length cs) (omega (arith, h.1)), value_high cs h.2)
+
+-- more a have a greater value
+pub ones_more : (m n : ℕ) → m ≤ n → ones m ≤ ones n
+ones_more zero n h = omega arith
+ones_more (suc m) zero h = omega (arith, h)
+ones_more (suc m) (suc n) h = omega (arith, ones_more m n (omega (arith, h)), pow-le-pow_right {n = 26} (lit< tt) {i = m} {j = n} (omega (arith, h)))
+
+pub value_shorter : (v w : List ℕ) → AreLetters v → AreLetters w → length v < length w → word_value v < word_value w
+value_shorter v w hv hw h = omega (arith, value_high v hv, ones_more (suc (length v)) (length w) (omega (arith, h)), value_low w hw)
+
+one_more : (a p : ℕ) → suc a * p ≡ a * p + p
+one_more a p = grind arith
+
+-- a step of the first letter outweighs all that stand behind it
+first_letter : (a b p q m n : ℕ) → a < b → m < p + q → q ≤ n → a * p + m < b * p + n
+first_letter a b p q m n h hm hn = omega (arith, product_high (suc a) b p (omega (arith, h)), one_more a p, hm, hn)
+
+same_length : (c d : ℕ) (cs ds : List ℕ) → length (c ∷ cs) ≡ length (d ∷ ds) → length cs ≡ length ds
+same_length c d cs ds h = omega (arith, h)
+
+pub value_earlier : (v w : List ℕ) → AreLetters v → AreLetters w → length v ≡ length w → IsEarlier v w → word_value v < word_value w
+value_earlier [] w hv hw e h = absurd h
+value_earlier (c ∷ cs) [] hv hw e h = absurd h
+value_earlier (c ∷ cs) (d ∷ ds) hv hw e (inl h) =
+    let k = same_length c d cs ds e in
+    let high : word_value cs < 26 ^ length cs + ones (length cs) = value_high cs hv.2 in
+    let Q : ℕ → Type 0 = λ n. ones n ≤ word_value ds in
+    let low : ones (length cs) ≤ word_value ds = subst Q (sym k) (value_low ds hw.2) in
+    let P : ℕ → Type 0 = λ l. (c - 96) * 26 ^ length cs + word_value cs < (d - 96) * 26 ^ l + word_value ds in
+    subst P k (first_letter (c - 96) (d - 96) (26 ^ length cs) (ones (length cs)) (word_value cs) (word_value ds) (omega (arith, h, hv.0)) high low)
+value_earlier (c ∷ cs) (d ∷ ds) hv hw e (inr h) =
+    let k = same_length c d cs ds e in
+    let R : ℕ → ℕ → Type 0 = λ x l. (c - 96) * 26 ^ length cs + word_value cs < (x - 96) * 26 ^ l + word_value ds in
+    let rest = value_earlier cs ds hv.2 hw.2 k h.1 in
+    subst (R d) k (subst (λ x. R x (length cs)) h.0 (omega (arith, rest)))
+
+pub value_before : (v w : List ℕ) → AreLetters v → AreLetters w → StandsBefore v w → word_value v < word_value w
+value_before v w hv hw (inl h) = value_shorter v w hv hw h
+value_before v w hv hw (inr h) = value_earlier v w hv hw h.0 h.1
+
+-- two words of one length are one, or one of them is the earlier one
+pub which_earlier : (v w : List ℕ) → length v ≡ length w → (v ≡ w) ⊎ (IsEarlier v w ⊎ IsEarlier w v)
+which_earlier [] [] e = inl refl
+which_earlier [] (d ∷ ds) e = absurd (omega (arith, e))
+which_earlier (c ∷ cs) [] e = absurd (omega (arith, e))
+which_earlier (c ∷ cs) (d ∷ ds) e = by_letters (cases_order c d) (which_earlier cs ds (same_length c d cs ds e)) where
+  by_letters : (c ≡ d) ⊎ ((c < d) ⊎ (d < c)) → (cs ≡ ds) ⊎ (IsEarlier cs ds ⊎ IsEarlier ds cs) → ((c ∷ cs) ≡ (d ∷ ds)) ⊎ (IsEarlier (c ∷ cs) (d ∷ ds) ⊎ IsEarlier (d ∷ ds) (c ∷ cs))
+  by_letters (inl h) (inl t) = inl cc
+  by_letters (inl h) (inr (inl t)) = inr (inl (inr (h, t)))
+  by_letters (inl h) (inr (inr t)) = inr (inr (inr (sym h, t)))
+  by_letters (inr (inl h)) t = inr (inl (inl h))
+  by_letters (inr (inr h)) t = inr (inr (inl h))
+
+pub which_before : (v w : List ℕ) → (v ≡ w) ⊎ (StandsBefore v w ⊎ StandsBefore w v)
+which_before v w = by_length (cases_order (length v) (length w)) where
+  by_length : (length v ≡ length w) ⊎ ((length v < length w) ⊎ (length w < length v)) → (v ≡ w) ⊎ (StandsBefore v w ⊎ StandsBefore w v)
+  by_length (inr (inl h)) = inr (inl (inl h))
+  by_length (inr (inr h)) = inr (inr (inl h))
+  by_length (inl e) = at_length (which_earlier v w e) where
+    at_length : (v ≡ w) ⊎ (IsEarlier v w ⊎ IsEarlier w v) → (v ≡ w) ⊎ (StandsBefore v w ⊎ StandsBefore w v)
+    at_length (inl h) = inl h
+    at_length (inr (inl h)) = inr (inl (inr (e, h)))
+    at_length (inr (inr h)) = inr (inr (inr (sym e, h)))
+
+-- the value of a word from its last letter on
+abbrev pub value_back : List ℕ → ℕ
+value_back [] = 0
+value_back (c ∷ cs) = (c - 96) + 26 * value_back cs
+
+swapped : (a p : ℕ) → a * (26 * p) ≡ 26 * (a * p)
+swapped a p = grind arith
+
+pub value-snoc : (w : List ℕ) (c : ℕ) → word_value (w ++ (c ∷ [])) ≡ 26 * word_value w + (c - 96)
+value-snoc [] c = omega arith
+value-snoc (d ∷ w) c = omega (arith, value-snoc w c, longer) where
+  power : 26 ^ length (w ++ (c ∷ [])) ≡ 26 * 26 ^ length w
+  power = ap (λ n. 26 ^ n) (grind (arith, length-append)) ∙ next_power (length w)
+
+  longer : (d - 96) * 26 ^ length (w ++ (c ∷ [])) ≡ 26 * ((d - 96) * 26 ^ length w)
+  longer = ap (λ p. (d - 96) * p) power ∙ swapped (d - 96) (26 ^ length w)
+
+pub letters-snoc : (w : List ℕ) (c : ℕ) → AreLetters w → 97 ≤ c → c ≤ 122 → AreLetters (w ++ (c ∷ []))
+letters-snoc [] c h l r = (l, r, tt)
+letters-snoc (d ∷ w) c h l r = (h.0, h.1, letters-snoc w c h.2 l r)
+
+pub value-reverse : (w : List ℕ) → word_value (reverse w) ≡ value_back w
+value-reverse [] = refl
+value-reverse (c ∷ w) = ap word_value (reverse_onto w c []) ∙ (value-snoc (reverse w) c ∙ omega (arith, value-reverse w))
+
+pub letters-reverse : (w : List ℕ) → AreLetters w → AreLetters (reverse w)
+letters-reverse [] h = tt
+letters-reverse (c ∷ w) h = subst AreLetters (sym (reverse_onto w c [])) (letters-snoc (reverse w) c (letters-reverse w h.2) h.0 h.1)
+
+-- counting on keeps letters, and adds 1 to the value
+pub counted_on-letters : (w : List ℕ) → AreLetters w → AreLetters (counted_on w)
+counted_on-letters [] h = (lit≤ tt, lit≤ tt, tt)
+counted_on-letters (c ∷ w) h = by_last (counted_on-letters w h.2) (c == 122) refl where
+  by_last : AreLetters (counted_on w) → (b : Bool) → (c == 122) ≡ b → AreLetters (if b then 97 ∷ counted_on w else (c + 1) ∷ w)
+  by_last rest true e = (lit≤ tt, lit≤ tt, rest)
+  by_last rest false e = (omega (arith, h.0), grind (arith, nat_tests, e, h.1), h.2)
+
+pub counted_on-value : (w : List ℕ) → AreLetters w → value_back (counted_on w) ≡ 1 + value_back w
+counted_on-value [] h = refl
+counted_on-value (c ∷ w) h = by_last (counted_on-value w h.2) (c == 122) refl where
+  by_last : value_back (counted_on w) ≡ 1 + value_back w → (b : Bool) → (c == 122) ≡ b → value_back (if b then 97 ∷ counted_on w else (c + 1) ∷ w) ≡ 1 + value_back (c ∷ w)
+  by_last rest true e = let last : c ≡ 122 = grind (arith, nat_tests, e) in omega (arith, last, rest)
+  by_last rest false e = omega (arith, h.0)
+
+pub counted-letters : (n : ℕ) → AreLetters (counted n)
+counted-letters zero = (lit≤ tt, lit≤ tt, tt)
+counted-letters (suc n) = counted_on-letters (counted n) (counted-letters n)
+
+pub counted-value : (n : ℕ) → value_back (counted n) ≡ suc n
+counted-value zero = refl
+counted-value (suc n) = counted_on-value (counted n) (counted-letters n) ∙ omega (arith, counted-value n)
+
+-- the word at a place
+pub letters-value : (n : ℕ) → word_value (letters n) ≡ suc n
+letters-value n = value-reverse (counted n) ∙ counted-value n
+
+pub letters-letters : (n : ℕ) → AreLetters (letters n)
+letters-letters n = letters-reverse (counted n) (counted-letters n)
+
+pub has_value : (w : List ℕ) → IsWord w → 0 < word_value w
+has_value [] h = h.0
+has_value (c ∷ cs) h = omega (arith, h.1.0, product_low (c - 96) (26 ^ length cs) (omega (arith, h.1.0)), one-le-pow (length cs) 26 (lit< tt))
+
+-- letters of one value are one word
+pub one_value : (v w : List ℕ) → AreLetters v → AreLetters w → word_value v ≡ word_value w → v ≡ w
+one_value v w hv hw e = by_order (which_before v w) where
+  by_order : (v ≡ w) ⊎ (StandsBefore v w ⊎ StandsBefore w v) → v ≡ w
+  by_order (inl h) = h
+  by_order (inr (inl h)) = absurd (omega (arith, e, value_before v w hv hw h))
+  by_order (inr (inr h)) = absurd (omega (arith, e, value_before w v hw hv h))
+
+-- the word at a place is the one that is counted there
+pub at_place : (w : List ℕ) (n : ℕ) → IsWord w → place_of w ≡ n → w ≡ letters n
+at_place w n h e = one_value w (letters n) h.1 (letters-letters n) (omega (arith, has_value w h, e, letters-value n))
+
+-- the words before another are those of a lower place
+pub before_place : (v w : List ℕ) → IsWord v → IsWord w → StandsBefore v w → place_of v < place_of w
+before_place v w hv hw h = omega (arith, value_before v w hv.1 hw.1 h, has_value v hv, has_value w hw)
+
+pub place_before : (v w : List ℕ) → IsWord v → IsWord w → place_of v < place_of w → StandsBefore v w
+place_before v w hv hw h = by_order (which_before v w) where
+  by_order : (v ≡ w) ⊎ (StandsBefore v w ⊎ StandsBefore w v) → StandsBefore v w
+  by_order (inl e) = absurd (omega (arith, ap place_of e, h))
+  by_order (inr (inl b)) = b
+  by_order (inr (inr b)) = absurd (omega (arith, before_place w v hw hv b, h))
+
+pub order_at : (v w : List ℕ) (n : ℕ) → IsWord v → IsWord w → place_of w ≡ n → StandsBefore v w ↔ (place_of v < n)
+order_at v w n hv hw e = (λ b. omega (arith, before_place v w hv hw b, e), λ l. place_before v w hv hw (omega (arith, l, e)))
+
+pub one_place : (v w : List ℕ) (n : ℕ) → IsWord v → IsWord w → place_of v ≡ n → place_of w ≡ n → v ≡ w
+one_place v w n hv hw ev ew = at_place v n hv ev ∙ sym (at_place w n hw ew)

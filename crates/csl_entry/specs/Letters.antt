@@ -1,0 +1,44 @@
+-- The letters of a year suffix (CSL 1.0.2, Disambiguation: disambiguate-add-year-suffix): the words over
+-- a to z, by length and then by alphabet.
+use Rattle.std.specs.Prelude.{ℕ, zero, suc, reverse, if◌then◌else◌, ◌==◌, ◌+◌, ◌-◌, ◌*◌, ◌^◌, ◌<◌, ◌≤◌, ◌≡◌, ◌⊎◌, List, [], ◌∷◌, length}
+
+-- letters from a to z
+abbrev pub AreLetters : List ℕ → Type 0
+AreLetters [] = Unit {0}
+AreLetters (c ∷ cs) = (97 ≤ c) × (c ≤ 122) × AreLetters cs
+
+-- a word has a letter
+abbrev pub IsWord : List ℕ → Type 0
+IsWord w = (0 < length w) × AreLetters w
+
+-- of two words of one length: the first letter in which they differ is the earlier one in the first
+abbrev pub IsEarlier : List ℕ → List ℕ → Type 0
+IsEarlier (c ∷ cs) (d ∷ ds) = (c < d) ⊎ ((c ≡ d) × IsEarlier cs ds)
+IsEarlier _ _ = ⊥
+
+-- by length and then by alphabet
+abbrev pub StandsBefore : List ℕ → List ℕ → Type 0
+StandsBefore v w = (length v < length w) ⊎ ((length v ≡ length w) × IsEarlier v w)
+
+-- the value of a word whose letters are the digits 1 to 26
+abbrev pub word_value : List ℕ → ℕ
+word_value [] = 0
+word_value (c ∷ cs) = (c - 96) * 26 ^ length cs + word_value cs
+
+-- the place of a word, from 0
+abbrev pub place_of : List ℕ → ℕ
+place_of w = word_value w - 1
+
+-- the next word, last letter first: behind z comes a, and then the letter before counts on
+abbrev pub counted_on : List ℕ → List ℕ
+counted_on [] = 97 ∷ []
+counted_on (c ∷ cs) = (if c == 122 then 97 ∷ counted_on cs else (c + 1) ∷ cs)
+
+-- so many words after `a`, last letter first
+abbrev pub counted : ℕ → List ℕ
+counted zero = 97 ∷ []
+counted (suc n) = counted_on (counted n)
+
+-- word number n
+abbrev pub letters : ℕ → List ℕ
+letters n = reverse (counted n)

@@ -1,0 +1,18 @@
+-- The numbers of citations and of notes (CSL 1.0.2, Appendix IV: Number Variables). Each is an i32 when
+-- it is printed; a citation's is printed one higher, since it counts from 0.
+use Rattle.std.specs.Prelude.{ℕ, ◌≤◌}
+use Rattle.csl_entry.specs.declared.numbers.CitationNumber.{CitationNumber}
+use Rattle.csl_entry.specs.declared.numbers.NoteNumber.{NoteNumber}
+
+abbrev pub IsCitationNumber : ℕ → Type 0
+IsCitationNumber n = n ≤ 2147483646
+
+abbrev pub IsNoteNumber : ℕ → Type 0
+IsNoteNumber n = n ≤ 2147483647
+
+-- the number that is held
+abbrev pub citation_number : CitationNumber → ℕ
+citation_number c = c.number
+
+abbrev pub note_number : NoteNumber → ℕ
+note_number n = n.number

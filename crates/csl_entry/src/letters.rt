@@ -1,0 +1,56 @@
+//! The letters of a year suffix.
+
+ghost use Rattle.std.specs.Prelude.{◌≡◌, ◌↔◌, ◌<◌, ℕ, List, IfOk, string_bytes};
+ghost use Rattle.csl_entry.specs.Letters.{IsWord, StandsBefore, place_of, letters};
+
+use lit_model::Memory;
+use std::alloc::Global;
+
+/// Word number `n` of the words over a to z, by length and then by alphabet: `a` is number 0, `z`
+/// 25 and `aa` 26 (CSL 1.0.2, Disambiguation: disambiguate-add-year-suffix). It fails with
+/// `Memory` where there is no room for it.
+pub fn letter(alloc: Global, n: u8) -> Result<String, Memory>
+    ensures counted { IfOk result (λ s. string_bytes s ≡ letters n) }
+    ensures word { IfOk result (λ s. IsWord (string_bytes s)) }
+    ensures place { IfOk result (λ s. place_of (string_bytes s) ≡ n) }
+    ensures order { IfOk result (λ s. (w : List ℕ) → IsWord w → StandsBefore w (string_bytes s) ↔ (place_of w < n)) }
+    ensures only { IfOk result (λ s. (w : List ℕ) → IsWord w → place_of w ≡ n → w ≡ string_bytes s) }
+{
+    let word = spelled(alloc, n)?;
+    Ok(word)
+}
+
+/// The word of that place.
+fn spelled(alloc: Global, n: u8) -> Result<String, Memory>
+    ensures word { IfOk result (λ s. IsWord (string_bytes s)) }
+    ensures place { IfOk result (λ s. place_of (string_bytes s) ≡ n) }
+{
+    let mut word = String::new(alloc);
+    if n >= 26 {
+        word.push(char::from(b'a' + (n / 26 - 1)))?;
+    }
+    word.push(char::from(b'a' + n % 26))?;
+    Ok(word)
+}
+
+#[cfg(test)]
+mod tests {
+    use super::*;
+
+    #[test]
+    fn words_by_length_and_alphabet(rt: HostRuntime) -> Result<(), Memory> {
+        for (n, word) in [
+            (0, "a"),
+            (1, "b"),
+            (25, "z"),
+            (26, "aa"),
+            (27, "ab"),
+            (51, "az"),
+            (52, "ba"),
+            (255, "iv"),
+        ] {
+            assert!(rt; letter(rt.alloc(), n)?.as_str() == word, "{word}");
+        }
+        Ok(())
+    }
+}

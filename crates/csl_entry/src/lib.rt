@@ -1,0 +1,12 @@
+//! What an entry answers to a style: the parts that depend on no entry.
+#![tactic(auto)]
+
+mod cite;
+mod letters;
+mod name_form;
+mod numbers;
+
+pub use cite::{IbidState, LocatorPayload, Sorting, SpecialForm, SpecificLocator};
+pub use letters::letter;
+pub use name_form::DisambiguatedNameForm;
+pub use numbers::{CitationNumber, NoteNumber};

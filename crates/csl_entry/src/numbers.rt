@@ -1,0 +1,85 @@
+//! The numbers of citations and of notes.
+
+ghost use Rattle.std.specs.Prelude.{◌≡◌, ◌↔◌, ◌≤◌, IsSome, IfSome};
+
+/// The place of a citation in its document, from 0 (CSL 1.0.2, Number Variables:
+/// citation-number).
+#[derive(Clone, Copy, Debug, PartialEq, Eq, PartialOrd, Ord, Hash)]
+pub struct CitationNumber {
+    number: u32,
+    pub ghost range: { number ≤ 2147483646 },
+}
+
+impl CitationNumber {
+    ghost use Rattle.csl_entry.specs.Numbers.{IsCitationNumber, citation_number};
+
+    /// The citation number, where it is at most 2147483646, so that the number that is printed,
+    /// one more, is an `i32`. Otherwise `None`.
+    pub fn new(number: u32) -> Option<CitationNumber>
+        ensures range { IsSome result ↔ IsCitationNumber number }
+        ensures value { IfSome result (λ c. citation_number c ≡ number) }
+    {
+        if number > 2147483646 {
+            return None;
+        }
+        Some(CitationNumber { number })
+    }
+
+    /// The number.
+    pub fn get(self) -> u32
+        ensures value { result ≡ citation_number self }
+        ensures range { IsCitationNumber result }
+    {
+        self.number
+    }
+}
+
+/// The number of a note (CSL 1.0.2, Number Variables: first-reference-note-number).
+#[derive(Clone, Copy, Debug, PartialEq, Eq, PartialOrd, Ord, Hash)]
+pub struct NoteNumber {
+    number: u32,
+    pub ghost range: { number ≤ 2147483647 },
+}
+
+impl NoteNumber {
+    ghost use Rattle.csl_entry.specs.Numbers.{IsNoteNumber, note_number};
+
+    /// The note number, where it is at most 2147483647, so that it is an `i32`. Otherwise
+    /// `None`.
+    pub fn new(number: u32) -> Option<NoteNumber>
+        ensures range { IsSome result ↔ IsNoteNumber number }
+        ensures value { IfSome result (λ n. note_number n ≡ number) }
+    {
+        if number > 2147483647 {
+            return None;
+        }
+        Some(NoteNumber { number })
+    }
+
+    /// The number.
+    pub fn get(self) -> u32
+        ensures value { result ≡ note_number self }
+        ensures range { IsNoteNumber result }
+    {
+        self.number
+    }
+}
+
+#[cfg(test)]
+mod tests {
+    use super::*;
+
+    #[test]
+    fn citation_numbers_end_below_the_largest_i32(rt: HostRuntime) {
+        assert!(rt; CitationNumber::new(0).is_some_and(|c| c.get() == 0));
+        assert!(rt; CitationNumber::new(2147483646).is_some_and(|c| c.get() == 2147483646));
+        assert!(rt; CitationNumber::new(2147483647).is_none());
+    }
+
+    #[test]
+    fn note_numbers_end_at_the_largest_i32(rt: HostRuntime) {
+        assert!(rt; NoteNumber::new(0).is_some_and(|n| n.get() == 0));
+        assert!(rt; NoteNumber::new(2147483647).is_some_and(|n| n.get() == 2147483647));
+        assert!(rt; NoteNumber::new(2147483648).is_none());
+    }
+}
