@@ -15,6 +15,9 @@ fn options_have_their_defaults(rt: HostRuntime) {
     assert!(rt; NameForm::default() == NameForm::Long);
     assert!(rt; DelimiterBehavior::default() == DelimiterBehavior::Contextual);
     assert!(rt; ChooseMatch::default() == ChooseMatch::All);
+    assert!(rt; PageRangeFormat::default() == PageRangeFormat::Expanded);
+    let demoted = DemoteNonDroppingParticle::default();
+    assert!(rt; demoted == DemoteNonDroppingParticle::DisplayAndSort);
 }
 
 /// A branch without tests.

@@ -5,8 +5,9 @@ ghost use Rattle.csl_style.specs.Style.{AreDefaults};
 use crate::names::InheritableNameOptions;
 
 /// How the second number of a page range is written (CSL 1.0.2, Appendix V: Page Range Formats).
-#[derive(Clone, Copy, Debug, PartialEq, Eq, PartialOrd, Ord, Hash)]
+#[derive(Clone, Copy, Debug, Default, PartialEq, Eq, PartialOrd, Ord, Hash)]
 pub enum PageRangeFormat {
+    #[default]
     Expanded,
     Minimal,
     MinimalTwo,
