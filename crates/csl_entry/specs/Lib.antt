@@ -1,3 +1,4 @@
+pub mod Answers
 pub mod Letters
 pub mod NameForm
 pub mod Numbers

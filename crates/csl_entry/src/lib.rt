@@ -5,8 +5,10 @@ mod cite;
 mod letters;
 mod name_form;
 mod numbers;
+mod taxonomy;
 
 pub use cite::{IbidState, LocatorPayload, Sorting, SpecialForm, SpecificLocator};
 pub use letters::letter;
 pub use name_form::DisambiguatedNameForm;
 pub use numbers::{CitationNumber, NoteNumber};
+pub use taxonomy::EntryLike;

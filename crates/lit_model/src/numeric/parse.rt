@@ -152,6 +152,8 @@ impl Numeric {
     /// `NotNumeric` for any other text, before any memory is taken; `Memory` where there was none
     /// for the numbers or the texts.
     pub fn parse(alloc: Global, text: &str) -> Result<Numeric, NumericError>
+        // The value that the characters spell, if there is one.
+        ensures exact { Gives numeric_view result (numeric_from (chars text.now)) }
         // What is read is spelled so.
         ensures found { IfOk result (λ n. Spells (numeric_view n) (chars text.now)) }
         // What is spelled so is read, unless memory ran out; so a text has one value at most.
