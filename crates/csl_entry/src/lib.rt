@@ -4,11 +4,13 @@
 mod cite;
 mod letters;
 mod name_form;
+mod number_result;
 mod numbers;
 mod taxonomy;
 
 pub use cite::{IbidState, LocatorPayload, Sorting, SpecialForm, SpecificLocator};
 pub use letters::letter;
 pub use name_form::DisambiguatedNameForm;
+pub use number_result::NumberVariableResult;
 pub use numbers::{CitationNumber, NoteNumber};
 pub use taxonomy::EntryLike;
