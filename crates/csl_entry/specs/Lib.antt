@@ -3,3 +3,4 @@ pub mod Letters
 pub mod NameForm
 pub mod NumberResult
 pub mod Numbers
+pub mod NumericText

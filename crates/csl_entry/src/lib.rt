@@ -6,6 +6,7 @@ mod letters;
 mod name_form;
 mod number_result;
 mod numbers;
+mod numeric_text;
 mod taxonomy;
 
 pub use cite::{IbidState, LocatorPayload, Sorting, SpecialForm, SpecificLocator};
