@@ -1,4 +1,7 @@
 pub mod Answers
+pub mod EntryDate
+pub mod EntryNumber
+pub mod EntryPage
 pub mod Letters
 pub mod NameForm
 pub mod NumberResult

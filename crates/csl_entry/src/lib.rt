@@ -2,6 +2,7 @@
 #![tactic(auto)]
 
 mod cite;
+mod entry;
 mod letters;
 mod name_form;
 mod number_result;

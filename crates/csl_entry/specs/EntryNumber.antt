@@ -1,0 +1,88 @@
+-- What an entry answers to a number variable (CSL 1.0.2, Appendix IV: Number Variables).
+use Rattle.std.specs.Prelude.{ℕ, List, Option, None, codes, option_map, option_and_then, if◌then◌else◌}
+use Rattle.std.specs.Option.{option_or}
+use Rattle.csl_style.specs.declared.taxonomy.NumberVariable.{NumberVariable}
+use Rattle.csl_style.specs.declared.taxonomy.NumberVariable.TheVariants.{ChapterNumber, CitationNumber, CollectionNumber, Edition, FirstReferenceNoteNumber, Issue, Locator, Number, NumberOfPages, NumberOfVolumes, PageFirst, PartNumber, PrintingNumber, Section, SupplementNumber, Version, Volume}
+use Rattle.lit_model.specs.declared.entry.Entry.{Entry, out-Entry}
+use Rattle.lit_model.specs.declared.entry_type.EntryType.TheVariants.{Chapter, Repository}
+use Rattle.lit_model.specs.declared.maybe_typed.MaybeTyped.{MaybeTyped}
+use Rattle.lit_model.specs.declared.maybe_typed.MaybeTyped.TheVariants.{Typed, String}
+use Rattle.lit_model.specs.declared.numeric.Numeric.{Numeric}
+use Rattle.lit_model.specs.declared.page.PageRanges.{PageRanges}
+use Rattle.lit_model.specs.Entry.{preorder, first_some, own_serial}
+use Rattle.lit_model.specs.MaybeTyped.{MaybeView, typed, maybe_view}
+use Rattle.lit_model.specs.Numeric.{NumericView, numeric_view}
+use Rattle.lit_model.specs.Page.{pages_view, first_page}
+use Rattle.lit_model.specs.Select.{same_type, bound_select, chapter, part, container_of, collection_of}
+use Rattle.lit_model.specs.Source.{serial}
+use Rattle.csl_entry.specs.NumericText.{numeric_or_text}
+
+-- a number that a work holds, or its text
+abbrev pub held : Option (MaybeTyped Numeric) → Option (MaybeView NumericView)
+held o = option_map (maybe_view numeric_view) o
+
+-- how many volumes or pages
+abbrev pub counted : Option Numeric → Option (MaybeView NumericView)
+counted o = option_map (λ n. typed (numeric_view n)) o
+
+-- a text of a serial number, as the number that it stands for, if it stands for one
+abbrev pub spelled : Option (List ℕ) → Option (MaybeView NumericView)
+spelled o = option_map numeric_or_text o
+
+abbrev volume_in : Entry → Option (MaybeTyped Numeric)
+volume_in e = (out-Entry e).volume
+
+-- the own chapter, or else the volume of the work where that numbers a chapter
+abbrev pub chapter_number : Entry → Option (MaybeTyped Numeric)
+chapter_number e = option_or (out-Entry e).chapter (option_and_then volume_in (bound_select chapter e))
+
+-- the volume of the collection
+abbrev pub collection_number : Entry → Option (MaybeTyped Numeric)
+collection_number e = option_and_then volume_in (collection_of e)
+
+-- the own serial number, or else a chapter's own chapter
+abbrev pub own_number : Entry → Option (MaybeView NumericView)
+own_number e = option_or (spelled (own_serial (codes "serial") e)) (if same_type (out-Entry e).entry_type Chapter then held (out-Entry e).chapter else None)
+
+abbrev first_of : MaybeTyped PageRanges → Option NumericView
+first_of (Typed pages) = first_page (pages_view pages)
+first_of (String text) = None
+
+-- the first of the own pages, where they are known as pages
+abbrev pub first_page_of : Entry → Option NumericView
+first_page_of e = option_and_then first_of (out-Entry e).page_range
+
+-- the volume of the work where that numbers a part
+abbrev pub part_number : Entry → Option (MaybeTyped Numeric)
+part_number e = option_and_then volume_in (bound_select part e)
+
+-- the printing, in the first serial number along the work and its parents
+abbrev pub printing_number : Entry → Option (List ℕ)
+printing_number e = option_and_then (serial (codes "printing")) (first_some (λ x. (out-Entry x).serial_number) (preorder e))
+
+-- the version of a repository
+abbrev pub version_number : Entry → Option (List ℕ)
+version_number e = if same_type (out-Entry e).entry_type Repository then own_serial (codes "version") e else None
+
+-- the volume of the work that holds this one, or else the own volume
+abbrev pub volume_number : Entry → Option (MaybeTyped Numeric)
+volume_number e = option_or (option_and_then volume_in (container_of e)) (volume_in e)
+
+abbrev pub number_of : Entry → NumberVariable → Option (MaybeView NumericView)
+number_of e ChapterNumber = held (chapter_number e)
+number_of e CitationNumber = None
+number_of e CollectionNumber = held (collection_number e)
+number_of e Edition = held (first_some (λ x. (out-Entry x).edition) (preorder e))
+number_of e FirstReferenceNoteNumber = None
+number_of e Issue = held (first_some (λ x. (out-Entry x).issue) (preorder e))
+number_of e Locator = None
+number_of e Number = own_number e
+number_of e NumberOfPages = counted (out-Entry e).page_total
+number_of e NumberOfVolumes = counted (out-Entry e).volume_total
+number_of e PageFirst = option_map typed (first_page_of e)
+number_of e PartNumber = held (part_number e)
+number_of e PrintingNumber = spelled (printing_number e)
+number_of e Section = None
+number_of e SupplementNumber = None
+number_of e Version = spelled (version_number e)
+number_of e Volume = held (volume_number e)

@@ -1,0 +1,50 @@
+//! What an entry answers to a date variable.
+
+ghost use Rattle.std.specs.Prelude.{◌≡◌, option_map, option_and_then, option_copied};
+ghost use Rattle.lit_model.specs.Date.{date_parts};
+ghost use Rattle.lit_model.specs.Select.{event, original, bound_select};
+ghost use Rattle.csl_entry.specs.Answers.{behind};
+ghost use Rattle.csl_entry.specs.EntryDate.{date_of, date_in, visit_date};
+
+use csl_style::DateVariable;
+use lit_model::select::event;
+use lit_model::{Date, Entry};
+use std::borrow::Cow;
+
+/// The date that an entry answers (CSL 1.0.2, Date Variables): as accessed, when the first address
+/// along the entry and its parents was visited; of an event, the date of the parent at which it
+/// was shown; as issued, the first date along the entry and its parents; of the original, the date
+/// of the parent that was translated or printed again. It answers no other date.
+pub(crate) fn date_variable(entry: &Entry, variable: DateVariable) -> Option<Cow<'_, Date>>
+    ensures { option_map (behind date_parts) result ≡ date_of entry.now variable }
+{
+    let date = match variable {
+        DateVariable::Accessed => accessed(entry),
+        DateVariable::EventDate => event_date(entry),
+        DateVariable::Issued => entry.date_any(),
+        DateVariable::OriginalDate => original_date(entry),
+        DateVariable::AvailableDate | DateVariable::Submitted => None,
+    };
+    date.map(Cow::Borrowed)
+}
+
+/// When the first address along the entry and its parents was visited.
+fn accessed(entry: &Entry) -> Option<&Date>
+    ensures { option_copied result ≡ visit_date entry.now }
+{
+    entry.url_any()?.visit_date.as_ref()
+}
+
+/// The date of the event at which the work was shown.
+fn event_date(entry: &Entry) -> Option<&Date>
+    ensures { option_copied result ≡ option_and_then date_in (bound_select event entry.now) }
+{
+    entry.bound_select(event())?.date()
+}
+
+/// The date of the work that was translated or printed again.
+fn original_date(entry: &Entry) -> Option<&Date>
+    ensures { option_copied result ≡ option_and_then date_in (bound_select original entry.now) }
+{
+    entry.get_original()?.date()
+}

@@ -1,0 +1,167 @@
+//! What an entry answers to a number variable.
+
+ghost use Rattle.std.specs.Prelude.{◌≡◌, IfOk, option_map, option_copied};
+ghost use Rattle.lit_model.specs.MaybeTyped.{maybe_view, typed};
+ghost use Rattle.lit_model.specs.Numeric.{numeric_view};
+ghost use Rattle.csl_entry.specs.Answers.{behind};
+ghost use Rattle.csl_entry.specs.EntryNumber.{number_of, held, counted, spelled, first_page_of, chapter_number, collection_number, own_number, part_number, printing_number, version_number, volume_number};
+
+use crate::numeric_text::numeric_or_text;
+use csl_style::NumberVariable;
+use lit_model::select::{chapter, part};
+use lit_model::{Entry, EntryType, MaybeTyped, Memory, Numeric};
+use std::alloc::Global;
+use std::borrow::Cow;
+
+/// The number that an entry answers (CSL 1.0.2, Number Variables), or its text where it is no
+/// number. What the citation knows (`CitationNumber`, `FirstReferenceNoteNumber`, `Locator`) the
+/// entry does not answer, nor `Section` and `SupplementNumber`. It fails with `Memory` where there
+/// was none for a text that is copied or read.
+pub(crate) fn number_variable(
+    alloc: Global,
+    entry: &Entry,
+    variable: NumberVariable,
+) -> Result<Option<MaybeTyped<Cow<'_, Numeric>>>, Memory>
+    ensures { IfOk result (λ found. option_map (maybe_view (behind numeric_view)) found ≡ number_of entry.now variable) }
+{
+    match variable {
+        NumberVariable::ChapterNumber => lent(alloc, chapter_number(entry)),
+        NumberVariable::CollectionNumber => lent(alloc, collection_number(entry)),
+        NumberVariable::Edition => lent(alloc, entry.map(|work| work.edition())),
+        NumberVariable::Issue => lent(alloc, entry.map(|work| work.issue())),
+        NumberVariable::Number => own_number(alloc, entry),
+        NumberVariable::NumberOfPages => Ok(counted(entry.page_total())),
+        NumberVariable::NumberOfVolumes => Ok(counted(entry.volume_total())),
+        NumberVariable::PageFirst => Ok(counted(first_page(entry))),
+        NumberVariable::PartNumber => lent(alloc, part_number(entry)),
+        NumberVariable::PrintingNumber => read(alloc, printing_number(entry)),
+        NumberVariable::Version => read(alloc, version_number(entry)),
+        NumberVariable::Volume => lent(alloc, volume_number(entry)),
+        NumberVariable::CitationNumber
+        | NumberVariable::FirstReferenceNoteNumber
+        | NumberVariable::Locator
+        | NumberVariable::Section
+        | NumberVariable::SupplementNumber => Ok(None),
+    }
+}
+
+/// A number that an entry holds: borrowed, and copied where it is a text.
+fn lent(
+    alloc: Global,
+    found: Option<&MaybeTyped<Numeric>>,
+) -> Result<Option<MaybeTyped<Cow<'_, Numeric>>>, Memory>
+    ensures { IfOk result (λ r. option_map (maybe_view (behind numeric_view)) r ≡ held (option_copied found.entry)) }
+{
+    match found {
+        None => Ok(None),
+        Some(MaybeTyped::Typed(number)) => Ok(Some(MaybeTyped::Typed(Cow::Borrowed(number)))),
+        Some(MaybeTyped::String(text)) => {
+            let copy = String::from_str(alloc, text.as_str())?;
+            Ok(Some(MaybeTyped::String(copy)))
+        }
+    }
+}
+
+/// A number that is no text, borrowed.
+fn counted(found: Option<&Numeric>) -> Option<MaybeTyped<Cow<'_, Numeric>>>
+    ensures { option_map (maybe_view (behind numeric_view)) result
+        ≡ option_map (λ n. typed (numeric_view n)) (option_copied found.entry) }
+{
+    match found {
+        None => None,
+        Some(number) => Some(MaybeTyped::Typed(Cow::Borrowed(number))),
+    }
+}
+
+/// A text of a serial number, as the number that it stands for, if it stands for one.
+fn read<'a>(
+    alloc: Global,
+    found: Option<&str>,
+) -> Result<Option<MaybeTyped<Cow<'a, Numeric>>>, Memory>
+    ensures { IfOk result (λ r. option_map (maybe_view (behind numeric_view)) r ≡ spelled (option_copied found.entry)) }
+{
+    let Some(text) = found else {
+        return Ok(None);
+    };
+    match numeric_or_text(alloc, text)? {
+        MaybeTyped::Typed(number) => Ok(Some(MaybeTyped::Typed(Cow::Owned(number)))),
+        MaybeTyped::String(text) => Ok(Some(MaybeTyped::String(text))),
+    }
+}
+
+/// The chapter, or else the volume of the work where that numbers a chapter.
+fn chapter_number(entry: &Entry) -> Option<&MaybeTyped<Numeric>>
+    ensures { option_copied result ≡ chapter_number entry.now }
+{
+    match entry.chapter() {
+        Some(chapter) => Some(chapter),
+        None => entry.bound_select(chapter())?.volume(),
+    }
+}
+
+/// The volume of the collection in which the work stands.
+fn collection_number(entry: &Entry) -> Option<&MaybeTyped<Numeric>>
+    ensures { option_copied result ≡ collection_number entry.now }
+{
+    entry.get_collection()?.volume()
+}
+
+/// The work's own serial number, or else a chapter's own chapter.
+fn own_number(alloc: Global, entry: &Entry) -> Result<Option<MaybeTyped<Cow<'_, Numeric>>>, Memory>
+    ensures { IfOk result (λ r. option_map (maybe_view (behind numeric_view)) r ≡ own_number entry.now) }
+{
+    match entry.keyed_serial_number("serial") {
+        Some(text) => read(alloc, Some(text)),
+        None if entry.entry_type() == EntryType::Chapter => lent(alloc, entry.chapter()),
+        None => Ok(None),
+    }
+}
+
+/// The first page of the work's own pages, where they are known as pages.
+fn first_page(entry: &Entry) -> Option<&Numeric>
+    ensures { option_map (λ page. numeric_view page.now) result ≡ first_page_of entry.now }
+{
+    match entry.page_range()? {
+        MaybeTyped::Typed(pages) => pages.first(),
+        MaybeTyped::String(_) => None,
+    }
+}
+
+/// The volume of the work where that numbers a part.
+fn part_number(entry: &Entry) -> Option<&MaybeTyped<Numeric>>
+    ensures { option_copied result ≡ part_number entry.now }
+{
+    entry.bound_select(part())?.volume()
+}
+
+/// The printing in the first serial number along the work and its parents.
+fn printing_number(entry: &Entry) -> Option<&str>
+    ensures { option_copied result ≡ printing_number entry.now }
+{
+    entry.map(|work| work.serial_number())?.get("printing")
+}
+
+/// The version of a repository.
+fn version_number(entry: &Entry) -> Option<&str>
+    ensures { option_copied result ≡ version_number entry.now }
+{
+    if entry.entry_type() == EntryType::Repository {
+        entry.keyed_serial_number("version")
+    } else {
+        None
+    }
+}
+
+/// The volume of the work that holds this one, or else its own.
+fn volume_number(entry: &Entry) -> Option<&MaybeTyped<Numeric>>
+    ensures { option_copied result ≡ volume_number entry.now }
+{
+    let of_container = match entry.get_container() {
+        Some(container) => container.volume(),
+        None => None,
+    };
+    match of_container {
+        Some(volume) => Some(volume),
+        None => entry.volume(),
+    }
+}

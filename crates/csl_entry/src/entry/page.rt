@@ -1,0 +1,28 @@
+//! What an entry answers to a page variable.
+
+ghost use Rattle.std.specs.Prelude.{◌≡◌, IfOk, option_map};
+ghost use Rattle.lit_model.specs.MaybeTyped.{maybe_view};
+ghost use Rattle.lit_model.specs.Page.{pages_view};
+ghost use Rattle.csl_entry.specs.EntryPage.{pages_of};
+
+use csl_style::PageVariable;
+use lit_model::{Entry, MaybeTyped, Memory, PageRanges};
+use std::alloc::Global;
+
+/// The pages that an entry answers (CSL 1.0.2, Number Variables: page): a copy of those on which
+/// it stands itself. It fails with `Memory` where there was none for the copy.
+pub(crate) fn page_variable(
+    alloc: Global,
+    entry: &Entry,
+    variable: PageVariable,
+) -> Result<Option<MaybeTyped<PageRanges>>, Memory>
+    ensures { IfOk result (λ found. option_map (maybe_view pages_view) found ≡ pages_of entry.now variable) }
+{
+    match (variable, entry.page_range()) {
+        (PageVariable::Page, Some(pages)) => {
+            let copy = pages.clone(alloc)?;
+            Ok(Some(copy))
+        }
+        (PageVariable::Page, None) => Ok(None),
+    }
+}
