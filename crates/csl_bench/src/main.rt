@@ -4,6 +4,7 @@
 //! answer, never a time. Without words it does each work in a small size.
 #![tactic(auto)]
 
+mod entry;
 mod literature;
 mod style;
 mod tree;
@@ -17,7 +18,7 @@ use std::rt::Env;
 const SMALL: usize = 10;
 
 /// The works, by name.
-const WORKS: [&str; 13] = [
+const WORKS: [&str; 15] = [
     "numeric",
     "pages",
     "initials",
@@ -31,6 +32,8 @@ const WORKS: [&str; 13] = [
     "simplify_deep",
     "style_chain",
     "style_dense",
+    "answers",
+    "labels",
 ];
 
 /// Does a work, and answers its checksum.
@@ -61,6 +64,10 @@ fn checksum(alloc: Global, work: &str, size: usize) -> Result<usize> {
         style::chain(alloc, size)
     } else if work == "style_dense" {
         style::dense(alloc, size)
+    } else if work == "answers" {
+        entry::answers(alloc, size)
+    } else if work == "labels" {
+        entry::labels(alloc, size)
     } else {
         bail!("no such work: {work}");
     }

@@ -1,2 +1,3 @@
 pub mod Groups
 pub mod Taken
+pub mod KindNames

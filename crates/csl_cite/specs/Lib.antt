@@ -1,3 +1,4 @@
+pub mod Entries
 pub mod Answers
 pub mod Node
 pub mod View

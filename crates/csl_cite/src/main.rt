@@ -4,6 +4,8 @@
 //! standard streams.
 #![tactic(auto)]
 
+mod answers;
+mod entries;
 mod node;
 mod render;
 mod run;

@@ -1,45 +1,15 @@
 //! The program's work, over any two writers.
 
-ghost use Rattle.std.specs.Prelude.{◌≡◌, ◌⊎◌, OnOk, OnErr, IfOk, IsSome, IsSomeAnd, Bool, false, true, map, string_bytes, is_ok, if◌then◌else◌};
+ghost use Rattle.std.specs.Prelude.{◌≡◌, ◌⊎◌, ℕ, List, None, OnOk, OnErr, IsSomeAnd, false, true, map, string_bytes, is_ok, if◌then◌else◌};
 ghost use Rattle.std.specs.Fmt.{WritesInCalls};
-ghost use Rattle.csl_tree.specs.Tokens.{tokens};
-ghost use Rattle.csl_tree.specs.Writing.{written};
-ghost use Rattle.csl_cite.specs.Answers.{answer, complaint, line, out_of_memory};
-ghost use Rattle.csl_cite.specs.Title.{title_layout};
-ghost use Rattle.csl_cite.specs.Tree.{layout_tree};
+ghost use Rattle.csl_cite.specs.Answers.{IsAnswer, complaint, line, out_of_memory};
 ghost use Rattle.csl_cite.specs.Words.{judged, error_verdict};
 
-use crate::title::{TitleOnly, title_layout};
-use crate::words::{Command, WordsError, asked};
-use csl_tree::{BufWriteFormat, ElemChildren};
+use crate::answers::{answer_to, write_answer};
+use crate::words::{WordsError, asked};
 use lit_model::{Memory, Noting, Sink};
 use std::alloc::Global;
 use std::fmt;
-
-/// What the built-in layout makes of a title.
-fn title_content(alloc: Global, title: &str) -> Result<ElemChildren, Memory>
-    ensures { IfOk result (λ content. tokens content ≡ layout_tree title.now title_layout) }
-{
-    let layout = title_layout(alloc)?;
-    let title = String::from_str(alloc, title)?;
-    layout.render(alloc, &TitleOnly { title })
-}
-
-/// Writes a content and a newline.
-#[tactic(auto, using(lit_model::proofs::Writes::two_writes))]
-fn write_content<S: Sink>(
-    content: &ElemChildren,
-    format: BufWriteFormat,
-    out: &mut S,
-) -> fmt::Result
-    ensures ok { OnOk result (WritesInCalls S.write_str_gives out.old (line (written format (tokens content.now))) out.new) }
-    ensures kept { OnOk result (S.refused out.new ≡ S.refused out.old) }
-    ensures err { OnErr result (S.refused out.new ≡ true) }
-{
-    content.write_into(out, format)?;
-    out.put("\n")?;
-    Ok(())
-}
 
 /// Writes why the words were refused, and a newline.
 #[tactic(auto, using(lit_model::proofs::Writes::three_writes))]
@@ -72,15 +42,15 @@ fn status_of(written: fmt::Result, status: u8) -> u8
 /// - 3: memory ran out, `fault` took a line that says so, and `out` is as it was;
 /// - 4: a sink refused a text; what the sinks hold then is left open.
 pub fn run_into<S: Sink, F: Sink>(alloc: Global, words: &[String], out: &mut S, fault: &mut F) -> u8
-    ensures zero { result ≡ 0 → IsSomeAnd (answer (judged (map string_bytes words.now))) (λ text. WritesInCalls S.write_str_gives out.old text out.new × (fault.new ≡ fault.old)) }
+    ensures zero { result ≡ 0 → (text : List ℕ) × IsAnswer (judged (map string_bytes words.now)) text × WritesInCalls S.write_str_gives out.old (line text) out.new × (fault.new ≡ fault.old) }
     ensures two { result ≡ 2 → IsSomeAnd (complaint (judged (map string_bytes words.now))) (λ text. WritesInCalls F.write_str_gives fault.old text fault.new × (out.new ≡ out.old)) }
-    ensures three { result ≡ 3 → IsSome (answer (judged (map string_bytes words.now))) × WritesInCalls F.write_str_gives fault.old out_of_memory fault.new × (out.new ≡ out.old) }
+    ensures three { result ≡ 3 → (complaint (judged (map string_bytes words.now)) ≡ None) × WritesInCalls F.write_str_gives fault.old out_of_memory fault.new × (out.new ≡ out.old) }
     ensures four { S.refused out.old ≡ false → F.refused fault.old ≡ false → result ≡ 4 → (S.refused out.new ≡ true) ⊎ (F.refused fault.new ≡ true) }
     ensures no_other { (result ≡ 0) ⊎ ((result ≡ 2) ⊎ ((result ≡ 3) ⊎ (result ≡ 4))) }
 {
     match asked(words) {
-        Ok(Command::Title { title, format }) => match title_content(alloc, title) {
-            Ok(content) => status_of(write_content(&content, format, out), 0),
+        Ok(command) => match answer_to(alloc, command) {
+            Ok(answer) => status_of(write_answer(&answer, out), 0),
             Err(Memory) => status_of(fault.put("out of memory\n"), 3),
         },
         Err(error) => status_of(write_error(error, fault), 2),
@@ -99,9 +69,9 @@ pub fn run<W: fmt::Write, F: fmt::Write>(
     out: &mut W,
     fault: &mut F,
 ) -> u8
-    ensures zero { result ≡ 0 → IsSomeAnd (answer (judged (map string_bytes words.now))) (λ text. WritesInCalls W.write_str_gives out.old text out.new × (fault.new ≡ fault.old)) }
+    ensures zero { result ≡ 0 → (text : List ℕ) × IsAnswer (judged (map string_bytes words.now)) text × WritesInCalls W.write_str_gives out.old (line text) out.new × (fault.new ≡ fault.old) }
     ensures two { result ≡ 2 → IsSomeAnd (complaint (judged (map string_bytes words.now))) (λ text. WritesInCalls F.write_str_gives fault.old text fault.new × (out.new ≡ out.old)) }
-    ensures three { result ≡ 3 → IsSome (answer (judged (map string_bytes words.now))) × WritesInCalls F.write_str_gives fault.old out_of_memory fault.new × (out.new ≡ out.old) }
+    ensures three { result ≡ 3 → (complaint (judged (map string_bytes words.now)) ≡ None) × WritesInCalls F.write_str_gives fault.old out_of_memory fault.new × (out.new ≡ out.old) }
     ensures no_other { (result ≡ 0) ⊎ ((result ≡ 2) ⊎ ((result ≡ 3) ⊎ (result ≡ 4))) }
 {
     let mut out_sink = Noting::new(out);

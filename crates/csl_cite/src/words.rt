@@ -1,8 +1,10 @@
 //! The words that the program is called with.
 
 ghost use Rattle.std.specs.Prelude.{◌≡◌, map, string_bytes};
-ghost use Rattle.csl_cite.specs.Words.{judged, judged_title, verdict_of};
+ghost use Rattle.csl_cite.specs.Words.{judged, judged_title, judged_label, judged_kind, judged_kind_of, named_kind, verdict_of};
 
+use crate::entries::BuiltIn;
+use csl_style::Kind;
 use csl_tree::BufWriteFormat;
 
 /// What the words ask for.
@@ -12,6 +14,13 @@ pub enum Command<'a> {
     Title {
         title: &'a str,
         format: BufWriteFormat,
+    },
+    /// The label of an entry.
+    Label(BuiltIn),
+    /// Whether an entry is of a kind.
+    Kind {
+        entry: BuiltIn,
+        kind: Kind,
     },
 }
 
@@ -33,13 +42,12 @@ pub fn asked(words: &[String]) -> Result<Command<'_>, WordsError<'_>>
             title: "Nature",
             format: BufWriteFormat::Html,
         }),
-        [name, words @ ..] => {
-            if name.as_str() == "title" {
-                title_asked(words)
-            } else {
-                Err(WordsError::Unknown(name.as_str()))
-            }
-        }
+        [name, words @ ..] => match name.as_str() {
+            "title" => title_asked(words),
+            "label" => label_asked(words),
+            "kind" => kind_asked(words),
+            _ => Err(WordsError::Unknown(name.as_str())),
+        },
     }
 }
 
@@ -64,4 +72,56 @@ fn title_asked(words: &[String]) -> Result<Command<'_>, WordsError<'_>>
         }),
         [word, ..] => Err(WordsError::Unknown(word.as_str())),
     }
+}
+
+/// What the words after `label` ask for.
+fn label_asked(words: &[String]) -> Result<Command<'_>, WordsError<'_>>
+    ensures { verdict_of result ≡ judged_label (map string_bytes words.now) }
+{
+    let [key, more @ ..] = words else {
+        return Err(WordsError::Missing);
+    };
+    let Some(entry) = BuiltIn::of_key(key.as_str()) else {
+        return Err(WordsError::Unknown(key.as_str()));
+    };
+    match more {
+        [] => Ok(Command::Label(entry)),
+        [word, ..] => Err(WordsError::Unknown(word.as_str())),
+    }
+}
+
+/// What the words after `kind` ask for.
+fn kind_asked(words: &[String]) -> Result<Command<'_>, WordsError<'_>>
+    ensures { verdict_of result ≡ judged_kind (map string_bytes words.now) }
+{
+    let [key, more @ ..] = words else {
+        return Err(WordsError::Missing);
+    };
+    match BuiltIn::of_key(key.as_str()) {
+        Some(entry) => kind_asked_of(entry, more),
+        None => Err(WordsError::Unknown(key.as_str())),
+    }
+}
+
+/// What the words after `kind` and an entry ask for.
+fn kind_asked_of(entry: BuiltIn, words: &[String]) -> Result<Command<'_>, WordsError<'_>>
+    ensures { verdict_of result ≡ judged_kind_of entry (map string_bytes words.now) }
+{
+    let [name, more @ ..] = words else {
+        return Err(WordsError::Missing);
+    };
+    let Some(kind) = kind_of_name(name.as_str()) else {
+        return Err(WordsError::Unknown(name.as_str()));
+    };
+    match more {
+        [] => Ok(Command::Kind { entry, kind }),
+        [word, ..] => Err(WordsError::Unknown(word.as_str())),
+    }
+}
+
+/// The kind of a name, if there is one.
+fn kind_of_name(name: &str) -> Option<Kind>
+    ensures { result ≡ named_kind name.now }
+{
+    Kind::from_name(name)
 }

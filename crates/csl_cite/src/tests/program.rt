@@ -35,7 +35,7 @@ fn owned(alloc: Global, words: &[&str]) -> Result<Vec<String>, Fail> {
 }
 
 /// Runs the words, and asserts the status and both streams.
-fn assert_run(
+pub fn assert_run(
     rt: &impl Abort,
     alloc: Global,
     words: &[&str],
@@ -131,7 +131,7 @@ fn unknown_words(rt: HostRuntime) -> Result<(), Fail> {
         "",
         "unknown: cite\n",
     )?;
-    assert_run(&rt, alloc, &["label", "x"], 2, "", "unknown: label\n")
+    assert_run(&rt, alloc, &["labels", "x"], 2, "", "unknown: labels\n")
 }
 
 #[test]
@@ -188,11 +188,11 @@ fn a_refused_fault_is_status_four(rt: HostRuntime) -> Result<(), Fail> {
     assert_eq!(rt; run_refusing(alloc, &["title"], 0, 1)?, 2);
     for fault in 0..3 {
         assert_eq!(rt;
-            run_refusing(alloc, &["label"], 0, fault)?,
+            run_refusing(alloc, &["labels"], 0, fault)?,
             4,
             "after {fault} texts"
         );
     }
-    assert_eq!(rt; run_refusing(alloc, &["label"], 0, 3)?, 2);
+    assert_eq!(rt; run_refusing(alloc, &["labels"], 0, 3)?, 2);
     Ok(())
 }

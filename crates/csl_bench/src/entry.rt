@@ -1,0 +1,242 @@
+//! Works over what an entry answers.
+
+use anyhow::Result;
+use csl_entry::{Alphanumerical, EntryLike};
+use csl_style::{DateVariable, NameVariable, NumberVariable, PageVariable, StandardVariable};
+use lit_model::{
+    ChunkKind, ChunkedString, Date, Entry, EntryType, FormatString, LongShortForm, MaybeTyped,
+    Numeric, Person, PersonRole, PersonsWithRoles, StringChunk,
+};
+use std::alloc::Global;
+
+const NUMBERS: [NumberVariable; 17] = [
+    NumberVariable::ChapterNumber,
+    NumberVariable::CitationNumber,
+    NumberVariable::CollectionNumber,
+    NumberVariable::Edition,
+    NumberVariable::FirstReferenceNoteNumber,
+    NumberVariable::Issue,
+    NumberVariable::Locator,
+    NumberVariable::Number,
+    NumberVariable::NumberOfPages,
+    NumberVariable::NumberOfVolumes,
+    NumberVariable::PageFirst,
+    NumberVariable::PartNumber,
+    NumberVariable::PrintingNumber,
+    NumberVariable::Section,
+    NumberVariable::SupplementNumber,
+    NumberVariable::Version,
+    NumberVariable::Volume,
+];
+
+const TEXTS: [StandardVariable; 47] = [
+    StandardVariable::Abstract,
+    StandardVariable::Annote,
+    StandardVariable::Archive,
+    StandardVariable::ArchiveCollection,
+    StandardVariable::ArchiveLocation,
+    StandardVariable::ArchivePlace,
+    StandardVariable::Authority,
+    StandardVariable::CallNumber,
+    StandardVariable::CitationKey,
+    StandardVariable::CitationLabel,
+    StandardVariable::CollectionTitle,
+    StandardVariable::ContainerTitle,
+    StandardVariable::ContainerTitleShort,
+    StandardVariable::Dimensions,
+    StandardVariable::Division,
+    StandardVariable::DOI,
+    StandardVariable::Event,
+    StandardVariable::EventTitle,
+    StandardVariable::EventPlace,
+    StandardVariable::Genre,
+    StandardVariable::ISBN,
+    StandardVariable::ISSN,
+    StandardVariable::Jurisdiction,
+    StandardVariable::Keyword,
+    StandardVariable::Language,
+    StandardVariable::License,
+    StandardVariable::Medium,
+    StandardVariable::Note,
+    StandardVariable::OriginalPublisher,
+    StandardVariable::OriginalPublisherPlace,
+    StandardVariable::OriginalTitle,
+    StandardVariable::PartTitle,
+    StandardVariable::PMCID,
+    StandardVariable::PMID,
+    StandardVariable::Publisher,
+    StandardVariable::PublisherPlace,
+    StandardVariable::References,
+    StandardVariable::ReviewedGenre,
+    StandardVariable::ReviewedTitle,
+    StandardVariable::Scale,
+    StandardVariable::Source,
+    StandardVariable::Status,
+    StandardVariable::Title,
+    StandardVariable::TitleShort,
+    StandardVariable::URL,
+    StandardVariable::VolumeTitle,
+    StandardVariable::YearSuffix,
+];
+
+const NAMES: [NameVariable; 27] = [
+    NameVariable::Author,
+    NameVariable::Chair,
+    NameVariable::CollectionEditor,
+    NameVariable::Compiler,
+    NameVariable::Composer,
+    NameVariable::ContainerAuthor,
+    NameVariable::Contributor,
+    NameVariable::Curator,
+    NameVariable::Director,
+    NameVariable::Editor,
+    NameVariable::EditorialDirector,
+    NameVariable::EditorTranslator,
+    NameVariable::ExecutiveProducer,
+    NameVariable::Guest,
+    NameVariable::Host,
+    NameVariable::Illustrator,
+    NameVariable::Interviewer,
+    NameVariable::Narrator,
+    NameVariable::Organizer,
+    NameVariable::OriginalAuthor,
+    NameVariable::Performer,
+    NameVariable::Producer,
+    NameVariable::Recipient,
+    NameVariable::ReviewedAuthor,
+    NameVariable::ScriptWriter,
+    NameVariable::SeriesCreator,
+    NameVariable::Translator,
+];
+
+const DATES: [DateVariable; 6] = [
+    DateVariable::Accessed,
+    DateVariable::AvailableDate,
+    DateVariable::EventDate,
+    DateVariable::Issued,
+    DateVariable::OriginalDate,
+    DateVariable::Submitted,
+];
+
+fn text(alloc: Global, text: &str) -> Result<FormatString> {
+    let chunk = StringChunk {
+        value: String::from_str(alloc, text)?,
+        kind: ChunkKind::Normal,
+    };
+    Ok(FormatString {
+        value: ChunkedString(vec![in alloc; chunk]?),
+        short: None,
+    })
+}
+
+/// So many persons of one name.
+fn persons(alloc: Global, size: usize) -> Result<Vec<Person>> {
+    let mut persons = Vec::new(alloc);
+    for _ in 0..size {
+        let name = String::from_str(alloc, "Kwan")?;
+        persons.push(Person {
+            name,
+            given_name: None,
+            prefix: None,
+            suffix: None,
+            alias: None,
+            comma_suffix: false,
+        })?;
+    }
+    Ok(persons)
+}
+
+/// An article of a journal, with so many authors and translators.
+fn article(alloc: Global, size: usize) -> Result<Entry> {
+    let mut journal = Entry::new(alloc, "journal", EntryType::Periodical)?;
+    journal.title = Some(text(alloc, "Il Nuovo Cimento")?);
+    journal.volume = Some(MaybeTyped::Typed(Numeric::new(20)));
+    let mut entry = Entry::new(alloc, "article", EntryType::Article)?;
+    entry.title = Some(text(alloc, "Vortices")?);
+    entry.authors = Some(persons(alloc, size)?);
+    let translators = PersonsWithRoles {
+        names: persons(alloc, size)?,
+        role: PersonRole::Translator,
+    };
+    entry.affiliated = Some(vec![in alloc; translators]?);
+    entry.date = Date::new(1961, Some(4), None, None, false);
+    entry.parents = vec![in alloc; journal]?;
+    Ok(entry)
+}
+
+/// How many number, page and date variables have an answer.
+fn numbers<T: EntryLike>(alloc: Global, entry: &T) -> Result<usize> {
+    let mut found: usize = 0;
+    for variable in NUMBERS {
+        if entry.resolve_number_variable(alloc, variable)?.is_some() {
+            found = found.saturating_add(1);
+        }
+    }
+    for variable in DATES {
+        if entry.resolve_date_variable(alloc, variable)?.is_some() {
+            found = found.saturating_add(1);
+        }
+    }
+    if entry
+        .resolve_page_variable(alloc, PageVariable::Page)?
+        .is_some()
+    {
+        found = found.saturating_add(1);
+    }
+    Ok(found)
+}
+
+/// How many standard variables have an answer in a form.
+fn texts<T: EntryLike>(alloc: Global, entry: &T, form: LongShortForm) -> Result<usize> {
+    let mut found: usize = 0;
+    for variable in TEXTS {
+        if entry
+            .resolve_standard_variable(alloc, form, variable)?
+            .is_some()
+        {
+            found = found.saturating_add(1);
+        }
+    }
+    Ok(found)
+}
+
+/// How many persons all name variables answer.
+fn names<T: EntryLike>(alloc: Global, entry: &T) -> Result<usize> {
+    let mut found: usize = 0;
+    for variable in NAMES {
+        let persons = entry.resolve_name_variable(alloc, variable)?;
+        found = found.saturating_add(persons.len());
+    }
+    Ok(found)
+}
+
+/// Asks an entry for every variable, each text in both forms, and counts the answers.
+fn asked<T: EntryLike>(alloc: Global, entry: &T) -> Result<usize> {
+    let numbers = numbers(alloc, entry)?;
+    let long = texts(alloc, entry, LongShortForm::Long)?;
+    let short = texts(alloc, entry, LongShortForm::Short)?;
+    let names = names(alloc, entry)?;
+    Ok(
+        numbers
+            .saturating_add(long)
+            .saturating_add(short)
+            .saturating_add(names),
+    )
+}
+
+/// Asks an article with many authors and translators for every variable, and counts the answers.
+pub fn answers(alloc: Global, size: usize) -> Result<usize> {
+    let entry = article(alloc, size)?;
+    asked(alloc, &entry)
+}
+
+/// Labels an article of four authors many times, and counts the bytes of the labels.
+pub fn labels(alloc: Global, size: usize) -> Result<usize> {
+    let entry = article(alloc, 4)?;
+    let mut bytes: usize = 0;
+    for _ in 0..size {
+        let label = Alphanumerical::new().citation(alloc, &entry)?;
+        bytes = bytes.saturating_add(label.len());
+    }
+    Ok(bytes)
+}
