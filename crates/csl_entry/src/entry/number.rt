@@ -93,10 +93,9 @@ fn read<'a>(
 fn chapter_number(entry: &Entry) -> Option<&MaybeTyped<Numeric>>
     ensures { option_copied result ≡ chapter_number entry.now }
 {
-    match entry.chapter() {
-        Some(chapter) => Some(chapter),
-        None => entry.bound_select(chapter())?.volume(),
-    }
+    entry
+        .chapter()
+        .or_else(|| entry.bound_select(chapter())?.volume())
 }
 
 /// The volume of the collection in which the work stands.
@@ -156,12 +155,8 @@ fn version_number(entry: &Entry) -> Option<&str>
 fn volume_number(entry: &Entry) -> Option<&MaybeTyped<Numeric>>
     ensures { option_copied result ≡ volume_number entry.now }
 {
-    let of_container = match entry.get_container() {
-        Some(container) => container.volume(),
-        None => None,
-    };
-    match of_container {
-        Some(volume) => Some(volume),
-        None => entry.volume(),
-    }
+    entry
+        .get_container()
+        .and_then(Entry::volume)
+        .or(entry.volume())
 }
