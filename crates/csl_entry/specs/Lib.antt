@@ -1,4 +1,5 @@
 pub mod Answers
+pub mod EntryKind
 pub mod Letters
 pub mod NameForm
 pub mod NumberResult

@@ -1,0 +1,5 @@
+//! What an `Entry` answers (CSL 1.0.2, Appendix IV: Variables).
+
+mod kind;
+
+pub use kind::{legislation_kind, recording_kind};
