@@ -1,6 +1,6 @@
 -- The kinds of an entry (CSL 1.0.2, Appendix III: Types): how its own type, and the types of the works that
 -- it is directly a part of, make it of a kind. It may be of several kinds, or of none.
-use Rattle.std.specs.Prelude.{Bool, true, false, not, ◌&&◌, ◌||◌, ◌==◌, List, [], ◌∷◌, length, filter, is_some, is_none}
+use Rattle.std.specs.Prelude.{Bool, false, not, ◌&&◌, ◌||◌, ◌==◌, List, [], ◌∷◌, length, filter, is_some, is_none}
 use Rattle.std.specs.List.{list_any}
 use Rattle.lit_model.specs.declared.entry.Entry.{Entry, out-Entry}
 use Rattle.lit_model.specs.declared.entry_type.EntryType.{EntryType}
