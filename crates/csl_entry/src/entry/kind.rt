@@ -47,7 +47,7 @@ pub fn legislation_kind(entry: &Entry) -> Option<Kind>
     }
 }
 
-/// The entry is of that kind.
+/// The entry is of that kind (CSL 1.0.2, Appendix III: Types). It may be of several, or of none.
 pub(crate) fn is_of_kind(entry: &Entry, kind: Kind) -> bool
     ensures { result ≡ is_kind kind entry.now }
 {
@@ -128,8 +128,8 @@ fn is_thesis(entry: &Entry) -> bool
     entry.entry_type == EntryType::Thesis || stands_in(entry, &[EntryType::Thesis])
 }
 
-/// An article that is no narrower kind of article, no report, thesis or manuscript, and in no
-/// blog.
+/// An article that is no narrower kind of article, no report or thesis, and in no blog. No article
+/// is a manuscript, since that is a type of its own.
 fn is_article(entry: &Entry) -> bool
     ensures { result ≡ is_kind kind.Article entry.now }
 {
@@ -139,7 +139,6 @@ fn is_article(entry: &Entry) -> bool
             || is_conference_paper(entry)
             || is_report(entry)
             || is_thesis(entry)
-            || entry.entry_type == EntryType::Manuscript
             || is_blog_post(entry))
 }
 

@@ -285,7 +285,7 @@ fn recordings(rt: HostRuntime) -> Result<(), Memory> {
 }
 
 #[test]
-fn posts_and_pages(rt: HostRuntime) -> Result<(), Memory> {
+fn posts(rt: HostRuntime) -> Result<(), Memory> {
     let alloc = rt.alloc();
     assert!(rt; alone(alloc, EntryType::Post, &[Kind::Post])?);
     assert!(rt; within(alloc, EntryType::Post, EntryType::Thread, &[Kind::Post])?);
@@ -297,7 +297,22 @@ fn posts_and_pages(rt: HostRuntime) -> Result<(), Memory> {
             &[Kind::LegalCase, Kind::Post]
         )?
     );
+    assert!(rt;
+        within(
+            alloc,
+            EntryType::Post,
+            EntryType::Blog,
+            &[Kind::Post, Kind::PostWeblog]
+        )?
+    );
+    Ok(())
+}
+
+#[test]
+fn sites_and_pages(rt: HostRuntime) -> Result<(), Memory> {
+    let alloc = rt.alloc();
     assert!(rt; alone(alloc, EntryType::Web, &[Kind::Webpage])?);
+    assert!(rt; alone(alloc, EntryType::Blog, &[Kind::Webpage])?);
     assert!(rt; alone(alloc, EntryType::Thread, &[Kind::Webpage])?);
     assert!(rt;
         within(
