@@ -2,6 +2,7 @@ pub mod Answers
 pub mod EntryDate
 pub mod EntryNumber
 pub mod EntryPage
+pub mod EntryKind
 pub mod Letters
 pub mod NameForm
 pub mod NumberResult

@@ -3,3 +3,6 @@
 mod date;
 mod number;
 mod page;
+mod kind;
+
+pub use kind::{legislation_kind, recording_kind};

@@ -11,6 +11,7 @@ mod numeric_text;
 mod taxonomy;
 
 pub use cite::{IbidState, LocatorPayload, Sorting, SpecialForm, SpecificLocator};
+pub use entry::{legislation_kind, recording_kind};
 pub use letters::letter;
 pub use name_form::DisambiguatedNameForm;
 pub use number_result::NumberVariableResult;

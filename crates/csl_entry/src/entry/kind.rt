@@ -1,0 +1,280 @@
+//! The kinds of an entry (CSL 1.0.2, Appendix III: Types).
+
+ghost use Rattle.std.specs.Prelude.{◌≡◌, ◌↔◌, ◌∷◌, [], IsTrue, IsSome, IfSome, IfNone};
+ghost use Rattle.lit_model.specs.declared.entry_type.EntryType.TheVariants.{Legislation};
+ghost use Rattle.csl_style.specs.declared.taxonomy.Kind.TheVariants as kind;
+ghost use Rattle.csl_entry.specs.EntryKind.{is_a, stands_in, is_journal_article, is_newspaper_article, is_conference_paper, is_report, is_thesis, is_periodical, is_recording, is_musical_score, is_motion_picture, is_song, is_blog_post, is_post, is_online, is_figure, is_kind, kinds_among, recording_kinds, legislation_kinds};
+
+use csl_style::Kind;
+use lit_model::{Bind, Clause, Entry, EntryType};
+
+/// The kind of an audio or a video: each is of exactly one of `Broadcast`, `MotionPicture`,
+/// `MusicalScore` and `Song`. `None` for an entry of another type, which is of none of them (CSL
+/// 1.0.2, Appendix III: Types).
+pub fn recording_kind(entry: &Entry) -> Option<Kind>
+    ensures recording { IsSome result ↔ IsTrue (is_recording entry.now) }
+    ensures one { IfSome result (λ kind. kinds_among recording_kinds entry.now ≡ kind ∷ []) }
+    ensures none { IfNone result (kinds_among recording_kinds entry.now ≡ []) }
+{
+    if !is_recording(entry) {
+        return None;
+    }
+    if is_musical_score(entry) {
+        return Some(Kind::MusicalScore);
+    }
+    if is_motion_picture(entry) {
+        return Some(Kind::MotionPicture);
+    }
+    if is_song(entry) {
+        return Some(Kind::Song);
+    }
+    Some(Kind::Broadcast)
+}
+
+/// The kind of a law: one that has a publisher is `Legislation`, any other a `Bill`, and none is
+/// both. `None` for an entry of another type, which is neither (CSL 1.0.2, Appendix III: Types).
+pub fn legislation_kind(entry: &Entry) -> Option<Kind>
+    ensures law { IsSome result ↔ IsTrue (is_a Legislation entry.now) }
+    ensures one { IfSome result (λ kind. kinds_among legislation_kinds entry.now ≡ kind ∷ []) }
+    ensures none { IfNone result (kinds_among legislation_kinds entry.now ≡ []) }
+{
+    if entry.entry_type != EntryType::Legislation {
+        return None;
+    }
+    match entry.publisher {
+        Some(_) => Some(Kind::Legislation),
+        None => Some(Kind::Bill),
+    }
+}
+
+/// The entry is of that kind (CSL 1.0.2, Appendix III: Types). It may be of several, or of none.
+pub(crate) fn is_of_kind(entry: &Entry, kind: Kind) -> bool
+    ensures { result ≡ is_kind kind entry.now }
+{
+    match kind {
+        Kind::Article => is_article(entry),
+        Kind::ArticleJournal => is_journal_article(entry),
+        Kind::ArticleNewspaper => is_newspaper_article(entry),
+        Kind::Bill => is_bill(entry),
+        Kind::Book => is_book(entry),
+        Kind::Broadcast => is_broadcast(entry),
+        Kind::Chapter => is_chapter(entry),
+        Kind::Collection => entry.entry_type == EntryType::Anthology,
+        Kind::Document => entry.entry_type == EntryType::Misc,
+        Kind::Entry => is_entry(entry),
+        Kind::EntryEncyclopedia => stands_in(entry, &[EntryType::Reference]),
+        Kind::Event => entry.entry_type == EntryType::Exhibition,
+        Kind::Figure => is_figure(entry),
+        Kind::Graphic => is_graphic(entry),
+        Kind::LegalCase => entry.entry_type == EntryType::Case,
+        Kind::Legislation => is_legislation(entry),
+        Kind::Manuscript => entry.entry_type == EntryType::Manuscript,
+        Kind::MotionPicture => is_motion_picture(entry),
+        Kind::MusicalScore => is_musical_score(entry),
+        Kind::PaperConference => is_conference_paper(entry),
+        Kind::Patent => entry.entry_type == EntryType::Patent,
+        Kind::Periodical => is_periodical(entry),
+        Kind::Post => is_post(entry),
+        Kind::PostWeblog => is_blog_post(entry),
+        Kind::Report => is_report(entry),
+        Kind::Software => entry.entry_type == EntryType::Repository,
+        Kind::Song => is_song(entry),
+        Kind::Thesis => is_thesis(entry),
+        Kind::Webpage => is_webpage(entry),
+        // The types of entries do not tell these from other kinds.
+        _ => false,
+    }
+}
+
+/// A work that the entry is directly a part of is of one of these types.
+fn stands_in(entry: &Entry, types: &[EntryType]) -> bool
+    ensures { result ≡ stands_in types.now entry.now }
+{
+    entry.matches(&[Clause {
+        own: &[],
+        fields: &[],
+        parent: Some(types),
+        bind: Bind::Nothing,
+    }])
+}
+
+fn is_journal_article(entry: &Entry) -> bool
+    ensures { result ≡ is_journal_article entry.now }
+{
+    entry.entry_type == EntryType::Article && stands_in(entry, &[EntryType::Periodical])
+}
+
+fn is_newspaper_article(entry: &Entry) -> bool
+    ensures { result ≡ is_newspaper_article entry.now }
+{
+    entry.entry_type == EntryType::Article && stands_in(entry, &[EntryType::Newspaper])
+}
+
+fn is_conference_paper(entry: &Entry) -> bool
+    ensures { result ≡ is_conference_paper entry.now }
+{
+    entry.entry_type == EntryType::Article && stands_in(entry, &[EntryType::Proceedings])
+}
+
+fn is_report(entry: &Entry) -> bool
+    ensures { result ≡ is_report entry.now }
+{
+    entry.entry_type == EntryType::Report || stands_in(entry, &[EntryType::Report])
+}
+
+fn is_thesis(entry: &Entry) -> bool
+    ensures { result ≡ is_thesis entry.now }
+{
+    entry.entry_type == EntryType::Thesis || stands_in(entry, &[EntryType::Thesis])
+}
+
+/// An article that is no narrower kind of article, no report or thesis, and in no blog. No article
+/// is a manuscript, since that is a type of its own.
+fn is_article(entry: &Entry) -> bool
+    ensures { result ≡ is_kind kind.Article entry.now }
+{
+    entry.entry_type == EntryType::Article
+        && !(is_journal_article(entry)
+            || is_newspaper_article(entry)
+            || is_conference_paper(entry)
+            || is_report(entry)
+            || is_thesis(entry)
+            || is_blog_post(entry))
+}
+
+fn is_periodical(entry: &Entry) -> bool
+    ensures { result ≡ is_periodical entry.now }
+{
+    entry.entry_type == EntryType::Book && stands_in(entry, &[EntryType::Periodical])
+}
+
+fn is_book(entry: &Entry) -> bool
+    ensures { result ≡ is_kind kind.Book entry.now }
+{
+    (entry.entry_type == EntryType::Book || entry.entry_type == EntryType::Proceedings)
+        && !is_periodical(entry)
+}
+
+fn is_chapter(entry: &Entry) -> bool
+    ensures { result ≡ is_kind kind.Chapter entry.now }
+{
+    match entry.entry_type {
+        EntryType::Anthos => stands_in(entry, &[EntryType::Anthology]),
+        EntryType::Chapter => stands_in(
+            entry,
+            &[
+                EntryType::Book,
+                EntryType::Anthology,
+                EntryType::Proceedings,
+            ],
+        ),
+        _ => false,
+    }
+}
+
+fn is_entry(entry: &Entry) -> bool
+    ensures { result ≡ is_kind kind.Entry entry.now }
+{
+    entry.entry_type == EntryType::Entry && !stands_in(entry, &[EntryType::Reference])
+}
+
+fn is_recording(entry: &Entry) -> bool
+    ensures { result ≡ is_recording entry.now }
+{
+    entry.entry_type == EntryType::Audio || entry.entry_type == EntryType::Video
+}
+
+/// An audio that comes with something to read.
+fn is_musical_score(entry: &Entry) -> bool
+    ensures { result ≡ is_musical_score entry.now }
+{
+    entry.entry_type == EntryType::Audio
+        && stands_in(
+            entry,
+            &[
+                EntryType::Book,
+                EntryType::Periodical,
+                EntryType::Reference,
+                EntryType::Misc,
+                EntryType::Blog,
+                EntryType::Web,
+            ],
+        )
+}
+
+fn is_motion_picture(entry: &Entry) -> bool
+    ensures { result ≡ is_motion_picture entry.now }
+{
+    entry.entry_type == EntryType::Video && entry.parents.is_empty()
+}
+
+fn is_song(entry: &Entry) -> bool
+    ensures { result ≡ is_song entry.now }
+{
+    entry.entry_type == EntryType::Audio && entry.parents.is_empty()
+}
+
+fn is_broadcast(entry: &Entry) -> bool
+    ensures { result ≡ is_kind kind.Broadcast entry.now }
+{
+    is_recording(entry) && !(is_musical_score(entry) || is_motion_picture(entry) || is_song(entry))
+}
+
+/// A law that has a publisher.
+fn is_legislation(entry: &Entry) -> bool
+    ensures { result ≡ is_kind kind.Legislation entry.now }
+{
+    entry.entry_type == EntryType::Legislation && entry.publisher.is_some()
+}
+
+/// A law that has no publisher.
+fn is_bill(entry: &Entry) -> bool
+    ensures { result ≡ is_kind kind.Bill entry.now }
+{
+    entry.entry_type == EntryType::Legislation && entry.publisher.is_none()
+}
+
+fn is_blog_post(entry: &Entry) -> bool
+    ensures { result ≡ is_blog_post entry.now }
+{
+    stands_in(entry, &[EntryType::Blog])
+}
+
+fn is_post(entry: &Entry) -> bool
+    ensures { result ≡ is_post entry.now }
+{
+    entry.entry_type == EntryType::Post || stands_in(entry, &[EntryType::Thread])
+}
+
+/// A site, a blog or a thread, anything in a site or a blog, and what is of no type of its own
+/// but has an address.
+fn is_online(entry: &Entry) -> bool
+    ensures { result ≡ is_online entry.now }
+{
+    (entry.entry_type == EntryType::Misc && entry.url.is_some())
+        || stands_in(entry, &[EntryType::Web, EntryType::Blog])
+        || entry.entry_type == EntryType::Web
+        || entry.entry_type == EntryType::Blog
+        || entry.entry_type == EntryType::Thread
+}
+
+fn is_webpage(entry: &Entry) -> bool
+    ensures { result ≡ is_kind kind.Webpage entry.now }
+{
+    is_online(entry) && !(is_blog_post(entry) || is_post(entry))
+}
+
+fn is_figure(entry: &Entry) -> bool
+    ensures { result ≡ is_figure entry.now }
+{
+    entry.entry_type == EntryType::Artwork && stands_in(entry, &[EntryType::Article])
+}
+
+fn is_graphic(entry: &Entry) -> bool
+    ensures { result ≡ is_kind kind.Graphic entry.now }
+{
+    entry.entry_type == EntryType::Artwork && !is_figure(entry)
+}
+
+#[cfg(test)]
+mod tests;
