@@ -2,6 +2,7 @@
 #![tactic(auto)]
 
 mod cite;
+mod creators;
 mod letters;
 mod name_form;
 mod number_result;
