@@ -37,11 +37,11 @@ makers e =
     then video_makers e (bound_select series e)
     else or_else (in_role Compiler e) (in_role Translator e)
 
--- the authors where they are named, else the editors where they are named, else others
-abbrev pub authors_or : Option (Vec Person Global) → Option (Vec Person Global) → List Person → List Person
-authors_or (Some authors) editors others = authors.items
-authors_or None (Some editors) others = editors.items
-authors_or None None others = others
+-- those who are named; others where none are. A list that is named and empty counts.
+abbrev pub persons_or : Option (Vec Person Global) → List Person → List Person
+persons_or (Some persons) others = persons.items
+persons_or None others = others
 
+-- the authors, else the editors, else those who made it
 abbrev pub creators_of : Entry → List Named
-creators_of e = map named (authors_or (out-Entry e).authors (out-Entry e).editors (makers e))
+creators_of e = map named (persons_or (out-Entry e).authors (persons_or (out-Entry e).editors (makers e)))

@@ -4,7 +4,7 @@
 ghost use Rattle.std.specs.Prelude.{◌≡◌, ◌++◌, map, IfOk};
 ghost use Rattle.lit_model.specs.Person.{named};
 ghost use Rattle.lit_model.specs.Select.{rule_of};
-ghost use Rattle.csl_entry.specs.Creators.{in_role, or_else, series, video_makers, makers, creators_of};
+ghost use Rattle.csl_entry.specs.Creators.{in_role, or_else, series, makers, creators_of};
 
 use lit_model::{Bind, Clause, Entry, EntryType, Field, Memory, Person, PersonRole};
 use std::alloc::Global;
@@ -91,3 +91,6 @@ fn or_role<'a>(
     }
     Ok(persons)
 }
+
+#[cfg(test)]
+mod tests;

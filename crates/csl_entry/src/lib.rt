@@ -3,10 +3,13 @@
 
 mod cite;
 mod creators;
+mod entry;
 mod letters;
 mod name_form;
 mod number_result;
 mod numbers;
+#[cfg(test)]
+mod people;
 mod taxonomy;
 
 pub use cite::{IbidState, LocatorPayload, Sorting, SpecialForm, SpecificLocator};
