@@ -3,7 +3,7 @@
 ghost use Rattle.std.specs.Prelude.{◌≡◌, map, option_copied, IfOk};
 ghost use Rattle.lit_model.specs.declared.person.PersonRole.TheVariants as role;
 ghost use Rattle.lit_model.specs.Person.{named};
-ghost use Rattle.lit_model.specs.Select.{rule_of};
+ghost use Rattle.lit_model.specs.Select.{rule_of, bound_select, audio_video};
 ghost use Rattle.csl_entry.specs.Answers.{behind};
 ghost use Rattle.csl_entry.specs.Creators.{in_role};
 ghost use Rattle.csl_entry.specs.EntryName.{chaired, curated, of_found, own_authors, own_editors, is_one_of, persons_of, names_of};
@@ -36,13 +36,7 @@ pub(super) fn name_variable(
         NameVariable::Curator => {
             in_role(alloc, entry.bound_select(curated()), &PersonRole::Organizer)
         }
-        NameVariable::Director => {
-            in_role(
-                alloc,
-                entry.bound_select(audio_video()),
-                &PersonRole::Director,
-            )
-        }
+        NameVariable::Director => in_role(alloc, recording(entry), &PersonRole::Director),
         NameVariable::Editor => lent(alloc, editors_or_of_container(entry)),
         NameVariable::EditorTranslator => editor_translators(alloc, entry),
         NameVariable::ExecutiveProducer => {
@@ -55,13 +49,7 @@ pub(super) fn name_variable(
         NameVariable::Performer => in_role(alloc, Some(entry), &PersonRole::CastMember),
         NameVariable::Producer => in_role(alloc, Some(entry), &PersonRole::Producer),
         NameVariable::ScriptWriter => in_role(alloc, Some(entry), &PersonRole::Writer),
-        NameVariable::SeriesCreator => {
-            in_role(
-                alloc,
-                entry.bound_select(audio_video()),
-                &PersonRole::Founder,
-            )
-        }
+        NameVariable::SeriesCreator => in_role(alloc, recording(entry), &PersonRole::Founder),
         NameVariable::Translator => in_role(alloc, Some(entry), &PersonRole::Translator),
         NameVariable::EditorialDirector
         | NameVariable::Guest
@@ -100,6 +88,14 @@ fn curated() -> &'static [Clause<'static>]
     &CURATED
 }
 
+/// The recording that an entry is of, or is.
+fn recording(entry: &Entry) -> Option<&Entry>
+    ensures { option_copied result ≡ bound_select audio_video entry.now }
+{
+    entry.bound_select(audio_video())
+}
+
+/// The authors of the work that was found; nobody where none was.
 fn authors(work: Option<&Entry>) -> &[Person]
     ensures { result.now ≡ of_found own_authors (option_copied work.entry) }
 {
@@ -109,6 +105,7 @@ fn authors(work: Option<&Entry>) -> &[Person]
     }
 }
 
+/// The editors of the work that was found; nobody where none was.
 fn editors(work: Option<&Entry>) -> &[Person]
     ensures { result.now ≡ of_found own_editors (option_copied work.entry) }
 {
@@ -139,6 +136,7 @@ fn lent(alloc: Global, persons: &[Person]) -> Result<Vec<Cow<'_, Person>>, Memor
     Ok(found)
 }
 
+/// The same of references to persons.
 fn borrowed<'a>(alloc: Global, persons: &[&'a Person]) -> Result<Vec<Cow<'a, Person>>, Memory>
     ensures { IfOk result (λ found. map (behind named) found.items ≡ map named (map (λ p. p.now) persons.now)) }
 {
@@ -180,6 +178,7 @@ fn editor_translators(alloc: Global, entry: &Entry) -> Result<Vec<Cow<'_, Person
     Ok(found)
 }
 
+/// The person shows the same as one of the entry's translators.
 fn is_translator(entry: &Entry, person: &Person) -> bool
     ensures { result ≡ is_one_of (in_role role.Translator entry.now) person.now }
 {
