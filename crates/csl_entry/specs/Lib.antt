@@ -3,6 +3,8 @@ pub mod EntryDate
 pub mod EntryNumber
 pub mod EntryPage
 pub mod EntryKind
+pub mod Creators
+pub mod EntryName
 pub mod Letters
 pub mod NameForm
 pub mod NumberResult

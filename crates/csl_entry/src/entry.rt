@@ -6,3 +6,4 @@ mod page;
 mod kind;
 
 pub use kind::{legislation_kind, recording_kind};
+mod name;

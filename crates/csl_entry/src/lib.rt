@@ -2,12 +2,15 @@
 #![tactic(auto)]
 
 mod cite;
+mod creators;
 mod entry;
 mod letters;
 mod name_form;
 mod number_result;
 mod numbers;
 mod numeric_text;
+#[cfg(test)]
+mod people;
 mod taxonomy;
 
 pub use cite::{IbidState, LocatorPayload, Sorting, SpecialForm, SpecificLocator};

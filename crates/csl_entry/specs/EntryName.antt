@@ -1,0 +1,80 @@
+-- What an entry answers to a name variable (CSL 1.0.2, Appendix IV: Name Variables).
+use Rattle.std.specs.Prelude.{Bool, ◌&&◌, List, [], ◌∷◌, map, Option, Some, None}
+use Rattle.std.specs.Bool.{beq}
+use Rattle.std.specs.List.{list_any, filter}
+use Rattle.std.specs.Option.{option_eq}
+use Rattle.std.specs.Str.{bytes_eq}
+use Rattle.csl_style.specs.declared.taxonomy.NameVariable.{NameVariable}
+use Rattle.csl_style.specs.declared.taxonomy.NameVariable.TheVariants.{Author, Chair, CollectionEditor, Compiler, Composer, ContainerAuthor, Contributor, Curator, Director, Editor, EditorialDirector, EditorTranslator, ExecutiveProducer, Guest, Host, Illustrator, Interviewer, Narrator, Organizer, OriginalAuthor, Performer, Producer, Recipient, ReviewedAuthor, ScriptWriter, SeriesCreator, Translator}
+use Rattle.lit_model.specs.declared.entry.Entry.{Entry, out-Entry}
+use Rattle.lit_model.specs.declared.entry_type.EntryType.TheVariants.{Proceedings, Conference, Exhibition}
+use Rattle.lit_model.specs.declared.person.Person.{Person}
+use Rattle.lit_model.specs.declared.person.PersonRole.TheVariants as role
+use Rattle.lit_model.specs.Person.{Named, named}
+use Rattle.lit_model.specs.Select.{Rule, parent_of, bound_select, original, audio_video, container_of, collection_of}
+use Rattle.csl_entry.specs.Creators.{in_role, persons_or}
+
+-- the two show the same
+abbrev pub same_named : Named → Named → Bool
+same_named p q =
+    bytes_eq p.name q.name
+    && (option_eq bytes_eq p.given_name q.given_name
+    && (option_eq bytes_eq p.prefix q.prefix
+    && (option_eq bytes_eq p.suffix q.suffix
+    && (option_eq bytes_eq p.alias q.alias
+    && beq p.comma_suffix q.comma_suffix))))
+
+-- the proceedings or the conference, the exhibition that an entry stands in
+abbrev pub chaired : List Rule
+chaired = parent_of [] (Proceedings ∷ Conference ∷ []) ∷ []
+
+abbrev pub curated : List Rule
+curated = parent_of [] (Exhibition ∷ []) ∷ []
+
+-- the persons of the work that was found, if any
+abbrev pub of_found : (Entry → List Person) → Option Entry → List Person
+of_found persons None = []
+of_found persons (Some e) = persons e
+
+abbrev pub own_authors : Entry → List Person
+own_authors e = persons_or (out-Entry e).authors []
+
+abbrev pub own_editors : Entry → List Person
+own_editors e = persons_or (out-Entry e).editors []
+
+-- one of the persons shows the same as this one
+abbrev pub is_one_of : List Person → Person → Bool
+is_one_of persons p = list_any (λ q. same_named (named q) (named p)) persons
+
+-- the persons, by variable
+abbrev pub persons_of : Entry → NameVariable → List Person
+persons_of e Author = own_authors e
+persons_of e Chair = of_found (in_role role.Director) (bound_select chaired e)
+persons_of e CollectionEditor = of_found own_editors (collection_of e)
+persons_of e Compiler = in_role role.Compiler e
+persons_of e Composer = in_role role.Composer e
+persons_of e ContainerAuthor = of_found own_authors (container_of e)
+persons_of e Contributor = in_role role.Collaborator e
+persons_of e Curator = of_found (in_role role.Organizer) (bound_select curated e)
+persons_of e Director = of_found (in_role role.Director) (bound_select audio_video e)
+persons_of e Editor = persons_or (out-Entry e).editors (of_found own_editors (container_of e))
+persons_of e EditorialDirector = []
+persons_of e EditorTranslator = filter (is_one_of (in_role role.Translator e)) (own_editors e)
+persons_of e ExecutiveProducer = in_role role.ExecutiveProducer e
+persons_of e Guest = []
+persons_of e Host = []
+persons_of e Illustrator = in_role role.Illustrator e
+persons_of e Interviewer = []
+persons_of e Narrator = in_role role.Narrator e
+persons_of e Organizer = in_role role.Organizer e
+persons_of e OriginalAuthor = of_found own_authors (bound_select original e)
+persons_of e Performer = in_role role.CastMember e
+persons_of e Producer = in_role role.Producer e
+persons_of e Recipient = []
+persons_of e ReviewedAuthor = []
+persons_of e ScriptWriter = in_role role.Writer e
+persons_of e SeriesCreator = of_found (in_role role.Founder) (bound_select audio_video e)
+persons_of e Translator = in_role role.Translator e
+
+abbrev pub names_of : Entry → NameVariable → List Named
+names_of e variable = map named (persons_of e variable)

@@ -1,0 +1,203 @@
+//! Names that an entry answers (CSL 1.0.2, Appendix IV: Name Variables).
+
+ghost use Rattle.std.specs.Prelude.{◌≡◌, map, option_copied, IfOk};
+ghost use Rattle.lit_model.specs.declared.person.PersonRole.TheVariants as role;
+ghost use Rattle.lit_model.specs.Person.{named};
+ghost use Rattle.lit_model.specs.Select.{rule_of, bound_select, audio_video};
+ghost use Rattle.csl_entry.specs.Answers.{behind};
+ghost use Rattle.csl_entry.specs.Creators.{in_role};
+ghost use Rattle.csl_entry.specs.EntryName.{chaired, curated, of_found, own_authors, own_editors, is_one_of, persons_of, names_of};
+
+use csl_style::NameVariable;
+use lit_model::select::audio_video;
+use lit_model::{Bind, Clause, Entry, EntryType, Memory, Person, PersonRole};
+use std::alloc::Global;
+use std::borrow::Cow;
+
+/// The persons, in order, borrowed from the entry and its parents. The error: there was no memory
+/// for the list.
+pub(super) fn name_variable(
+    alloc: Global,
+    entry: &Entry,
+    variable: NameVariable,
+) -> Result<Vec<Cow<'_, Person>>, Memory>
+    ensures { IfOk result (λ found. map (behind named) found.items ≡ names_of entry.now variable) }
+{
+    match variable {
+        NameVariable::Author => lent(alloc, authors(Some(entry))),
+        NameVariable::Chair => {
+            in_role(alloc, entry.bound_select(chaired()), &PersonRole::Director)
+        }
+        NameVariable::CollectionEditor => lent(alloc, editors(entry.get_collection())),
+        NameVariable::Compiler => in_role(alloc, Some(entry), &PersonRole::Compiler),
+        NameVariable::Composer => in_role(alloc, Some(entry), &PersonRole::Composer),
+        NameVariable::ContainerAuthor => lent(alloc, authors(entry.get_container())),
+        NameVariable::Contributor => in_role(alloc, Some(entry), &PersonRole::Collaborator),
+        NameVariable::Curator => {
+            in_role(alloc, entry.bound_select(curated()), &PersonRole::Organizer)
+        }
+        NameVariable::Director => in_role(alloc, recording(entry), &PersonRole::Director),
+        NameVariable::Editor => lent(alloc, editors_or_of_container(entry)),
+        NameVariable::EditorTranslator => editor_translators(alloc, entry),
+        NameVariable::ExecutiveProducer => {
+            in_role(alloc, Some(entry), &PersonRole::ExecutiveProducer)
+        }
+        NameVariable::Illustrator => in_role(alloc, Some(entry), &PersonRole::Illustrator),
+        NameVariable::Narrator => in_role(alloc, Some(entry), &PersonRole::Narrator),
+        NameVariable::Organizer => in_role(alloc, Some(entry), &PersonRole::Organizer),
+        NameVariable::OriginalAuthor => lent(alloc, authors(entry.get_original())),
+        NameVariable::Performer => in_role(alloc, Some(entry), &PersonRole::CastMember),
+        NameVariable::Producer => in_role(alloc, Some(entry), &PersonRole::Producer),
+        NameVariable::ScriptWriter => in_role(alloc, Some(entry), &PersonRole::Writer),
+        NameVariable::SeriesCreator => in_role(alloc, recording(entry), &PersonRole::Founder),
+        NameVariable::Translator => in_role(alloc, Some(entry), &PersonRole::Translator),
+        NameVariable::EditorialDirector
+        | NameVariable::Guest
+        | NameVariable::Host
+        | NameVariable::Interviewer
+        | NameVariable::Recipient
+        | NameVariable::ReviewedAuthor => Ok(Vec::new(alloc)),
+    }
+}
+
+static CHAIRED: [Clause<'static>; 1] = [Clause {
+    own: &[],
+    fields: &[],
+    parent: Some(&[EntryType::Proceedings, EntryType::Conference]),
+    bind: Bind::Parent,
+}];
+
+/// The proceedings or the conference that an entry stands in.
+fn chaired() -> &'static [Clause<'static>]
+    ensures { map rule_of result.now ≡ chaired }
+{
+    &CHAIRED
+}
+
+static CURATED: [Clause<'static>; 1] = [Clause {
+    own: &[],
+    fields: &[],
+    parent: Some(&[EntryType::Exhibition]),
+    bind: Bind::Parent,
+}];
+
+/// The exhibition that an entry stands in.
+fn curated() -> &'static [Clause<'static>]
+    ensures { map rule_of result.now ≡ curated }
+{
+    &CURATED
+}
+
+/// The recording that an entry is of, or is.
+fn recording(entry: &Entry) -> Option<&Entry>
+    ensures { option_copied result ≡ bound_select audio_video entry.now }
+{
+    entry.bound_select(audio_video())
+}
+
+/// The authors of the work that was found; nobody where none was.
+fn authors(work: Option<&Entry>) -> &[Person]
+    ensures { result.now ≡ of_found own_authors (option_copied work.entry) }
+{
+    match work {
+        Some(work) => work.authors().unwrap_or(&[]),
+        None => &[],
+    }
+}
+
+/// The editors of the work that was found; nobody where none was.
+fn editors(work: Option<&Entry>) -> &[Person]
+    ensures { result.now ≡ of_found own_editors (option_copied work.entry) }
+{
+    match work {
+        Some(work) => work.editors().unwrap_or(&[]),
+        None => &[],
+    }
+}
+
+/// The entry's own editors; where none are named, those of the work that holds it.
+fn editors_or_of_container(entry: &Entry) -> &[Person]
+    ensures { result.now ≡ persons_of entry.now NameVariable.Editor }
+{
+    match entry.editors() {
+        Some(editors) => editors,
+        None => editors(entry.get_container()),
+    }
+}
+
+/// These persons, as an answer.
+fn lent(alloc: Global, persons: &[Person]) -> Result<Vec<Cow<'_, Person>>, Memory>
+    ensures { IfOk result (λ found. map (behind named) found.items ≡ map named persons.now) }
+{
+    let mut found = Vec::with_capacity(alloc, persons.len())?;
+    for person in persons {
+        found.push(Cow::Borrowed(person))?;
+    }
+    Ok(found)
+}
+
+/// The same of references to persons.
+fn borrowed<'a>(alloc: Global, persons: &[&'a Person]) -> Result<Vec<Cow<'a, Person>>, Memory>
+    ensures { IfOk result (λ found. map (behind named) found.items ≡ map named (map (λ p. p.now) persons.now)) }
+{
+    let mut found = Vec::with_capacity(alloc, persons.len())?;
+    for person in persons {
+        found.push(Cow::Borrowed(*person))?;
+    }
+    Ok(found)
+}
+
+/// The persons of a role in the work that was found.
+fn in_role<'a>(
+    alloc: Global,
+    work: Option<&'a Entry>,
+    role: &PersonRole,
+) -> Result<Vec<Cow<'a, Person>>, Memory>
+    ensures { IfOk result (λ found. map (behind named) found.items ≡ map named (of_found (in_role role.now) (option_copied work.entry))) }
+{
+    match work {
+        Some(work) => {
+            let persons = work.affiliated_with_role(alloc, role)?;
+            borrowed(alloc, &persons)
+        }
+        None => Ok(Vec::new(alloc)),
+    }
+}
+
+/// The entry's own editors who are among its translators too.
+fn editor_translators(alloc: Global, entry: &Entry) -> Result<Vec<Cow<'_, Person>>, Memory>
+    ensures { IfOk result (λ found. map (behind named) found.items ≡ names_of entry.now NameVariable.EditorTranslator) }
+{
+    let mut found = Vec::new(alloc);
+    let editors = editors(Some(entry));
+    for editor in editors {
+        if is_translator(entry, editor) {
+            found.push(Cow::Borrowed(editor))?;
+        }
+    }
+    Ok(found)
+}
+
+/// The person shows the same as one of the entry's translators.
+fn is_translator(entry: &Entry, person: &Person) -> bool
+    ensures { result ≡ is_one_of (in_role role.Translator entry.now) person.now }
+{
+    if let Some(groups) = &entry.affiliated {
+        for group in groups {
+            if group.role == PersonRole::Translator && is_one_of(&group.names, person) {
+                return true;
+            }
+        }
+    }
+    false
+}
+
+/// One of the persons shows the same as this one.
+fn is_one_of(persons: &[Person], person: &Person) -> bool
+    ensures { result ≡ is_one_of persons.now person.now }
+{
+    persons.contains(person)
+}
+
+#[cfg(test)]
+mod tests;
