@@ -1,4 +1,5 @@
 pub mod Answers
+pub mod Language
 pub mod Letters
 pub mod NameForm
 pub mod NumberResult

@@ -2,6 +2,7 @@
 #![tactic(auto)]
 
 mod cite;
+mod language;
 mod letters;
 mod name_form;
 mod number_result;
@@ -9,6 +10,7 @@ mod numbers;
 mod taxonomy;
 
 pub use cite::{IbidState, LocatorPayload, Sorting, SpecialForm, SpecificLocator};
+pub use language::csl_language;
 pub use letters::letter;
 pub use name_form::DisambiguatedNameForm;
 pub use number_result::NumberVariableResult;
