@@ -1,5 +1,6 @@
 pub mod Answers
 pub mod Language
+pub mod Creators
 pub mod Letters
 pub mod NameForm
 pub mod NumberResult

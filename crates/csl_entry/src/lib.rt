@@ -3,6 +3,7 @@
 
 mod cite;
 mod language;
+mod creators;
 mod letters;
 mod name_form;
 mod number_result;
