@@ -1,6 +1,7 @@
 pub mod Answers
-pub mod Language
+pub mod CitationLabel
 pub mod Creators
+pub mod Language
 pub mod Letters
 pub mod NameForm
 pub mod NumberResult

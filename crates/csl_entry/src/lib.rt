@@ -1,15 +1,17 @@
 //! What an entry answers to a style: the parts that depend on no entry.
 #![tactic(auto)]
 
+mod citation_label;
 mod cite;
-mod language;
 mod creators;
+mod language;
 mod letters;
 mod name_form;
 mod number_result;
 mod numbers;
 mod taxonomy;
 
+pub use citation_label::Alphanumerical;
 pub use cite::{IbidState, LocatorPayload, Sorting, SpecialForm, SpecificLocator};
 pub use language::csl_language;
 pub use letters::letter;
