@@ -1,13 +1,12 @@
 //! Alphanumerical labels of citations.
 
-ghost use Rattle.std.specs.Prelude.{◌≡◌, ◌++◌, map, option_copied, string_bytes, IfOk, OnOk};
-ghost use Rattle.lit_model.specs.Person.{named};
+ghost use Rattle.std.specs.Prelude.{◌≡◌, ◌++◌, option_copied, string_bytes, IfOk, OnOk};
 ghost use Rattle.lit_model.specs.Text.{chunks};
 ghost use Rattle.csl_entry.specs.Creators.{creators_of};
-ghost use Rattle.csl_entry.specs.CitationLabel.{first_letters, creators_part, joined, alphabetic, stand_in, date_of, year_number, year_part, work_label, label};
+ghost use Rattle.csl_entry.specs.CitationLabel.{first_letters, creators_part, joined, alphabetic, stand_in, date_of, year_number, year_part, label};
 
 use crate::creators::creators;
-use lit_model::{ChunkedString, Date, Entry, Memory, Person};
+use lit_model::{ChunkedString, Date, Entry, Memory};
 use std::alloc::Global;
 use std::fmt::Write;
 use unicode::properties::is_alphabetic;
@@ -23,9 +22,9 @@ pub struct Alphanumerical {
 }
 
 impl Default for Alphanumerical {
-    fn default() -> Alphanumerical
-        ensures { result.letters ≡ 3 }
-    {
+    ghost is_default = { λ a. a.letters ≡ 3 };
+
+    fn default() -> Alphanumerical {
         Alphanumerical::new()
     }
 }
@@ -63,13 +62,13 @@ impl Alphanumerical {
         let creators = creators(alloc, work)?;
         match creators.as_slice() {
             [] => {
-                let other = stand_in(alloc, work)?;
-                push_letters(label, other.as_str(), self.letters)?;
+                let text = stand_in(alloc, work)?;
+                push_letters(label, text.as_str(), self.letters)?;
             }
             [only] => push_letters(label, only.name.as_str(), self.letters)?,
-            [first, second] => {
-                push_letters(label, first.name.as_str(), 1)?;
-                push_letters(label, second.name.as_str(), 1)?;
+            [one, other] => {
+                push_letters(label, one.name.as_str(), 1)?;
+                push_letters(label, other.name.as_str(), 1)?;
             }
             [first, second, third] => {
                 push_letters(label, first.name.as_str(), 1)?;
@@ -150,3 +149,6 @@ fn year_number(year: i32) -> u32
     let number = (year % 100).unsigned_abs();
     if year <= 0 { number + 1 } else { number }
 }
+
+#[cfg(test)]
+mod tests;
