@@ -5,6 +5,9 @@ pub mod EntryPage
 pub mod EntryKind
 pub mod Creators
 pub mod EntryName
+pub mod CitationLabel
+pub mod Creators
+pub mod Language
 pub mod Letters
 pub mod NameForm
 pub mod NumberResult

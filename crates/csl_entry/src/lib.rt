@@ -1,9 +1,11 @@
 //! What an entry answers to a style: the parts that depend on no entry.
 #![tactic(auto)]
 
+mod citation_label;
 mod cite;
 mod creators;
 mod entry;
+mod language;
 mod letters;
 mod name_form;
 mod number_result;
@@ -13,8 +15,10 @@ mod numeric_text;
 mod people;
 mod taxonomy;
 
+pub use citation_label::Alphanumerical;
 pub use cite::{IbidState, LocatorPayload, Sorting, SpecialForm, SpecificLocator};
 pub use entry::{legislation_kind, recording_kind};
+pub use language::csl_language;
 pub use letters::letter;
 pub use name_form::DisambiguatedNameForm;
 pub use number_result::NumberVariableResult;
