@@ -3,6 +3,7 @@
 
 mod chunk;
 mod cite;
+mod language;
 mod letters;
 mod name_form;
 mod number_result;
@@ -10,6 +11,7 @@ mod numbers;
 mod taxonomy;
 
 pub use cite::{IbidState, LocatorPayload, Sorting, SpecialForm, SpecificLocator};
+pub use language::csl_language;
 pub use letters::letter;
 pub use name_form::DisambiguatedNameForm;
 pub use number_result::NumberVariableResult;

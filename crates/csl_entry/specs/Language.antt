@@ -1,0 +1,21 @@
+-- The language of an entry (CSL 1.0.2, Appendix IV: Standard Variables, language; Title Case Conversion).
+use Rattle.std.specs.Prelude.{ℕ, Bool, List, [], ◌++◌, Option, Some, None, option_map, codes, bytes_eq}
+use Rattle.lit_model.specs.declared.entry.Entry.{Entry, out-Entry}
+use Rattle.lit_model.specs.Source.{Language, language_of}
+
+-- a region behind its hyphen; without a region there is nothing
+abbrev pub region_text : Option (List ℕ) → List ℕ
+region_text None = []
+region_text (Some region) = codes "-" ++ region
+
+-- the language, then `-` and the region where there is one
+abbrev pub language_text : Language → List ℕ
+language_text l = l.language ++ region_text l.region
+
+-- whatever the region, the language is `en`
+abbrev pub is_english_language : Language → Bool
+is_english_language l = bytes_eq l.language (codes "en")
+
+-- whether the entry's own language is English, where it is known
+abbrev pub english_of : Entry → Option Bool
+english_of e = option_map (λ l. is_english_language (language_of l)) (out-Entry e).language

@@ -1,0 +1,79 @@
+//! The language of an entry.
+
+ghost use Rattle.std.specs.Prelude.{◌≡◌, string_bytes, IfOk};
+ghost use Rattle.lit_model.specs.Source.{language_of};
+ghost use Rattle.csl_entry.specs.Language.{language_text, english_of};
+
+use lit_model::{Entry, LanguageIdentifier, Memory};
+use std::alloc::Global;
+
+/// A language as a style prints it (CSL 1.0.2, Standard Variables: language): the language, then
+/// `-` and the region where there is one, as `en-US`.
+///
+/// The error: there was no memory for the text.
+pub fn csl_language(alloc: Global, language: &LanguageIdentifier) -> Result<String, Memory>
+    ensures { IfOk result (λ s. string_bytes s ≡ language_text (language_of language.now)) }
+{
+    let mut text = String::from_str(alloc, language.language.as_str())?;
+    if let Some(region) = &language.region {
+        text.push('-')?;
+        text.push_str(region.as_str())?;
+    }
+    Ok(text)
+}
+
+/// Whether the entry's own language is `en`, in any region; `None` where it has none. Only English
+/// titles are put into title case (CSL 1.0.2, Title Case Conversion).
+pub(crate) fn is_english(entry: &Entry) -> Option<bool>
+    ensures { result ≡ english_of entry.now }
+{
+    match &entry.language {
+        None => None,
+        Some(language) => Some(language.language.as_str() == "en"),
+    }
+}
+
+#[cfg(test)]
+mod tests {
+    use super::*;
+    use lit_model::EntryType;
+
+    fn english(alloc: Global) -> Result<LanguageIdentifier, Memory> {
+        let language = String::from_str(alloc, "en")?;
+        let region = String::from_str(alloc, "US")?;
+        Ok(LanguageIdentifier {
+            language,
+            region: Some(region),
+        })
+    }
+
+    fn german(alloc: Global) -> Result<LanguageIdentifier, Memory> {
+        let language = String::from_str(alloc, "de")?;
+        Ok(LanguageIdentifier {
+            language,
+            region: None,
+        })
+    }
+
+    #[test]
+    fn a_region_stands_behind_its_language(rt: HostRuntime) -> Result<(), Memory> {
+        let alloc = rt.alloc();
+        let with_region = csl_language(alloc, &english(alloc)?)?;
+        assert_eq!(rt; with_region.as_str(), "en-US");
+        let alone = csl_language(alloc, &german(alloc)?)?;
+        assert_eq!(rt; alone.as_str(), "de");
+        Ok(())
+    }
+
+    #[test]
+    fn english_is_told_from_other_languages(rt: HostRuntime) -> Result<(), Memory> {
+        let alloc = rt.alloc();
+        let mut entry = Entry::new(alloc, "work", EntryType::Book)?;
+        assert_eq!(rt; is_english(&entry), None);
+        entry.language = Some(english(alloc)?);
+        assert_eq!(rt; is_english(&entry), Some(true));
+        entry.language = Some(german(alloc)?);
+        assert_eq!(rt; is_english(&entry), Some(false));
+        Ok(())
+    }
+}
