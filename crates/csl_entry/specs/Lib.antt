@@ -1,5 +1,6 @@
 pub mod Answers
 pub mod Chunk
+pub mod EntryStandard
 pub mod Language
 pub mod Letters
 pub mod NameForm

@@ -3,6 +3,7 @@
 
 mod chunk;
 mod cite;
+mod entry;
 mod language;
 mod letters;
 mod name_form;
