@@ -4,7 +4,9 @@ use Rattle.csl_style.specs.declared.taxonomy.StandardVariable.{StandardVariable}
 use Rattle.csl_style.specs.declared.taxonomy.StandardVariable.TheVariants as var
 use Rattle.lit_model.specs.declared.entry.Entry.{Entry, out-Entry}
 use Rattle.lit_model.specs.declared.entry_type.EntryType.TheVariants.{Repository}
+use Rattle.lit_model.specs.declared.source.LanguageIdentifier.{LanguageIdentifier}
 use Rattle.lit_model.specs.declared.source.Publisher.{Publisher}
+use Rattle.lit_model.specs.declared.source.QualifiedUrl.{QualifiedUrl}
 use Rattle.lit_model.specs.declared.text.ChunkKind.TheVariants.{Normal, Verbatim}
 use Rattle.lit_model.specs.declared.text.FormatString.{FormatString}
 use Rattle.lit_model.specs.declared.text.LongShortForm.{LongShortForm}
@@ -20,32 +22,43 @@ use Rattle.csl_entry.specs.Language.{language_text}
 abbrev pub shown : LongShortForm → Option FormatString → Option (List Chunk)
 shown form text = option_map (λ t. chunks (select form t)) text
 
--- a text that no style changes
+-- a text as one piece that no style changes
 abbrev pub verbatim : Option (List ℕ) → Option (List Chunk)
 verbatim text = option_map (one_chunk Verbatim) text
+
+-- a language as one piece
+abbrev pub spoken : Option LanguageIdentifier → Option (List Chunk)
+spoken language = option_map (λ l. one_chunk Normal (language_text (language_of l))) language
+
+-- the text of an address
+abbrev pub web_address : Option QualifiedUrl → Option (List ℕ)
+web_address url = option_map (λ u. (address_text u).text) url
+
+-- the name of a publisher
+abbrev pub press_name : Option Publisher → Option FormatString
+press_name press = option_and_then (λ p. p.name) press
+
+-- the place of a publisher
+abbrev pub press_place : Option Publisher → Option FormatString
+press_place press = option_and_then (λ p. p.location) press
 
 -- what the first of the entry and its parents has, in preorder
 abbrev pub inherited : {X : Type 0} → (Entry → Option X) → Entry → Option X
 inherited own e = first_some own (preorder e)
 
+-- an entry's own title
 abbrev pub own_title : Entry → Option FormatString
 own_title e = (out-Entry e).title
 
+-- an entry's own place
 abbrev pub own_location : Entry → Option FormatString
 own_location e = (out-Entry e).location
 
+-- an entry's own publisher
 abbrev pub own_publisher : Entry → Option Publisher
 own_publisher e = (out-Entry e).publisher
 
--- the name of a publisher that may be unknown
-abbrev pub press_name : Option Publisher → Option FormatString
-press_name press = option_and_then (λ p. p.name) press
-
--- its place
-abbrev pub press_place : Option Publisher → Option FormatString
-press_place press = option_and_then (λ p. p.location) press
-
--- the archive of files or programs that keeps the entry
+-- the repository that an entry stands in
 abbrev pub repository : List Rule
 repository = parent_of [] (Repository ∷ []) ∷ []
 
@@ -75,7 +88,7 @@ standard_of e form var.ISBN = verbatim (own_serial (codes "isbn") e)
 standard_of e form var.ISSN = verbatim (own_serial (codes "issn") e)
 standard_of e form var.Jurisdiction = None
 standard_of e form var.Keyword = None
-standard_of e form var.Language = option_map (λ l. one_chunk Normal (language_text (language_of l))) (inherited (λ x. (out-Entry x).language) e)
+standard_of e form var.Language = spoken (inherited (λ x. (out-Entry x).language) e)
 standard_of e form var.License = None
 standard_of e form var.Medium = None
 standard_of e form var.Note = shown form (out-Entry e).note
@@ -95,6 +108,6 @@ standard_of e form var.Source = shown form (option_and_then own_title (bound_sel
 standard_of e form var.Status = None
 standard_of e form var.Title = shown form (own_title e)
 standard_of e form var.TitleShort = shown Short (own_title e)
-standard_of e form var.URL = verbatim (option_map (λ u. (address_text u).text) (inherited (λ x. (out-Entry x).url) e))
+standard_of e form var.URL = verbatim (web_address (inherited (λ x. (out-Entry x).url) e))
 standard_of e form var.VolumeTitle = shown form (option_and_then own_title (bound_select volume_title e))
 standard_of e form var.YearSuffix = None

@@ -2,12 +2,8 @@
 
 ghost use Rattle.std.specs.Prelude.{◌≡◌, IfOk, map, option_and_then, option_copied, option_map};
 ghost use Rattle.csl_entry.specs.Answers.{behind};
-ghost use Rattle.csl_entry.specs.Chunk as spec;
-ghost use Rattle.csl_entry.specs.EntryStandard.{own_location, own_publisher, own_title, press_name, press_place, repository, shown, standard_of, verbatim};
-ghost use Rattle.csl_entry.specs.Language.{language_text};
-ghost use Rattle.lit_model.specs.declared.text.ChunkKind.TheVariants.{Normal};
+ghost use Rattle.csl_entry.specs.EntryStandard.{own_location, own_publisher, own_title, press_name, press_place, repository, shown, spoken, standard_of, verbatim, web_address};
 ghost use Rattle.lit_model.specs.Select.{rule_of};
-ghost use Rattle.lit_model.specs.Source.{address_text, language_of};
 ghost use Rattle.lit_model.specs.Text.{chunks};
 
 use crate::chunk::one_chunk;
@@ -28,7 +24,7 @@ static REPOSITORY: [Clause<'static>; 1] = [Clause {
     bind: Bind::Parent,
 }];
 
-/// The archive of files or programs that keeps a work: its first parent that is one.
+/// The repository that an entry stands in: its first parent that is one.
 fn repository() -> &'static [Clause<'static>]
     ensures { map rule_of result.now ≡ repository }
 {
@@ -90,7 +86,7 @@ pub(crate) fn standard_variable(
         StandardVariable::Source => Ok(lent(title_of(entry.bound_select(repository())), form)),
         StandardVariable::Title => Ok(lent(entry.title(), form)),
         StandardVariable::TitleShort => Ok(lent(entry.title(), LongShortForm::Short)),
-        StandardVariable::URL => verbatim(alloc, address_of(entry.url_any())),
+        StandardVariable::URL => verbatim(alloc, web_address(entry.url_any())),
         StandardVariable::VolumeTitle => {
             Ok(lent(title_of(entry.bound_select(volume_title())), form))
         }
@@ -119,7 +115,7 @@ fn lent(text: Option<&FormatString>, form: LongShortForm) -> Option<Cow<'_, Chun
     Some(Cow::Borrowed(text?.select(form)))
 }
 
-/// The text as one piece that no style changes. The error: there was no memory for it.
+/// The text as one piece that no style changes, where it is known. The error: there was no memory for it.
 fn verbatim<'t>(alloc: Global, text: Option<&str>) -> Result<Option<Cow<'t, ChunkedString>>, Memory>
     ensures { IfOk result (λ found. option_map (behind chunks) found ≡ verbatim (option_copied text.entry)) }
 {
@@ -127,8 +123,8 @@ fn verbatim<'t>(alloc: Global, text: Option<&str>) -> Result<Option<Cow<'t, Chun
         None => Ok(None),
         Some(text) => {
             let text = String::from_str(alloc, text)?;
-            let text = one_chunk(alloc, text, ChunkKind::Verbatim)?;
-            Ok(Some(Cow::Owned(text)))
+            let piece = one_chunk(alloc, text, ChunkKind::Verbatim)?;
+            Ok(Some(Cow::Owned(piece)))
         }
     }
 }
@@ -138,56 +134,56 @@ fn spoken<'t>(
     alloc: Global,
     language: Option<&LanguageIdentifier>,
 ) -> Result<Option<Cow<'t, ChunkedString>>, Memory>
-    ensures { IfOk result (λ found. option_map (behind chunks) found ≡ option_map (λ l. spec.one_chunk Normal (language_text (language_of l))) (option_copied language.entry)) }
+    ensures { IfOk result (λ found. option_map (behind chunks) found ≡ spoken (option_copied language.entry)) }
 {
     match language {
         None => Ok(None),
         Some(language) => {
             let text = csl_language(alloc, language)?;
-            let text = one_chunk(alloc, text, ChunkKind::Normal)?;
-            Ok(Some(Cow::Owned(text)))
+            let piece = one_chunk(alloc, text, ChunkKind::Normal)?;
+            Ok(Some(Cow::Owned(piece)))
         }
     }
 }
 
-/// The title of a work that may be unknown.
+/// The title of a work, where they are known.
 fn title_of(work: Option<&Entry>) -> Option<&FormatString>
     ensures { option_copied result ≡ option_and_then own_title (option_copied work.entry) }
 {
     work?.title.as_ref()
 }
 
-/// The place of a work that may be unknown.
+/// The place of a work, where they are known.
 fn location_of(work: Option<&Entry>) -> Option<&FormatString>
     ensures { option_copied result ≡ option_and_then own_location (option_copied work.entry) }
 {
     work?.location.as_ref()
 }
 
-/// The publisher of a work that may be unknown.
+/// The publisher of a work, where they are known.
 fn publisher_of(work: Option<&Entry>) -> Option<&Publisher>
     ensures { option_copied result ≡ option_and_then own_publisher (option_copied work.entry) }
 {
     work?.publisher.as_ref()
 }
 
-/// The name of a publisher that may be unknown.
+/// The name of a publisher, where they are known.
 fn press_name(press: Option<&Publisher>) -> Option<&FormatString>
     ensures { option_copied result ≡ press_name (option_copied press.entry) }
 {
     press?.name.as_ref()
 }
 
-/// The place of a publisher that may be unknown.
+/// The place of a publisher, where they are known.
 fn press_place(press: Option<&Publisher>) -> Option<&FormatString>
     ensures { option_copied result ≡ press_place (option_copied press.entry) }
 {
     press?.location.as_ref()
 }
 
-/// The text of an address that may be unknown.
-fn address_of(url: Option<&QualifiedUrl>) -> Option<&str>
-    ensures { option_copied result ≡ option_map (λ u. (address_text u).text) (option_copied url.entry) }
+/// The text of an address, where it is known.
+fn web_address(url: Option<&QualifiedUrl>) -> Option<&str>
+    ensures { option_copied result ≡ web_address (option_copied url.entry) }
 {
     Some(url?.value.as_str())
 }

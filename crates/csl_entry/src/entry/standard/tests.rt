@@ -393,24 +393,24 @@ fn publishers_of_the_entry_or_its_parents(rt: HostRuntime) -> Result<(), Memory>
     Ok(())
 }
 
-/// A film with texts of its own, kept in a repository that has others.
+/// A film with texts of its own, in a software repository that has others.
 fn film(alloc: Global) -> Result<Entry, Memory> {
-    let mut film = titled(alloc, EntryType::Video, "Metropolis")?;
+    let mut film = titled(alloc, EntryType::Video, "Tour of a Ray Tracer")?;
     film.archive_location = Some(text(alloc, "Shelf 4")?);
-    film.organization = Some(text(alloc, "UFA")?);
-    film.call_number = Some(text(alloc, "MP 27")?);
-    film.runtime = Some(with_short(alloc, "153 minutes", "153 min")?);
-    film.parents.push(keeper(alloc)?)?;
+    film.organization = Some(text(alloc, "Film Society")?);
+    film.call_number = Some(text(alloc, "RT 27")?);
+    film.runtime = Some(with_short(alloc, "12 minutes", "12 min")?);
+    film.parents.push(tracer(alloc)?)?;
     Ok(film)
 }
 
-fn keeper(alloc: Global) -> Result<Entry, Memory> {
-    let mut repository = titled(alloc, EntryType::Repository, "Film Archive")?;
-    repository.abstract_ = Some(text(alloc, "Restored films.")?);
-    repository.note = Some(text(alloc, "Open on weekdays")?);
+fn tracer(alloc: Global) -> Result<Entry, Memory> {
+    let mut repository = titled(alloc, EntryType::Repository, "Ray Tracer")?;
+    repository.abstract_ = Some(text(alloc, "Rays in one week.")?);
+    repository.note = Some(text(alloc, "Needs a large screen")?);
     repository.archive = Some(text(alloc, "Vault 2")?);
-    repository.organization = Some(text(alloc, "City Council")?);
-    repository.call_number = Some(text(alloc, "FA")?);
+    repository.organization = Some(text(alloc, "Rendering Group")?);
+    repository.call_number = Some(text(alloc, "RT")?);
     Ok(repository)
 }
 
@@ -419,9 +419,9 @@ fn texts_of_the_entry_alone(rt: HostRuntime) -> Result<(), Memory> {
     let alloc = rt.alloc();
     let film = film(alloc)?;
     assert!(rt; long(alloc, &film, StandardVariable::ArchiveLocation, "Shelf 4")?);
-    assert!(rt; long(alloc, &film, StandardVariable::Authority, "UFA")?);
-    assert!(rt; long(alloc, &film, StandardVariable::CallNumber, "MP 27")?);
-    assert!(rt; short(alloc, &film, StandardVariable::Dimensions, "153 min")?);
+    assert!(rt; long(alloc, &film, StandardVariable::Authority, "Film Society")?);
+    assert!(rt; long(alloc, &film, StandardVariable::CallNumber, "RT 27")?);
+    assert!(rt; short(alloc, &film, StandardVariable::Dimensions, "12 min")?);
     assert!(rt; silent(alloc, &film, StandardVariable::Note)?);
     Ok(())
 }
@@ -430,17 +430,31 @@ fn texts_of_the_entry_alone(rt: HostRuntime) -> Result<(), Memory> {
 fn texts_that_parents_share(rt: HostRuntime) -> Result<(), Memory> {
     let alloc = rt.alloc();
     let film = film(alloc)?;
-    assert!(rt; long(alloc, &film, StandardVariable::Abstract, "Restored films.")?);
-    assert!(rt; long(alloc, &film, StandardVariable::Annote, "Open on weekdays")?);
+    assert!(rt;
+        long(
+            alloc,
+            &film,
+            StandardVariable::Abstract,
+            "Rays in one week."
+        )?
+    );
+    assert!(rt;
+        long(
+            alloc,
+            &film,
+            StandardVariable::Annote,
+            "Needs a large screen"
+        )?
+    );
     assert!(rt; long(alloc, &film, StandardVariable::Archive, "Vault 2")?);
-    assert!(rt; long(alloc, &film, StandardVariable::Source, "Film Archive")?);
+    assert!(rt; long(alloc, &film, StandardVariable::Source, "Ray Tracer")?);
     // The repository itself has the note, and is no entry's parent here.
     assert!(rt;
         long(
             alloc,
-            &keeper(alloc)?,
+            &tracer(alloc)?,
             StandardVariable::Note,
-            "Open on weekdays"
+            "Needs a large screen"
         )?
     );
     Ok(())
