@@ -1,1 +1,4 @@
+pub mod Persons
 pub mod Words
+pub mod LabelTexts
+pub mod LabelYears

@@ -16,6 +16,7 @@ use Rattle.lit_model.specs.Select.{Rule, parent_of, bound_select, container_of, 
 use Rattle.lit_model.specs.Source.{address_text, language_of}
 use Rattle.lit_model.specs.Text.{Chunk, chunks, select}
 use Rattle.csl_entry.specs.Chunk.{one_chunk}
+use Rattle.csl_entry.specs.CitationLabel.{label}
 use Rattle.csl_entry.specs.Language.{language_text}
 
 -- a text in the form that is asked for
@@ -73,7 +74,7 @@ standard_of e form var.ArchivePlace = None
 standard_of e form var.Authority = shown form (out-Entry e).organization
 standard_of e form var.CallNumber = shown form (out-Entry e).call_number
 standard_of e form var.CitationKey = verbatim (Some (string_bytes (out-Entry e).key))
-standard_of e form var.CitationLabel = None
+standard_of e form var.CitationLabel = Some (one_chunk Normal (label 3 e))
 standard_of e form var.CollectionTitle = shown form (option_and_then own_title (collection_of e))
 standard_of e form var.ContainerTitle = shown form (option_and_then own_title (container_of e))
 standard_of e form var.ContainerTitleShort = shown Short (option_and_then own_title (container_of e))

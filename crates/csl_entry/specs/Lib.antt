@@ -1,5 +1,7 @@
 pub mod Answers
 pub mod Chunk
+pub mod CitationLabel
+pub mod Creators
 pub mod EntryStandard
 pub mod Language
 pub mod Letters

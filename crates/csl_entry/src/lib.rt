@@ -2,7 +2,9 @@
 #![tactic(auto)]
 
 mod chunk;
+mod citation_label;
 mod cite;
+mod creators;
 mod entry;
 mod language;
 mod letters;
@@ -11,6 +13,7 @@ mod number_result;
 mod numbers;
 mod taxonomy;
 
+pub use citation_label::Alphanumerical;
 pub use cite::{IbidState, LocatorPayload, Sorting, SpecialForm, SpecificLocator};
 pub use language::csl_language;
 pub use letters::letter;

@@ -1,12 +1,16 @@
 //! The standard variables of an entry (CSL 1.0.2, Appendix IV: Variables, Standard Variables).
 
-ghost use Rattle.std.specs.Prelude.{◌≡◌, IfOk, map, option_and_then, option_copied, option_map};
+ghost use Rattle.std.specs.Prelude.{◌≡◌, IfOk, map, option_and_then, option_copied, option_map, Some};
 ghost use Rattle.csl_entry.specs.Answers.{behind};
+ghost use Rattle.csl_entry.specs.Chunk as spec;
+ghost use Rattle.csl_entry.specs.CitationLabel.{label};
 ghost use Rattle.csl_entry.specs.EntryStandard.{own_location, own_publisher, own_title, press_name, press_place, repository, shown, spoken, standard_of, verbatim, web_address};
+ghost use Rattle.lit_model.specs.declared.text.ChunkKind.TheVariants.{Normal};
 ghost use Rattle.lit_model.specs.Select.{rule_of};
 ghost use Rattle.lit_model.specs.Text.{chunks};
 
 use crate::chunk::one_chunk;
+use crate::citation_label::Alphanumerical;
 use crate::language::csl_language;
 use csl_style::StandardVariable;
 use lit_model::select::{event, volume_title};
@@ -50,6 +54,7 @@ pub(crate) fn standard_variable(
         StandardVariable::Authority => Ok(lent(entry.organization(), form)),
         StandardVariable::CallNumber => Ok(lent(entry.call_number(), form)),
         StandardVariable::CitationKey => verbatim(alloc, Some(entry.key())),
+        StandardVariable::CitationLabel => labelled(alloc, entry),
         StandardVariable::CollectionTitle => Ok(lent(title_of(entry.get_collection()), form)),
         StandardVariable::ContainerTitle => Ok(lent(title_of(entry.get_container()), form)),
         StandardVariable::ContainerTitleShort => {
@@ -90,7 +95,6 @@ pub(crate) fn standard_variable(
         StandardVariable::VolumeTitle => {
             Ok(lent(title_of(entry.bound_select(volume_title())), form))
         }
-        StandardVariable::CitationLabel => Ok(None),
         StandardVariable::ArchiveCollection
         | StandardVariable::ArchivePlace
         | StandardVariable::Division
@@ -144,6 +148,15 @@ fn spoken<'t>(
             Ok(Some(Cow::Owned(piece)))
         }
     }
+}
+
+/// The label of an entry as one piece. The error: there was no memory for it.
+fn labelled<'t>(alloc: Global, entry: &Entry) -> Result<Option<Cow<'t, ChunkedString>>, Memory>
+    ensures { IfOk result (λ found. option_map (behind chunks) found ≡ Some (spec.one_chunk Normal (label 3 entry.now))) }
+{
+    let text = Alphanumerical::new().citation(alloc, entry)?;
+    let label = one_chunk(alloc, text, ChunkKind::Normal)?;
+    Ok(Some(Cow::Owned(label)))
 }
 
 /// The title of a work, where they are known.

@@ -1,5 +1,5 @@
 use super::*;
-use lit_model::SerialNumber;
+use lit_model::{Date, Person, SerialNumber};
 use std::collections::BTreeMap;
 use url::Url;
 
@@ -102,6 +102,42 @@ fn silent(alloc: Global, entry: &Entry, variable: StandardVariable) -> Result<bo
     let long = standard_variable(alloc, entry, LongShortForm::Long, variable)?;
     let short = standard_variable(alloc, entry, LongShortForm::Short, variable)?;
     Ok(long.is_none() && short.is_none())
+}
+
+/// A book of 2014 by one author.
+fn book(alloc: Global) -> Result<Entry, Memory> {
+    let name = String::from_str(alloc, "Kwan")?;
+    let mut authors = Vec::new(alloc);
+    authors.push(Person {
+        name,
+        given_name: None,
+        prefix: None,
+        suffix: None,
+        alias: None,
+        comma_suffix: false,
+    })?;
+    let mut book = titled(alloc, EntryType::Book, "Crazy Rich Asians")?;
+    book.authors = Some(authors);
+    book.date = Date::new(2014, None, None, None, false);
+    Ok(book)
+}
+
+#[test]
+fn labels_of_three_letters_and_a_year(rt: HostRuntime) -> Result<(), Memory> {
+    let alloc = rt.alloc();
+    let book = book(alloc)?;
+    assert!(rt; long(alloc, &book, StandardVariable::CitationLabel, "Kwa14")?);
+    assert!(rt; short(alloc, &book, StandardVariable::CitationLabel, "Kwa14")?);
+    // The title stands in for the authors, and there is no date.
+    assert!(rt;
+        long(
+            alloc,
+            &article(alloc)?,
+            StandardVariable::CitationLabel,
+            "Str"
+        )?
+    );
+    Ok(())
 }
 
 /// An article in a journal that has a short title and belongs to nothing.

@@ -1,0 +1,73 @@
+-- Labels of a citation, as Kwa14 (CSL 1.0.2, Appendix IV: Standard Variables, citation-label).
+-- Letters are extended grapheme clusters (Unicode, UAX #29).
+use Rattle.std.specs.Prelude.{ℕ, true, zero, suc, pos, negsuc, ℤ, ◌+◌, ◌%◌, List, [], ◌∷◌, ◌++◌, Option, Some, None, take, filter, flat_map, chars, encode_utf8_all, codes, string_bytes, nat_lt, option_and_then, if◌then◌else◌}
+use Rattle.std.specs.Fmt.{decimal}
+use Rattle.std.specs.List.{concat}
+use Rattle.std.specs.Option.{option_or}
+use Rattle.unicode.specs.Binary.{is_alphabetic}
+use Rattle.unicode_segmentation.specs.Grapheme.{graphemes}
+use Rattle.lit_model.specs.declared.date.Date.{Date}
+use Rattle.lit_model.specs.declared.entry.Entry.{Entry, out-Entry}
+use Rattle.lit_model.specs.declared.text.FormatString.{FormatString}
+use Rattle.lit_model.specs.Date.{date_parts}
+use Rattle.lit_model.specs.Entry.{preorder, first_some}
+use Rattle.lit_model.specs.Person.{Named}
+use Rattle.lit_model.specs.Select.{full_of}
+use Rattle.lit_model.specs.Text.{Chunk, chunks}
+use Rattle.csl_entry.specs.Creators.{creators_of}
+
+-- the first n letters of a text; all of them where it has fewer
+abbrev pub first_letters : ℕ → List ℕ → List ℕ
+first_letters n text = concat (take n (graphemes true text))
+
+-- one creator: the first n letters of the name; two or three: the first letter of each; more: the first n letters of the first name, and `+`; none: the first n letters of another text
+abbrev pub creators_part : ℕ → List ℕ → List Named → List ℕ
+creators_part n other [] = first_letters n other
+creators_part n other (p ∷ []) = first_letters n p.name
+creators_part n other (p ∷ q ∷ []) = first_letters 1 p.name ++ first_letters 1 q.name
+creators_part n other (p ∷ q ∷ r ∷ []) = first_letters 1 p.name ++ first_letters 1 q.name ++ first_letters 1 r.name
+creators_part n other (p ∷ q ∷ r ∷ s ∷ more) = first_letters n p.name ++ codes "+"
+
+-- the chunks of a text, joined
+abbrev pub joined : List Chunk → List ℕ
+joined cs = flat_map (λ c. c.value) cs
+
+-- the letters among the characters of a key (Unicode Alphabetic)
+abbrev pub alphabetic : List ℕ → List ℕ
+alphabetic key = encode_utf8_all (filter is_alphabetic (chars key))
+
+-- what stands in for the creators: the organization, else the title, both in full; else the letters of the key
+abbrev pub stand_in_of : Option FormatString → Option FormatString → List ℕ → List ℕ
+stand_in_of (Some organization) title key = joined (chunks organization.value)
+stand_in_of None (Some title) key = joined (chunks title.value)
+stand_in_of None None key = alphabetic key
+
+abbrev pub stand_in : Entry → List ℕ
+stand_in e = stand_in_of (out-Entry e).organization (out-Entry e).title (string_bytes (out-Entry e).key)
+
+-- the date of a label: the first along the entry and its parents, else when the first address along them was visited
+abbrev pub date_of : Entry → Option Date
+date_of e = option_or (first_some (λ x. (out-Entry x).date) (preorder e)) (option_and_then (λ u. u.visit_date) (first_some (λ x. (out-Entry x).url) (preorder e)))
+
+-- the last two digits of a year, without its sign; one more where the year is 0 or less
+abbrev pub year_number : ℤ → ℕ
+year_number (pos zero) = 1
+year_number (pos (suc n)) = suc n % 100
+year_number (negsuc n) = suc n % 100 + 1
+
+-- a number with two digits or more
+abbrev pub two_digits : ℕ → List ℕ
+two_digits n = if nat_lt n 10 then codes "0" ++ decimal n else decimal n
+
+-- without a date there is no year
+abbrev pub year_part : Option Date → List ℕ
+year_part None = []
+year_part (Some date) = two_digits (year_number (date_parts date).year)
+
+-- the label of a work: its creators, then its year
+abbrev pub work_label : ℕ → Entry → List ℕ
+work_label n e = creators_part n (stand_in e) (creators_of e) ++ year_part (date_of e)
+
+-- the label of an entry is that of the work that it is a part of
+abbrev pub label : ℕ → Entry → List ℕ
+label n e = work_label n (full_of e)

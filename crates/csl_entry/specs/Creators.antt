@@ -1,0 +1,47 @@
+-- The creators of a work, by whom its label is made (CSL 1.0.2, Appendix IV: Standard Variables, citation-label).
+use Rattle.std.specs.Prelude.{List, [], ◌∷◌, ◌++◌, map, Option, Some, None, Vec, if◌then◌else◌}
+use Rattle.std.specs.declared.alloc.Global.{Global}
+use Rattle.lit_model.specs.declared.entry.Entry.{Entry, out-Entry}
+use Rattle.lit_model.specs.declared.entry_type.EntryType.TheVariants.{Video}
+use Rattle.lit_model.specs.declared.person.Person.{Person}
+use Rattle.lit_model.specs.declared.person.PersonRole.{PersonRole}
+use Rattle.lit_model.specs.declared.person.PersonRole.TheVariants.{Translator, Compiler, ExecutiveProducer, Writer, Director}
+use Rattle.lit_model.specs.declared.select.Bind.TheVariants.{Parent}
+use Rattle.lit_model.specs.declared.select.Field.TheVariants.{Issue, Volume}
+use Rattle.lit_model.specs.Entry.{groups_of}
+use Rattle.lit_model.specs.Person.{Named, named, same_role, with_role}
+use Rattle.lit_model.specs.Select.{Rule, same_type, bound_select}
+
+-- an entry's own persons of a role, in order
+abbrev pub in_role : PersonRole → Entry → List Person
+in_role role e = with_role (λ r. same_role r role) (groups_of e)
+
+-- the first list; the second where the first is empty
+abbrev pub or_else : List Person → List Person → List Person
+or_else [] others = others
+or_else (p ∷ ps) others = p ∷ ps
+
+-- an episode, which has an issue and a volume: the first parent that is a video
+abbrev pub series : List Rule
+series = record { own = Video ∷ []; fields = Issue ∷ Volume ∷ []; parent = Some (Video ∷ []); bind = Parent } ∷ []
+
+-- of an episode of a series: directors and then writers, or else the series' executive producers; of another video: directors, or else executive producers
+abbrev pub video_makers : Entry → Option Entry → List Person
+video_makers e (Some s) = or_else (in_role Director e ++ in_role Writer e) (in_role ExecutiveProducer s)
+video_makers e None = or_else (in_role Director e) (in_role ExecutiveProducer e)
+
+-- those who made a work that names neither authors nor editors
+abbrev pub makers : Entry → List Person
+makers e =
+    if same_type (out-Entry e).entry_type Video
+    then video_makers e (bound_select series e)
+    else or_else (in_role Compiler e) (in_role Translator e)
+
+-- the authors where they are named, else the editors where they are named, else others
+abbrev pub authors_or : Option (Vec Person Global) → Option (Vec Person Global) → List Person → List Person
+authors_or (Some authors) editors others = authors.items
+authors_or None (Some editors) others = editors.items
+authors_or None None others = others
+
+abbrev pub creators_of : Entry → List Named
+creators_of e = map named (authors_or (out-Entry e).authors (out-Entry e).editors (makers e))

@@ -1,0 +1,93 @@
+//! The creators of a work, by whom its label is made (CSL 1.0.2, Appendix IV: Standard Variables,
+//! citation-label).
+
+ghost use Rattle.std.specs.Prelude.{◌≡◌, ◌++◌, map, IfOk};
+ghost use Rattle.lit_model.specs.Person.{named};
+ghost use Rattle.lit_model.specs.Select.{rule_of};
+ghost use Rattle.csl_entry.specs.Creators.{in_role, or_else, series, video_makers, makers, creators_of};
+
+use lit_model::{Bind, Clause, Entry, EntryType, Field, Memory, Person, PersonRole};
+use std::alloc::Global;
+
+static SERIES: [Clause<'static>; 1] = [Clause {
+    own: &[EntryType::Video],
+    fields: &[Field::Issue, Field::Volume],
+    parent: Some(&[EntryType::Video]),
+    bind: Bind::Parent,
+}];
+
+/// The series of an episode that has an issue and a volume.
+fn series() -> &'static [Clause<'static>]
+    ensures { map rule_of result.now ≡ series }
+{
+    &SERIES
+}
+
+/// The creators, in order: the authors; where none are named, the editors; else, by its type,
+/// those who made it. A list that is named and empty counts. The error: there was no memory for
+/// the list.
+#[tactic(auto, using(crate::proofs::Persons::named_each))]
+pub(crate) fn creators(alloc: Global, entry: &Entry) -> Result<Vec<&Person>, Memory>
+    ensures { IfOk result (λ v. map (λ p. named p.now) v.items ≡ creators_of entry.now) }
+{
+    let creators = match (&entry.authors, &entry.editors) {
+        (Some(authors), _) => listed(alloc, authors)?,
+        (None, Some(editors)) => listed(alloc, editors)?,
+        (None, None) => makers(alloc, entry)?,
+    };
+    Ok(creators)
+}
+
+fn listed(alloc: Global, persons: &[Person]) -> Result<Vec<&Person>, Memory>
+    ensures { IfOk result (λ v. map (λ p. p.now) v.items ≡ persons.now) }
+{
+    let mut list = Vec::with_capacity(alloc, persons.len())?;
+    for person in persons {
+        list.push(person)?;
+    }
+    Ok(list)
+}
+
+/// Those who made a work that names neither authors nor editors.
+fn makers(alloc: Global, entry: &Entry) -> Result<Vec<&Person>, Memory>
+    ensures { IfOk result (λ v. map (λ p. p.now) v.items ≡ makers entry.now) }
+{
+    if entry.entry_type != EntryType::Video {
+        let compilers = entry.affiliated_with_role(alloc, &PersonRole::Compiler)?;
+        return or_role(alloc, compilers, entry, &PersonRole::Translator);
+    }
+    let directors = entry.affiliated_with_role(alloc, &PersonRole::Director)?;
+    match entry.bound_select(series()) {
+        None => or_role(alloc, directors, entry, &PersonRole::ExecutiveProducer),
+        Some(series) => {
+            let writers = entry.affiliated_with_role(alloc, &PersonRole::Writer)?;
+            let makers = followed_by(directors, writers)?;
+            or_role(alloc, makers, series, &PersonRole::ExecutiveProducer)
+        }
+    }
+}
+
+fn followed_by<'a>(
+    mut first: Vec<&'a Person>,
+    mut second: Vec<&'a Person>,
+) -> Result<Vec<&'a Person>, Memory>
+    ensures { IfOk result (λ v. map (λ p. p.now) v.items ≡ map (λ p. p.now) first.entry.items ++ map (λ p. p.now) second.entry.items) }
+{
+    first.append(&mut second)?;
+    Ok(first)
+}
+
+/// These persons; where there are none, those who have the role in the entry.
+fn or_role<'a>(
+    alloc: Global,
+    persons: Vec<&'a Person>,
+    entry: &'a Entry,
+    role: &PersonRole,
+) -> Result<Vec<&'a Person>, Memory>
+    ensures { IfOk result (λ v. map (λ p. p.now) v.items ≡ or_else (map (λ p. p.now) persons.entry.items) (in_role role.now entry.now)) }
+{
+    if persons.as_slice().is_empty() {
+        return entry.affiliated_with_role(alloc, role);
+    }
+    Ok(persons)
+}
