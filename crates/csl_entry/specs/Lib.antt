@@ -5,8 +5,10 @@ pub mod EntryPage
 pub mod EntryKind
 pub mod Creators
 pub mod EntryName
+pub mod Chunk
 pub mod CitationLabel
 pub mod Creators
+pub mod EntryStandard
 pub mod Language
 pub mod Letters
 pub mod NameForm

@@ -7,3 +7,4 @@ mod kind;
 
 pub use kind::{legislation_kind, recording_kind};
 mod name;
+mod standard;

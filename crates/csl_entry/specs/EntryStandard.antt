@@ -1,0 +1,114 @@
+-- What an entry answers to the standard variables (CSL 1.0.2, Appendix IV: Variables, Standard Variables).
+use Rattle.std.specs.Prelude.{ℕ, List, [], ◌∷◌, Option, Some, None, option_map, option_and_then, string_bytes, codes}
+use Rattle.csl_style.specs.declared.taxonomy.StandardVariable.{StandardVariable}
+use Rattle.csl_style.specs.declared.taxonomy.StandardVariable.TheVariants as var
+use Rattle.lit_model.specs.declared.entry.Entry.{Entry, out-Entry}
+use Rattle.lit_model.specs.declared.entry_type.EntryType.TheVariants.{Repository}
+use Rattle.lit_model.specs.declared.source.LanguageIdentifier.{LanguageIdentifier}
+use Rattle.lit_model.specs.declared.source.Publisher.{Publisher}
+use Rattle.lit_model.specs.declared.source.QualifiedUrl.{QualifiedUrl}
+use Rattle.lit_model.specs.declared.text.ChunkKind.TheVariants.{Normal, Verbatim}
+use Rattle.lit_model.specs.declared.text.FormatString.{FormatString}
+use Rattle.lit_model.specs.declared.text.LongShortForm.{LongShortForm}
+use Rattle.lit_model.specs.declared.text.LongShortForm.TheVariants.{Short}
+use Rattle.lit_model.specs.Entry.{preorder, first_some, own_serial}
+use Rattle.lit_model.specs.Select.{Rule, parent_of, bound_select, container_of, collection_of, original, event, volume_title}
+use Rattle.lit_model.specs.Source.{address_text, language_of}
+use Rattle.lit_model.specs.Text.{Chunk, chunks, select}
+use Rattle.csl_entry.specs.Chunk.{one_chunk}
+use Rattle.csl_entry.specs.CitationLabel.{label}
+use Rattle.csl_entry.specs.Language.{language_text}
+
+-- a text in the form that is asked for
+abbrev pub shown : LongShortForm → Option FormatString → Option (List Chunk)
+shown form text = option_map (λ t. chunks (select form t)) text
+
+-- a text as one piece that no style changes
+abbrev pub verbatim : Option (List ℕ) → Option (List Chunk)
+verbatim text = option_map (one_chunk Verbatim) text
+
+-- a language as one piece
+abbrev pub spoken : Option LanguageIdentifier → Option (List Chunk)
+spoken language = option_map (λ l. one_chunk Normal (language_text (language_of l))) language
+
+-- the text of an address
+abbrev pub web_address : Option QualifiedUrl → Option (List ℕ)
+web_address url = option_map (λ u. (address_text u).text) url
+
+-- the name of a publisher
+abbrev pub press_name : Option Publisher → Option FormatString
+press_name press = option_and_then (λ p. p.name) press
+
+-- the place of a publisher
+abbrev pub press_place : Option Publisher → Option FormatString
+press_place press = option_and_then (λ p. p.location) press
+
+-- what the first of the entry and its parents has, in preorder
+abbrev pub inherited : {X : Type 0} → (Entry → Option X) → Entry → Option X
+inherited own e = first_some own (preorder e)
+
+-- an entry's own title
+abbrev pub own_title : Entry → Option FormatString
+own_title e = (out-Entry e).title
+
+-- an entry's own place
+abbrev pub own_location : Entry → Option FormatString
+own_location e = (out-Entry e).location
+
+-- an entry's own publisher
+abbrev pub own_publisher : Entry → Option Publisher
+own_publisher e = (out-Entry e).publisher
+
+-- the repository that an entry stands in
+abbrev pub repository : List Rule
+repository = parent_of [] (Repository ∷ []) ∷ []
+
+-- the answer to each variable, in the form that is asked for
+abbrev pub standard_of : Entry → LongShortForm → StandardVariable → Option (List Chunk)
+standard_of e form var.Abstract = shown form (inherited (λ x. (out-Entry x).abstract_) e)
+standard_of e form var.Annote = shown form (inherited (λ x. (out-Entry x).note) e)
+standard_of e form var.Archive = shown form (inherited (λ x. (out-Entry x).archive) e)
+standard_of e form var.ArchiveCollection = None
+standard_of e form var.ArchiveLocation = shown form (out-Entry e).archive_location
+standard_of e form var.ArchivePlace = None
+standard_of e form var.Authority = shown form (out-Entry e).organization
+standard_of e form var.CallNumber = shown form (out-Entry e).call_number
+standard_of e form var.CitationKey = verbatim (Some (string_bytes (out-Entry e).key))
+standard_of e form var.CitationLabel = Some (one_chunk Normal (label 3 e))
+standard_of e form var.CollectionTitle = shown form (option_and_then own_title (collection_of e))
+standard_of e form var.ContainerTitle = shown form (option_and_then own_title (container_of e))
+standard_of e form var.ContainerTitleShort = shown Short (option_and_then own_title (container_of e))
+standard_of e form var.Dimensions = shown form (out-Entry e).runtime
+standard_of e form var.Division = None
+standard_of e form var.DOI = verbatim (own_serial (codes "doi") e)
+standard_of e form var.Event = shown form (option_and_then own_title (bound_select event e))
+standard_of e form var.EventTitle = shown form (option_and_then own_title (bound_select event e))
+standard_of e form var.EventPlace = shown form (option_and_then own_location (bound_select event e))
+standard_of e form var.Genre = shown form (inherited (λ x. (out-Entry x).genre) e)
+standard_of e form var.ISBN = verbatim (own_serial (codes "isbn") e)
+standard_of e form var.ISSN = verbatim (own_serial (codes "issn") e)
+standard_of e form var.Jurisdiction = None
+standard_of e form var.Keyword = None
+standard_of e form var.Language = spoken (inherited (λ x. (out-Entry x).language) e)
+standard_of e form var.License = None
+standard_of e form var.Medium = None
+standard_of e form var.Note = shown form (out-Entry e).note
+standard_of e form var.OriginalPublisher = shown form (press_name (option_and_then own_publisher (bound_select original e)))
+standard_of e form var.OriginalPublisherPlace = shown form (press_place (option_and_then own_publisher (bound_select original e)))
+standard_of e form var.OriginalTitle = shown form (option_and_then own_title (bound_select original e))
+standard_of e form var.PartTitle = None
+standard_of e form var.PMCID = verbatim (own_serial (codes "pmcid") e)
+standard_of e form var.PMID = verbatim (own_serial (codes "pmid") e)
+standard_of e form var.Publisher = shown form (press_name (inherited own_publisher e))
+standard_of e form var.PublisherPlace = shown form (press_place (inherited own_publisher e))
+standard_of e form var.References = None
+standard_of e form var.ReviewedGenre = None
+standard_of e form var.ReviewedTitle = None
+standard_of e form var.Scale = None
+standard_of e form var.Source = shown form (option_and_then own_title (bound_select repository e))
+standard_of e form var.Status = None
+standard_of e form var.Title = shown form (own_title e)
+standard_of e form var.TitleShort = shown Short (own_title e)
+standard_of e form var.URL = verbatim (web_address (inherited (λ x. (out-Entry x).url) e))
+standard_of e form var.VolumeTitle = shown form (option_and_then own_title (bound_select volume_title e))
+standard_of e form var.YearSuffix = None

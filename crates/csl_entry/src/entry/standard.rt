@@ -1,0 +1,205 @@
+//! The standard variables of an entry (CSL 1.0.2, Appendix IV: Variables, Standard Variables).
+
+ghost use Rattle.std.specs.Prelude.{◌≡◌, IfOk, map, option_and_then, option_copied, option_map, Some};
+ghost use Rattle.csl_entry.specs.Answers.{behind};
+ghost use Rattle.csl_entry.specs.Chunk as spec;
+ghost use Rattle.csl_entry.specs.CitationLabel.{label};
+ghost use Rattle.csl_entry.specs.EntryStandard.{own_location, own_publisher, own_title, press_name, press_place, repository, shown, spoken, standard_of, verbatim, web_address};
+ghost use Rattle.lit_model.specs.declared.text.ChunkKind.TheVariants.{Normal};
+ghost use Rattle.lit_model.specs.Select.{rule_of};
+ghost use Rattle.lit_model.specs.Text.{chunks};
+
+use crate::chunk::one_chunk;
+use crate::citation_label::Alphanumerical;
+use crate::language::csl_language;
+use csl_style::StandardVariable;
+use lit_model::select::{event, volume_title};
+use lit_model::{
+    Bind, ChunkKind, ChunkedString, Clause, Entry, EntryType, FormatString, LanguageIdentifier,
+    LongShortForm, Memory, Publisher, QualifiedUrl,
+};
+use std::alloc::Global;
+use std::borrow::Cow;
+
+static REPOSITORY: [Clause<'static>; 1] = [Clause {
+    own: &[],
+    fields: &[],
+    parent: Some(&[EntryType::Repository]),
+    bind: Bind::Parent,
+}];
+
+/// The repository that an entry stands in: its first parent that is one.
+fn repository() -> &'static [Clause<'static>]
+    ensures { map rule_of result.now ≡ repository }
+{
+    &REPOSITORY
+}
+
+/// The text that an entry answers to a standard variable (CSL 1.0.2, Appendix IV: Variables), in
+/// the form that is asked for, where it has one. What the entry holds is lent; it fails with
+/// `Memory` where there is no room for a text that is made.
+pub(crate) fn standard_variable(
+    alloc: Global,
+    entry: &Entry,
+    form: LongShortForm,
+    variable: StandardVariable,
+) -> Result<Option<Cow<'_, ChunkedString>>, Memory>
+    ensures { IfOk result (λ found. option_map (behind chunks) found ≡ standard_of entry.now form variable) }
+{
+    match variable {
+        StandardVariable::Abstract => Ok(lent(entry.map(|work| work.abstract_.as_ref()), form)),
+        StandardVariable::Annote => Ok(lent(entry.map(|work| work.note.as_ref()), form)),
+        StandardVariable::Archive => Ok(lent(entry.map(|work| work.archive.as_ref()), form)),
+        StandardVariable::ArchiveLocation => Ok(lent(entry.archive_location(), form)),
+        StandardVariable::Authority => Ok(lent(entry.organization(), form)),
+        StandardVariable::CallNumber => Ok(lent(entry.call_number(), form)),
+        StandardVariable::CitationKey => verbatim(alloc, Some(entry.key())),
+        StandardVariable::CitationLabel => labelled(alloc, entry),
+        StandardVariable::CollectionTitle => Ok(lent(title_of(entry.get_collection()), form)),
+        StandardVariable::ContainerTitle => Ok(lent(title_of(entry.get_container()), form)),
+        StandardVariable::ContainerTitleShort => {
+            Ok(lent(title_of(entry.get_container()), LongShortForm::Short))
+        }
+        StandardVariable::Dimensions => Ok(lent(entry.runtime(), form)),
+        StandardVariable::DOI => verbatim(alloc, entry.doi()),
+        StandardVariable::Event | StandardVariable::EventTitle => {
+            Ok(lent(title_of(entry.bound_select(event())), form))
+        }
+        StandardVariable::EventPlace => Ok(lent(location_of(entry.bound_select(event())), form)),
+        StandardVariable::Genre => Ok(lent(entry.map(|work| work.genre.as_ref()), form)),
+        StandardVariable::ISBN => verbatim(alloc, entry.isbn()),
+        StandardVariable::ISSN => verbatim(alloc, entry.issn()),
+        StandardVariable::Language => spoken(alloc, entry.map(|work| work.language.as_ref())),
+        StandardVariable::Note => Ok(lent(entry.note(), form)),
+        StandardVariable::OriginalPublisher => {
+            Ok(lent(press_name(publisher_of(entry.get_original())), form))
+        }
+        StandardVariable::OriginalPublisherPlace => {
+            Ok(lent(press_place(publisher_of(entry.get_original())), form))
+        }
+        StandardVariable::OriginalTitle => Ok(lent(title_of(entry.get_original()), form)),
+        StandardVariable::PMCID => verbatim(alloc, entry.pmcid()),
+        StandardVariable::PMID => verbatim(alloc, entry.pmid()),
+        StandardVariable::Publisher => Ok(lent(
+            press_name(entry.map(|work| work.publisher.as_ref())),
+            form,
+        )),
+        StandardVariable::PublisherPlace => Ok(lent(
+            press_place(entry.map(|work| work.publisher.as_ref())),
+            form,
+        )),
+        StandardVariable::Source => Ok(lent(title_of(entry.bound_select(repository())), form)),
+        StandardVariable::Title => Ok(lent(entry.title(), form)),
+        StandardVariable::TitleShort => Ok(lent(entry.title(), LongShortForm::Short)),
+        StandardVariable::URL => verbatim(alloc, web_address(entry.url_any())),
+        StandardVariable::VolumeTitle => {
+            Ok(lent(title_of(entry.bound_select(volume_title())), form))
+        }
+        StandardVariable::ArchiveCollection
+        | StandardVariable::ArchivePlace
+        | StandardVariable::Division
+        | StandardVariable::Jurisdiction
+        | StandardVariable::Keyword
+        | StandardVariable::License
+        | StandardVariable::Medium
+        | StandardVariable::PartTitle
+        | StandardVariable::References
+        | StandardVariable::ReviewedGenre
+        | StandardVariable::ReviewedTitle
+        | StandardVariable::Scale
+        | StandardVariable::Status
+        | StandardVariable::YearSuffix => Ok(None),
+    }
+}
+
+/// The text in the form that is asked for, as the entry holds it.
+fn lent(text: Option<&FormatString>, form: LongShortForm) -> Option<Cow<'_, ChunkedString>>
+    ensures { option_map (behind chunks) result ≡ shown form (option_copied text.entry) }
+{
+    Some(Cow::Borrowed(text?.select(form)))
+}
+
+/// The text as one piece that no style changes, where it is known. The error: there was no memory for it.
+fn verbatim<'t>(alloc: Global, text: Option<&str>) -> Result<Option<Cow<'t, ChunkedString>>, Memory>
+    ensures { IfOk result (λ found. option_map (behind chunks) found ≡ verbatim (option_copied text.entry)) }
+{
+    match text {
+        None => Ok(None),
+        Some(text) => {
+            let text = String::from_str(alloc, text)?;
+            let piece = one_chunk(alloc, text, ChunkKind::Verbatim)?;
+            Ok(Some(Cow::Owned(piece)))
+        }
+    }
+}
+
+/// The language as one piece, where it is known. The error: there was no memory for it.
+fn spoken<'t>(
+    alloc: Global,
+    language: Option<&LanguageIdentifier>,
+) -> Result<Option<Cow<'t, ChunkedString>>, Memory>
+    ensures { IfOk result (λ found. option_map (behind chunks) found ≡ spoken (option_copied language.entry)) }
+{
+    match language {
+        None => Ok(None),
+        Some(language) => {
+            let text = csl_language(alloc, language)?;
+            let piece = one_chunk(alloc, text, ChunkKind::Normal)?;
+            Ok(Some(Cow::Owned(piece)))
+        }
+    }
+}
+
+/// The label of an entry as one piece. The error: there was no memory for it.
+fn labelled<'t>(alloc: Global, entry: &Entry) -> Result<Option<Cow<'t, ChunkedString>>, Memory>
+    ensures { IfOk result (λ found. option_map (behind chunks) found ≡ Some (spec.one_chunk Normal (label 3 entry.now))) }
+{
+    let text = Alphanumerical::new().citation(alloc, entry)?;
+    let label = one_chunk(alloc, text, ChunkKind::Normal)?;
+    Ok(Some(Cow::Owned(label)))
+}
+
+/// The title of a work, where they are known.
+fn title_of(work: Option<&Entry>) -> Option<&FormatString>
+    ensures { option_copied result ≡ option_and_then own_title (option_copied work.entry) }
+{
+    work?.title.as_ref()
+}
+
+/// The place of a work, where they are known.
+fn location_of(work: Option<&Entry>) -> Option<&FormatString>
+    ensures { option_copied result ≡ option_and_then own_location (option_copied work.entry) }
+{
+    work?.location.as_ref()
+}
+
+/// The publisher of a work, where they are known.
+fn publisher_of(work: Option<&Entry>) -> Option<&Publisher>
+    ensures { option_copied result ≡ option_and_then own_publisher (option_copied work.entry) }
+{
+    work?.publisher.as_ref()
+}
+
+/// The name of a publisher, where they are known.
+fn press_name(press: Option<&Publisher>) -> Option<&FormatString>
+    ensures { option_copied result ≡ press_name (option_copied press.entry) }
+{
+    press?.name.as_ref()
+}
+
+/// The place of a publisher, where they are known.
+fn press_place(press: Option<&Publisher>) -> Option<&FormatString>
+    ensures { option_copied result ≡ press_place (option_copied press.entry) }
+{
+    press?.location.as_ref()
+}
+
+/// The text of an address, where it is known.
+fn web_address(url: Option<&QualifiedUrl>) -> Option<&str>
+    ensures { option_copied result ≡ web_address (option_copied url.entry) }
+{
+    Some(url?.value.as_str())
+}
+
+#[cfg(test)]
+mod tests;
