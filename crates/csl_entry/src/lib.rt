@@ -11,6 +11,6 @@ mod taxonomy;
 pub use cite::{IbidState, LocatorPayload, Sorting, SpecialForm, SpecificLocator};
 pub use letters::letter;
 pub use name_form::DisambiguatedNameForm;
-pub use number_result::NumberVariableResult;
+pub use number_result::{NumberOrPageVariableResult, NumberVariableResult, PageVariableResult};
 pub use numbers::{CitationNumber, NoteNumber};
 pub use taxonomy::EntryLike;
