@@ -1,15 +1,15 @@
 -- The order of what cites answer to number variables is total, and does not see what separates numbers.
-use Rattle.std.proofs.Common.{◌≡◌, refl, sym, ◌∙◌, subst, false, ◌⊎◌, inl, inr}
-use Rattle.std.specs.Prelude.{ℕ, List, IsTrue}
-use Rattle.std.specs.Ordering.{nat_cmp, int_cmp, ordering_then, ordering_reverse, is_le, is_gt}
+use Rattle.std.proofs.Common.{◌≡◌, refl, sym, ◌∙◌, ap, subst, false, ◌⊎◌, inl, inr}
+use Rattle.std.specs.Prelude.{ℕ, ℤ, List, [], ◌∷◌, Option, Some, None, IsTrue, ◌↔◌}
+use Rattle.std.specs.Ordering.{nat_cmp, int_cmp, ordering_then, ordering_reverse, is_le, is_gt, is_eq}
 use Rattle.std.specs.Option.{option_cmp}
-use Rattle.std.specs.Cmp.{IsTotalOrder, nat_cmp_total, int_cmp_total, on_total, then_total, upto, tied_itself}
-use Rattle.std.specs.Cmp.Lexicographic.{slice_cmp, lists_total, options_total, nat_list_cmp_total}
+use Rattle.std.specs.Cmp.{IsTotalOrder, nat_cmp_total, int_cmp_total, on_total, then_total, upto, tied_itself, signed_Decides}
+use Rattle.std.specs.Cmp.Lexicographic.{slice_cmp, lists_total, options_total, nat_list_cmp_total, bytes_decides, texts_ties}
 use Rattle.std.specs.declared.cmp.Ordering.{Ordering}
 use Rattle.std.specs.declared.cmp.Ordering.TheVariants.{Less, Equal, Greater}
 use Rattle.lit_model.specs.MaybeTyped.{MaybeView, typed, text}
 use Rattle.lit_model.specs.Numeric.{NumericView, numbers}
-use Rattle.csl_entry.specs.NumberResult.{ResultView, regular, transparent, text_order, numeric_order, regular_order, csl_order, IsOrder}
+use Rattle.csl_entry.specs.NumberResult.{ResultView, regular, transparent, text_order, numeric_order, regular_order, csl_order, IsOrder, SameButSeparators}
 
 -- two kinds of values: the first kind stands before the second, and each goes by an order of its own
 module _ {A B : Type 0} (R : A → A → Ordering) (S : B → B → Ordering) where
@@ -93,7 +93,37 @@ csl_is_order = record {
   chained_strictly = csl_total.trans;
 }
 
-pub separators_aside : (v w : NumericView) → numbers v.value ≡ numbers w.value → v.prefix ≡ w.prefix → v.suffix ≡ w.suffix → csl_order (regular (typed v)) (regular (typed w)) ≡ Equal
-separators_aside v w e f g =
-    (λ i. ordering_then (slice_cmp int_cmp (numbers v.value) (sym e i)) (ordering_then (option_cmp text_order v.prefix (sym f i)) (option_cmp text_order v.suffix (sym g i))))
+at_one_place : (v w : NumericView) → SameButSeparators v w → numeric_order v w ≡ Equal
+at_one_place v w h =
+    (λ i. ordering_then (slice_cmp int_cmp (numbers v.value) (sym h.same_numbers i)) (ordering_then (option_cmp text_order v.prefix (sym h.same_prefix i)) (option_cmp text_order v.suffix (sym h.same_suffix i))))
     ∙ tied_itself numeric_total v
+
+both_equal : (r s : Ordering) → ordering_then r s ≡ Equal → (r ≡ Equal) × (s ≡ Equal)
+both_equal Less s h = cc
+both_equal Equal s h = (refl, h)
+both_equal Greater s h = cc
+
+same_list : (xs ys : List ℤ) → slice_cmp int_cmp xs ys ≡ Equal → xs ≡ ys
+same_list [] [] h = refl
+same_list [] (y ∷ ys) h = cc
+same_list (x ∷ xs) [] h = cc
+same_list (x ∷ xs) (y ∷ ys) h =
+    let both = both_equal (int_cmp x y) (slice_cmp int_cmp xs ys) h in
+    let first : x ≡ y = (signed_Decides x y).0 (ap is_eq both.0) in
+    let more : xs ≡ ys = same_list xs ys both.1 in
+    cc
+
+same_affix : (p q : Option (List ℕ)) → option_cmp text_order p q ≡ Equal → p ≡ q
+same_affix None None h = refl
+same_affix None (Some t) h = cc
+same_affix (Some s) None h = cc
+same_affix (Some s) (Some t) h = ap Some ((bytes_decides s t).0 (texts_ties s t ∙ ap is_eq h))
+
+same_at_one_place : (v w : NumericView) → numeric_order v w ≡ Equal → SameButSeparators v w
+same_at_one_place v w h =
+    let values = both_equal (slice_cmp int_cmp (numbers v.value) (numbers w.value)) (ordering_then (option_cmp text_order v.prefix w.prefix) (option_cmp text_order v.suffix w.suffix)) h in
+    let affixes = both_equal (option_cmp text_order v.prefix w.prefix) (option_cmp text_order v.suffix w.suffix) values.1 in
+    record { same_numbers = same_list _ _ values.0; same_prefix = same_affix _ _ affixes.0; same_suffix = same_affix _ _ affixes.1 }
+
+pub separators_aside : (v w : NumericView) → SameButSeparators v w ↔ (csl_order (regular (typed v)) (regular (typed w)) ≡ Equal)
+separators_aside v w = (at_one_place v w, same_at_one_place v w)

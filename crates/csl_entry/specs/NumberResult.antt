@@ -59,3 +59,9 @@ pub record IsOrder {X : Type 0} (order : X → X → Ordering) : Type 0 where
   pub swapped : (a b : X) → order b a ≡ ordering_reverse (order a b)
   pub chained : (a b c : X) → IsTrue (is_le (order a b)) → IsTrue (is_le (order b c)) → IsTrue (is_le (order a c))
   pub chained_strictly : (a b c : X) → order a b ≡ Less → order b c ≡ Less → order a c ≡ Less
+
+-- the two numbers are the same, but for what separates the numbers of a list
+pub record SameButSeparators (v w : NumericView) : Type 0 where
+  pub same_numbers : numbers v.value ≡ numbers w.value
+  pub same_prefix : v.prefix ≡ w.prefix
+  pub same_suffix : v.suffix ≡ w.suffix

@@ -1,12 +1,12 @@
 //! What a cite answers to a number variable, and the order of such answers.
 
-ghost use Rattle.std.specs.Prelude.{◌≡◌, map, IfOk};
+ghost use Rattle.std.specs.Prelude.{◌≡◌, ◌↔◌, map, IfOk};
 ghost use Rattle.std.specs.Cmp.Lexicographic.{slice_cmp};
 ghost use Rattle.std.specs.Ordering.{int_cmp};
 ghost use Rattle.lit_model.specs.MaybeTyped.{typed, maybe_view};
 ghost use Rattle.lit_model.specs.Numeric.{NumericView, numeric_view, value_view, numbers};
 ghost use Rattle.csl_entry.specs.Answers.{behind};
-ghost use Rattle.csl_entry.specs.NumberResult.{regular, result_view, is_lent, numeric_order, regular_order, csl_order, IsOrder};
+ghost use Rattle.csl_entry.specs.NumberResult.{regular, result_view, is_lent, numeric_order, regular_order, csl_order, IsOrder, SameButSeparators};
 
 use lit_model::{MaybeTyped, Memory, Numeric, NumericDelimiter, NumericValue, PageRanges};
 use std::alloc::Global;
@@ -53,8 +53,8 @@ impl<'a> NumberVariableResult<'a> {
         // Swapping two answers reverses their order, and it carries over from one pair to the next.
         ensures order { IsOrder csl_order }
 
-        // Numbers that differ in what separates them alone stand at one place.
-        ensures separators { (v w : NumericView) → numbers v.value ≡ numbers w.value → v.prefix ≡ w.prefix → v.suffix ≡ w.suffix → csl_order (regular (typed v)) (regular (typed w)) ≡ Ordering.Equal }
+        // Two numbers stand at one place exactly where they differ in what separates them alone.
+        ensures separators { (v w : NumericView) → SameButSeparators v w ↔ (csl_order (regular (typed v)) (regular (typed w)) ≡ Ordering.Equal) }
     {
         match (self, other) {
             (NumberVariableResult::Regular(a), NumberVariableResult::Regular(b)) => {
@@ -144,3 +144,6 @@ fn compare_lists(
     let right = b.iter().map(|&(number, _)| number);
     left.cmp(right)
 }
+
+#[cfg(test)]
+mod tests;
