@@ -9,8 +9,11 @@ use Rattle.std.specs.declared.borrow.Cow.TheVariants.{Borrowed, Owned}
 use Rattle.lit_model.specs.declared.maybe_typed.MaybeTyped.TheVariants as of_kind
 use Rattle.lit_model.specs.MaybeTyped.{MaybeView, typed, text, maybe_view}
 use Rattle.lit_model.specs.Numeric.{NumericView, numeric_view, numbers}
+use Rattle.lit_model.specs.Page.{PartView, pages_view}
 use Rattle.csl_entry.specs.declared.number_result.NumberVariableResult.{NumberVariableResult}
 use Rattle.csl_entry.specs.declared.number_result.NumberVariableResult.TheVariants.{Regular, Transparent}
+use Rattle.csl_entry.specs.declared.number_result.NumberOrPageVariableResult.{NumberOrPageVariableResult}
+use Rattle.csl_entry.specs.declared.number_result.NumberOrPageVariableResult.TheVariants.{Number, Page}
 use Rattle.csl_entry.specs.Answers.{behind}
 
 -- a number or a text, or the place of a cite that the caller writes
@@ -28,6 +31,15 @@ is_lent (Regular (of_kind.Typed (Borrowed number))) = true
 is_lent (Regular (of_kind.Typed (Owned number))) = false
 is_lent (Regular (of_kind.String s)) = false
 is_lent (Transparent index) = false
+
+-- the answer to a variable that holds a number, or pages
+pub data NumberOrPageView : Type 0 where
+  number : ResultView → NumberOrPageView
+  page : MaybeView (List PartView) → NumberOrPageView
+
+abbrev pub number_or_page_view : NumberOrPageVariableResult → NumberOrPageView
+number_or_page_view (Number result) = number (result_view result)
+number_or_page_view (Page pages) = page (maybe_view pages_view pages)
 
 -- ---- the order (CSL 1.0.2, Sorting)
 

@@ -6,7 +6,7 @@ ghost use Rattle.std.specs.Ordering.{int_cmp};
 ghost use Rattle.lit_model.specs.MaybeTyped.{typed, maybe_view};
 ghost use Rattle.lit_model.specs.Numeric.{NumericView, numeric_view, value_view, numbers};
 ghost use Rattle.csl_entry.specs.Answers.{behind};
-ghost use Rattle.csl_entry.specs.NumberResult.{regular, result_view, is_lent, numeric_order, regular_order, csl_order, IsOrder, SameButSeparators};
+ghost use Rattle.csl_entry.specs.NumberResult.{regular, result_view, number_or_page_view, is_lent, numeric_order, regular_order, csl_order, IsOrder, SameButSeparators};
 
 use lit_model::{MaybeTyped, Memory, Numeric, NumericDelimiter, NumericValue, PageRanges};
 use std::alloc::Global;
@@ -95,6 +95,27 @@ impl<'a> NumberVariableResult<'a> {
             NumberVariableResult::Transparent(index) => Ok(NumberVariableResult::Transparent(
                 *index,
             )),
+        }
+    }
+}
+
+impl<'a> NumberOrPageVariableResult<'a> {
+    /// An equal value.
+    ///
+    /// # Errors
+    /// `Memory` where there was none for the copy.
+    pub fn clone(&self, alloc: Global) -> Result<NumberOrPageVariableResult<'a>, Memory>
+        ensures { IfOk result (λ copy. number_or_page_view copy ≡ number_or_page_view self.now) }
+    {
+        match self {
+            NumberOrPageVariableResult::Number(number) => {
+                let copy = number.clone(alloc)?;
+                Ok(NumberOrPageVariableResult::Number(copy))
+            }
+            NumberOrPageVariableResult::Page(pages) => {
+                let copy = pages.clone(alloc)?;
+                Ok(NumberOrPageVariableResult::Page(copy))
+            }
         }
     }
 }

@@ -1,5 +1,5 @@
 ghost use Rattle.std.specs.Prelude.{◌≡◌, ◌↔◌, IsTrue};
-ghost use Rattle.csl_entry.specs.NumberResult.{result_view};
+ghost use Rattle.csl_entry.specs.NumberResult.{result_view, number_or_page_view};
 
 use super::*;
 use lit_model::NumericError;
@@ -8,6 +8,13 @@ use std::test::Fail;
 /// Whether the two are equal: they are where both are one number, one text or of one index.
 fn same(a: &NumberVariableResult<'_>, b: &NumberVariableResult<'_>) -> bool
     ensures { IsTrue result ↔ (result_view a.now ≡ result_view b.now) }
+{
+    *a == *b
+}
+
+/// The same where the answer may be of pages, which are no number.
+fn same_kind(a: &NumberOrPageVariableResult<'_>, b: &NumberOrPageVariableResult<'_>) -> bool
+    ensures { IsTrue result ↔ (number_or_page_view a.now ≡ number_or_page_view b.now) }
 {
     *a == *b
 }
@@ -151,5 +158,16 @@ fn copies_are_equal(rt: HostRuntime) -> Result<(), Fail> {
     assert!(rt; same(&words.clone(rt.alloc())?, &words));
     let index = NumberVariableResult::Transparent(3);
     assert!(rt; same(&index.clone(rt.alloc())?, &index));
+    Ok(())
+}
+
+#[test]
+fn pages_are_no_number(rt: HostRuntime) -> Result<(), Fail> {
+    let pages = PageRanges::parse(rt.alloc(), "7")?;
+    let pages = NumberOrPageVariableResult::Page(MaybeTyped::Typed(pages));
+    let number = NumberOrPageVariableResult::Number(one(7));
+    assert!(rt; !same_kind(&pages, &number));
+    assert!(rt; same_kind(&pages.clone(rt.alloc())?, &pages));
+    assert!(rt; same_kind(&number.clone(rt.alloc())?, &number));
     Ok(())
 }
