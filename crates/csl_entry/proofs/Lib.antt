@@ -2,3 +2,5 @@ pub mod Persons
 pub mod Words
 pub mod LabelTexts
 pub mod LabelYears
+pub mod ResultOrder
+pub mod ResultEqual

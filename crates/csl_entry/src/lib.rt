@@ -22,6 +22,6 @@ pub use entry::{legislation_kind, recording_kind};
 pub use language::csl_language;
 pub use letters::letter;
 pub use name_form::DisambiguatedNameForm;
-pub use number_result::NumberVariableResult;
+pub use number_result::{NumberOrPageVariableResult, NumberVariableResult, PageVariableResult};
 pub use numbers::{CitationNumber, NoteNumber};
 pub use taxonomy::EntryLike;
