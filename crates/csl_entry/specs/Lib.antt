@@ -1,5 +1,6 @@
 pub mod Answers
 pub mod Letters
 pub mod NameForm
+pub mod NameProperties
 pub mod NumberResult
 pub mod Numbers

@@ -4,6 +4,7 @@
 mod cite;
 mod letters;
 mod name_form;
+mod name_properties;
 mod number_result;
 mod numbers;
 mod taxonomy;
@@ -11,6 +12,7 @@ mod taxonomy;
 pub use cite::{IbidState, LocatorPayload, Sorting, SpecialForm, SpecificLocator};
 pub use letters::letter;
 pub use name_form::DisambiguatedNameForm;
+pub use name_properties::NameDisambiguationProperties;
 pub use number_result::NumberVariableResult;
 pub use numbers::{CitationNumber, NoteNumber};
 pub use taxonomy::EntryLike;
