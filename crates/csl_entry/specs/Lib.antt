@@ -1,4 +1,5 @@
 pub mod Answers
+pub mod Chunk
 pub mod Letters
 pub mod NameForm
 pub mod NameProperties

@@ -1,6 +1,7 @@
 //! What an entry answers to a style: the parts that depend on no entry.
 #![tactic(auto)]
 
+mod chunk;
 mod cite;
 mod letters;
 mod name_form;
