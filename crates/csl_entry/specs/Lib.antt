@@ -1,5 +1,6 @@
 pub mod Answers
 pub mod Chunk
+pub mod Cite
 pub mod Letters
 pub mod NameForm
 pub mod NameProperties

@@ -1,6 +1,12 @@
 //! What a citation says of a cite, beside its entry.
 
+ghost use Rattle.std.specs.Prelude.{◌≡◌, IfOk};
+
+use crate::name_properties::NameDisambiguationProperties;
+use crate::numbers::{CitationNumber, NoteNumber};
 use csl_style::{Locator, Variable};
+use lit_model::Memory;
+use std::alloc::Global;
 
 /// How a cite stands to the one before it (CSL 1.0.2, Choose: position).
 #[derive(Clone, Copy, Debug, PartialEq, Eq, Hash)]
@@ -44,6 +50,101 @@ pub enum LocatorPayload<'a> {
     Str(&'a str),
     /// What the caller writes at its place.
     Transparent,
+}
+
+/// What tells a cite from those that look like it (CSL 1.0.2, Disambiguation).
+#[derive(Drop)]
+pub enum DisambiguateState {
+    /// Nothing does, or nothing has to.
+    None,
+    /// These forms of its names (disambiguate-add-names, disambiguate-add-givenname).
+    NameDisambiguation(NameDisambiguationProperties),
+    /// The branches of a style that ask for `disambiguate` (Choose: disambiguate).
+    Choose,
+    /// The year suffix of that place: 0 is `a` (disambiguate-add-year-suffix).
+    YearSuffix(u8),
+}
+
+/// What a citation says of a cite.
+#[derive(Drop)]
+pub struct CiteProperties<'s> {
+    /// What no rendering changes.
+    pub certain: CertainCiteProperties,
+    /// What may change when the other cites are rendered.
+    pub speculative: SpeculativeCiteProperties<'s>,
+}
+
+/// What a citation says of a cite for good.
+#[derive(Clone, Copy, Debug)]
+pub struct CertainCiteProperties {
+    /// The number of the note that cites the entry first, where a note does (CSL 1.0.2, Number
+    /// Variables: first-reference-note-number).
+    pub first_note_number: Option<NoteNumber>,
+    /// Whether no cite of the entry stands before it (CSL 1.0.2, Choose: position).
+    pub is_first: bool,
+    /// Whether a note close before it cites the entry (CSL 1.0.2, Choose: position, near-note).
+    pub is_near_note: bool,
+    /// The place, from 0, that the cite was given when it was handed in. It names the cite in
+    /// what the caller writes for it.
+    pub initial_idx: usize,
+}
+
+/// What a citation says of a cite as far as it was rendered.
+#[derive(Drop)]
+pub struct SpeculativeCiteProperties<'s> {
+    /// Where in its work the cite points (CSL 1.0.2, Locators).
+    pub locator: Option<SpecificLocator<'s>>,
+    /// Its citation number, which counts from 0 (CSL 1.0.2, Number Variables: citation-number).
+    pub citation_number: CitationNumber,
+    /// What tells the cite from those that look like it.
+    pub disambiguation: DisambiguateState,
+    /// How it stands to the cite before it.
+    pub ibid: IbidState,
+}
+
+impl DisambiguateState {
+    ghost use Rattle.csl_entry.specs.Cite.{disambiguation_of};
+
+    /// An equal value.
+    ///
+    /// # Errors
+    /// `Memory` where there was none for the copy.
+    pub fn clone(&self, alloc: Global) -> Result<Self, Memory>
+        ensures { IfOk result (λ copy. disambiguation_of copy ≡ disambiguation_of self.now) }
+    {
+        match self {
+            DisambiguateState::None => Ok(DisambiguateState::None),
+            DisambiguateState::NameDisambiguation(properties) => {
+                let copy = properties.clone(alloc)?;
+                Ok(DisambiguateState::NameDisambiguation(copy))
+            }
+            DisambiguateState::Choose => Ok(DisambiguateState::Choose),
+            DisambiguateState::YearSuffix(number) => Ok(DisambiguateState::YearSuffix(*number)),
+        }
+    }
+}
+
+impl<'s> CiteProperties<'s> {
+    ghost use Rattle.csl_entry.specs.Cite.{cite_state};
+
+    /// An equal value.
+    ///
+    /// # Errors
+    /// `Memory` where there was none for the copy.
+    pub fn clone(&self, alloc: Global) -> Result<CiteProperties<'s>, Memory>
+        ensures { IfOk result (λ copy. cite_state copy ≡ cite_state self.now) }
+    {
+        let disambiguation = self.speculative.disambiguation.clone(alloc)?;
+        Ok(CiteProperties {
+            certain: self.certain,
+            speculative: SpeculativeCiteProperties {
+                locator: self.speculative.locator,
+                citation_number: self.speculative.citation_number,
+                disambiguation,
+                ibid: self.speculative.ibid,
+            },
+        })
+    }
 }
 
 #[cfg(test)]

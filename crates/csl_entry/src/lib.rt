@@ -10,7 +10,10 @@ mod number_result;
 mod numbers;
 mod taxonomy;
 
-pub use cite::{IbidState, LocatorPayload, Sorting, SpecialForm, SpecificLocator};
+pub use cite::{
+    CertainCiteProperties, CiteProperties, DisambiguateState, IbidState, LocatorPayload, Sorting,
+    SpecialForm, SpecificLocator, SpeculativeCiteProperties,
+};
 pub use letters::letter;
 pub use name_form::DisambiguatedNameForm;
 pub use name_properties::NameDisambiguationProperties;
