@@ -6,3 +6,4 @@ pub mod NameForm
 pub mod NameProperties
 pub mod NumberResult
 pub mod Numbers
+pub mod NumericText

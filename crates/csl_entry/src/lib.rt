@@ -8,6 +8,7 @@ mod name_form;
 mod name_properties;
 mod number_result;
 mod numbers;
+mod numeric_text;
 mod taxonomy;
 
 pub use cite::{

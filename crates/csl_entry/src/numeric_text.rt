@@ -1,0 +1,45 @@
+//! Texts that may stand for a number.
+
+ghost use Rattle.std.specs.Prelude.{◌≡◌, ◌↔◌, IfOk, chars};
+ghost use Rattle.lit_model.specs.MaybeTyped.{maybe_view, typed};
+ghost use Rattle.lit_model.specs.Numeric.{NumericView, numeric_view, Spells};
+ghost use Rattle.csl_entry.specs.NumericText.{numeric_or_text};
+
+use lit_model::{MaybeTyped, Memory, Numeric, NumericError};
+use std::alloc::Global;
+
+/// The number that a text stands for, or the text itself where it stands for none (CSL 1.0.2,
+/// Number). It fails with `Memory` where there was none for the number or for the copy of the
+/// text.
+pub(crate) fn numeric_or_text(alloc: Global, text: &str) -> Result<MaybeTyped<Numeric>, Memory>
+    ensures exact { IfOk result (λ found. maybe_view numeric_view found ≡ numeric_or_text text.now) }
+    // It is a number exactly where the characters spell one, and then that one.
+    ensures spelled { IfOk result (λ found. (v : NumericView) →
+        (maybe_view numeric_view found ≡ typed v) ↔ Spells v (chars text.now)) }
+{
+    match Numeric::parse(alloc, text) {
+        Ok(number) => Ok(MaybeTyped::Typed(number)),
+        Err(NumericError::NotNumeric) => {
+            let text = String::from_str(alloc, text)?;
+            Ok(MaybeTyped::String(text))
+        }
+        Err(NumericError::Memory) => Err(Memory),
+    }
+}
+
+#[cfg(test)]
+mod tests {
+    use super::*;
+
+    #[test]
+    fn a_text_is_a_number_or_stays_a_text(rt: HostRuntime) -> Result<(), Memory> {
+        let alloc = rt.alloc();
+        let number = numeric_or_text(alloc, " 12")?;
+        assert!(rt; matches!(&number, MaybeTyped::Typed(n) if n.value() == Some(12)));
+        let text = numeric_or_text(alloc, "12 b")?;
+        assert!(rt; matches!(&text, MaybeTyped::String(s) if s.as_str() == "12 b"));
+        let nothing = numeric_or_text(alloc, "")?;
+        assert!(rt; matches!(&nothing, MaybeTyped::String(s) if s.is_empty()));
+        Ok(())
+    }
+}
