@@ -1,6 +1,7 @@
 pub mod Answers
 pub mod Chunk
 pub mod Cite
+pub mod Instance
 pub mod Letters
 pub mod NameForm
 pub mod NameProperties

@@ -3,6 +3,7 @@
 
 mod chunk;
 mod cite;
+mod instance;
 mod letters;
 mod name_form;
 mod name_properties;
@@ -15,6 +16,7 @@ pub use cite::{
     CertainCiteProperties, CiteProperties, DisambiguateState, IbidState, LocatorPayload, Sorting,
     SpecialForm, SpecificLocator, SpeculativeCiteProperties,
 };
+pub use instance::InstanceContext;
 pub use letters::letter;
 pub use name_form::DisambiguatedNameForm;
 pub use name_properties::NameDisambiguationProperties;
