@@ -1,1 +1,2 @@
+pub mod PropertiesEqual
 pub mod Words

@@ -79,3 +79,6 @@ impl NameDisambiguationProperties {
         })
     }
 }
+
+#[cfg(test)]
+mod tests;
