@@ -150,7 +150,9 @@ impl<'s> CiteProperties<'s> {
 #[cfg(test)]
 mod tests {
     use super::*;
-    use csl_style::StandardVariable;
+    use crate::name_form::DisambiguatedNameForm;
+    use csl_style::{NameVariable, StandardVariable};
+    use std::test::Fail;
 
     #[test]
     fn locators_are_equal_by_kind_and_text(rt: HostRuntime) {
@@ -171,5 +173,61 @@ mod tests {
         assert!(rt; title != SpecialForm::VarOnly(Variable::Standard(StandardVariable::Note)));
         assert!(rt; SpecialForm::OnlyFirstDate != SpecialForm::OnlyYearSuffix);
         assert!(rt; title != SpecialForm::SuppressAuthor);
+    }
+
+    /// Forms of the names of the author.
+    fn forms(alloc: Global) -> Result<NameDisambiguationProperties, Memory> {
+        let form = DisambiguatedNameForm::ShortFull;
+        let variables = Vec::from_array(alloc, [NameVariable::Author])?;
+        Ok(NameDisambiguationProperties::new(form, variables, Vec::new(alloc)))
+    }
+
+    #[test]
+    fn a_copy_of_each_state(rt: HostRuntime) -> Result<(), Memory> {
+        let alloc = rt.alloc();
+        let none = DisambiguateState::None.clone(alloc)?;
+        assert!(rt; matches!(none, DisambiguateState::None));
+        let choose = DisambiguateState::Choose.clone(alloc)?;
+        assert!(rt; matches!(choose, DisambiguateState::Choose));
+        let suffix = DisambiguateState::YearSuffix(3).clone(alloc)?;
+        assert!(rt; matches!(suffix, DisambiguateState::YearSuffix(3)));
+        let names = DisambiguateState::NameDisambiguation(forms(alloc)?);
+        let copy = names.clone(alloc)?;
+        assert!(rt;
+            matches!(
+            &copy,
+            DisambiguateState::NameDisambiguation(p) if p.variables().len() == 1
+        )
+        );
+        Ok(())
+    }
+
+    #[test]
+    fn a_copy_of_what_a_citation_says(rt: HostRuntime) -> Result<(), Fail> {
+        let place = SpecificLocator(Locator::Page, LocatorPayload::Str("5"));
+        let props = CiteProperties {
+            certain: CertainCiteProperties {
+                first_note_number: NoteNumber::new(6),
+                is_first: true,
+                is_near_note: false,
+                initial_idx: 2,
+            },
+            speculative: SpeculativeCiteProperties {
+                locator: Some(place),
+                citation_number: CitationNumber::new(4).ok_or("a citation number")?,
+                disambiguation: DisambiguateState::Choose,
+                ibid: IbidState::Ibid,
+            },
+        };
+        let copy = props.clone(rt.alloc())?;
+        assert!(rt; copy.certain.first_note_number == NoteNumber::new(6));
+        assert!(rt; copy.certain.is_first);
+        assert!(rt; !copy.certain.is_near_note);
+        assert!(rt; copy.certain.initial_idx == 2);
+        assert!(rt; copy.speculative.locator == Some(place));
+        assert!(rt; copy.speculative.citation_number.get() == 4);
+        assert!(rt; matches!(copy.speculative.disambiguation, DisambiguateState::Choose));
+        assert!(rt; copy.speculative.ibid == IbidState::Ibid);
+        Ok(())
     }
 }

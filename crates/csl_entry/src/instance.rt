@@ -100,8 +100,7 @@ impl<'s, T: EntryLike> InstanceContext<'s, T> {
         ensures { IfOk result (λ found. option_map (maybe_view pages_view) found
             ≡ look_page (cite_state self.now.cite_props.now) (T.answers self.now.entry.now) variable) }
     {
-        let found = self.entry.resolve_page_variable(alloc, variable)?;
-        Ok(found)
+        self.entry.resolve_page_variable(alloc, variable)
     }
 
     /// What the cite answers to a standard variable: its year suffix, where it has one; all else
@@ -120,13 +119,9 @@ impl<'s, T: EntryLike> InstanceContext<'s, T> {
     {
         match variable {
             StandardVariable::YearSuffix => {
-                let suffix = year_suffix(alloc, &self.cite_props.speculative.disambiguation)?;
-                Ok(suffix)
+                year_suffix(alloc, &self.cite_props.speculative.disambiguation)
             }
-            _ => {
-                let found = self.entry.resolve_standard_variable(alloc, form, variable)?;
-                Ok(found)
-            }
+            _ => self.entry.resolve_standard_variable(alloc, form, variable),
         }
     }
 }
@@ -180,3 +175,6 @@ fn year_suffix<'s>(
         DisambiguateState::Choose => Ok(None),
     }
 }
+
+#[cfg(test)]
+mod tests;
