@@ -1,4 +1,5 @@
 pub mod Persons
+pub mod PropertiesEqual
 pub mod Words
 pub mod LabelTexts
 pub mod LabelYears

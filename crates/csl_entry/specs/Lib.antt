@@ -10,8 +10,11 @@ pub mod CitationLabel
 pub mod Creators
 pub mod EntryStandard
 pub mod Language
+pub mod Cite
+pub mod Instance
 pub mod Letters
 pub mod NameForm
+pub mod NameProperties
 pub mod NumberResult
 pub mod Numbers
 pub mod NumericText

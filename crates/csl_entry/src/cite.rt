@@ -1,6 +1,12 @@
 //! What a citation says of a cite, beside its entry.
 
+ghost use Rattle.std.specs.Prelude.{◌≡◌, IfOk};
+
+use crate::name_properties::NameDisambiguationProperties;
+use crate::numbers::{CitationNumber, NoteNumber};
 use csl_style::{Locator, Variable};
+use lit_model::Memory;
+use std::alloc::Global;
 
 /// How a cite stands to the one before it (CSL 1.0.2, Choose: position).
 #[derive(Clone, Copy, Debug, PartialEq, Eq, Hash)]
@@ -46,10 +52,107 @@ pub enum LocatorPayload<'a> {
     Transparent,
 }
 
+/// What tells a cite from those that look like it (CSL 1.0.2, Disambiguation).
+#[derive(Drop)]
+pub enum DisambiguateState {
+    /// Nothing does, or nothing has to.
+    None,
+    /// These forms of its names (disambiguate-add-names, disambiguate-add-givenname).
+    NameDisambiguation(NameDisambiguationProperties),
+    /// The branches of a style that ask for `disambiguate` (Choose: disambiguate).
+    Choose,
+    /// The year suffix of that place: 0 is `a` (disambiguate-add-year-suffix).
+    YearSuffix(u8),
+}
+
+/// What a citation says of a cite.
+#[derive(Drop)]
+pub struct CiteProperties<'s> {
+    /// What no rendering changes.
+    pub certain: CertainCiteProperties,
+    /// What may change when the other cites are rendered.
+    pub speculative: SpeculativeCiteProperties<'s>,
+}
+
+/// What a citation says of a cite for good.
+#[derive(Clone, Copy, Debug)]
+pub struct CertainCiteProperties {
+    /// The number of the note that cites the entry first, where a note does (CSL 1.0.2, Number
+    /// Variables: first-reference-note-number).
+    pub first_note_number: Option<NoteNumber>,
+    /// Whether no cite of the entry stands before it (CSL 1.0.2, Choose: position).
+    pub is_first: bool,
+    /// Whether a note close before it cites the entry (CSL 1.0.2, Choose: position, near-note).
+    pub is_near_note: bool,
+    /// The place, from 0, that the cite was given when it was handed in. It names the cite in
+    /// what the caller writes for it.
+    pub initial_idx: usize,
+}
+
+/// What a citation says of a cite as far as it was rendered.
+#[derive(Drop)]
+pub struct SpeculativeCiteProperties<'s> {
+    /// Where in its work the cite points (CSL 1.0.2, Locators).
+    pub locator: Option<SpecificLocator<'s>>,
+    /// Its citation number, which counts from 0 (CSL 1.0.2, Number Variables: citation-number).
+    pub citation_number: CitationNumber,
+    /// What tells the cite from those that look like it.
+    pub disambiguation: DisambiguateState,
+    /// How it stands to the cite before it.
+    pub ibid: IbidState,
+}
+
+impl DisambiguateState {
+    ghost use Rattle.csl_entry.specs.Cite.{disambiguation_of};
+
+    /// An equal value.
+    ///
+    /// # Errors
+    /// `Memory` where there was none for the copy.
+    pub fn clone(&self, alloc: Global) -> Result<Self, Memory>
+        ensures { IfOk result (λ copy. disambiguation_of copy ≡ disambiguation_of self.now) }
+    {
+        match self {
+            DisambiguateState::None => Ok(DisambiguateState::None),
+            DisambiguateState::NameDisambiguation(properties) => {
+                let copy = properties.clone(alloc)?;
+                Ok(DisambiguateState::NameDisambiguation(copy))
+            }
+            DisambiguateState::Choose => Ok(DisambiguateState::Choose),
+            DisambiguateState::YearSuffix(number) => Ok(DisambiguateState::YearSuffix(*number)),
+        }
+    }
+}
+
+impl<'s> CiteProperties<'s> {
+    ghost use Rattle.csl_entry.specs.Cite.{cite_state};
+
+    /// An equal value.
+    ///
+    /// # Errors
+    /// `Memory` where there was none for the copy.
+    pub fn clone(&self, alloc: Global) -> Result<CiteProperties<'s>, Memory>
+        ensures { IfOk result (λ copy. cite_state copy ≡ cite_state self.now) }
+    {
+        let disambiguation = self.speculative.disambiguation.clone(alloc)?;
+        Ok(CiteProperties {
+            certain: self.certain,
+            speculative: SpeculativeCiteProperties {
+                locator: self.speculative.locator,
+                citation_number: self.speculative.citation_number,
+                disambiguation,
+                ibid: self.speculative.ibid,
+            },
+        })
+    }
+}
+
 #[cfg(test)]
 mod tests {
     use super::*;
-    use csl_style::StandardVariable;
+    use crate::name_form::DisambiguatedNameForm;
+    use csl_style::{NameVariable, StandardVariable};
+    use std::test::Fail;
 
     #[test]
     fn locators_are_equal_by_kind_and_text(rt: HostRuntime) {
@@ -70,5 +173,61 @@ mod tests {
         assert!(rt; title != SpecialForm::VarOnly(Variable::Standard(StandardVariable::Note)));
         assert!(rt; SpecialForm::OnlyFirstDate != SpecialForm::OnlyYearSuffix);
         assert!(rt; title != SpecialForm::SuppressAuthor);
+    }
+
+    /// Forms of the names of the author.
+    fn forms(alloc: Global) -> Result<NameDisambiguationProperties, Memory> {
+        let form = DisambiguatedNameForm::ShortFull;
+        let variables = Vec::from_array(alloc, [NameVariable::Author])?;
+        Ok(NameDisambiguationProperties::new(form, variables, Vec::new(alloc)))
+    }
+
+    #[test]
+    fn a_copy_of_each_state(rt: HostRuntime) -> Result<(), Memory> {
+        let alloc = rt.alloc();
+        let none = DisambiguateState::None.clone(alloc)?;
+        assert!(rt; matches!(none, DisambiguateState::None));
+        let choose = DisambiguateState::Choose.clone(alloc)?;
+        assert!(rt; matches!(choose, DisambiguateState::Choose));
+        let suffix = DisambiguateState::YearSuffix(3).clone(alloc)?;
+        assert!(rt; matches!(suffix, DisambiguateState::YearSuffix(3)));
+        let names = DisambiguateState::NameDisambiguation(forms(alloc)?);
+        let copy = names.clone(alloc)?;
+        assert!(rt;
+            matches!(
+            &copy,
+            DisambiguateState::NameDisambiguation(p) if p.variables().len() == 1
+        )
+        );
+        Ok(())
+    }
+
+    #[test]
+    fn a_copy_of_what_a_citation_says(rt: HostRuntime) -> Result<(), Fail> {
+        let place = SpecificLocator(Locator::Page, LocatorPayload::Str("5"));
+        let props = CiteProperties {
+            certain: CertainCiteProperties {
+                first_note_number: NoteNumber::new(6),
+                is_first: true,
+                is_near_note: false,
+                initial_idx: 2,
+            },
+            speculative: SpeculativeCiteProperties {
+                locator: Some(place),
+                citation_number: CitationNumber::new(4).ok_or("a citation number")?,
+                disambiguation: DisambiguateState::Choose,
+                ibid: IbidState::Ibid,
+            },
+        };
+        let copy = props.clone(rt.alloc())?;
+        assert!(rt; copy.certain.first_note_number == NoteNumber::new(6));
+        assert!(rt; copy.certain.is_first);
+        assert!(rt; !copy.certain.is_near_note);
+        assert!(rt; copy.certain.initial_idx == 2);
+        assert!(rt; copy.speculative.locator == Some(place));
+        assert!(rt; copy.speculative.citation_number.get() == 4);
+        assert!(rt; matches!(copy.speculative.disambiguation, DisambiguateState::Choose));
+        assert!(rt; copy.speculative.ibid == IbidState::Ibid);
+        Ok(())
     }
 }

@@ -7,8 +7,10 @@ mod cite;
 mod creators;
 mod entry;
 mod language;
+mod instance;
 mod letters;
 mod name_form;
+mod name_properties;
 mod number_result;
 mod numbers;
 mod numeric_text;
@@ -23,5 +25,14 @@ pub use language::csl_language;
 pub use letters::letter;
 pub use name_form::DisambiguatedNameForm;
 pub use number_result::{NumberOrPageVariableResult, NumberVariableResult, PageVariableResult};
+pub use cite::{
+    CertainCiteProperties, CiteProperties, DisambiguateState, IbidState, LocatorPayload, Sorting,
+    SpecialForm, SpecificLocator, SpeculativeCiteProperties,
+};
+pub use instance::InstanceContext;
+pub use letters::letter;
+pub use name_form::DisambiguatedNameForm;
+pub use name_properties::NameDisambiguationProperties;
+pub use number_result::NumberVariableResult;
 pub use numbers::{CitationNumber, NoteNumber};
 pub use taxonomy::EntryLike;

@@ -1,0 +1,180 @@
+//! A cite with its entry: what it answers to a style.
+
+ghost use Rattle.std.specs.Prelude.{◌≡◌, IfOk, option_map};
+ghost use Rattle.lit_model.specs.MaybeTyped.{maybe_view};
+ghost use Rattle.lit_model.specs.Page.{pages_view};
+ghost use Rattle.lit_model.specs.Text.{chunks};
+ghost use Rattle.csl_entry.specs.Answers.{behind};
+ghost use Rattle.csl_entry.specs.Cite.{cite_state, disambiguation_of, payload_of};
+ghost use Rattle.csl_entry.specs.Instance.{plain_number, locator_answer, year_suffix, look_number, look_page, look_standard};
+ghost use Rattle.csl_entry.specs.NumberResult.{result_view};
+ghost use Rattle.csl_entry.specs.Numbers.{IsNoteNumber};
+
+use crate::chunk::one_chunk;
+use crate::cite::{CiteProperties, DisambiguateState, LocatorPayload, Sorting, SpecialForm};
+use crate::letters::letter;
+use crate::number_result::NumberVariableResult;
+use crate::numeric_text::numeric_or_text;
+use crate::taxonomy::EntryLike;
+use csl_style::{NumberVariable, PageVariable, StandardVariable};
+use lit_model::{ChunkKind, ChunkedString, LongShortForm, MaybeTyped, Memory, Numeric, PageRanges};
+use std::alloc::{AllocError, Global};
+use std::borrow::Cow;
+
+/// A cite: its entry, and what its citation says of it.
+pub struct InstanceContext<'s, T> {
+    /// The entry.
+    pub entry: &'s T,
+    /// What the citation says of the cite.
+    pub cite_props: &'s CiteProperties<'s>,
+    /// What the sort key is made from, where the cite is rendered to be sorted.
+    pub sorting: Option<Sorting>,
+    /// The part of the cite that is to be shown, where it is not the whole.
+    pub kind: Option<SpecialForm>,
+}
+
+impl<'s, T> Clone for InstanceContext<'s, T> {
+    ghost use Rattle.std.specs.Prelude.{◌≡◌, ⊤};
+
+    ghost is_clone = { λ instance copy. copy ≡ instance };
+
+    ghost is_infallible = { λ _. ⊤ };
+
+    fn clone(&self) -> Result<Self, AllocError> {
+        Ok(*self)
+    }
+}
+
+impl<'s, T> Copy for InstanceContext<'s, T> {}
+
+impl<'s, T: EntryLike> InstanceContext<'s, T> {
+    /// What the cite answers to a number variable: its citation number plus one, the number of the
+    /// note that cites the entry first, or its locator; all else the entry answers (CSL 1.0.2,
+    /// Number Variables). The text of a locator is a number where it stands for one.
+    ///
+    /// # Errors
+    /// `Memory` where there was none for the answer.
+    pub fn resolve_number_variable(
+        &self,
+        alloc: Global,
+        variable: NumberVariable,
+    ) -> Result<Option<NumberVariableResult<'s>>, Memory>
+        ensures { IfOk result (λ found. option_map result_view found
+            ≡ look_number (cite_state self.now.cite_props.now) (T.answers self.now.entry.now) variable) }
+    {
+        match variable {
+            NumberVariable::CitationNumber => {
+                let number = self.cite_props.speculative.citation_number.get() + 1;
+                Ok(Some(counted(number)))
+            }
+            NumberVariable::FirstReferenceNoteNumber => {
+                match self.cite_props.certain.first_note_number {
+                    Some(number) => Ok(Some(counted(number.get()))),
+                    None => Ok(None),
+                }
+            }
+            NumberVariable::Locator => match &self.cite_props.speculative.locator {
+                Some(locator) => {
+                    let index = self.cite_props.certain.initial_idx;
+                    let answer = located(alloc, index, locator.1)?;
+                    Ok(Some(answer))
+                }
+                None => Ok(None),
+            },
+            _ => match self.entry.resolve_number_variable(alloc, variable)? {
+                Some(number) => Ok(Some(NumberVariableResult::Regular(number))),
+                None => Ok(None),
+            },
+        }
+    }
+
+    /// What the cite answers to a page variable: what its entry does.
+    ///
+    /// # Errors
+    /// `Memory` where there was none for the answer.
+    pub fn resolve_page_variable(
+        &self,
+        alloc: Global,
+        variable: PageVariable,
+    ) -> Result<Option<MaybeTyped<PageRanges>>, Memory>
+        ensures { IfOk result (λ found. option_map (maybe_view pages_view) found
+            ≡ look_page (cite_state self.now.cite_props.now) (T.answers self.now.entry.now) variable) }
+    {
+        self.entry.resolve_page_variable(alloc, variable)
+    }
+
+    /// What the cite answers to a standard variable: its year suffix, where it has one; all else
+    /// the entry answers (CSL 1.0.2, Standard Variables).
+    ///
+    /// # Errors
+    /// `Memory` where there was none for the answer.
+    pub fn resolve_standard_variable(
+        &self,
+        alloc: Global,
+        form: LongShortForm,
+        variable: StandardVariable,
+    ) -> Result<Option<Cow<'s, ChunkedString>>, Memory>
+        ensures { IfOk result (λ found. option_map (behind chunks) found
+            ≡ look_standard (cite_state self.now.cite_props.now) (T.answers self.now.entry.now) form variable) }
+    {
+        match variable {
+            StandardVariable::YearSuffix => {
+                year_suffix(alloc, &self.cite_props.speculative.disambiguation)
+            }
+            _ => self.entry.resolve_standard_variable(alloc, form, variable),
+        }
+    }
+}
+
+/// A number that was counted, with no text around it.
+fn counted<'s>(number: u32) -> NumberVariableResult<'s>
+    requires { IsNoteNumber number }
+    ensures { result_view result ≡ plain_number number }
+{
+    let number = Numeric::new(number as i32);
+    NumberVariableResult::Regular(MaybeTyped::Typed(Cow::Owned(number)))
+}
+
+/// What a locator answers at the cite of that index.
+fn located<'s>(
+    alloc: Global,
+    index: usize,
+    payload: LocatorPayload<'_>,
+) -> Result<NumberVariableResult<'s>, Memory>
+    ensures { IfOk result (λ found. result_view found ≡ locator_answer index (payload_of payload.entry)) }
+{
+    match payload {
+        LocatorPayload::Str(text) => match numeric_or_text(alloc, text)? {
+            MaybeTyped::Typed(number) => {
+                let number = MaybeTyped::Typed(Cow::Owned(number));
+                Ok(NumberVariableResult::Regular(number))
+            }
+            MaybeTyped::String(text) => {
+                Ok(NumberVariableResult::Regular(MaybeTyped::String(text)))
+            }
+        },
+        LocatorPayload::Transparent => Ok(NumberVariableResult::Transparent(index)),
+    }
+}
+
+/// The letters of the year suffix, where the cite has one.
+fn year_suffix<'s>(
+    alloc: Global,
+    state: &DisambiguateState,
+) -> Result<Option<Cow<'s, ChunkedString>>, Memory>
+    ensures { IfOk result (λ found. option_map (behind chunks) found ≡ year_suffix (disambiguation_of state.now)) }
+{
+    match state {
+        DisambiguateState::YearSuffix(number) => {
+            let word = letter(alloc, *number)?;
+            let text = one_chunk(alloc, word, ChunkKind::Normal)?;
+            Ok(Some(Cow::Owned(text)))
+        }
+        DisambiguateState::None => Ok(None),
+        DisambiguateState::NameDisambiguation(_) => Ok(None),
+        DisambiguateState::Choose => Ok(None),
+    }
+}
+
+#[cfg(test)]
+mod tests;
