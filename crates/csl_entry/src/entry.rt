@@ -1,10 +1,82 @@
-//! What an `Entry` answers (CSL 1.0.2, Appendix IV: Variables).
+//! What an `Entry` answers (CSL 1.0.2, Appendix III: Types; Appendix IV: Variables).
+
+ghost use Rattle.csl_entry.specs.EntryAnswers.{answers_of, key_of};
+ghost use Rattle.csl_entry.specs.Language.{english_of};
 
 mod date;
+mod kind;
+mod name;
 mod number;
 mod page;
-mod kind;
-
-pub use kind::{legislation_kind, recording_kind};
-mod name;
 mod standard;
+
+use crate::language;
+use crate::taxonomy::EntryLike;
+use csl_style::{DateVariable, Kind, NameVariable, NumberVariable, PageVariable, StandardVariable};
+pub use kind::{legislation_kind, recording_kind};
+use lit_model::{
+    ChunkedString, Date, Entry, LongShortForm, MaybeTyped, Memory, Numeric, PageRanges, Person,
+};
+use std::alloc::Global;
+use std::borrow::{Cow, CowStr};
+
+impl EntryLike for Entry {
+    ghost answers = { answers_of };
+
+    ghost key_text = { key_of };
+
+    ghost english = { english_of };
+
+    fn resolve_number_variable(
+        &self,
+        alloc: Global,
+        variable: NumberVariable,
+    ) -> Result<Option<MaybeTyped<Cow<'_, Numeric>>>, Memory> {
+        number::number_variable(alloc, self, variable)
+    }
+
+    fn resolve_page_variable(
+        &self,
+        alloc: Global,
+        variable: PageVariable,
+    ) -> Result<Option<MaybeTyped<PageRanges>>, Memory> {
+        page::page_variable(alloc, self, variable)
+    }
+
+    fn resolve_standard_variable(
+        &self,
+        alloc: Global,
+        form: LongShortForm,
+        variable: StandardVariable,
+    ) -> Result<Option<Cow<'_, ChunkedString>>, Memory> {
+        standard::standard_variable(alloc, self, form, variable)
+    }
+
+    fn resolve_name_variable(
+        &self,
+        alloc: Global,
+        variable: NameVariable,
+    ) -> Result<Vec<Cow<'_, Person>>, Memory> {
+        name::name_variable(alloc, self, variable)
+    }
+
+    fn resolve_date_variable(
+        &self,
+        _alloc: Global,
+        variable: DateVariable,
+    ) -> Result<Option<Cow<'_, Date>>, Memory> {
+        Ok(date::date_variable(self, variable))
+    }
+
+    fn matches_entry_type(&self, kind: Kind) -> bool {
+        kind::is_of_kind(self, kind)
+    }
+
+    fn is_english(&self) -> Option<bool> {
+        language::is_english(self)
+    }
+
+    fn key(&self) -> CowStr<'_, Global> {
+        CowStr::Borrowed(Entry::key(self))
+    }
+}

@@ -1,4 +1,5 @@
-//! What an entry answers to a style: the parts that depend on no entry.
+//! What an entry answers to a style: the trait for entries of any type, the answers of the
+//! built-in entry, and what a cite answers in its citation.
 #![tactic(auto)]
 
 mod chunk;
@@ -6,8 +7,8 @@ mod citation_label;
 mod cite;
 mod creators;
 mod entry;
-mod language;
 mod instance;
+mod language;
 mod letters;
 mod name_form;
 mod name_properties;
@@ -19,20 +20,16 @@ mod people;
 mod taxonomy;
 
 pub use citation_label::Alphanumerical;
-pub use cite::{IbidState, LocatorPayload, Sorting, SpecialForm, SpecificLocator};
-pub use entry::{legislation_kind, recording_kind};
-pub use language::csl_language;
-pub use letters::letter;
-pub use name_form::DisambiguatedNameForm;
-pub use number_result::{NumberOrPageVariableResult, NumberVariableResult, PageVariableResult};
 pub use cite::{
     CertainCiteProperties, CiteProperties, DisambiguateState, IbidState, LocatorPayload, Sorting,
     SpecialForm, SpecificLocator, SpeculativeCiteProperties,
 };
+pub use entry::{legislation_kind, recording_kind};
 pub use instance::InstanceContext;
+pub use language::csl_language;
 pub use letters::letter;
 pub use name_form::DisambiguatedNameForm;
 pub use name_properties::NameDisambiguationProperties;
-pub use number_result::NumberVariableResult;
+pub use number_result::{NumberOrPageVariableResult, NumberVariableResult, PageVariableResult};
 pub use numbers::{CitationNumber, NoteNumber};
 pub use taxonomy::EntryLike;
