@@ -1,2 +1,4 @@
 pub mod PropertiesEqual
 pub mod Words
+pub mod ResultOrder
+pub mod ResultEqual

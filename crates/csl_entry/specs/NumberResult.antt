@@ -1,9 +1,19 @@
--- What a cite answers to a number variable, without where it lies in memory.
-use Rattle.std.specs.Prelude.{ℕ}
-use Rattle.lit_model.specs.MaybeTyped.{MaybeView, maybe_view}
-use Rattle.lit_model.specs.Numeric.{NumericView, numeric_view}
+-- What a cite answers to a number variable (CSL 1.0.2, Number Variables), without where it lies in memory, and how two such answers stand in order (CSL 1.0.2, Sorting).
+use Rattle.std.specs.Prelude.{◌≡◌, ℕ, List, Bool, true, false, IsTrue}
+use Rattle.std.specs.Cmp.Lexicographic.{slice_cmp}
+use Rattle.std.specs.Option.{option_cmp}
+use Rattle.std.specs.Ordering.{nat_cmp, int_cmp, ordering_then, ordering_reverse, is_le}
+use Rattle.std.specs.declared.cmp.Ordering.{Ordering}
+use Rattle.std.specs.declared.cmp.Ordering.TheVariants.{Less, Greater}
+use Rattle.std.specs.declared.borrow.Cow.TheVariants.{Borrowed, Owned}
+use Rattle.lit_model.specs.declared.maybe_typed.MaybeTyped.TheVariants as of_kind
+use Rattle.lit_model.specs.MaybeTyped.{MaybeView, typed, text, maybe_view}
+use Rattle.lit_model.specs.Numeric.{NumericView, numeric_view, numbers}
+use Rattle.lit_model.specs.Page.{PartView, pages_view}
 use Rattle.csl_entry.specs.declared.number_result.NumberVariableResult.{NumberVariableResult}
 use Rattle.csl_entry.specs.declared.number_result.NumberVariableResult.TheVariants.{Regular, Transparent}
+use Rattle.csl_entry.specs.declared.number_result.NumberOrPageVariableResult.{NumberOrPageVariableResult}
+use Rattle.csl_entry.specs.declared.number_result.NumberOrPageVariableResult.TheVariants.{Number, Page}
 use Rattle.csl_entry.specs.Answers.{behind}
 
 -- a number or a text, or the place of a cite that the caller writes
@@ -14,3 +24,56 @@ pub data ResultView : Type 0 where
 abbrev pub result_view : NumberVariableResult → ResultView
 result_view (Regular number) = regular (maybe_view (behind numeric_view) number)
 result_view (Transparent index) = transparent index
+
+-- whether it borrows a number from the entry
+abbrev pub is_lent : NumberVariableResult → Bool
+is_lent (Regular (of_kind.Typed (Borrowed number))) = true
+is_lent (Regular (of_kind.Typed (Owned number))) = false
+is_lent (Regular (of_kind.String s)) = false
+is_lent (Transparent index) = false
+
+-- the answer to a variable that holds a number, or pages
+pub data NumberOrPageView : Type 0 where
+  number : ResultView → NumberOrPageView
+  page : MaybeView (List PartView) → NumberOrPageView
+
+abbrev pub number_or_page_view : NumberOrPageVariableResult → NumberOrPageView
+number_or_page_view (Number result) = number (result_view result)
+number_or_page_view (Page pages) = page (maybe_view pages_view pages)
+
+-- ---- the order (CSL 1.0.2, Sorting)
+
+-- texts by their bytes
+abbrev pub text_order : List ℕ → List ℕ → Ordering
+text_order s t = slice_cmp nat_cmp s t
+
+-- numbers by the list of them, then by what stands before it, then by what stands after it; an absent text stands before one that is present, and what separates the numbers counts for nothing
+abbrev pub numeric_order : NumericView → NumericView → Ordering
+numeric_order v w = ordering_then (slice_cmp int_cmp (numbers v.value) (numbers w.value))
+    (ordering_then (option_cmp text_order v.prefix w.prefix) (option_cmp text_order v.suffix w.suffix))
+
+-- a number stands before a text that is none
+abbrev pub regular_order : MaybeView NumericView → MaybeView NumericView → Ordering
+regular_order (typed v) (typed w) = numeric_order v w
+regular_order (typed v) (text t) = Less
+regular_order (text s) (typed w) = Greater
+regular_order (text s) (text t) = text_order s t
+
+-- a number or a text stands before what the caller writes, which goes by the index of its cite
+abbrev pub csl_order : ResultView → ResultView → Ordering
+csl_order (regular x) (regular y) = regular_order x y
+csl_order (regular x) (transparent j) = Less
+csl_order (transparent i) (regular y) = Greater
+csl_order (transparent i) (transparent j) = nat_cmp i j
+
+-- The laws of an order: swapping two values reverses it, and what stands before a third value through a second stands before it. Two values may stand at one place.
+pub record IsOrder {X : Type 0} (order : X → X → Ordering) : Type 0 where
+  pub swapped : (a b : X) → order b a ≡ ordering_reverse (order a b)
+  pub chained : (a b c : X) → IsTrue (is_le (order a b)) → IsTrue (is_le (order b c)) → IsTrue (is_le (order a c))
+  pub chained_strictly : (a b c : X) → order a b ≡ Less → order b c ≡ Less → order a c ≡ Less
+
+-- the two numbers are the same, but for what separates the numbers of a list
+pub record SameButSeparators (v w : NumericView) : Type 0 where
+  pub same_numbers : numbers v.value ≡ numbers w.value
+  pub same_prefix : v.prefix ≡ w.prefix
+  pub same_suffix : v.suffix ≡ w.suffix
