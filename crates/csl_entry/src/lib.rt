@@ -20,7 +20,6 @@ pub use instance::InstanceContext;
 pub use letters::letter;
 pub use name_form::DisambiguatedNameForm;
 pub use name_properties::NameDisambiguationProperties;
-pub use number_result::NumberVariableResult;
 pub use number_result::{NumberOrPageVariableResult, NumberVariableResult, PageVariableResult};
 pub use numbers::{CitationNumber, NoteNumber};
 pub use taxonomy::EntryLike;
