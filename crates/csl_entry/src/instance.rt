@@ -126,7 +126,7 @@ impl<'s, T: EntryLike> InstanceContext<'s, T> {
     }
 }
 
-/// A number that was counted, with no text around it.
+/// A number that was counted, with no text around it. It is at most 2147483647, the largest `i32`.
 fn counted<'s>(number: u32) -> NumberVariableResult<'s>
     requires { IsNoteNumber number }
     ensures { result_view result ≡ plain_number number }
