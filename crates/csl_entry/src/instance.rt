@@ -13,11 +13,11 @@ ghost use Rattle.csl_entry.specs.Numbers.{IsNoteNumber};
 use crate::chunk::one_chunk;
 use crate::cite::{CiteProperties, DisambiguateState, LocatorPayload, Sorting, SpecialForm};
 use crate::letters::letter;
-use crate::number_result::NumberVariableResult;
+use crate::number_result::{NumberVariableResult, PageVariableResult};
 use crate::numeric_text::numeric_or_text;
 use crate::taxonomy::EntryLike;
 use csl_style::{NumberVariable, PageVariable, StandardVariable};
-use lit_model::{ChunkKind, ChunkedString, LongShortForm, MaybeTyped, Memory, Numeric, PageRanges};
+use lit_model::{ChunkKind, ChunkedString, LongShortForm, MaybeTyped, Memory, Numeric};
 use std::alloc::{AllocError, Global};
 use std::borrow::Cow;
 
@@ -96,7 +96,7 @@ impl<'s, T: EntryLike> InstanceContext<'s, T> {
         &self,
         alloc: Global,
         variable: PageVariable,
-    ) -> Result<Option<MaybeTyped<PageRanges>>, Memory>
+    ) -> Result<Option<PageVariableResult>, Memory>
         ensures { IfOk result (λ found. option_map (maybe_view pages_view) found
             ≡ look_page (cite_state self.now.cite_props.now) (T.answers self.now.entry.now) variable) }
     {
@@ -126,7 +126,7 @@ impl<'s, T: EntryLike> InstanceContext<'s, T> {
     }
 }
 
-/// A number that was counted, with no text around it.
+/// A number that was counted, with no text around it. It is at most 2147483647, the largest `i32`.
 fn counted<'s>(number: u32) -> NumberVariableResult<'s>
     requires { IsNoteNumber number }
     ensures { result_view result ≡ plain_number number }

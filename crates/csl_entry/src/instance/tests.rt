@@ -4,7 +4,7 @@ use crate::name_form::DisambiguatedNameForm;
 use crate::name_properties::NameDisambiguationProperties;
 use crate::numbers::{CitationNumber, NoteNumber};
 use csl_style::{DateVariable, Kind, Locator, NameVariable};
-use lit_model::{Date, NumericDelimiter, NumericValue, Person};
+use lit_model::{Date, NumericDelimiter, NumericValue, PageRanges, Person};
 use std::borrow::CowStr;
 use std::test::Fail;
 
