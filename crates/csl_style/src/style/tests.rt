@@ -9,6 +9,7 @@ use crate::names::InheritableNameOptions;
 use crate::taxonomy::NameVariable;
 use crate::term::OtherTerm;
 use crate::text::{Text, TextTarget};
+use lit_model::Memory;
 use std::alloc::AllocError;
 use std::test::Fail;
 
@@ -125,14 +126,15 @@ fn style(
     )
 }
 
-/// What the refusal of a style prints, if it is refused.
+/// What the refusal of a style prints, if it is refused. Want of memory is no refusal.
 fn refused(
     alloc: Global,
     settings: StyleSettings,
     macros: Vec<CslMacro>,
-) -> Result<Option<String>, Fail> {
+) -> Result<Option<String>, Memory> {
     match style(alloc, settings, macros) {
         Ok(_) => Ok(None),
+        Err(StyleError::Memory) => Err(Memory),
         Err(error) => Ok(Some(format!(in alloc; "{}", error)?)),
     }
 }
@@ -142,7 +144,7 @@ const S_RETURNS: &str = "the macro 's' leads back to itself";
 const A_RETURNS: &str = "the macro 'a' leads back to itself";
 
 #[test]
-fn a_macro_that_calls_itself_is_named(rt: HostRuntime) -> Result<(), Fail> {
+fn a_macro_that_calls_itself_is_named(rt: HostRuntime) -> Result<(), Memory> {
     let alloc = rt.alloc();
     let macros = vec![in alloc;
         says(alloc, "v", "word")?,
@@ -155,7 +157,7 @@ fn a_macro_that_calls_itself_is_named(rt: HostRuntime) -> Result<(), Fail> {
 }
 
 #[test]
-fn a_macro_that_only_leads_to_a_cycle_is_not_named(rt: HostRuntime) -> Result<(), Fail> {
+fn a_macro_that_only_leads_to_a_cycle_is_not_named(rt: HostRuntime) -> Result<(), Memory> {
     let alloc = rt.alloc();
     let macros = vec![in alloc;
         calls(alloc, "x", &["a"])?,
@@ -168,7 +170,7 @@ fn a_macro_that_only_leads_to_a_cycle_is_not_named(rt: HostRuntime) -> Result<()
 }
 
 #[test]
-fn a_hidden_macro_makes_no_cycle(rt: HostRuntime) -> Result<(), Fail> {
+fn a_hidden_macro_makes_no_cycle(rt: HostRuntime) -> Result<(), Memory> {
     let alloc = rt.alloc();
     let macros = vec![in alloc;
         calls(alloc, "a", &["b"])?,
@@ -181,7 +183,7 @@ fn a_hidden_macro_makes_no_cycle(rt: HostRuntime) -> Result<(), Fail> {
 }
 
 #[test]
-fn a_substitute_in_a_branch_returns_before_the_pages_count(rt: HostRuntime) -> Result<(), Fail> {
+fn a_substitute_in_a_branch_returns_before_the_pages_count(rt: HostRuntime) -> Result<(), Memory> {
     let alloc = rt.alloc();
     let again = vec![in alloc; call(alloc, "a")?]?;
     let names = vec![in alloc; names_or(alloc, again)?]?;
@@ -197,7 +199,7 @@ fn a_substitute_in_a_branch_returns_before_the_pages_count(rt: HostRuntime) -> R
 }
 
 #[test]
-fn chicago_pages_are_refused(rt: HostRuntime) -> Result<(), Fail> {
+fn chicago_pages_are_refused(rt: HostRuntime) -> Result<(), Memory> {
     let alloc = rt.alloc();
     let text = "Chicago page formats are not supported";
     let older = refused(
@@ -222,7 +224,7 @@ fn chicago_pages_are_refused(rt: HostRuntime) -> Result<(), Fail> {
 }
 
 #[test]
-fn calls_are_found_in_groups_and_in_each_branch(rt: HostRuntime) -> Result<(), Fail> {
+fn calls_are_found_in_groups_and_in_each_branch(rt: HostRuntime) -> Result<(), Memory> {
     let alloc = rt.alloc();
     let group = LayoutRenderingElement::Group(Group {
         children: vec![in alloc; call(alloc, "a")?]?,

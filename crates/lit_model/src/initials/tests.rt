@@ -1,6 +1,7 @@
 use super::*;
 use crate::memory::Memory;
 use std::alloc::Global;
+use std::process::Abort;
 use std::test::Fail;
 
 fn with_given(alloc: Global, given: &str) -> Result<Person, Memory> {
@@ -14,24 +15,32 @@ fn with_given(alloc: Global, given: &str) -> Result<Person, Memory> {
     })
 }
 
+fn assert_initials(
+    rt: &impl Abort,
+    alloc: Global,
+    given: &str,
+    (text, hyphen): (&str, bool),
+    wanted: &str,
+) -> Result<(), Fail> {
+    let person = with_given(alloc, given)?;
+    let mut written = String::new(alloc);
+    person.initials(&mut written, Some(text), hyphen)?;
+    assert_eq!(rt; written.as_str(), wanted, "of {given}");
+    Ok(())
+}
+
 #[test]
 fn initials_of_given_names(rt: HostRuntime) -> Result<(), Fail> {
-    for (given, text, hyphen, wanted) in [
-        ("Jean-Luc Marie", ". ", true, "J.-L. M."),
-        ("Jean-Luc Marie", ". ", false, "J. L. M."),
-        (" -Jean--Luc- ", ".", true, "J.-L."),
-        (
-            "e\u{301}ric \u{1f469}\u{200d}\u{1f467}x",
-            "",
-            true,
-            "e\u{301}\u{1f469}\u{200d}\u{1f467}",
-        ),
-        (" - ", ".", true, ""),
-    ] {
-        let person = with_given(rt.alloc(), given)?;
-        let mut written = String::new(rt.alloc());
-        person.initials(&mut written, Some(text), hyphen)?;
-        assert_eq!(rt; written.as_str(), wanted, "of {given}");
-    }
-    Ok(())
+    let alloc = rt.alloc();
+    assert_initials(&rt, alloc, "Jean-Luc Marie", (". ", true), "J.-L. M.")?;
+    assert_initials(&rt, alloc, "Jean-Luc Marie", (". ", false), "J. L. M.")?;
+    assert_initials(&rt, alloc, " -Jean--Luc- ", (".", true), "J.-L.")?;
+    assert_initials(&rt, alloc, " - ", (".", true), "")
+}
+
+#[test]
+fn initials_are_graphemes(rt: HostRuntime) -> Result<(), Fail> {
+    let given = "e\u{301}ric \u{1f469}\u{200d}\u{1f467}x";
+    let wanted = "e\u{301}\u{1f469}\u{200d}\u{1f467}";
+    assert_initials(&rt, rt.alloc(), given, ("", true), wanted)
 }

@@ -4,6 +4,7 @@ ghost use Rattle.lit_model.specs.Numeric.{numeric_view};
 ghost use Rattle.lit_model.specs.Page.{pages_view};
 
 use super::*;
+use crate::numeric::NumericError;
 use std::test::Fail;
 
 /// Whether the two are equal: they are where both are one number, or both are one text.
@@ -20,22 +21,42 @@ fn same_pages(a: &MaybeTyped<PageRanges>, b: &MaybeTyped<PageRanges>) -> bool
     *a == *b
 }
 
+fn seven<T>(alloc: Global) -> Result<MaybeTyped<T>, Memory> {
+    Ok(MaybeTyped::String(String::from_str(alloc, "7")?))
+}
+
 #[test]
-fn a_number_is_no_text(rt: HostRuntime) -> Result<(), Fail> {
-    let alloc = rt.alloc();
+fn numbers_are_copied(rt: HostRuntime) -> Result<(), Memory> {
     let number = MaybeTyped::Typed(Numeric::new(7));
-    assert!(rt; same_number(&number, &number.clone(alloc)?));
-    let text = MaybeTyped::String(String::from_str(alloc, "7")?);
+    let copy = number.clone(rt.alloc())?;
+    assert!(rt; same_number(&number, &copy));
+    Ok(())
+}
+
+#[test]
+fn a_number_is_no_text(rt: HostRuntime) -> Result<(), Memory> {
+    let text = seven(rt.alloc())?;
+    let number = MaybeTyped::Typed(Numeric::new(7));
     assert!(rt; !same_number(&number, &text));
+    Ok(())
+}
+
+fn page_seven(alloc: Global) -> Result<MaybeTyped<PageRanges>, NumericError> {
+    Ok(MaybeTyped::Typed(PageRanges::parse(alloc, "7")?))
+}
+
+#[test]
+fn pages_are_copied(rt: HostRuntime) -> Result<(), Fail> {
+    let pages = page_seven(rt.alloc())?;
+    let copy = pages.clone(rt.alloc())?;
+    assert!(rt; same_pages(&pages, &copy));
     Ok(())
 }
 
 #[test]
 fn pages_are_no_text(rt: HostRuntime) -> Result<(), Fail> {
-    let alloc = rt.alloc();
-    let pages = MaybeTyped::Typed(PageRanges::parse(alloc, "7")?);
-    assert!(rt; same_pages(&pages, &pages.clone(alloc)?));
-    let text = MaybeTyped::String(String::from_str(alloc, "7")?);
+    let pages = page_seven(rt.alloc())?;
+    let text = seven(rt.alloc())?;
     assert!(rt; !same_pages(&pages, &text));
     Ok(())
 }

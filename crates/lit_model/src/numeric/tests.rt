@@ -3,6 +3,9 @@ ghost use Rattle.lit_model.specs.Numeric.{numeric_view};
 ghost use Rattle.lit_model.specs.contracts.numeric.NumericHash.TheImpl.{hash_input-value as hash_number};
 
 use super::*;
+use std::alloc::Global;
+use std::fmt;
+use std::process::Abort;
 use std::test::Fail;
 
 /// A locale in which each number has the suffix `nd` and none has a word.
@@ -53,13 +56,25 @@ fn same(a: &Numeric, b: &Numeric) -> bool
     *a == *b
 }
 
+fn suffix_of(number: &Numeric) -> &str {
+    match &number.suffix {
+        Some(suffix) => suffix.as_str(),
+        None => "none",
+    }
+}
+
 #[test]
-fn reads_one_number(rt: HostRuntime) -> Result<(), Fail> {
+fn reads_one_number(rt: HostRuntime) -> Result<(), NumericError> {
     let ordinal = Numeric::parse(rt.alloc(), " 2nd ")?;
     assert_eq!(rt; ordinal.value(), Some(2));
-    assert!(rt; ordinal.suffix == Some(String::from_str(rt.alloc(), "nd")?));
+    assert_eq!(rt; suffix_of(&ordinal), "nd");
     assert!(rt; ordinal.prefix.is_none());
     assert!(rt; !ordinal.will_transform());
+    Ok(())
+}
+
+#[test]
+fn reads_the_largest_number(rt: HostRuntime) -> Result<(), NumericError> {
     let largest = Numeric::parse(rt.alloc(), "2147483647")?;
     assert!(rt; same(&largest, &Numeric::new(2_147_483_647)));
     assert!(rt; largest.will_transform());
@@ -120,9 +135,20 @@ fn writes_numbers(rt: HostRuntime) -> Result<(), Fail> {
     let read = Numeric::parse(rt.alloc(), "n4-6 ,9& 12a")?;
     let shown = format!(in rt.alloc(); "{read}")?;
     assert_eq!(rt; shown.as_str(), "n4-6, 9 & 12a");
+    Ok(())
+}
+
+#[test]
+fn writes_numbers_for_sorting(rt: HostRuntime) -> Result<(), Fail> {
+    let read = Numeric::parse(rt.alloc(), "n4-6 ,9& 12a")?;
     let mut sorted = String::new(rt.alloc());
     read.fmt_value(&mut sorted, true)?;
     assert_eq!(rt; sorted.as_str(), "0004-0006, 0009 & 0012");
+    Ok(())
+}
+
+#[test]
+fn writes_negative_numbers(rt: HostRuntime) -> Result<(), fmt::Error> {
     let mut negative = String::new(rt.alloc());
     Numeric::new(-3).fmt_value(&mut negative, true)?;
     Numeric::new(-12345).fmt_value(&mut negative, false)?;
@@ -130,40 +156,78 @@ fn writes_numbers(rt: HostRuntime) -> Result<(), Fail> {
     Ok(())
 }
 
-#[test]
-fn writes_roman_numerals(rt: HostRuntime) -> Result<(), Fail> {
-    for (number, text) in [
-        (1994, "mcmxciv"),
-        (3999, "mmmcmxcix"),
-        (4, "iv"),
-        (4000, "4000"),
-        (0, "0"),
-        (-3, "-3"),
-    ] {
-        let mut written = String::new(rt.alloc());
-        Numeric::new(number).with_form(&mut written, NumberForm::Roman, None, &Suffix)?;
-        assert_eq!(rt; written.as_str(), text);
-    }
+fn assert_form<O: Ordinals>(
+    rt: &impl Abort,
+    alloc: Global,
+    number: &Numeric,
+    (form, ordinals): (NumberForm, &O),
+    wanted: &str,
+) -> Result<(), fmt::Error> {
+    let mut written = String::new(alloc);
+    number.with_form(&mut written, form, None, ordinals)?;
+    assert_eq!(rt; written.as_str(), wanted);
     Ok(())
+}
+
+fn assert_roman(
+    rt: &impl Abort,
+    alloc: Global,
+    number: i32,
+    wanted: &str,
+) -> Result<(), fmt::Error> {
+    let form = (NumberForm::Roman, &Suffix);
+    assert_form(rt, alloc, &Numeric::new(number), form, wanted)
+}
+
+#[test]
+fn writes_roman_numerals(rt: HostRuntime) -> Result<(), fmt::Error> {
+    let alloc = rt.alloc();
+    assert_roman(&rt, alloc, 1994, "mcmxciv")?;
+    assert_roman(&rt, alloc, 3999, "mmmcmxcix")?;
+    assert_roman(&rt, alloc, 4, "iv")?;
+    assert_roman(&rt, alloc, 4000, "4000")?;
+    assert_roman(&rt, alloc, 0, "0")?;
+    assert_roman(&rt, alloc, -3, "-3")
 }
 
 #[test]
 fn writes_ordinals(rt: HostRuntime) -> Result<(), Fail> {
-    let mut written = String::new(rt.alloc());
-    let several = Numeric::parse(rt.alloc(), "2,32")?;
-    several.with_form(&mut written, NumberForm::Ordinal, None, &Suffix)?;
-    assert_eq!(rt; written.as_str(), "2nd, 32nd");
-    let mut long = String::new(rt.alloc());
-    several.with_form(&mut long, NumberForm::LongOrdinal, None, &Word)?;
-    assert_eq!(rt; long.as_str(), "second, 32");
-    let mut without = String::new(rt.alloc());
-    Numeric::new(-3).with_form(&mut without, NumberForm::LongOrdinal, None, &Suffix)?;
-    assert_eq!(rt; without.as_str(), "-3nd");
-    let mut plain = String::new(rt.alloc());
-    several.with_form(&mut plain, NumberForm::Numeric, None, &Suffix)?;
-    assert_eq!(rt; plain.as_str(), "2, 32");
-    let mut kept = String::new(rt.alloc());
-    Numeric::parse(rt.alloc(), "2a")?.with_form(&mut kept, NumberForm::Roman, None, &Suffix)?;
-    assert_eq!(rt; kept.as_str(), "2a");
+    let alloc = rt.alloc();
+    let several = Numeric::parse(alloc, "2,32")?;
+    assert_form(
+        &rt,
+        alloc,
+        &several,
+        (NumberForm::Ordinal, &Suffix),
+        "2nd, 32nd",
+    )?;
+    assert_form(
+        &rt,
+        alloc,
+        &several,
+        (NumberForm::LongOrdinal, &Word),
+        "second, 32",
+    )?;
+    assert_form(
+        &rt,
+        alloc,
+        &several,
+        (NumberForm::Numeric, &Suffix),
+        "2, 32",
+    )?;
+    Ok(())
+}
+
+#[test]
+fn writes_an_ordinal_where_there_is_no_word(rt: HostRuntime) -> Result<(), fmt::Error> {
+    let form = (NumberForm::LongOrdinal, &Suffix);
+    assert_form(&rt, rt.alloc(), &Numeric::new(-3), form, "-3nd")
+}
+
+#[test]
+fn keeps_a_number_with_a_suffix(rt: HostRuntime) -> Result<(), Fail> {
+    let lettered = Numeric::parse(rt.alloc(), "2a")?;
+    let form = (NumberForm::Roman, &Suffix);
+    assert_form(&rt, rt.alloc(), &lettered, form, "2a")?;
     Ok(())
 }

@@ -20,28 +20,49 @@ fn same(a: &PageRanges, b: &PageRanges) -> bool
     *a == *b
 }
 
+fn range_and_page(alloc: Global) -> Result<PageRanges, NumericError> {
+    PageRanges::parse(alloc, "321-328, 7")
+}
+
 #[test]
-fn reads_a_range_and_a_page(rt: HostRuntime) -> Result<(), Fail> {
-    let pages = PageRanges::parse(rt.alloc(), "321-328, 7")?;
+fn reads_a_range_and_a_page(rt: HostRuntime) -> Result<(), NumericError> {
+    let pages = range_and_page(rt.alloc())?;
     let expected = vec![in rt.alloc();
         PageRangesPart::Range(Numeric::new(321), Numeric::new(328)),
         PageRangesPart::Comma,
         PageRangesPart::SinglePage(Numeric::new(7)),
     ]?;
     assert!(rt; pages.ranges == expected);
+    Ok(())
+}
+
+#[test]
+fn a_range_begins_with_its_first_page(rt: HostRuntime) -> Result<(), NumericError> {
+    let pages = range_and_page(rt.alloc())?;
     assert!(rt; pages.is_plural());
     let first = pages.first().expect(&rt, "a page");
     assert_eq!(rt; first.value(), Some(321));
+    Ok(())
+}
+
+#[test]
+fn copies_are_equal(rt: HostRuntime) -> Result<(), NumericError> {
+    let pages = range_and_page(rt.alloc())?;
     let copy = pages.clone(rt.alloc())?;
     assert!(rt; same(&copy, &pages));
     Ok(())
 }
 
 #[test]
-fn marks_may_be_dashes_with_space(rt: HostRuntime) -> Result<(), Fail> {
+fn marks_may_be_dashes_with_space(rt: HostRuntime) -> Result<(), NumericError> {
     let pages = PageRanges::parse(rt.alloc(), " A1 – A3 ")?;
     let copy = PageRanges::parse(rt.alloc(), "A1-A3")?;
     assert!(rt; same(&pages, &copy));
+    Ok(())
+}
+
+#[test]
+fn one_page_is_not_plural(rt: HostRuntime) -> Result<(), NumericError> {
     let single = PageRanges::parse(rt.alloc(), "7")?;
     assert!(rt; !single.is_plural());
     Ok(())
@@ -59,7 +80,7 @@ fn refuses_what_is_no_page(rt: HostRuntime) {
 }
 
 #[test]
-fn first_skips_separators(rt: HostRuntime) -> Result<(), Fail> {
+fn first_skips_separators(rt: HostRuntime) -> Result<(), NumericError> {
     let ranges = vec![in rt.alloc();
         PageRangesPart::Comma,
         PageRangesPart::SinglePage(Numeric::new(9)),

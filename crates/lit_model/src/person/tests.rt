@@ -3,7 +3,7 @@ ghost use Rattle.lit_model.specs.Person.{named, role_of, group_of};
 ghost use Rattle.lit_model.specs.contracts.person.PersonHash.TheImpl.{hash_input-value as hash_person};
 
 use super::*;
-use std::test::Fail;
+use std::process::Abort;
 
 fn person(alloc: Global, name: &str) -> Result<Person, Memory> {
     Ok(Person {
@@ -50,96 +50,151 @@ fn same_group(a: &PersonsWithRoles, b: &PersonsWithRoles) -> bool
     *a == *b
 }
 
-#[test]
-fn particles(rt: HostRuntime) -> Result<(), Fail> {
-    for (name, particle, rest) in [
-        ("van der Berg", Some("van der"), "Berg"),
-        ("van Gogh", Some("van"), "Gogh"),
-        ("della", None, "della"),
-        ("Berg van", None, "Berg van"),
-        ("van  Gogh", Some("van"), " Gogh"),
-        ("van ", Some("van"), ""),
-        ("\u{e9}cole de Paris", Some("\u{e9}cole de"), "Paris"),
-        ("", None, ""),
-    ] {
-        let person = person(rt.alloc(), name)?;
-        assert_eq!(rt; person.name_particle(), particle, "of {name}");
-        assert_eq!(rt; person.name_without_particle(), rest, "of {name}");
-    }
+fn assert_particle(
+    rt: &impl Abort,
+    alloc: Global,
+    name: &str,
+    particle: Option<&str>,
+    rest: &str,
+) -> Result<(), Memory> {
+    let person = person(alloc, name)?;
+    assert_eq!(rt; person.name_particle(), particle, "of {name}");
+    assert_eq!(rt; person.name_without_particle(), rest, "of {name}");
     Ok(())
 }
 
 #[test]
-fn articles(rt: HostRuntime) -> Result<(), Fail> {
-    for (name, rest) in [
-        ("The Times", "Times"),
-        ("The ", "The "),
-        ("the Times", "Times"),
-        ("An Army", "Army"),
-        ("A", "A"),
-        ("Anarchy", "Anarchy"),
-        ("THE TIMES", "THE TIMES"),
-    ] {
-        let person = person(rt.alloc(), name)?;
-        assert_eq!(rt; person.name_without_article(), rest, "of {name}");
-    }
+fn particles(rt: HostRuntime) -> Result<(), Memory> {
+    let alloc = rt.alloc();
+    assert_particle(&rt, alloc, "van der Berg", Some("van der"), "Berg")?;
+    assert_particle(&rt, alloc, "van Gogh", Some("van"), "Gogh")?;
+    assert_particle(&rt, alloc, "della", None, "della")?;
+    assert_particle(&rt, alloc, "Berg van", None, "Berg van")?;
+    assert_particle(&rt, alloc, "van  Gogh", Some("van"), " Gogh")?;
+    assert_particle(&rt, alloc, "van ", Some("van"), "")?;
+    assert_particle(
+        &rt,
+        alloc,
+        "\u{e9}cole de Paris",
+        Some("\u{e9}cole de"),
+        "Paris",
+    )?;
+    assert_particle(&rt, alloc, "", None, "")
+}
+
+fn assert_without_article(
+    rt: &impl Abort,
+    alloc: Global,
+    name: &str,
+    rest: &str,
+) -> Result<(), Memory> {
+    let person = person(alloc, name)?;
+    assert_eq!(rt; person.name_without_article(), rest, "of {name}");
     Ok(())
 }
 
 #[test]
-fn scripts(rt: HostRuntime) -> Result<(), Fail> {
-    for (name, given, cjk) in [
-        ("\u{5c71}\u{7530}", "\u{592a}\u{90ce}", true),
-        ("\u{3084}\u{307e}\u{3060}", "", true),
-        ("\u{ae40}", "\u{bbfc} 2", true),
-        ("\u{30de}\u{30fc}\u{30af}", "\u{4e00}\u{90ce}", false),
-        ("\u{5c71}", "Taro", false),
-        ("12", "", false),
-        ("Gogh", "Vincent", false),
-    ] {
-        let person = with_given(rt.alloc(), name, given)?;
-        assert_eq!(rt; person.is_cjk(), cjk, "of {name}");
-    }
+fn articles(rt: HostRuntime) -> Result<(), Memory> {
+    let alloc = rt.alloc();
+    assert_without_article(&rt, alloc, "The Times", "Times")?;
+    assert_without_article(&rt, alloc, "The ", "The ")?;
+    assert_without_article(&rt, alloc, "the Times", "Times")?;
+    assert_without_article(&rt, alloc, "An Army", "Army")?;
+    assert_without_article(&rt, alloc, "A", "A")?;
+    assert_without_article(&rt, alloc, "Anarchy", "Anarchy")?;
+    assert_without_article(&rt, alloc, "THE TIMES", "THE TIMES")
+}
+
+fn assert_script(
+    rt: &impl Abort,
+    alloc: Global,
+    (name, given): (&str, &str),
+    is_cjk: bool,
+) -> Result<(), Memory> {
+    let person = with_given(alloc, name, given)?;
+    assert_eq!(rt; person.is_cjk(), is_cjk, "of {name}");
     Ok(())
 }
 
 #[test]
-fn institutions(rt: HostRuntime) -> Result<(), Fail> {
+fn scripts(rt: HostRuntime) -> Result<(), Memory> {
+    let alloc = rt.alloc();
+    assert_script(&rt, alloc, ("\u{5c71}\u{7530}", "\u{592a}\u{90ce}"), true)?;
+    assert_script(&rt, alloc, ("\u{3084}\u{307e}\u{3060}", ""), true)?;
+    assert_script(&rt, alloc, ("\u{ae40}", "\u{bbfc} 2"), true)?;
+    assert_script(
+        &rt,
+        alloc,
+        ("\u{30de}\u{30fc}\u{30af}", "\u{4e00}\u{90ce}"),
+        false,
+    )?;
+    assert_script(&rt, alloc, ("\u{5c71}", "Taro"), false)?;
+    assert_script(&rt, alloc, ("12", ""), false)?;
+    assert_script(&rt, alloc, ("Gogh", "Vincent"), false)
+}
+
+#[test]
+fn a_single_name_is_institutional(rt: HostRuntime) -> Result<(), Memory> {
     let times = person(rt.alloc(), "The Times")?;
     assert!(rt; times.is_institutional());
-    let empty = with_given(rt.alloc(), "The Times", "")?;
-    assert!(rt; !empty.is_institutional());
     Ok(())
 }
 
 #[test]
-fn copies_are_equal(rt: HostRuntime) -> Result<(), Fail> {
-    let alloc = rt.alloc();
-    let role = PersonRole::Unknown(String::from_str(alloc, "muse")?);
-    let names = vec![in alloc; with_given(alloc, "Gogh", "Vincent")?]?;
-    let group = PersonsWithRoles { names, role };
-    let copy = group.clone(alloc)?;
+fn an_empty_given_name_is_one(rt: HostRuntime) -> Result<(), Memory> {
+    let times = with_given(rt.alloc(), "The Times", "")?;
+    assert!(rt; !times.is_institutional());
+    Ok(())
+}
+
+fn muse(alloc: Global) -> Result<PersonRole, Memory> {
+    Ok(PersonRole::Unknown(String::from_str(alloc, "muse")?))
+}
+
+fn van_gogh(alloc: Global) -> Result<Person, Memory> {
+    with_given(alloc, "Gogh", "Vincent")
+}
+
+fn group(alloc: Global) -> Result<PersonsWithRoles, Memory> {
+    let mut names = Vec::new(alloc);
+    names.push(van_gogh(alloc)?)?;
+    let role = muse(alloc)?;
+    Ok(PersonsWithRoles { names, role })
+}
+
+#[test]
+fn copies_are_equal(rt: HostRuntime) -> Result<(), Memory> {
+    let group = group(rt.alloc())?;
+    let copy = group.clone(rt.alloc())?;
     assert!(rt; same_group(&copy, &group));
     assert!(rt; copy.role != PersonRole::Writer);
     Ok(())
 }
 
 #[test]
-fn persons_are_equal_by_their_texts(rt: HostRuntime) -> Result<(), Fail> {
-    let alloc = rt.alloc();
-    let van_gogh = with_given(alloc, "Gogh", "Vincent")?;
-    assert!(rt; same_person(&van_gogh, &van_gogh.clone(alloc)?));
-    assert!(rt; !same_person(&van_gogh, &person(alloc, "Gogh")?));
-    let muse = PersonRole::Unknown(String::from_str(alloc, "muse")?);
-    assert!(rt; same_role(&muse, &muse.clone(alloc)?));
-    assert!(rt; !same_role(&muse, &PersonRole::Writer));
-    let names = Vec::new(alloc);
-    let nobody = PersonsWithRoles {
-        names,
-        role: muse.clone(alloc)?,
-    };
-    let names = vec![in alloc; van_gogh]?;
-    let group = PersonsWithRoles { names, role: muse };
-    assert!(rt; !same_group(&group, &nobody));
+fn groups_are_equal_by_their_names(rt: HostRuntime) -> Result<(), Memory> {
+    let mut group = group(rt.alloc())?;
+    let copy = group.clone(rt.alloc())?;
+    group.names = Vec::new(rt.alloc());
+    assert!(rt; !same_group(&copy, &group));
+    Ok(())
+}
+
+#[test]
+fn persons_are_equal_by_their_texts(rt: HostRuntime) -> Result<(), Memory> {
+    let gogh = van_gogh(rt.alloc())?;
+    let mut copy = gogh.clone(rt.alloc())?;
+    assert!(rt; same_person(&gogh, &copy));
+    copy.given_name = None;
+    assert!(rt; !same_person(&gogh, &copy));
+    Ok(())
+}
+
+#[test]
+fn roles_are_equal_by_their_texts(rt: HostRuntime) -> Result<(), Memory> {
+    let role = muse(rt.alloc())?;
+    let copy = role.clone(rt.alloc())?;
+    assert!(rt; same_role(&role, &copy));
+    assert!(rt; !same_role(&role, &PersonRole::Writer));
     Ok(())
 }

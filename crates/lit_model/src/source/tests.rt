@@ -7,7 +7,6 @@ ghost use Rattle.url.specs.Parts.{serialize};
 use super::*;
 use crate::text::ChunkedString;
 use std::net::{IpAddr, Ipv4Addr};
-use std::test::Fail;
 use url::Host;
 
 /// Whether the two publishers are equal: they are where their texts are.
@@ -42,81 +41,121 @@ fn same_language(a: &LanguageIdentifier, b: &LanguageIdentifier) -> bool
     *a == *b
 }
 
-#[test]
-fn numbers_are_found_and_copied(rt: HostRuntime) -> Result<(), Fail> {
-    let alloc = rt.alloc();
+fn doi(alloc: Global) -> Result<SerialNumber, Memory> {
     let mut numbers = BTreeMap::new(alloc);
     let scheme = String::from_str(alloc, "doi")?;
     let number = String::from_str(alloc, "10.1007/BF02731494")?;
     numbers.insert(scheme, number).map_err(Memory::from)?;
-    let serial = SerialNumber(numbers);
+    Ok(SerialNumber(numbers))
+}
+
+#[test]
+fn numbers_are_found(rt: HostRuntime) -> Result<(), Memory> {
+    let serial = doi(rt.alloc())?;
     assert_eq!(rt; serial.doi(), Some("10.1007/BF02731494"));
     assert_eq!(rt; serial.isbn(), None);
-    let copy = serial.clone(alloc)?;
-    assert!(rt; same_serials(&copy, &serial));
-    let none = SerialNumber(BTreeMap::new(alloc));
-    assert!(rt; !same_serials(&none, &serial));
     Ok(())
 }
 
 #[test]
-fn addresses_are_copied(rt: HostRuntime) -> Result<(), Fail> {
-    let alloc = rt.alloc();
-    let value = Url::parse(alloc, "https://aeon.co/essays").map_err(|_| Memory)?;
+fn numbers_are_copied(rt: HostRuntime) -> Result<(), Memory> {
+    let serial = doi(rt.alloc())?;
+    let copy = serial.clone(rt.alloc())?;
+    assert!(rt; same_serials(&copy, &serial));
+    Ok(())
+}
+
+#[test]
+fn no_numbers_are_not_some(rt: HostRuntime) -> Result<(), Memory> {
+    let serial = doi(rt.alloc())?;
+    let none = SerialNumber(BTreeMap::new(rt.alloc()));
+    assert!(rt; !same_serials(&none, &serial));
+    Ok(())
+}
+
+fn address(alloc: Global, text: &str) -> Result<Url, Memory> {
+    Url::parse(alloc, text).map_err(|_| Memory)
+}
+
+#[test]
+fn addresses_are_copied(rt: HostRuntime) -> Result<(), Memory> {
     let url = QualifiedUrl {
-        value,
+        value: address(rt.alloc(), "https://aeon.co/essays")?,
         visit_date: Date::new(2015, Some(8), None, None, false),
     };
-    let mut copy = url.clone(alloc)?;
+    let mut copy = url.clone(rt.alloc())?;
     assert!(rt; same_url(&copy, &url));
     copy.visit_date = None;
     assert!(rt; !same_url(&copy, &url));
     Ok(())
 }
 
-#[test]
-fn publishers_and_languages_are_equal_by_their_texts(rt: HostRuntime) -> Result<(), Fail> {
-    let alloc = rt.alloc();
+/// A publisher of no name, at a place with an empty text.
+fn press(alloc: Global) -> Publisher {
     let place = FormatString {
         value: ChunkedString(Vec::new(alloc)),
         short: None,
     };
-    let press = Publisher {
+    Publisher {
         name: None,
         location: Some(place),
-    };
-    let mut copy = press.clone(alloc)?;
+    }
+}
+
+#[test]
+fn publishers_are_equal_by_their_texts(rt: HostRuntime) -> Result<(), Memory> {
+    let press = press(rt.alloc());
+    let mut copy = press.clone(rt.alloc())?;
     assert!(rt; same_publisher(&copy, &press));
     copy.location = None;
     assert!(rt; !same_publisher(&copy, &press));
-    let english = LanguageIdentifier {
-        language: String::from_str(alloc, "en")?,
-        region: Some(String::from_str(alloc, "GB")?),
-    };
-    let mut copy = english.clone(alloc)?;
+    Ok(())
+}
+
+fn english(alloc: Global) -> Result<LanguageIdentifier, Memory> {
+    let language = String::from_str(alloc, "en")?;
+    let region = String::from_str(alloc, "GB")?;
+    Ok(LanguageIdentifier {
+        language,
+        region: Some(region),
+    })
+}
+
+#[test]
+fn languages_are_equal_by_their_texts(rt: HostRuntime) -> Result<(), Memory> {
+    let english = english(rt.alloc())?;
+    let mut copy = english.clone(rt.alloc())?;
     assert!(rt; same_language(&copy, &english));
     copy.region = None;
     assert!(rt; !same_language(&copy, &english));
     Ok(())
 }
 
+/// An address as the parser gives it, whose host is a domain.
+fn parsed(alloc: Global) -> Result<QualifiedUrl, Memory> {
+    Ok(QualifiedUrl {
+        value: address(alloc, "foo://1.2.3.4/")?,
+        visit_date: None,
+    })
+}
+
+/// One of the same text, whose host is an IP address.
+fn changed(alloc: Global) -> Result<QualifiedUrl, Memory> {
+    let mut value = address(alloc, "foo://h/")?;
+    let host = IpAddr::V4(Ipv4Addr::new(1, 2, 3, 4));
+    value.set_ip_host(host).map_err(|_| Memory)?;
+    Ok(QualifiedUrl {
+        value,
+        visit_date: None,
+    })
+}
+
 #[test]
-fn addresses_of_one_text_are_equal(rt: HostRuntime) -> Result<(), Fail> {
-    let alloc = rt.alloc();
-    let parsed = Url::parse(alloc, "foo://1.2.3.4/").map_err(|_| Memory)?;
-    let mut changed = Url::parse(alloc, "foo://h/").map_err(|_| Memory)?;
-    let address = IpAddr::V4(Ipv4Addr::new(1, 2, 3, 4));
-    changed.set_ip_host(address).map_err(|_| Memory)?;
-    assert!(rt; matches!(parsed.host(), Some(Host::Domain(_))));
-    assert!(rt; matches!(changed.host(), Some(Host::Ipv4(_))));
-    let parsed = QualifiedUrl {
-        value: parsed,
-        visit_date: None,
-    };
-    let changed = QualifiedUrl {
-        value: changed,
-        visit_date: None,
-    };
+fn addresses_of_one_text_are_equal(rt: HostRuntime) -> Result<(), Memory> {
+    let parsed = parsed(rt.alloc())?;
+    let changed = changed(rt.alloc())?;
+    assert!(rt; matches!(parsed.value.host(), Some(Host::Domain(_))));
+    assert!(rt; matches!(changed.value.host(), Some(Host::Ipv4(_))));
     assert!(rt; same_url(&parsed, &changed));
     Ok(())
 }

@@ -2,7 +2,6 @@ ghost use Rattle.std.specs.Prelude.{◌≡◌, ◌↔◌, IsTrue};
 ghost use Rattle.lit_model.specs.Text.{chunk_of, chunks, forms_of};
 
 use super::*;
-use std::test::Fail;
 
 /// Whether the two chunks are equal: they are where their texts and kinds are.
 fn same_chunk(a: &StringChunk, b: &StringChunk) -> bool
@@ -34,32 +33,53 @@ fn text(alloc: Global, value: &str) -> Result<ChunkedString, Memory> {
     Ok(ChunkedString(chunks))
 }
 
+/// A title with a short form.
+fn nature(alloc: Global) -> Result<FormatString, Memory> {
+    let value = text(alloc, "Nature")?;
+    let short = text(alloc, "Nat.")?;
+    Ok(FormatString {
+        value,
+        short: Some(short),
+    })
+}
+
 #[test]
-fn the_short_form_counts_where_there_is_one(rt: HostRuntime) -> Result<(), Fail> {
-    let alloc = rt.alloc();
-    let mut title = FormatString {
-        value: text(alloc, "Nature")?,
-        short: None,
-    };
-    assert!(rt; same_chunks(title.select(LongShortForm::Short), &title.value));
-    title.short = Some(text(alloc, "Nat.")?);
+fn the_short_form_counts_where_there_is_one(rt: HostRuntime) -> Result<(), Memory> {
+    let title = nature(rt.alloc())?;
     assert!(rt; !same_chunks(title.select(LongShortForm::Short), &title.value));
     assert!(rt; *title.select(LongShortForm::Long) == title.value);
-    let copy = title.clone(alloc)?;
+    Ok(())
+}
+
+#[test]
+fn the_long_form_counts_where_there_is_no_short_one(rt: HostRuntime) -> Result<(), Memory> {
+    let value = text(rt.alloc(), "Nature")?;
+    let title = FormatString { value, short: None };
+    assert!(rt; same_chunks(title.select(LongShortForm::Short), &title.value));
+    Ok(())
+}
+
+#[test]
+fn titles_are_equal_by_both_forms(rt: HostRuntime) -> Result<(), Memory> {
+    let mut title = nature(rt.alloc())?;
+    let copy = title.clone(rt.alloc())?;
     assert!(rt; same_forms(&copy, &title));
     title.short = None;
     assert!(rt; !same_forms(&copy, &title));
     Ok(())
 }
 
-#[test]
-fn chunks_are_equal_by_text_and_kind(rt: HostRuntime) -> Result<(), Fail> {
-    let alloc = rt.alloc();
-    let word = StringChunk {
+fn word(alloc: Global) -> Result<StringChunk, Memory> {
+    Ok(StringChunk {
         value: String::from_str(alloc, "pH")?,
         kind: ChunkKind::Verbatim,
-    };
-    let mut copy = word.clone(alloc)?;
+    })
+}
+
+#[test]
+fn chunks_are_equal_by_text_and_kind(rt: HostRuntime) -> Result<(), Memory> {
+    let word = word(rt.alloc())?;
+    let mut copy = word.clone(rt.alloc())?;
     assert!(rt; same_chunk(&copy, &word));
     copy.kind = ChunkKind::Normal;
     assert!(rt; !same_chunk(&copy, &word));
