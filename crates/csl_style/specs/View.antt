@@ -21,6 +21,8 @@ use Rattle.csl_style.specs.declared.element.Names.{Names, fold-Names}
 use Rattle.csl_style.specs.declared.element.NamesChild.{NamesChild, fold-NamesChild}
 use Rattle.csl_style.specs.declared.element.Substitute.{Substitute, fold-Substitute}
 use Rattle.csl_style.specs.declared.element.Layout.{Layout}
+use Rattle.csl_style.specs.declared.element.RenderingElement.{RenderingElement}
+use Rattle.csl_style.specs.declared.element.RenderingElement.TheVariants as rendering
 use Rattle.csl_style.specs.declared.element.CslMacro.{CslMacro}
 
 abbrev pub nodes_of : List Node → Nodes
@@ -191,6 +193,15 @@ views es = nodes_of (map view es)
 
 abbrev pub view_layout : Layout → LayoutNode
 view_layout l = record { delimiter = text_if l.delimiter; formatting = l.formatting; elements = views l.elements.items }
+
+-- a rendering element: a whole layout, or what stands in one
+pub data ElementView : Type 0 where
+  whole : LayoutNode → ElementView
+  part : Node → ElementView
+
+abbrev pub view_rendering : RenderingElement → ElementView
+view_rendering (rendering.Layout l) = whole (view_layout l)
+view_rendering (rendering.Other e) = part (view e)
 
 -- A macro is a name and what it stands for.
 abbrev pub Definition : Type 0
