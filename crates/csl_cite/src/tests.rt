@@ -2,7 +2,6 @@
 
 mod entries;
 mod formatting;
-mod literature;
 mod program;
 mod stack;
 mod tree;

@@ -87,21 +87,3 @@ impl Date {
         self.approximate
     }
 }
-
-#[cfg(test)]
-mod tests {
-    use super::*;
-
-    #[test]
-    fn months_end_at_eleven_and_days_at_thirty(rt: HostRuntime) {
-        let date = Date::new(2014, Some(11), Some(30), None, false);
-        assert!(rt; date.is_some_and(|date| date.year() == 2014));
-        assert!(rt; date.is_some_and(|date| date.month() == Some(11)));
-        assert_eq!(rt; Date::new(2014, Some(12), None, None, false), None);
-        assert_eq!(rt; Date::new(2014, None, Some(31), None, false), None);
-        let spring = Date::new(0, None, None, Some(Season::Spring), true);
-        assert!(rt; spring.is_some_and(|date| date.season() == Some(Season::Spring)));
-        assert!(rt; spring.is_some_and(|date| date.approximate()));
-        assert!(rt; spring.is_some_and(|date| date.day().is_none()));
-    }
-}

@@ -405,6 +405,3 @@ impl Entry {
         self.map(|entry| entry.url.as_ref())
     }
 }
-
-#[cfg(test)]
-mod tests;

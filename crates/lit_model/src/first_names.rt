@@ -124,39 +124,3 @@ impl Person {
         result
     }
 }
-
-#[cfg(test)]
-mod tests {
-    use super::*;
-    use crate::memory::Memory;
-    use std::alloc::Global;
-    use std::test::Fail;
-
-    fn with_given(alloc: Global, given: &str) -> Result<Person, Memory> {
-        Ok(Person {
-            name: String::from_str(alloc, "Nemo")?,
-            given_name: Some(String::from_str(alloc, given)?),
-            prefix: None,
-            suffix: None,
-            alias: None,
-            comma_suffix: false,
-        })
-    }
-
-    #[test]
-    fn letters_are_marked(rt: HostRuntime) -> Result<(), Fail> {
-        for (given, text, wanted) in [
-            ("Karl J", ".", "Karl J."),
-            ("E. P.", ". ", "E. P."),
-            ("E P Karl", ".", "E. P. Karl"),
-            ("E  P.", "", "E P"),
-            ("e \u{c9} Jr.", ". ", "e \u{c9}. Jr."),
-        ] {
-            let person = with_given(rt.alloc(), given)?;
-            let mut written = String::new(rt.alloc());
-            person.first_name_with_delimiter(&mut written, Some(text))?;
-            assert_eq!(rt; written.as_str(), wanted, "of {given}");
-        }
-        Ok(())
-    }
-}

@@ -169,6 +169,3 @@ impl Person {
         result
     }
 }
-
-#[cfg(test)]
-mod tests;

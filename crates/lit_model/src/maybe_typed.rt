@@ -54,6 +54,3 @@ impl MaybeTyped<PageRanges> {
         }
     }
 }
-
-#[cfg(test)]
-mod tests;

@@ -147,6 +147,3 @@ pub enum GrammarGender {
     Feminine,
     Masculine,
 }
-
-#[cfg(test)]
-mod tests;

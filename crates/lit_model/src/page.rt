@@ -128,6 +128,3 @@ pub enum PageRangesPart {
     /// A range of pages.
     Range(Numeric, Numeric),
 }
-
-#[cfg(test)]
-mod tests;

@@ -273,6 +273,3 @@ fn first_without<'a>(articles: &[&str], text: &'a str) -> Option<&'a str>
     }
     None
 }
-
-#[cfg(test)]
-mod tests;

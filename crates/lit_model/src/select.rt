@@ -427,6 +427,3 @@ fn push_all<'a>(persons: &mut Vec<&'a Person>, more: &'a [Person]) -> Result<(),
     }
     Ok(())
 }
-
-#[cfg(test)]
-mod tests;

@@ -132,6 +132,3 @@ impl LanguageIdentifier {
         Ok(LanguageIdentifier { language, region })
     }
 }
-
-#[cfg(test)]
-mod tests;

@@ -142,6 +142,3 @@ pub(crate) fn copy_forms(
         }
     }
 }
-
-#[cfg(test)]
-mod tests;

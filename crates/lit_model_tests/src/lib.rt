@@ -1,0 +1,29 @@
+//! The tests of the literature model. What is expected stands here as written out by hand.
+#![tactic(auto)]
+
+#[cfg(test)]
+mod copies;
+#[cfg(test)]
+mod date;
+#[cfg(test)]
+mod entry;
+#[cfg(test)]
+mod first_names;
+#[cfg(test)]
+mod initials;
+#[cfg(test)]
+mod maybe_typed;
+#[cfg(test)]
+mod numeric;
+#[cfg(test)]
+mod page;
+#[cfg(test)]
+mod person;
+#[cfg(test)]
+mod samples;
+#[cfg(test)]
+mod select;
+#[cfg(test)]
+mod source;
+#[cfg(test)]
+mod text;

@@ -1,0 +1,214 @@
+//! Where a work is found: numbers, addresses, publishers and languages.
+
+ghost use Rattle.std.specs.Prelude.{◌≡◌, ◌↔◌, IsTrue, option_map};
+ghost use Rattle.lit_model.specs.Source.{press_of, address_of, serials, language_of};
+ghost use Rattle.lit_model.specs.Date.{date_parts};
+ghost use Rattle.url.specs.Canonical.{IsCanonical};
+ghost use Rattle.url.specs.Parts.{serialize};
+
+use crate::samples::assert_whether;
+use lit_model::{
+    ChunkedString, Date, FormatString, LanguageIdentifier, Memory, Publisher, QualifiedUrl,
+    SerialNumber,
+};
+use std::alloc::Global;
+use std::collections::BTreeMap;
+use std::net::{IpAddr, Ipv4Addr};
+use url::{Host, Url};
+
+/// Whether the two publishers are equal: they are where their texts are.
+fn same_publisher(a: &Publisher, b: &Publisher) -> bool
+    ensures { IsTrue result ↔ (press_of a.now ≡ press_of b.now) }
+{
+    *a == *b
+}
+
+/// Whether the two addresses are equal: they are where their texts and dates are. Where each is as
+/// the parser gives it, they are where their parts are: a setter can make two of one text whose
+/// hosts are of different kinds.
+fn same_url(a: &QualifiedUrl, b: &QualifiedUrl) -> bool
+    ensures texts { IsTrue result
+        ↔ (serialize a.now.value ≡ serialize b.now.value)
+        × (option_map date_parts a.now.visit_date ≡ option_map date_parts b.now.visit_date) }
+    ensures parts { IsCanonical a.now.value
+        → IsCanonical b.now.value
+        → (IsTrue result ↔ (address_of a.now ≡ address_of b.now)) }
+{
+    // That an address is valid is known once its text is read.
+    let _text = a.value.as_str();
+    let _other = b.value.as_str();
+    *a == *b
+}
+
+/// Whether the two have the same numbers under the same schemes.
+fn same_serials(a: &SerialNumber, b: &SerialNumber) -> bool
+    ensures { IsTrue result ↔ (serials a.now ≡ serials b.now) }
+{
+    *a == *b
+}
+
+/// Whether the two languages are equal: they are where their texts are.
+fn same_language(a: &LanguageIdentifier, b: &LanguageIdentifier) -> bool
+    ensures { IsTrue result ↔ (language_of a.now ≡ language_of b.now) }
+{
+    *a == *b
+}
+
+fn doi(alloc: Global) -> Result<SerialNumber, Memory> {
+    let mut numbers = BTreeMap::new(alloc);
+    let scheme = String::from_str(alloc, "doi")?;
+    let number = String::from_str(alloc, "10.1007/BF02731494")?;
+    numbers.insert(scheme, number).map_err(Memory::from)?;
+    Ok(SerialNumber(numbers))
+}
+
+#[test]
+fn numbers_are_found(rt: HostRuntime) -> Result<(), Memory> {
+    let serial = doi(rt.alloc())?;
+    let found = (serial.doi(), serial.isbn());
+    assert_eq!(rt; found, (Some("10.1007/BF02731494"), None));
+    Ok(())
+}
+
+fn are_numbers_copied(alloc: Global) -> Result<bool, Memory> {
+    let serial = doi(alloc)?;
+    let copy = serial.clone(alloc)?;
+    Ok(same_serials(&copy, &serial))
+}
+
+fn is_no_number_one(alloc: Global) -> Result<bool, Memory> {
+    let serial = doi(alloc)?;
+    let none = SerialNumber(BTreeMap::new(alloc));
+    Ok(same_serials(&none, &serial))
+}
+
+#[test]
+fn numbers_are_copied_and_not_none(rt: HostRuntime) -> Result<(), Memory> {
+    assert_whether(&rt, are_numbers_copied(rt.alloc())?, true, "copied numbers");
+    assert_whether(
+        &rt,
+        is_no_number_one(rt.alloc())?,
+        false,
+        "no numbers and one",
+    );
+    Ok(())
+}
+
+fn address(alloc: Global, text: &str) -> Result<Url, Memory> {
+    Url::parse(alloc, text).map_err(|_| Memory)
+}
+
+/// Whether an address is equal to a copy, which then loses its date or does not.
+fn is_address_its_copy(alloc: Global, loses_date: bool) -> Result<bool, Memory> {
+    let url = QualifiedUrl {
+        value: address(alloc, "https://aeon.co/essays")?,
+        visit_date: Date::new(2015, Some(8), None, None, false),
+    };
+    let mut copy = url.clone(alloc)?;
+    if loses_date {
+        copy.visit_date = None;
+    }
+    Ok(same_url(&copy, &url))
+}
+
+#[test]
+fn addresses_are_copied(rt: HostRuntime) -> Result<(), Memory> {
+    for (loses_date, wanted) in [(false, true), (true, false)] {
+        let is_same = is_address_its_copy(rt.alloc(), loses_date)?;
+        assert_whether(&rt, is_same, wanted, "an address and a copy");
+    }
+    Ok(())
+}
+
+/// A publisher of no name, at a place with an empty text.
+fn press(alloc: Global) -> Publisher {
+    let place = FormatString {
+        value: ChunkedString(Vec::new(alloc)),
+        short: None,
+    };
+    Publisher {
+        name: None,
+        location: Some(place),
+    }
+}
+
+/// Whether a publisher is equal to a copy, which then loses its place or does not.
+fn is_publisher_its_copy(alloc: Global, loses_place: bool) -> Result<bool, Memory> {
+    let press = press(alloc);
+    let mut copy = press.clone(alloc)?;
+    if loses_place {
+        copy.location = None;
+    }
+    Ok(same_publisher(&copy, &press))
+}
+
+#[test]
+fn publishers_are_equal_by_their_texts(rt: HostRuntime) -> Result<(), Memory> {
+    for (loses_place, wanted) in [(false, true), (true, false)] {
+        let is_same = is_publisher_its_copy(rt.alloc(), loses_place)?;
+        assert_whether(&rt, is_same, wanted, "a publisher and a copy");
+    }
+    Ok(())
+}
+
+fn english(alloc: Global) -> Result<LanguageIdentifier, Memory> {
+    let language = String::from_str(alloc, "en")?;
+    let region = String::from_str(alloc, "GB")?;
+    Ok(LanguageIdentifier {
+        language,
+        region: Some(region),
+    })
+}
+
+/// Whether a language is equal to a copy, which then loses its region or does not.
+fn is_language_its_copy(alloc: Global, loses_region: bool) -> Result<bool, Memory> {
+    let english = english(alloc)?;
+    let mut copy = english.clone(alloc)?;
+    if loses_region {
+        copy.region = None;
+    }
+    Ok(same_language(&copy, &english))
+}
+
+#[test]
+fn languages_are_equal_by_their_texts(rt: HostRuntime) -> Result<(), Memory> {
+    for (loses_region, wanted) in [(false, true), (true, false)] {
+        let is_same = is_language_its_copy(rt.alloc(), loses_region)?;
+        assert_whether(&rt, is_same, wanted, "a language and a copy");
+    }
+    Ok(())
+}
+
+/// An address as the parser gives it, whose host is a domain.
+fn with_domain(alloc: Global) -> Result<QualifiedUrl, Memory> {
+    Ok(QualifiedUrl {
+        value: address(alloc, "foo://1.2.3.4/")?,
+        visit_date: None,
+    })
+}
+
+/// One of the same text, whose host is an IP address.
+fn with_ip(alloc: Global) -> Result<QualifiedUrl, Memory> {
+    let mut value = address(alloc, "foo://h/")?;
+    let host = IpAddr::V4(Ipv4Addr::new(1, 2, 3, 4));
+    value.set_ip_host(host).map_err(|_| Memory)?;
+    Ok(QualifiedUrl {
+        value,
+        visit_date: None,
+    })
+}
+
+/// Whether the first host is a domain and the second an IP address, and the addresses are equal.
+fn hosts_and_equality(alloc: Global) -> Result<(bool, bool, bool), Memory> {
+    let domain = with_domain(alloc)?;
+    let ip = with_ip(alloc)?;
+    let is_domain = matches!(domain.value.host(), Some(Host::Domain(_)));
+    let is_ip = matches!(ip.value.host(), Some(Host::Ipv4(_)));
+    Ok((is_domain, is_ip, same_url(&domain, &ip)))
+}
+
+#[test]
+fn addresses_of_one_text_are_equal(rt: HostRuntime) -> Result<(), Memory> {
+    assert_eq!(rt; hosts_and_equality(rt.alloc())?, (true, true, true));
+    Ok(())
+}

@@ -1,0 +1,105 @@
+//! Texts that a style prints: their forms, and when they are equal.
+
+ghost use Rattle.std.specs.Prelude.{◌≡◌, ◌↔◌, IsTrue};
+ghost use Rattle.lit_model.specs.Text.{chunk_of, chunks, forms_of};
+
+use crate::samples::{assert_whether, text};
+use lit_model::{ChunkKind, ChunkedString, FormatString, LongShortForm, Memory, StringChunk};
+use std::alloc::Global;
+
+/// Whether the two chunks are equal: they are where their texts and kinds are.
+fn same_chunk(a: &StringChunk, b: &StringChunk) -> bool
+    ensures { IsTrue result ↔ (chunk_of a.now ≡ chunk_of b.now) }
+{
+    *a == *b
+}
+
+/// Whether the two texts are equal: they are where their chunks are.
+fn same_chunks(a: &ChunkedString, b: &ChunkedString) -> bool
+    ensures { IsTrue result ↔ (chunks a.now ≡ chunks b.now) }
+{
+    *a == *b
+}
+
+/// Whether the two texts with their short forms are equal: they are where both forms are.
+fn same_forms(a: &FormatString, b: &FormatString) -> bool
+    ensures { IsTrue result ↔ (forms_of a.now ≡ forms_of b.now) }
+{
+    *a == *b
+}
+
+/// A title, with a short form where there is one.
+fn nature(alloc: Global, short: Option<&str>) -> Result<FormatString, Memory> {
+    let value = text(alloc, "Nature", ChunkKind::Verbatim)?;
+    let short = match short {
+        Some(short) => Some(text(alloc, short, ChunkKind::Verbatim)?),
+        None => None,
+    };
+    Ok(FormatString { value, short })
+}
+
+/// Whether the form of a title is the whole title.
+fn is_whole(alloc: Global, short: Option<&str>, form: LongShortForm) -> Result<bool, Memory> {
+    let title = nature(alloc, short)?;
+    Ok(same_chunks(title.select(form), &title.value))
+}
+
+#[test]
+fn the_short_form_counts_where_there_is_one(rt: HostRuntime) -> Result<(), Memory> {
+    for (short, form, wanted) in [
+        (Some("Nat."), LongShortForm::Short, false),
+        (Some("Nat."), LongShortForm::Long, true),
+        (None, LongShortForm::Short, true),
+    ] {
+        let is_whole = is_whole(rt.alloc(), short, form)?;
+        assert_whether(&rt, is_whole, wanted, short.unwrap_or("no short form"));
+    }
+    Ok(())
+}
+
+/// Whether a title is equal to a copy, when it then loses its short form or does not.
+fn is_title_its_copy(alloc: Global, loses_short: bool) -> Result<bool, Memory> {
+    let mut title = nature(alloc, Some("Nat."))?;
+    let copy = title.clone(alloc)?;
+    if loses_short {
+        title.short = None;
+    }
+    Ok(same_forms(&copy, &title))
+}
+
+#[test]
+fn titles_are_equal_by_both_forms(rt: HostRuntime) -> Result<(), Memory> {
+    for (loses_short, wanted) in [(false, true), (true, false)] {
+        let is_same = is_title_its_copy(rt.alloc(), loses_short)?;
+        assert_whether(&rt, is_same, wanted, "a title and a copy");
+    }
+    Ok(())
+}
+
+/// Whether a chunk is equal to a copy, which is then given this kind.
+fn is_chunk_its_copy(alloc: Global, kind: ChunkKind) -> Result<bool, Memory> {
+    let word = StringChunk {
+        value: String::from_str(alloc, "pH")?,
+        kind: ChunkKind::Verbatim,
+    };
+    let mut copy = word.clone(alloc)?;
+    if kind != ChunkKind::Verbatim {
+        copy.kind = kind;
+    }
+    Ok(same_chunk(&copy, &word))
+}
+
+#[test]
+fn chunks_are_equal_by_text_and_kind(rt: HostRuntime) -> Result<(), Memory> {
+    for (kind, wanted) in [(ChunkKind::Verbatim, true), (ChunkKind::Normal, false)] {
+        let is_same = is_chunk_its_copy(rt.alloc(), kind)?;
+        assert_whether(&rt, is_same, wanted, "a chunk and a copy");
+    }
+    Ok(())
+}
+
+#[test]
+fn a_text_is_long_and_its_chunks_normal_by_default(rt: HostRuntime) {
+    let defaults = (LongShortForm::default(), ChunkKind::default());
+    assert_eq!(rt; defaults, (LongShortForm::Long, ChunkKind::Normal));
+}
