@@ -42,33 +42,3 @@ pub(crate) fn first_cyclic(alloc: Global, graph: &[Vec<usize>]) -> Result<Option
     }
     Ok(None)
 }
-
-#[cfg(test)]
-mod tests {
-    use super::*;
-    use std::test::Fail;
-
-    #[test]
-    fn a_place_that_leads_into_a_cycle_is_not_on_it(rt: HostRuntime) -> Result<(), Fail> {
-        let alloc = rt.alloc();
-        let graph = vec![in alloc; vec![in alloc; 1]?, vec![in alloc; 2]?, vec![in alloc; 1]?]?;
-        assert_eq!(rt; first_cyclic(alloc, &graph)?, Some(1));
-        Ok(())
-    }
-
-    #[test]
-    fn a_place_may_call_itself(rt: HostRuntime) -> Result<(), Fail> {
-        let alloc = rt.alloc();
-        let graph = vec![in alloc; Vec::new(alloc), Vec::new(alloc), vec![in alloc; 0, 2]?]?;
-        assert_eq!(rt; first_cyclic(alloc, &graph)?, Some(2));
-        Ok(())
-    }
-
-    #[test]
-    fn two_ways_to_a_place_are_no_cycle(rt: HostRuntime) -> Result<(), Fail> {
-        let alloc = rt.alloc();
-        let graph = vec![in alloc; vec![in alloc; 1, 2]?, vec![in alloc; 2]?, Vec::new(alloc)]?;
-        assert_eq!(rt; first_cyclic(alloc, &graph)?, None);
-        Ok(())
-    }
-}

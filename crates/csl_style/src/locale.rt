@@ -80,6 +80,3 @@ pub struct Locale {
     /// Whether only the first day of a month is written as an ordinal.
     pub limit_day_ordinals_to_day_1: bool,
 }
-
-#[cfg(test)]
-mod tests;

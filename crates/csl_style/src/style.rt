@@ -229,6 +229,3 @@ impl Style {
         lookup::localized_date(&self.locales, form)
     }
 }
-
-#[cfg(test)]
-mod tests;

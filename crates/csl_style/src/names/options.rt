@@ -211,6 +211,3 @@ fn limit(own: Option<u32>, later: Option<u32>, subsequent: bool) -> Option<u32>
 {
     if subsequent { later.or(own) } else { own }
 }
-
-#[cfg(test)]
-mod tests;
