@@ -1,4 +1,4 @@
--- Names, their places, and what is called.
+-- Names, their places, and what calls which.
 use Rattle.std.proofs.Common.{◌≡◌, ℕ, zero, suc, ◌<◌, ◌+◌, List, [], ◌∷◌, ◌++◌, length, get_or, Option, Some, None, option_map, Bool, true, false, if◌then◌else◌, nat_eq, refl, sym, ap, ◌∙◌, subst, arith, inl, inr, Vec, Global, Contains, string_bytes}
 use Rattle.std.specs.Option.{option_to_list}
 use Rattle.std.specs.Str.{bytes_eq}
@@ -10,7 +10,7 @@ use Rattle.csl_style.specs.Node.{Node, text, call, number, label, date, names, c
 use Rattle.csl_style.specs.View.{Definition, definitions, views}
 use Rattle.csl_style.specs.Meaning.{place, body, is_below, calls_below, all_below, branches_below, substitutes_below}
 use Rattle.csl_style.specs.Leads.{Calls, OneCalls, BranchCalls, SubstituteCalls}
-use Rattle.csl_style.specs.Calls.{called, all_called, branches_called, substitutes_called, name_at, children_at, IsCallGraph}
+use Rattle.csl_style.specs.Calls.{calls_in, calls_in_all, calls_in_branches, calls_in_substitutes, name_at, children_at, IsCallGraph}
 use Rattle.csl_style.specs.declared.element.CslMacro.{CslMacro}
 
 -- the place of a name has that name, and what the name stands for
@@ -47,65 +47,65 @@ to-option o q h = rw h (0, omega arith, refl)
 
 module _ (ds : List Definition) where
   mutual
-    called-from : (q : ℕ) (n : Node) → Contains (called ds n) q → (name : List ℕ) × Calls name n × (place name ds ≡ Some q)
-    called-from q (text t d) h = absurd (nothing q h)
-    called-from q (call name d) h = (name, refl, from-option (place name ds) q h)
-    called-from q (number n) h = absurd (nothing q h)
-    called-from q (label v l) h = absurd (nothing q h)
-    called-from q (date d) h = absurd (nothing q h)
-    called-from q (names n ss) h = substitutes-from q ss h
-    called-from q (choose bs) h = branches-from q bs h
-    called-from q (group delimiter d ns) h = all-from q ns h
+    node-from : (q : ℕ) (n : Node) → Contains (calls_in ds n) q → (name : List ℕ) × Calls name n × (place name ds ≡ Some q)
+    node-from q (text t d) h = absurd (nothing q h)
+    node-from q (call name d) h = (name, refl, from-option (place name ds) q h)
+    node-from q (number n) h = absurd (nothing q h)
+    node-from q (label v l) h = absurd (nothing q h)
+    node-from q (date d) h = absurd (nothing q h)
+    node-from q (names n ss) h = substitutes-from q ss h
+    node-from q (choose bs) h = branches-from q bs h
+    node-from q (group delimiter d ns) h = all-from q ns h
 
-    pub all-from : (q : ℕ) (ns : Nodes) → Contains (all_called ds ns) q → (name : List ℕ) × OneCalls name ns × (place name ds ≡ Some q)
+    pub all-from : (q : ℕ) (ns : Nodes) → Contains (calls_in_all ds ns) q → (name : List ℕ) × OneCalls name ns × (place name ds ≡ Some q)
     all-from q no_nodes h = absurd (nothing q h)
-    all-from q (node n ns) h = elim (Contains-append_cases (called ds n) (all_called ds ns) q h) [
-      | inl k ↦ let (name, calls, at') = called-from q n k in (name, inl calls, at')
+    all-from q (node n ns) h = elim (Contains-append_cases (calls_in ds n) (calls_in_all ds ns) q h) [
+      | inl k ↦ let (name, calls, at') = node-from q n k in (name, inl calls, at')
       | inr k ↦ let (name, calls, at') = all-from q ns k in (name, inr calls, at')
     ]
 
-    branches-from : (q : ℕ) (bs : Branches) → Contains (branches_called ds bs) q → (name : List ℕ) × BranchCalls name bs × (place name ds ≡ Some q)
+    branches-from : (q : ℕ) (bs : Branches) → Contains (calls_in_branches ds bs) q → (name : List ℕ) × BranchCalls name bs × (place name ds ≡ Some q)
     branches-from q no_branches h = absurd (nothing q h)
     branches-from q (otherwise ns) h = all-from q ns h
-    branches-from q (branch ts ns bs) h = elim (Contains-append_cases (all_called ds ns) (branches_called ds bs) q h) [
+    branches-from q (branch ts ns bs) h = elim (Contains-append_cases (calls_in_all ds ns) (calls_in_branches ds bs) q h) [
       | inl k ↦ let (name, calls, at') = all-from q ns k in (name, inl calls, at')
       | inr k ↦ let (name, calls, at') = branches-from q bs k in (name, inr calls, at')
     ]
 
-    substitutes-from : (q : ℕ) (ss : Substitutes) → Contains (substitutes_called ds ss) q → (name : List ℕ) × SubstituteCalls name ss × (place name ds ≡ Some q)
+    substitutes-from : (q : ℕ) (ss : Substitutes) → Contains (calls_in_substitutes ds ss) q → (name : List ℕ) × SubstituteCalls name ss × (place name ds ≡ Some q)
     substitutes-from q no_substitutes h = absurd (nothing q h)
-    substitutes-from q (substitute ns ss) h = elim (Contains-append_cases (all_called ds ns) (substitutes_called ds ss) q h) [
+    substitutes-from q (substitute ns ss) h = elim (Contains-append_cases (calls_in_all ds ns) (calls_in_substitutes ds ss) q h) [
       | inl k ↦ let (name, calls, at') = all-from q ns k in (name, inl calls, at')
       | inr k ↦ let (name, calls, at') = substitutes-from q ss k in (name, inr calls, at')
     ]
 
   module _ (name : List ℕ) (q : ℕ) (p : place name ds ≡ Some q) where
     mutual
-      called-into : (n : Node) → Calls name n → Contains (called ds n) q
-      called-into (text t d) c = absurd c
-      called-into (call other d) c = to-option (place other ds) q (subst (λ x. place x ds ≡ Some q) c p)
-      called-into (number n) c = absurd c
-      called-into (label v l) c = absurd c
-      called-into (date d) c = absurd c
-      called-into (names n ss) c = substitutes-into ss c
-      called-into (choose bs) c = branches-into bs c
-      called-into (group delimiter d ns) c = all-into ns c
+      node-into : (n : Node) → Calls name n → Contains (calls_in ds n) q
+      node-into (text t d) c = absurd c
+      node-into (call other d) c = to-option (place other ds) q (subst (λ x. place x ds ≡ Some q) c p)
+      node-into (number n) c = absurd c
+      node-into (label v l) c = absurd c
+      node-into (date d) c = absurd c
+      node-into (names n ss) c = substitutes-into ss c
+      node-into (choose bs) c = branches-into bs c
+      node-into (group delimiter d ns) c = all-into ns c
 
-      pub all-into : (ns : Nodes) → OneCalls name ns → Contains (all_called ds ns) q
+      pub all-into : (ns : Nodes) → OneCalls name ns → Contains (calls_in_all ds ns) q
       all-into no_nodes c = absurd c
-      all-into (node n ns) (inl c) = Contains-append_left (called ds n) (all_called ds ns) q (called-into n c)
-      all-into (node n ns) (inr c) = Contains-append_right (called ds n) (all_called ds ns) q (all-into ns c)
+      all-into (node n ns) (inl c) = Contains-append_left (calls_in ds n) (calls_in_all ds ns) q (node-into n c)
+      all-into (node n ns) (inr c) = Contains-append_right (calls_in ds n) (calls_in_all ds ns) q (all-into ns c)
 
-      branches-into : (bs : Branches) → BranchCalls name bs → Contains (branches_called ds bs) q
+      branches-into : (bs : Branches) → BranchCalls name bs → Contains (calls_in_branches ds bs) q
       branches-into no_branches c = absurd c
       branches-into (otherwise ns) c = all-into ns c
-      branches-into (branch ts ns bs) (inl c) = Contains-append_left (all_called ds ns) (branches_called ds bs) q (all-into ns c)
-      branches-into (branch ts ns bs) (inr c) = Contains-append_right (all_called ds ns) (branches_called ds bs) q (branches-into bs c)
+      branches-into (branch ts ns bs) (inl c) = Contains-append_left (calls_in_all ds ns) (calls_in_branches ds bs) q (all-into ns c)
+      branches-into (branch ts ns bs) (inr c) = Contains-append_right (calls_in_all ds ns) (calls_in_branches ds bs) q (branches-into bs c)
 
-      substitutes-into : (ss : Substitutes) → SubstituteCalls name ss → Contains (substitutes_called ds ss) q
+      substitutes-into : (ss : Substitutes) → SubstituteCalls name ss → Contains (calls_in_substitutes ds ss) q
       substitutes-into no_substitutes c = absurd c
-      substitutes-into (substitute ns ss) (inl c) = Contains-append_left (all_called ds ns) (substitutes_called ds ss) q (all-into ns c)
-      substitutes-into (substitute ns ss) (inr c) = Contains-append_right (all_called ds ns) (substitutes_called ds ss) q (substitutes-into ss c)
+      substitutes-into (substitute ns ss) (inl c) = Contains-append_left (calls_in_all ds ns) (calls_in_substitutes ds ss) q (all-into ns c)
+      substitutes-into (substitute ns ss) (inr c) = Contains-append_right (calls_in_all ds ns) (calls_in_substitutes ds ss) q (substitutes-into ss c)
 
 -- where each name that is called is below r
 module _ (rank : List ℕ → Option ℕ) (r : ℕ) where
@@ -149,20 +149,20 @@ row-last : (g : Graph) (row : Vec ℕ Global) → row_at (g ++ row ∷ []) (leng
 row-last [] row = refl
 row-last (x ∷ g) row = row-last g row
 
-pub rows-more : (ds : List Definition) (g : Graph) (row : Vec ℕ Global) (n : ℕ) → length g ≡ n → ((i : ℕ) → i < n → row_at g i ≡ all_called ds (children_at ds i)) → row.items ≡ all_called ds (children_at ds n)
-    → (i : ℕ) → i < n + 1 → row_at (g ++ row ∷ []) i ≡ all_called ds (children_at ds i)
+pub rows-more : (ds : List Definition) (g : Graph) (row : Vec ℕ Global) (n : ℕ) → length g ≡ n → ((i : ℕ) → i < n → row_at g i ≡ calls_in_all ds (children_at ds i)) → row.items ≡ calls_in_all ds (children_at ds n)
+    → (i : ℕ) → i < n + 1 → row_at (g ++ row ∷ []) i ≡ calls_in_all ds (children_at ds i)
 rows-more ds g row n each rows here i less = by (nat_eq i n) refl where
-  by : (b : Bool) → nat_eq i n ≡ b → row_at (g ++ row ∷ []) i ≡ all_called ds (children_at ds i)
+  by : (b : Bool) → nat_eq i n ≡ b → row_at (g ++ row ∷ []) i ≡ calls_in_all ds (children_at ds i)
   by true e =
       let same : i ≡ length g = grind (arith, nat_tests) in
-      ap (row_at (g ++ row ∷ [])) same ∙ row-last g row ∙ here ∙ ap (λ k. all_called ds (children_at ds k)) (sym each ∙ sym same)
+      ap (row_at (g ++ row ∷ [])) same ∙ row-last g row ∙ here ∙ ap (λ k. calls_in_all ds (children_at ds k)) (sym each ∙ sym same)
   by false e =
       let under : i < n = grind (arith, nat_tests) in
       row-before g row i (omega arith) ∙ rows i under
 
 pub in-range : (ds : List Definition) (g : Graph) → IsCallGraph ds g → InRange g (length g)
 in-range ds g is k d less j e within =
-    let same : (get_or g k d).items ≡ all_called ds (children_at ds k) = sym (row-of g k d less) ∙ is.rows k (omega (arith, is.each)) in
+    let same : (get_or g k d).items ≡ calls_in_all ds (children_at ds k) = sym (row-of g k d less) ∙ is.rows k (omega (arith, is.each)) in
     let to = get_or (get_or g k d).items j e in
     let there = subst (λ tos. Contains tos to) same (Contains-get_or (get_or g k d).items j e within) in
     let (name, calls, p) = all-from ds to (children_at ds k) there in

@@ -7,28 +7,28 @@ use Rattle.csl_style.specs.View.{Definition}
 use Rattle.csl_style.specs.Meaning.{place}
 
 abbrev mutual
-  pub called : List Definition → Node → List ℕ
-  called ds (text t d) = []
-  called ds (call name d) = option_to_list (place name ds)
-  called ds (number n) = []
-  called ds (label v l) = []
-  called ds (date d) = []
-  called ds (names n ss) = substitutes_called ds ss
-  called ds (choose bs) = branches_called ds bs
-  called ds (group delimiter d ns) = all_called ds ns
+  pub calls_in : List Definition → Node → List ℕ
+  calls_in ds (text t d) = []
+  calls_in ds (call name d) = option_to_list (place name ds)
+  calls_in ds (number n) = []
+  calls_in ds (label v l) = []
+  calls_in ds (date d) = []
+  calls_in ds (names n ss) = calls_in_substitutes ds ss
+  calls_in ds (choose bs) = calls_in_branches ds bs
+  calls_in ds (group delimiter d ns) = calls_in_all ds ns
 
-  pub all_called : List Definition → Nodes → List ℕ
-  all_called ds no_nodes = []
-  all_called ds (node n ns) = called ds n ++ all_called ds ns
+  pub calls_in_all : List Definition → Nodes → List ℕ
+  calls_in_all ds no_nodes = []
+  calls_in_all ds (node n ns) = calls_in ds n ++ calls_in_all ds ns
 
-  pub branches_called : List Definition → Branches → List ℕ
-  branches_called ds no_branches = []
-  branches_called ds (otherwise ns) = all_called ds ns
-  branches_called ds (branch ts ns bs) = all_called ds ns ++ branches_called ds bs
+  pub calls_in_branches : List Definition → Branches → List ℕ
+  calls_in_branches ds no_branches = []
+  calls_in_branches ds (otherwise ns) = calls_in_all ds ns
+  calls_in_branches ds (branch ts ns bs) = calls_in_all ds ns ++ calls_in_branches ds bs
 
-  pub substitutes_called : List Definition → Substitutes → List ℕ
-  substitutes_called ds no_substitutes = []
-  substitutes_called ds (substitute ns ss) = all_called ds ns ++ substitutes_called ds ss
+  pub calls_in_substitutes : List Definition → Substitutes → List ℕ
+  calls_in_substitutes ds no_substitutes = []
+  calls_in_substitutes ds (substitute ns ss) = calls_in_all ds ns ++ calls_in_substitutes ds ss
 
 abbrev pub name_at : List Definition → ℕ → List ℕ
 name_at [] i = []
@@ -43,4 +43,4 @@ children_at (d ∷ ds) (suc i) = children_at ds i
 -- an edge for each call, between the places of macros
 pub record IsCallGraph (ds : List Definition) (g : Graph) : Type 0 where
   pub each : length g ≡ length ds
-  pub rows : (i : ℕ) → i < length ds → row_at g i ≡ all_called ds (children_at ds i)
+  pub rows : (i : ℕ) → i < length ds → row_at g i ≡ calls_in_all ds (children_at ds i)

@@ -10,19 +10,21 @@ use Rattle.csl_style.specs.declared.locale.OrdinalSlot.TheVariants.{Default, Two
 use Rattle.csl_style.specs.declared.locale.OrdinalMatch.{OrdinalMatch}
 use Rattle.csl_style.specs.declared.locale.OrdinalMatch.TheVariants.{LastDigit, LastTwoDigits, WholeNumber}
 use Rattle.csl_style.specs.contracts.locale.OrdinalSlotPartialEq.TheImpl.{eq-value}
+use Rattle.csl_style.specs.declared.locale.ordinals.OrdinalGroup.{OrdinalGroup}
+use Rattle.csl_style.specs.declared.locale.ordinals.OrdinalGroup.TheVariants.{Between, Slot}
 use Rattle.csl_style.specs.Locale.{OrdinalView}
 
 -- the digits of a number that are compared with a slot: the last for the slots 0 to 9 and the last two for 10 to 99, unless the ordinal says which
-abbrev pub compared : Option OrdinalMatch → ℕ → ℕ → ℕ
-compared None slot n = if nat_lt slot 10 then n % 10 else n % 100
-compared (Some LastDigit) slot n = n % 10
-compared (Some LastTwoDigits) slot n = n % 100
-compared (Some WholeNumber) slot n = n
+abbrev pub digits_for : Option OrdinalMatch → ℕ → ℕ → ℕ
+digits_for None slot n = if nat_lt slot 10 then n % 10 else n % 100
+digits_for (Some LastDigit) slot n = n % 10
+digits_for (Some LastTwoDigits) slot n = n % 100
+digits_for (Some WholeNumber) slot n = n
 
 -- a slot from low to high is for the number
 abbrev pub slot_between : ℕ → ℕ → ℕ → OrdinalSlot → Option OrdinalMatch → Bool
 slot_between low high n Default matching = false
-slot_between low high n (Two slot) matching = nat_le low slot && (nat_le slot high && (slot == compared matching slot n))
+slot_between low high n (Two slot) matching = nat_le low slot && (nat_le slot high && (slot == digits_for matching slot n))
 slot_between low high n (Long word) matching = false
 
 -- it is for the number, by a slot from low to high
@@ -32,6 +34,11 @@ is_between low high n o = slot_between low high n o.slot o.matching
 -- its slot is that one
 abbrev pub is_in : OrdinalSlot → OrdinalView → Bool
 is_in slot o = eq-value.it o.slot slot
+
+-- the ordinal is one of the group
+abbrev pub is_in_group : OrdinalGroup → OrdinalView → Bool
+is_in_group (Between low high n) = is_between low high n
+is_in_group (Slot slot) = is_in slot
 
 -- the first of the group that is for the gender, or, with no gender, the first neutral one
 abbrev pub for_gender : (OrdinalView → Bool) → List OrdinalView → Option GrammarGender → Option OrdinalView

@@ -55,8 +55,8 @@ refusal_text (CyclicMacro name) = codes "the macro '" ++ (string_bytes name ++ c
 refusal_text ChicagoPageFormat = codes "Chicago page formats are not supported"
 
 -- no option is set
-abbrev pub unset : SetOptions
-unset = record {
+abbrev pub no_options : SetOptions
+no_options = record {
   and = None;
   delimiter = None;
   delimiter_precedes_et_al = None;
@@ -79,6 +79,6 @@ pub record AreDefaults (s : StyleSettings) : Type 0 where
   pub page_range_format : s.page_range_format ≡ None
   pub demote : s.demote_non_dropping_particle ≡ DisplayAndSort
   pub hyphen : s.initialize_with_hyphen ≡ true
-  pub names : own_options s.names ≡ unset
-  pub citation_names : own_options s.citation_names ≡ unset
-  pub bibliography_names : own_options s.bibliography_names ≡ unset
+  pub names : own_options s.names ≡ no_options
+  pub citation_names : own_options s.citation_names ≡ no_options
+  pub bibliography_names : own_options s.bibliography_names ≡ no_options

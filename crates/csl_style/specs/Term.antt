@@ -34,12 +34,12 @@ abbrev pub found_term : List (List TermView) → Term → TermForm → Option Te
 found_term locales term form = first_some (in_form locales term) (forms_for form)
 
 -- its text for one, or for several where it has another
-abbrev pub numbered : Bool → TermView → List ℕ
-numbered plural t = if plural then unwrap_or t.multiple t.single else t.single
+abbrev pub entry_text : Bool → TermView → List ℕ
+entry_text plural t = if plural then unwrap_or t.multiple t.single else t.single
 
 -- the text of the term
 abbrev pub term_text : List (List TermView) → Term → TermForm → Bool → Option (List ℕ)
-term_text locales term form plural = option_map (numbered plural) (found_term locales term form)
+term_text locales term form plural = option_map (entry_text plural) (found_term locales term form)
 
 -- the gender, where it is the term in the long form
 abbrev pub long_gender : Term → TermView → Option GrammarGender

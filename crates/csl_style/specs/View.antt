@@ -1,7 +1,7 @@
 -- The node that each value of a style stands for. Nothing else matches on the declared values.
 use Rattle.std.specs.Prelude.{ℕ, Bool, true, false, List, [], ◌∷◌, map, Option, Some, None, option_map, Vec, string_bytes}
 use Rattle.std.specs.declared.alloc.Global.{Global}
-use Rattle.csl_style.specs.Dressing.{affix_texts, dressed_in, TextDressing, text_if}
+use Rattle.csl_style.specs.Dressing.{affix_texts, dressing_of, TextDressing, text_if}
 use Rattle.csl_style.specs.NameOptions.{own_options}
 use Rattle.csl_style.specs.Names.{NameNode, view_name, EtAlNode, view_et_al, LabelNode, view_label, NamesLabel}
 use Rattle.csl_style.specs.Node.{of_variable, of_term, of_value, NumberNode, DatePartNode, DateNode, Tests, Node, text, call, number, label, date, names, choose, group, Nodes, no_nodes, node, Branches, no_branches, otherwise, branch, Substitutes, no_substitutes, substitute, LayoutNode}
@@ -38,13 +38,13 @@ text_node (target.Term t form plural) d = text (of_term t form plural) d
 text_node (target.Value s) d = text (of_value (string_bytes s)) d
 
 abbrev pub text_dressing : Text → TextDressing
-text_dressing t = record { dressing = dressed_in t.formatting t.affixes t.display; quotes = t.quotes; strip_periods = t.strip_periods }
+text_dressing t = record { dressing = dressing_of t.formatting t.affixes t.display; quotes = t.quotes; strip_periods = t.strip_periods }
 
 abbrev pub view_text : Text → Node
 view_text t = text_node t.target (text_dressing t)
 
 abbrev pub view_number : Number → NumberNode
-view_number n = record { variable = n.variable; form = n.form; dressing = dressed_in n.formatting n.affixes n.display }
+view_number n = record { variable = n.variable; form = n.form; dressing = dressing_of n.formatting n.affixes n.display }
 
 abbrev pub view_date_part : DatePart → DatePartNode
 view_date_part p = record { name = p.name; form = p.form; formatting = p.formatting; affixes = affix_texts p.affixes; strip_periods = p.strip_periods }
@@ -56,7 +56,7 @@ view_date d = record {
   parts = d.parts;
   date_part = map view_date_part d.date_part.items;
   delimiter = text_if d.delimiter;
-  dressing = dressed_in d.formatting d.affixes d.display;
+  dressing = dressing_of d.formatting d.affixes d.display;
 }
 
 -- ---- the branches of a choose
@@ -143,14 +143,14 @@ branch_step b = record {
 }
 
 abbrev pub group_step : Group-F Node Child Node Part Node Node Nodes → Node
-group_step g = group (text_if g.delimiter) (dressed_in g.formatting g.affixes g.display) (nodes_of g.children.items)
+group_step g = group (text_if g.delimiter) (dressing_of g.formatting g.affixes g.display) (nodes_of g.children.items)
 
 abbrev pub names_step : Names-F Node Child Node Part Node Node Nodes → Node
 names_step n = names (record {
   variables = n.variable.items;
   options = own_options n.options;
   delimiter = text_if n.delimiter;
-  dressing = dressed_in n.formatting n.affixes n.display;
+  dressing = dressing_of n.formatting n.affixes n.display;
   name_children = name_children n.children.items;
   et_al = first_et_al n.children.items;
   label = first_label false n.children.items;

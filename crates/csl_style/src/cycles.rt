@@ -5,7 +5,10 @@ ghost use Rattle.csl_style.specs.Reaches.{InRange, IsReach, IsFirstCyclicPlace, 
 
 use std::alloc::{AllocError, Global};
 
-/// Which places the place leads to, by one edge or more. The only error is want of memory.
+/// Which places the place leads to, by one edge or more.
+///
+/// # Errors
+/// [`AllocError`]: there was no memory left.
 fn reach(alloc: Global, graph: &[Vec<usize>], from: usize) -> Result<Vec<bool>, AllocError>
     requires graph { InRange graph.now (length graph.now) }
     requires from { from < length graph.now }
@@ -27,8 +30,11 @@ fn reach(alloc: Global, graph: &[Vec<usize>], from: usize) -> Result<Vec<bool>, 
     Ok(seen)
 }
 
-/// The first place that leads back to itself, or `None` where there is none. Row i of the graph lists
-/// the places that an edge from place i leads to. The only error is want of memory.
+/// The first place that leads back to itself, or `None` where there is none. Row i of the graph
+/// lists the places that an edge from place i leads to.
+///
+/// # Errors
+/// [`AllocError`]: there was no memory left.
 pub(crate) fn first_cyclic(alloc: Global, graph: &[Vec<usize>]) -> Result<Option<usize>, AllocError>
     requires { InRange graph.now (length graph.now) }
     ensures cyclic { IfOk result (λ found. IfSome found (IsFirstCyclicPlace graph.now)) }
@@ -41,34 +47,4 @@ pub(crate) fn first_cyclic(alloc: Global, graph: &[Vec<usize>]) -> Result<Option
         }
     }
     Ok(None)
-}
-
-#[cfg(test)]
-mod tests {
-    use super::*;
-    use std::test::Fail;
-
-    #[test]
-    fn a_place_that_leads_into_a_cycle_is_not_on_it(rt: HostRuntime) -> Result<(), Fail> {
-        let alloc = rt.alloc();
-        let graph = vec![in alloc; vec![in alloc; 1]?, vec![in alloc; 2]?, vec![in alloc; 1]?]?;
-        assert_eq!(rt; first_cyclic(alloc, &graph)?, Some(1));
-        Ok(())
-    }
-
-    #[test]
-    fn a_place_may_call_itself(rt: HostRuntime) -> Result<(), Fail> {
-        let alloc = rt.alloc();
-        let graph = vec![in alloc; Vec::new(alloc), Vec::new(alloc), vec![in alloc; 0, 2]?]?;
-        assert_eq!(rt; first_cyclic(alloc, &graph)?, Some(2));
-        Ok(())
-    }
-
-    #[test]
-    fn two_ways_to_a_place_are_no_cycle(rt: HostRuntime) -> Result<(), Fail> {
-        let alloc = rt.alloc();
-        let graph = vec![in alloc; vec![in alloc; 1, 2]?, vec![in alloc; 2]?, Vec::new(alloc)]?;
-        assert_eq!(rt; first_cyclic(alloc, &graph)?, None);
-        Ok(())
-    }
 }

@@ -39,6 +39,3 @@ pub use taxonomy::{
 };
 pub use term::{OtherTerm, Term, TermForm};
 pub use text::{Text, TextTarget};
-
-#[cfg(test)]
-mod tests;

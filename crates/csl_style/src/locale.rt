@@ -2,7 +2,7 @@
 
 ghost use Rattle.std.specs.Prelude.{◌≡◌};
 ghost use Rattle.csl_style.specs.Locale.{term_view};
-ghost use Rattle.csl_style.specs.Term.{numbered};
+ghost use Rattle.csl_style.specs.Term.{entry_text};
 
 use crate::date::Date;
 use crate::term::{Term, TermForm};
@@ -29,7 +29,7 @@ pub struct TermEntry {
 impl TermEntry {
     /// The text for several where several are meant and there is one, else the text for one.
     pub fn text(&self, plural: bool) -> &str
-        ensures { result.now ≡ numbered plural (term_view self.now) }
+        ensures { result.now ≡ entry_text plural (term_view self.now) }
     {
         match &self.multiple {
             Some(multiple) if plural => multiple.as_str(),
@@ -80,6 +80,3 @@ pub struct Locale {
     /// Whether only the first day of a month is written as an ordinal.
     pub limit_day_ordinals_to_day_1: bool,
 }
-
-#[cfg(test)]
-mod tests;

@@ -5,7 +5,7 @@ ghost use Rattle.std.specs.Option.{option_to_list};
 ghost use Rattle.csl_style.specs.Reaches.{InRange};
 ghost use Rattle.csl_style.specs.View.{definitions, view, view_choose, view_child, views, substitutes};
 ghost use Rattle.csl_style.specs.Meaning.{place};
-ghost use Rattle.csl_style.specs.Calls.{called, all_called, substitutes_called, IsCallGraph};
+ghost use Rattle.csl_style.specs.Calls.{calls_in, calls_in_all, calls_in_substitutes, IsCallGraph};
 
 use crate::element::{Choose, CslMacro, LayoutRenderingElement, NamesChild};
 use crate::text::TextTarget;
@@ -26,105 +26,105 @@ fn place(name: &str, macros: &[CslMacro]) -> Option<usize>
 
 /// Adds the place of the first macro of a name, where there is one.
 fn add_place(name: &str, macros: &[CslMacro], places: &mut Vec<usize>) -> Result<(), AllocError>
-    ensures { OnOk result (places.new.items ≡ places.old.items ++ option_to_list (place name.now (definitions macros.now))) }
+    ensures { OnOk result (places.new.items ≡ places.old.items
+        ++ option_to_list (place name.now (definitions macros.now))) }
 {
-    match place(name, macros) {
-        Some(i) => {
-            places.push(i)?;
-            Ok(())
-        }
-        None => Ok(()),
+    if let Some(i) = place(name, macros) {
+        places.push(i)?;
     }
+    Ok(())
 }
 
 /// Adds the places that an element calls.
-#[cycle(called)]
-fn add_called(
+#[cycle(calls)]
+fn add_calls(
     element: &LayoutRenderingElement,
     macros: &[CslMacro],
     places: &mut Vec<usize>,
 ) -> Result<(), AllocError>
-    ensures { OnOk result (places.new.items ≡ places.old.items ++ called (definitions macros.now) (view element.now)) }
+    ensures { OnOk result (places.new.items ≡ places.old.items
+        ++ calls_in (definitions macros.now) (view element.now)) }
 {
     match element {
         LayoutRenderingElement::Text(text) => match &text.target {
             TextTarget::Macro { name } => add_place(name.as_str(), macros, places),
-            TextTarget::Variable { var: _, form: _ } => Ok(()),
-            TextTarget::Term {
-                term: _,
-                form: _,
-                plural: _,
-            } => Ok(()),
-            TextTarget::Value { val: _ } => Ok(()),
+            TextTarget::Variable { .. } | TextTarget::Term { .. } | TextTarget::Value { .. } => {
+                Ok(())
+            }
         },
-        LayoutRenderingElement::Number(_) => Ok(()),
-        LayoutRenderingElement::Label(_) => Ok(()),
-        LayoutRenderingElement::Date(_) => Ok(()),
+        LayoutRenderingElement::Number(_)
+        | LayoutRenderingElement::Label(_)
+        | LayoutRenderingElement::Date(_) => Ok(()),
         LayoutRenderingElement::Names(names) => {
             for child in &names.children {
-                add_child_called(child, macros, places)?;
+                add_child_calls(child, macros, places)?;
             }
             Ok(())
         }
-        LayoutRenderingElement::Choose(choose) => add_choose_called(choose, macros, places),
-        LayoutRenderingElement::Group(group) => add_all_called(&group.children, macros, places),
+        LayoutRenderingElement::Choose(choose) => add_choose_calls(choose, macros, places),
+        LayoutRenderingElement::Group(group) => add_all_calls(&group.children, macros, places),
     }
 }
 
 /// Adds the places that elements call.
-#[cycle(called)]
-fn add_all_called(
+#[cycle(calls)]
+fn add_all_calls(
     elements: &Vec<LayoutRenderingElement>,
     macros: &[CslMacro],
     places: &mut Vec<usize>,
 ) -> Result<(), AllocError>
-    ensures { OnOk result (places.new.items ≡ places.old.items ++ all_called (definitions macros.now) (views elements.now.items)) }
+    ensures { OnOk result (places.new.items ≡ places.old.items
+        ++ calls_in_all (definitions macros.now) (views elements.now.items)) }
 {
     for element in elements {
-        add_called(element, macros, places)?;
+        add_calls(element, macros, places)?;
     }
     Ok(())
 }
 
 /// Adds the places that the branches of a choose call, and then those of its otherwise.
-#[cycle(called)]
-fn add_choose_called(
+#[cycle(calls)]
+fn add_choose_calls(
     choose: &Choose,
     macros: &[CslMacro],
     places: &mut Vec<usize>,
 ) -> Result<(), AllocError>
-    ensures { OnOk result (places.new.items ≡ places.old.items ++ called (definitions macros.now) (view_choose choose.now)) }
+    ensures { OnOk result (places.new.items ≡ places.old.items
+        ++ calls_in (definitions macros.now) (view_choose choose.now)) }
 {
-    add_all_called(&choose.if_.children, macros, places)?;
+    add_all_calls(&choose.if_.children, macros, places)?;
     for branch in &choose.else_if {
-        add_all_called(&branch.children, macros, places)?;
+        add_all_calls(&branch.children, macros, places)?;
     }
     match &choose.otherwise {
-        Some(otherwise) => add_all_called(otherwise, macros, places),
+        Some(otherwise) => add_all_calls(otherwise, macros, places),
         None => Ok(()),
     }
 }
 
 /// Adds the places that a child of names calls: those of a substitute.
-#[cycle(called)]
-fn add_child_called(
+#[cycle(calls)]
+fn add_child_calls(
     child: &NamesChild,
     macros: &[CslMacro],
     places: &mut Vec<usize>,
 ) -> Result<(), AllocError>
-    ensures { OnOk result (places.new.items ≡ places.old.items ++ substitutes_called (definitions macros.now) (substitutes (view_child child.now ∷ []))) }
+    ensures { OnOk result (places.new.items ≡ places.old.items
+        ++ calls_in_substitutes (definitions macros.now)
+        (substitutes (view_child child.now ∷ []))) }
 {
     match child {
-        NamesChild::Name(_) => Ok(()),
-        NamesChild::EtAl(_) => Ok(()),
-        NamesChild::Label(_) => Ok(()),
+        NamesChild::Name(_) | NamesChild::EtAl(_) | NamesChild::Label(_) => Ok(()),
         NamesChild::Substitute(substitute) => {
-            add_all_called(&substitute.children, macros, places)
+            add_all_calls(&substitute.children, macros, places)
         }
     }
 }
 
 /// What each macro calls: row i lists the places that the macro at place i calls.
+///
+/// # Errors
+/// [`AllocError`]: there was no memory left.
 pub(crate) fn call_graph(alloc: Global, macros: &[CslMacro]) -> Result<Vec<Vec<usize>>, AllocError>
     ensures calls { IfOk result (λ graph. IsCallGraph (definitions macros.now) graph.items) }
     ensures range { IfOk result (λ graph. InRange graph.items (length graph.items)) }
@@ -132,7 +132,7 @@ pub(crate) fn call_graph(alloc: Global, macros: &[CslMacro]) -> Result<Vec<Vec<u
     let mut graph = Vec::new(alloc);
     for m in macros {
         let mut row = Vec::new(alloc);
-        add_all_called(&m.children, macros, &mut row)?;
+        add_all_calls(&m.children, macros, &mut row)?;
         graph.push(row)?;
     }
     Ok(graph)

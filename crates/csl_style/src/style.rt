@@ -61,24 +61,24 @@ impl Model for Style {
       locales = s.locales.items;
     } };
 
-    ghost invariant = { λ s. IsAcyclic (definitions s.macros.items) × (is_chicago s.settings.page_range_format ≡ false) };
+    ghost invariant = { λ s. IsAcyclic (definitions s.macros.items)
+        × (is_chicago s.settings.page_range_format ≡ false) };
 }
 
 /// Whether the page format is one of the two that no style may have.
 fn is_chicago(format: Option<PageRangeFormat>) -> bool
     ensures { result ≡ is_chicago format }
 {
-    match format {
-        Some(PageRangeFormat::Chicago15) => true,
-        Some(PageRangeFormat::Chicago16) => true,
-        Some(PageRangeFormat::Expanded) => false,
-        Some(PageRangeFormat::Minimal) => false,
-        Some(PageRangeFormat::MinimalTwo) => false,
-        None => false,
-    }
+    matches!(
+        format,
+        Some(PageRangeFormat::Chicago15 | PageRangeFormat::Chicago16)
+    )
 }
 
 /// Nothing where a style of these may stand, else why it is refused.
+///
+/// # Errors
+/// As [`Style::new`].
 fn find_refusal(
     alloc: Global,
     format: Option<PageRangeFormat>,
@@ -113,11 +113,13 @@ fn first_macro<'s>(macros: &'s [CslMacro], name: &str) -> Option<&'s CslMacro>
 
 impl Style {
     /// A style of these parts. The first macro of a name counts, and the others of that name are
-    /// never looked at.
+    /// never looked at. Where the style is refused, what was handed in is dropped.
     ///
-    /// It is refused where a macro leads back to itself (`CyclicMacro`, with the first of the list
-    /// that does), else where the page format is a Chicago one (`ChicagoPageFormat`), and, before
-    /// either is seen, for want of memory (`Memory`). Then what was handed in is dropped.
+    /// # Errors
+    /// [`StyleError::Memory`]: there was no memory left, before either of the others is seen.
+    /// [`StyleError::CyclicMacro`]: a macro leads back to itself. The first of the list that does
+    /// is named.
+    /// [`StyleError::ChicagoPageFormat`]: no macro does, and the page format is a Chicago one.
     pub fn new(
         alloc: Global,
         settings: StyleSettings,
@@ -229,6 +231,3 @@ impl Style {
         lookup::localized_date(&self.locales, form)
     }
 }
-
-#[cfg(test)]
-mod tests;

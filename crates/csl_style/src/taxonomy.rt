@@ -283,6 +283,3 @@ impl Kind {
         }
     }
 }
-
-#[cfg(test)]
-mod tests;

@@ -70,6 +70,3 @@ pub enum TermForm {
     VerbShort,
     Symbol,
 }
-
-#[cfg(test)]
-mod tests;

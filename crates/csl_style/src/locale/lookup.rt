@@ -105,10 +105,7 @@ pub(crate) fn term(locales: &[Locale], term: Term, form: TermForm, plural: bool)
     ensures { option_map (λ text. text.now) result
         ≡ term_text (map terms_of locales.now) term form plural }
 {
-    match found_term(locales, term, form) {
-        Some(entry) => Some(entry.text(plural)),
-        None => None,
-    }
+    found_term(locales, term, form).map(|entry| entry.text(plural))
 }
 
 /// The gender of what a term names (CSL 1.0.2, Gender-specific Ordinals): that of the first entry

@@ -2,14 +2,14 @@
 
 ghost use Rattle.std.specs.Prelude.{ℕ, ◌≡◌, map, option_map};
 ghost use Rattle.csl_style.specs.Locale.{ordinal_view, ordinals_of};
-ghost use Rattle.csl_style.specs.Ordinal.{compared, is_between, is_in, first_of, for_gender, first_ordinals, ordinal_for, ordinals, long_ordinals};
+ghost use Rattle.csl_style.specs.Ordinal.{digits_for, is_in_group, first_of, for_gender, first_ordinals, ordinal_for, ordinals, long_ordinals};
 
 use crate::locale::{Locale, OrdinalMatch, OrdinalSlot, OrdinalTerm};
 use lit_model::{GrammarGender, Ordinals};
 
 /// The digits of a number that are compared with a slot.
-fn compared(matching: Option<OrdinalMatch>, slot: u8, number: u32) -> u32
-    ensures { result ≡ compared matching slot number }
+fn digits_for(matching: Option<OrdinalMatch>, slot: u8, number: u32) -> u32
+    ensures { result ≡ digits_for matching slot number }
 {
     match matching {
         None => { if slot < 10 { number % 10 } else { number % 100 } }
@@ -19,91 +19,64 @@ fn compared(matching: Option<OrdinalMatch>, slot: u8, number: u32) -> u32
     }
 }
 
+/// Which ordinals are meant.
+#[derive(Clone, Copy)]
+pub(crate) enum OrdinalGroup {
+    /// Those for a number, by a slot from `low` to `high`.
+    Between { low: u8, high: u8, number: u32 },
+    /// Those of this slot.
+    Slot(OrdinalSlot),
+}
+
 impl OrdinalTerm {
-    /// Whether the ordinal is for a number, by a slot from `low` to `high`.
-    fn is_between(&self, low: u8, high: u8, number: u32) -> bool
-        ensures { result ≡ is_between low high number (ordinal_view self.now) }
+    /// Whether the ordinal is one of the group.
+    fn is_in(&self, group: OrdinalGroup) -> bool
+        ensures { result ≡ is_in_group group (ordinal_view self.now) }
     {
-        match self.slot {
-            OrdinalSlot::Two(slot) => {
-                low <= slot
-                    && slot <= high
-                    && u32::from(slot) == compared(self.matching, slot, number)
-            }
-            OrdinalSlot::Default | OrdinalSlot::Long(_) => false,
+        match group {
+            OrdinalGroup::Between { low, high, number } => match self.slot {
+                OrdinalSlot::Two(slot) => {
+                    low <= slot
+                        && slot <= high
+                        && u32::from(slot) == digits_for(self.matching, slot, number)
+                }
+                OrdinalSlot::Default | OrdinalSlot::Long(_) => false,
+            },
+            OrdinalGroup::Slot(slot) => self.slot == slot,
         }
     }
 }
 
-/// The first ordinal for a number and a gender, or a neutral one, by a slot from `low` to `high`.
-fn between_for(
+/// The first ordinal of a group that is for a gender, or, with no gender, the first neutral one.
+fn first_for_gender(
     ordinals: &[OrdinalTerm],
-    low: u8,
-    high: u8,
-    number: u32,
+    group: OrdinalGroup,
     gender: Option<GrammarGender>,
 ) -> Option<&OrdinalTerm>
     ensures { option_map (λ o. ordinal_view o.now) result
-        ≡ for_gender (is_between low high number)
-        (map ordinal_view ordinals.now) gender }
+        ≡ for_gender (is_in_group group) (map ordinal_view ordinals.now) gender }
 {
     for ordinal in ordinals {
-        if ordinal.is_between(low, high, number) && ordinal.gender == gender {
+        if ordinal.is_in(group) && ordinal.gender == gender {
             return Some(ordinal);
         }
     }
     None
 }
 
-/// The first ordinal for a number by a slot from `low` to `high`: one for the gender, else a
-/// neutral one.
-fn between(
+/// The first ordinal of a group: one for the gender, else a neutral one.
+fn first_of(
     ordinals: &[OrdinalTerm],
-    low: u8,
-    high: u8,
-    number: u32,
+    group: OrdinalGroup,
     gender: Option<GrammarGender>,
 ) -> Option<&OrdinalTerm>
     ensures { option_map (λ o. ordinal_view o.now) result
-        ≡ first_of (is_between low high number)
-        (map ordinal_view ordinals.now) gender }
+        ≡ first_of (is_in_group group) (map ordinal_view ordinals.now) gender }
 {
-    if let Some(ordinal) = between_for(ordinals, low, high, number, gender) {
+    if let Some(ordinal) = first_for_gender(ordinals, group, gender) {
         return Some(ordinal);
     }
-    between_for(ordinals, low, high, number, None)
-}
-
-/// The first ordinal of a slot for a gender, or a neutral one.
-fn in_slot_for(
-    ordinals: &[OrdinalTerm],
-    slot: OrdinalSlot,
-    gender: Option<GrammarGender>,
-) -> Option<&OrdinalTerm>
-    ensures { option_map (λ o. ordinal_view o.now) result
-        ≡ for_gender (is_in slot) (map ordinal_view ordinals.now) gender }
-{
-    for ordinal in ordinals {
-        if ordinal.slot == slot && ordinal.gender == gender {
-            return Some(ordinal);
-        }
-    }
-    None
-}
-
-/// The first ordinal of a slot: one for the gender, else a neutral one.
-fn in_slot(
-    ordinals: &[OrdinalTerm],
-    slot: OrdinalSlot,
-    gender: Option<GrammarGender>,
-) -> Option<&OrdinalTerm>
-    ensures { option_map (λ o. ordinal_view o.now) result
-        ≡ first_of (is_in slot) (map ordinal_view ordinals.now) gender }
-{
-    if let Some(ordinal) = in_slot_for(ordinals, slot, gender) {
-        return Some(ordinal);
-    }
-    in_slot_for(ordinals, slot, None)
+    first_for_gender(ordinals, group, None)
 }
 
 /// The ordinals of the first locale that has any.
@@ -127,13 +100,23 @@ fn ordinal_for(
     ensures { option_map (λ o. ordinal_view o.now) result
         ≡ ordinal_for (map ordinal_view ordinals.now) number gender }
 {
-    if let Some(ordinal) = between(ordinals, 10, 99, number, gender) {
+    let two_digits = OrdinalGroup::Between {
+        low: 10,
+        high: 99,
+        number,
+    };
+    if let Some(ordinal) = first_of(ordinals, two_digits, gender) {
         return Some(ordinal);
     }
-    if let Some(ordinal) = between(ordinals, 0, 9, number, gender) {
+    let one_digit = OrdinalGroup::Between {
+        low: 0,
+        high: 9,
+        number,
+    };
+    if let Some(ordinal) = first_of(ordinals, one_digit, gender) {
         return Some(ordinal);
     }
-    in_slot(ordinals, OrdinalSlot::Default, gender)
+    first_of(ordinals, OrdinalGroup::Slot(OrdinalSlot::Default), gender)
 }
 
 /// The suffix that makes an ordinal of a number, whatever its sign: that for its last two digits,
@@ -146,10 +129,8 @@ pub(crate) fn ordinal(
     ensures { option_map (λ text. text.now) result
         ≡ ordinals (map ordinals_of locales.now) number gender }
 {
-    match ordinal_for(first_ordinals(locales), number.unsigned_abs(), gender) {
-        Some(ordinal) => Some(ordinal.text.as_str()),
-        None => None,
-    }
+    let found = ordinal_for(first_ordinals(locales), number.unsigned_abs(), gender);
+    found.map(|ordinal| ordinal.text.as_str())
 }
 
 /// The word for the ordinal of a number from 1 to 10. One for the gender comes before a neutral
@@ -162,14 +143,12 @@ pub(crate) fn long_ordinal(
     ensures { option_map (λ text. text.now) result
         ≡ long_ordinals (map ordinals_of locales.now) number gender }
 {
-    if number >= 1 && number <= 10 {
-        let slot = OrdinalSlot::Long(number.unsigned_abs() as u8);
-        return match in_slot(first_ordinals(locales), slot, gender) {
-            Some(ordinal) => Some(ordinal.text.as_str()),
-            None => None,
-        };
+    if number < 1 || number > 10 {
+        return None;
     }
-    None
+    let word = OrdinalGroup::Slot(OrdinalSlot::Long(number.unsigned_abs() as u8));
+    let found = first_of(first_ordinals(locales), word, gender);
+    found.map(|ordinal| ordinal.text.as_str())
 }
 
 /// The ordinals of a style's locales, as numbers ask for them.

@@ -1,8 +1,7 @@
 //! The options of names, which a node may set and else inherits (CSL 1.0.2, Inheritable Name
 //! Options).
 
-ghost use Rattle.std.specs.Prelude.{◌≡◌, option_map, string_bytes};
-ghost use Rattle.std.specs.Option.{option_or};
+ghost use Rattle.std.specs.Prelude.{◌≡◌};
 ghost use Rattle.csl_style.specs.NameOptions.{own_options, inherited_options, options_over, used_options, with_defaults, names_delimiter_of, limit_of, is_suppressed};
 
 use crate::names::{DelimiterBehavior, NameAnd, NameAsSortOrder, NameForm};
@@ -35,7 +34,7 @@ impl InheritableNameOptions {
     {
         InheritedNameOptions {
             and: self.and,
-            delimiter: text(&self.delimiter),
+            delimiter: self.delimiter.as_deref(),
             delimiter_precedes_et_al: self.delimiter_precedes_et_al,
             delimiter_precedes_last: self.delimiter_precedes_last,
             et_al_min: self.et_al_min,
@@ -45,10 +44,10 @@ impl InheritableNameOptions {
             et_al_use_last: self.et_al_use_last,
             form: self.form,
             initialize: self.initialize,
-            initialize_with: text(&self.initialize_with),
+            initialize_with: self.initialize_with.as_deref(),
             name_as_sort_order: self.name_as_sort_order,
-            sort_separator: text(&self.sort_separator),
-            names_delimiter: text(&self.names_delimiter),
+            sort_separator: self.sort_separator.as_deref(),
+            names_delimiter: self.names_delimiter.as_deref(),
         }
     }
 
@@ -59,7 +58,7 @@ impl InheritableNameOptions {
     {
         InheritedNameOptions {
             and: self.and.or(base.and),
-            delimiter: text_or(&self.delimiter, base.delimiter),
+            delimiter: self.delimiter.as_deref().or(base.delimiter),
             delimiter_precedes_et_al: self
                 .delimiter_precedes_et_al
                 .or(base.delimiter_precedes_et_al),
@@ -75,32 +74,11 @@ impl InheritableNameOptions {
             et_al_use_last: self.et_al_use_last.or(base.et_al_use_last),
             form: self.form.or(base.form),
             initialize: self.initialize.or(base.initialize),
-            initialize_with: text_or(&self.initialize_with, base.initialize_with),
+            initialize_with: self.initialize_with.as_deref().or(base.initialize_with),
             name_as_sort_order: self.name_as_sort_order.or(base.name_as_sort_order),
-            sort_separator: text_or(&self.sort_separator, base.sort_separator),
-            names_delimiter: text_or(&self.names_delimiter, base.names_delimiter),
+            sort_separator: self.sort_separator.as_deref().or(base.sort_separator),
+            names_delimiter: self.names_delimiter.as_deref().or(base.names_delimiter),
         }
-    }
-}
-
-/// The text, else that of the base.
-fn text_or<'s>(own: &'s Option<String>, base: Option<&'s str>) -> Option<&'s str>
-    ensures { option_map (λ t. t.now) result
-        ≡ option_or (option_map string_bytes own.now) (option_map (λ t. t.now) base.entry) }
-{
-    match own {
-        Some(text) => Some(text.as_str()),
-        None => base,
-    }
-}
-
-/// The text, if there is one.
-fn text(text: &Option<String>) -> Option<&str>
-    ensures { option_map (λ t. t.now) result ≡ option_map string_bytes text.now }
-{
-    match text {
-        Some(text) => Some(text.as_str()),
-        None => None,
     }
 }
 
@@ -211,6 +189,3 @@ fn limit(own: Option<u32>, later: Option<u32>, subsequent: bool) -> Option<u32>
 {
     if subsequent { later.or(own) } else { own }
 }
-
-#[cfg(test)]
-mod tests;

@@ -11,7 +11,7 @@ use std::fmt;
 /// Why a style is refused.
 #[derive(Debug, Drop)]
 pub enum StyleError {
-    /// There was no memory.
+    /// There was no memory left.
     Memory,
     /// The macro of this name leads back to itself. It is the first of the list that does.
     CyclicMacro(String),
@@ -25,11 +25,11 @@ impl fmt::Display for StyleError {
 
     fn fmt<W: fmt::Write>(&self, f: &mut fmt::Formatter<W>) -> fmt::Result {
         match self {
-            StyleError::Memory => write!(f, "out of memory"),
+            StyleError::Memory => f.write_str("out of memory"),
             StyleError::CyclicMacro(name) => {
                 write!(f, "the macro '{}' leads back to itself", name)
             }
-            StyleError::ChicagoPageFormat => { write!(f, "Chicago page formats are not supported") }
+            StyleError::ChicagoPageFormat => f.write_str("Chicago page formats are not supported"),
         }
     }
 }

@@ -1,7 +1,7 @@
 use Rattle.std.proofs.Common.{◌≡◌, ◌++◌, [], ◌∷◌, sym, ap, ◌∙◌, arith, rules, length-append}
 use Rattle.std.proofs.lemmas.Grind.{common_steps}
 use Rattle.csl_style.specs.View.{definitions, views}
-use Rattle.csl_style.specs.Calls.{all_called, children_at}
+use Rattle.csl_style.specs.Calls.{calls_in_all, children_at}
 use Rattle.csl_style.proofs.Called.{rows-more, in-range, children-read, length-definitions}
 use Rattle.csl_style.proofs.places.call_graph.Goals as goal
 
@@ -11,10 +11,10 @@ loop-m-preserved c =
     let ds = definitions ms in
     let g = c.loop-m.graph.items in
     let i = c.loop-m.m-index in
-    let row = c.add_all_called.new.places in
+    let row = c.add_all_calls.new.places in
     let e : c.push.new.self.items ≡ g ++ row ∷ [] = search rules in
-    let made : row.items ≡ all_called ds (views c.m-item.result.children.items) = grind (arith, common_steps) in
-    let here : row.items ≡ all_called ds (children_at ds i) = made ∙ ap (all_called ds) (sym (children-read ms i c.m-item.result (omega arith) c.m-item.is)) in
+    let made : row.items ≡ calls_in_all ds (views c.m-item.result.children.items) = grind (arith, common_steps) in
+    let here : row.items ≡ calls_in_all ds (children_at ds i) = made ∙ ap (calls_in_all ds) (sym (children-read ms i c.m-item.result (omega arith) c.m-item.is)) in
     rw e record {
       each = length-append g (row ∷ []) ∙ omega (arith, c.loop-m.invariant.each);
       rows = rows-more ds g row i c.loop-m.invariant.each c.loop-m.invariant.rows here;

@@ -1,7 +1,7 @@
 use Rattle.std.proofs.Common.{◌≡◌, ℕ, ◌<◌, length}
 use Rattle.csl_style.specs.Reaches.{row_at}
 use Rattle.csl_style.specs.View.{definitions}
-use Rattle.csl_style.specs.Calls.{all_called, children_at}
+use Rattle.csl_style.specs.Calls.{calls_in_all, children_at}
 use Rattle.csl_style.proofs.places.call_graph.Given as goal
 
 abbrev pub invariant-loop-m : goal.invariant-loop-m
@@ -9,5 +9,5 @@ invariant-loop-m l =
     let ds = definitions l.macros in
     record {
       each : length l.graph.items ≡ l.m-index;
-      rows : (i : ℕ) → i < l.m-index → row_at l.graph.items i ≡ all_called ds (children_at ds i);
+      rows : (i : ℕ) → i < l.m-index → row_at l.graph.items i ≡ calls_in_all ds (children_at ds i);
     }

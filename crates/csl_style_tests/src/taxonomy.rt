@@ -1,7 +1,10 @@
+//! Variables and kinds.
+
 ghost use Rattle.std.specs.Prelude.{◌≡◌, ◌↔◌, IsTrue};
 ghost use Rattle.std.specs.declared.cmp.Ordering.TheVariants.{Equal};
 
-use super::*;
+use crate::asserted::assert_same;
+use csl_style::{DateVariable, Kind, StandardVariable, Variable};
 use std::cmp::Ordering;
 
 /// Whether the two variables are equal: they are where they are one.
@@ -74,7 +77,7 @@ fn kinds_by_their_names(rt: HostRuntime) {
         ("treaty", Kind::Treaty),
         ("webpage", Kind::Webpage),
     ] {
-        assert!(rt; Kind::from_name(name) == Some(kind), "{name}");
+        assert_same(&rt, &Kind::from_name(name), &Some(kind));
     }
 }
 
@@ -88,19 +91,32 @@ fn other_names_are_no_kinds(rt: HostRuntime) {
         "article_journal",
         "legal-case",
     ] {
-        assert!(rt; Kind::from_name(name).is_none(), "{name}");
+        assert_same(&rt, &Kind::from_name(name), &None);
     }
 }
 
 #[test]
 fn variables_are_equal_where_they_are_one(rt: HostRuntime) {
     let title = Variable::Standard(StandardVariable::Title);
+    let short = Variable::Standard(StandardVariable::TitleShort);
     let issued = Variable::Date(DateVariable::Issued);
-    assert!(rt; same_variable(&title, &title));
-    assert!(rt; !same_variable(&title, &issued));
-    assert!(rt; !same_variable(&title, &Variable::Standard(StandardVariable::TitleShort)));
-    assert!(rt; order(&title, &title) == Ordering::Equal);
-    assert!(rt; order(&title, &issued) == Ordering::Less);
-    assert!(rt; same_kind(&Kind::Book, &Kind::Book));
-    assert!(rt; !same_kind(&Kind::Book, &Kind::ReviewBook));
+    for (a, b, wanted) in [
+        (title, title, true),
+        (title, issued, false),
+        (title, short, false),
+    ] {
+        assert_same(&rt, &same_variable(&a, &b), &wanted);
+    }
+    for (a, b, wanted) in [
+        (title, title, Ordering::Equal),
+        (title, issued, Ordering::Less),
+    ] {
+        assert_same(&rt, &order(&a, &b), &wanted);
+    }
+    for (a, b, wanted) in [
+        (Kind::Book, Kind::Book, true),
+        (Kind::Book, Kind::ReviewBook, false),
+    ] {
+        assert_same(&rt, &same_kind(&a, &b), &wanted);
+    }
 }

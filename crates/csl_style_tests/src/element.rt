@@ -1,0 +1,38 @@
+//! The nodes that hold nodes.
+
+use crate::asserted::assert_same;
+use crate::made::branch;
+use csl_style::{Choose, ChooseMatch};
+use std::alloc::{AllocError, Global};
+use std::test::Fail;
+
+/// How the branches of a choose match, in the order in which it answers them.
+fn matches_in_order(
+    alloc: Global,
+    first: ChooseMatch,
+    others: &[ChooseMatch],
+) -> Result<Vec<ChooseMatch>, AllocError> {
+    let mut else_if = Vec::new(alloc);
+    for match_ in others {
+        else_if.push(branch(*match_, Vec::new(alloc)))?;
+    }
+    let choose = Choose {
+        if_: branch(first, Vec::new(alloc)),
+        else_if,
+        otherwise: None,
+    };
+    let mut matches = Vec::new(alloc);
+    for branch in choose.branches() {
+        matches.push(branch.match_)?;
+    }
+    Ok(matches)
+}
+
+#[test]
+fn branches_come_in_order(rt: HostRuntime) -> Result<(), Fail> {
+    let others = [ChooseMatch::None, ChooseMatch::Any];
+    let answer = matches_in_order(rt.alloc(), ChooseMatch::All, &others)?;
+    let wanted = [ChooseMatch::All, ChooseMatch::None, ChooseMatch::Any];
+    assert_same(&rt, &answer.as_slice(), &wanted.as_slice());
+    Ok(())
+}

@@ -1,0 +1,24 @@
+//! The tests of `csl_style`: its public calls, asked with inputs and answers that are written out
+//! by hand. A module here tests the module of its name there.
+#![tactic(auto)]
+
+#[cfg(test)]
+mod asserted;
+#[cfg(test)]
+mod cycles;
+#[cfg(test)]
+mod defaults;
+#[cfg(test)]
+mod element;
+#[cfg(test)]
+mod locale;
+#[cfg(test)]
+mod made;
+#[cfg(test)]
+mod names;
+#[cfg(test)]
+mod style;
+#[cfg(test)]
+mod taxonomy;
+#[cfg(test)]
+mod term;

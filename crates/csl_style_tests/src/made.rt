@@ -1,0 +1,320 @@
+//! Styles and locales from plain words.
+
+use csl_style::{
+    Affixes, Choose, ChooseBranch, ChooseMatch, CslMacro, Date, DateForm, DateParts, Formatting,
+    Group, InheritableNameOptions, Layout, LayoutRenderingElement, Locale, NameVariable, Names,
+    NamesChild, OrdinalMatch, OrdinalSlot, OrdinalTerm, PageRangeFormat, Style, StyleError,
+    StyleSettings, Substitute, Term, TermEntry, TermForm, Text, TextTarget,
+};
+use lit_model::GrammarGender;
+use std::alloc::{AllocError, Global};
+
+/// A term: its name, its form, the text for one, that for several, and its gender.
+pub(crate) type TermRow<'s> = (
+    Term,
+    TermForm,
+    &'s str,
+    Option<&'s str>,
+    Option<GrammarGender>,
+);
+
+/// An ordinal: its slot, which digits are compared, its gender and its text.
+pub(crate) type OrdinalRow<'s> = (
+    OrdinalSlot,
+    Option<OrdinalMatch>,
+    Option<GrammarGender>,
+    &'s str,
+);
+
+/// What a locale says.
+#[derive(Clone, Copy)]
+pub(crate) struct LocaleRows<'s> {
+    pub(crate) terms: &'s [TermRow<'s>],
+    pub(crate) ordinals: &'s [OrdinalRow<'s>],
+    pub(crate) dates: &'s [(DateForm, DateParts)],
+    pub(crate) punctuation_in_quote: bool,
+}
+
+/// A locale that says nothing.
+pub(crate) const SILENT: LocaleRows<'static> = LocaleRows {
+    terms: &[],
+    ordinals: &[],
+    dates: &[],
+    punctuation_in_quote: false,
+};
+
+/// A localized date without parts.
+fn date(alloc: Global, form: DateForm, parts: DateParts) -> Date {
+    Date {
+        variable: None,
+        form: Some(form),
+        parts: Some(parts),
+        date_part: Vec::new(alloc),
+        delimiter: None,
+        formatting: Formatting::default(),
+        affixes: Affixes::default(),
+        display: None,
+    }
+}
+
+/// A copy of a text, if there is one.
+pub(crate) fn copy_text(alloc: Global, text: Option<&str>) -> Result<Option<String>, AllocError> {
+    match text {
+        Some(text) => Ok(Some(String::from_str(alloc, text)?)),
+        None => Ok(None),
+    }
+}
+
+fn terms(alloc: Global, rows: &[TermRow<'_>]) -> Result<Vec<TermEntry>, AllocError> {
+    let mut terms = Vec::new(alloc);
+    for (term, form, single, multiple, gender) in rows {
+        let single = String::from_str(alloc, *single)?;
+        terms.push(TermEntry {
+            term: *term,
+            form: *form,
+            single,
+            multiple: copy_text(alloc, *multiple)?,
+            gender: *gender,
+        })?;
+    }
+    Ok(terms)
+}
+
+fn ordinals(alloc: Global, rows: &[OrdinalRow<'_>]) -> Result<Vec<OrdinalTerm>, AllocError> {
+    let mut ordinals = Vec::new(alloc);
+    for (slot, matching, gender, text) in rows {
+        ordinals.push(OrdinalTerm {
+            slot: *slot,
+            matching: *matching,
+            gender: *gender,
+            text: String::from_str(alloc, *text)?,
+        })?;
+    }
+    Ok(ordinals)
+}
+
+fn dates(alloc: Global, rows: &[(DateForm, DateParts)]) -> Result<Vec<Date>, AllocError> {
+    let mut dates = Vec::new(alloc);
+    for (form, parts) in rows {
+        dates.push(date(alloc, *form, *parts))?;
+    }
+    Ok(dates)
+}
+
+fn locale(alloc: Global, rows: LocaleRows<'_>) -> Result<Locale, AllocError> {
+    let terms = terms(alloc, rows.terms)?;
+    let ordinals = ordinals(alloc, rows.ordinals)?;
+    Ok(Locale {
+        terms,
+        ordinals,
+        dates: dates(alloc, rows.dates)?,
+        punctuation_in_quote: rows.punctuation_in_quote,
+        limit_day_ordinals_to_day_1: false,
+    })
+}
+
+/// The locales of these rows, in order.
+pub(crate) fn locales(alloc: Global, rows: &[LocaleRows<'_>]) -> Result<Vec<Locale>, AllocError> {
+    let mut locales = Vec::new(alloc);
+    for row in rows {
+        locales.push(locale(alloc, *row)?)?;
+    }
+    Ok(locales)
+}
+
+/// What may stand around the nodes of a macro.
+#[derive(Clone, Copy)]
+enum Around {
+    /// The `if` branch of a choose.
+    If,
+    /// The `else-if` branch of a choose whose other branch is empty.
+    ElseIf,
+    /// The `else` of a choose whose branch is empty.
+    Else,
+    Group,
+    /// The substitute of names of authors.
+    Substitute,
+}
+
+impl Around {
+    fn from_name(name: &str) -> Option<Around> {
+        match name {
+            "if" => Some(Around::If),
+            "else-if" => Some(Around::ElseIf),
+            "else" => Some(Around::Else),
+            "group" => Some(Around::Group),
+            "substitute" => Some(Around::Substitute),
+            _ => None,
+        }
+    }
+}
+
+/// A branch without tests.
+pub(crate) fn branch(match_: ChooseMatch, children: Vec<LayoutRenderingElement>) -> ChooseBranch {
+    ChooseBranch {
+        disambiguate: None,
+        is_numeric: None,
+        is_uncertain_date: None,
+        locator: None,
+        position: None,
+        type_: None,
+        variable: None,
+        match_,
+        children,
+    }
+}
+
+/// Names of authors, and what stands in their place.
+fn names_or(
+    alloc: Global,
+    children: Vec<LayoutRenderingElement>,
+) -> Result<LayoutRenderingElement, AllocError> {
+    let substitute = NamesChild::Substitute(Substitute { children });
+    Ok(LayoutRenderingElement::Names(Names {
+        children: vec![in alloc; substitute]?,
+        variable: vec![in alloc; NameVariable::Author]?,
+        options: InheritableNameOptions::default(),
+        delimiter: None,
+        formatting: Formatting::default(),
+        affixes: Affixes::default(),
+        display: None,
+    }))
+}
+
+/// The node that holds these.
+fn node_around(
+    alloc: Global,
+    around: Around,
+    children: Vec<LayoutRenderingElement>,
+) -> Result<LayoutRenderingElement, AllocError> {
+    match around {
+        Around::If => Ok(LayoutRenderingElement::Choose(Choose {
+            if_: branch(ChooseMatch::All, children),
+            else_if: Vec::new(alloc),
+            otherwise: None,
+        })),
+        Around::ElseIf => Ok(LayoutRenderingElement::Choose(Choose {
+            if_: branch(ChooseMatch::All, Vec::new(alloc)),
+            else_if: vec![in alloc; branch(ChooseMatch::All, children)]?,
+            otherwise: None,
+        })),
+        Around::Else => Ok(LayoutRenderingElement::Choose(Choose {
+            if_: branch(ChooseMatch::All, Vec::new(alloc)),
+            else_if: Vec::new(alloc),
+            otherwise: Some(children),
+        })),
+        Around::Group => Ok(LayoutRenderingElement::Group(Group {
+            children,
+            delimiter: None,
+            formatting: Formatting::default(),
+            affixes: Affixes::default(),
+            display: None,
+        })),
+        Around::Substitute => names_or(alloc, children),
+    }
+}
+
+/// A text node: one that prints the word behind a `'`, or one that calls the macro of the word.
+fn text(alloc: Global, word: &str) -> Result<LayoutRenderingElement, AllocError> {
+    let target = match word.strip_prefix('\'') {
+        Some(val) => TextTarget::Value {
+            val: String::from_str(alloc, val)?,
+        },
+        None => TextTarget::Macro {
+            name: String::from_str(alloc, word)?,
+        },
+    };
+    Ok(LayoutRenderingElement::Text(Text {
+        target,
+        formatting: Formatting::default(),
+        affixes: Affixes::default(),
+        display: None,
+        quotes: false,
+        strip_periods: false,
+    }))
+}
+
+/// The nodes that the words name: what stands around, from the outside in, and then the texts.
+fn nodes<'w>(alloc: Global, words: &[&'w str]) -> Result<Vec<LayoutRenderingElement>, AllocError> {
+    let mut nodes = Vec::new(alloc);
+    for word in words {
+        if Around::from_name(*word).is_none() {
+            nodes.push(text(alloc, *word)?)?;
+        }
+    }
+    for word in words.iter().rev() {
+        if let Some(around) = Around::from_name(*word) {
+            let node = node_around(alloc, around, nodes)?;
+            nodes = vec![in alloc; node]?;
+        }
+    }
+    Ok(nodes)
+}
+
+/// A macro of a line: its name, and the words of its nodes.
+fn csl_macro(alloc: Global, line: &str) -> Result<CslMacro, AllocError> {
+    let (name, words) = line.split_once(' ').unwrap_or((line, ""));
+    let words: Vec<&str> = words.split_whitespace().collect(alloc)?;
+    let name = String::from_str(alloc, name)?;
+    Ok(CslMacro {
+        name,
+        children: nodes(alloc, &words)?,
+    })
+}
+
+/// The macros of these lines, in order.
+pub(crate) fn macros(alloc: Global, lines: &[&str]) -> Result<Vec<CslMacro>, AllocError> {
+    let mut macros = Vec::new(alloc);
+    for line in lines {
+        macros.push(csl_macro(alloc, *line)?)?;
+    }
+    Ok(macros)
+}
+
+/// A layout that prints a word, if there is one.
+pub(crate) fn layout(alloc: Global, word: Option<&str>) -> Result<Layout, AllocError> {
+    let mut elements = Vec::new(alloc);
+    if let Some(word) = word {
+        elements.push(text(alloc, word)?)?;
+    }
+    Ok(Layout {
+        elements,
+        delimiter: None,
+        formatting: Formatting::default(),
+    })
+}
+
+/// A style with a page format and these macros, that prints nothing.
+pub(crate) fn style_of_macros(
+    alloc: Global,
+    format: Option<PageRangeFormat>,
+    lines: &[&str],
+) -> Result<Style, StyleError> {
+    let macros = macros(alloc, lines)?;
+    let mut settings = StyleSettings::default();
+    settings.page_range_format = format;
+    Style::new(
+        alloc,
+        settings,
+        macros,
+        layout(alloc, None)?,
+        None,
+        Vec::new(alloc),
+    )
+}
+
+/// A style with these locales, that prints nothing.
+pub(crate) fn style_of_locales(
+    alloc: Global,
+    rows: &[LocaleRows<'_>],
+) -> Result<Style, StyleError> {
+    let locales = locales(alloc, rows)?;
+    Style::new(
+        alloc,
+        StyleSettings::default(),
+        Vec::new(alloc),
+        layout(alloc, None)?,
+        None,
+        locales,
+    )
+}

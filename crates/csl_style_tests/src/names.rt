@@ -1,0 +1,119 @@
+//! The options of names.
+
+use crate::asserted::{assert_same, assert_text};
+use csl_style::{
+    DelimiterBehavior, InheritableNameOptions, InheritedNameOptions, NameForm, NameOptions,
+};
+use std::alloc::{AllocError, Global};
+use std::process::Abort;
+use std::test::Fail;
+
+#[test]
+fn options_that_are_not_set_have_their_defaults(rt: HostRuntime) {
+    let options = InheritedNameOptions::default();
+    assert_text(&rt, Some(options.names_delimiter()), Some(""));
+    let options = options.name_options();
+    assert_same(&rt, &options.and, &None);
+    assert_text(&rt, Some(options.delimiter), Some(", "));
+    let contextual = DelimiterBehavior::Contextual;
+    assert_same(&rt, &options.delimiter_precedes_et_al, &contextual);
+    assert_same(&rt, &options.delimiter_precedes_last, &contextual);
+    assert_same(&rt, &options.et_al_min, &None);
+    assert_same(&rt, &options.et_al_use_first, &None);
+    assert_same(&rt, &options.et_al_subsequent_min, &None);
+    assert_same(&rt, &options.et_al_subsequent_use_first, &None);
+    assert_same(&rt, &options.et_al_use_last, &false);
+    assert_same(&rt, &options.form, &NameForm::Long);
+    assert_same(&rt, &options.initialize, &true);
+    assert_text(&rt, options.initialize_with, None);
+    assert_same(&rt, &options.name_as_sort_order, &None);
+    assert_text(&rt, Some(options.sort_separator), Some(", "));
+}
+
+/// Two sets of options: those of a node, and those around it.
+fn own_and_around(alloc: Global) -> Result<[InheritableNameOptions; 2], AllocError> {
+    let mut own = InheritableNameOptions::default();
+    own.delimiter = Some(String::from_str(alloc, "")?);
+    own.form = Some(NameForm::Short);
+    let mut around = InheritableNameOptions::default();
+    around.delimiter = Some(String::from_str(alloc, "; ")?);
+    around.names_delimiter = Some(String::from_str(alloc, " | ")?);
+    around.et_al_min = Some(4);
+    Ok([own, around])
+}
+
+/// What counts where a node's own options stand over those around it.
+fn assert_own_options_count(rt: &impl Abort, alloc: Global) -> Result<(), AllocError> {
+    let sets = own_and_around(alloc)?;
+    let options = sets[0].apply(sets[1].as_inherited());
+    assert_text(rt, Some(options.names_delimiter()), Some(" | "));
+    let options = options.name_options();
+    assert_text(rt, Some(options.delimiter), Some(""));
+    assert_same(rt, &options.form, &NameForm::Short);
+    assert_same(rt, &options.et_al_min, &Some(4));
+    assert_text(rt, Some(options.sort_separator), Some(", "));
+    Ok(())
+}
+
+#[test]
+fn own_options_stand_over_inherited_ones(rt: HostRuntime) -> Result<(), Fail> {
+    assert_own_options_count(&rt, rt.alloc())?;
+    Ok(())
+}
+
+/// The options of a style with these limits.
+fn limits(min: u32, first: u32, use_last: bool) -> NameOptions<'static> {
+    let options = InheritedNameOptions {
+        et_al_min: Some(min),
+        et_al_use_first: Some(first),
+        et_al_use_last: Some(use_last),
+        ..InheritedNameOptions::default()
+    };
+    options.name_options()
+}
+
+#[test]
+fn long_lists_lose_names(rt: HostRuntime) {
+    for (min, first, idx, len, subsequent, wanted) in [
+        (3, 1, 0, 3, false, false),
+        (3, 1, 1, 3, false, true),
+        (3, 1, 2, 3, false, true),
+        (3, 1, 1, 2, false, false),
+        (3, 1, usize::MAX, usize::MAX, true, true),
+        (0, 0, 0, 0, false, true),
+    ] {
+        let answer = limits(min, first, false).is_suppressed(idx, len, subsequent);
+        assert_same(&rt, &answer, &wanted);
+    }
+    let options = InheritedNameOptions::default().name_options();
+    assert_same(&rt, &options.is_suppressed(7, 9, false), &false);
+}
+
+#[test]
+fn the_last_name_is_kept_where_another_is_left_out(rt: HostRuntime) {
+    for (first, idx, len, wanted) in [
+        (1, 1, 3, true),
+        (1, 2, 3, false),
+        (2, 2, 3, true),
+        (2, 3, 4, false),
+    ] {
+        let answer = limits(3, first, true).is_suppressed(idx, len, false);
+        assert_same(&rt, &answer, &wanted);
+    }
+}
+
+#[test]
+fn later_cites_have_limits_of_their_own(rt: HostRuntime) {
+    for (later_min, len, subsequent, wanted) in [
+        (None, 3, false, false),
+        (None, 3, true, true),
+        (None, 2, true, false),
+        (Some(2), 2, true, true),
+    ] {
+        let mut options = limits(3, 2, false);
+        options.et_al_subsequent_use_first = Some(1);
+        options.et_al_subsequent_min = later_min;
+        let answer = options.is_suppressed(1, len, subsequent);
+        assert_same(&rt, &answer, &wanted);
+    }
+}
