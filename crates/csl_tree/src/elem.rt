@@ -241,6 +241,3 @@ impl From<Formatted> for ElemChild {
         ElemChild::Text(formatted)
     }
 }
-
-#[cfg(test)]
-mod tests;

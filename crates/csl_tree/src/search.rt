@@ -124,6 +124,3 @@ impl ElemChildren {
         None
     }
 }
-
-#[cfg(test)]
-mod tests;

@@ -157,6 +157,3 @@ impl ElemChild {
         }
     }
 }
-
-#[cfg(test)]
-mod tests;

@@ -1,0 +1,72 @@
+//! Copies are equal to what they were made of.
+
+use crate::trees::{assert_tree, names, read};
+use csl_style::NameVariable;
+use csl_tree::{ElemChild, ElemChildren, ElemMeta};
+use lit_model::Memory;
+use std::alloc::Global;
+use std::process::Abort;
+use std::test::Fail;
+
+/// A tree of a copy alone.
+fn alone(alloc: Global, child: ElemChild) -> Result<ElemChildren, Memory> {
+    Ok(ElemChildren(vec![in alloc; child]?))
+}
+
+/// Copies of a tree of one child: of the children, of the child, and of the element or the text
+/// that it is.
+fn copies(alloc: Global, source: &str) -> Result<Vec<ElemChildren>, Fail> {
+    let tree = read(alloc, source)?;
+    let mut all = vec![in alloc; tree.clone(alloc)?]?;
+    if let Some(child) = tree.0.first() {
+        all.push(alone(alloc, child.clone(alloc)?)?)?;
+        match child {
+            ElemChild::Elem(elem) => all.push(alone(alloc, ElemChild::from(elem.clone(alloc)?))?)?,
+            ElemChild::Text(text) => all.push(alone(alloc, ElemChild::from(text.clone(alloc)?))?)?,
+            _ => {}
+        }
+    }
+    Ok(all)
+}
+
+fn assert_copies(rt: &impl Abort, alloc: Global, source: &str, wanted: usize) -> Result<(), Fail> {
+    let mut all = copies(alloc, source)?;
+    assert_eq!(rt; all.len(), wanted, "copies of {source}");
+    for _ in 0..wanted {
+        let copy = all.pop().ok_or("a copy")?;
+        assert_tree(rt, alloc, copy, source, source)?;
+    }
+    Ok(())
+}
+
+#[test]
+fn copies_are_equal(rt: HostRuntime) -> Result<(), Fail> {
+    for source in ["( @/x|https://x.y/?a=1&b=2 $$m$ #7 ~ )block:entry", "é"] {
+        assert_copies(&rt, rt.alloc(), source, 3)?;
+    }
+    Ok(())
+}
+
+/// A meta by its place in a table.
+fn meta(alloc: Global, row: usize) -> Result<ElemMeta, Memory> {
+    match row {
+        0 => Ok(ElemMeta::Entry(3)),
+        1 => Ok(ElemMeta::Label),
+        2 => Ok(ElemMeta::Name(NameVariable::Translator, 3)),
+        _ => names(alloc, "Knuth", NameVariable::Author),
+    }
+}
+
+/// Whether a copy of the meta is equal to it.
+fn is_copied(alloc: Global, row: usize) -> Result<bool, Memory> {
+    let meta = meta(alloc, row)?;
+    Ok(meta.clone(alloc)? == meta)
+}
+
+#[test]
+fn copies_of_metas(rt: HostRuntime) -> Result<(), Fail> {
+    for row in 0..4 {
+        assert!(rt; is_copied(rt.alloc(), row)?, "in row {row}");
+    }
+    Ok(())
+}

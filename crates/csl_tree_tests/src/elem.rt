@@ -1,0 +1,153 @@
+//! What a tree answers of itself, and when two metas are equal.
+
+ghost use Rattle.std.specs.Prelude.{◌≡◌, ◌↔◌, IsTrue};
+ghost use Rattle.csl_tree.specs.Tokens.{meta_of};
+
+use crate::trees::{names, read};
+use csl_style::NameVariable;
+use csl_tree::{ElemChild, ElemMeta};
+use lit_model::Memory;
+use std::alloc::Global;
+use std::process::Abort;
+use std::test::Fail;
+
+/// Whether the two metas are equal: they are where what they say is.
+fn same_meta(a: &ElemMeta, b: &ElemMeta) -> bool
+    ensures { IsTrue result ↔ (meta_of a.now ≡ meta_of b.now) }
+{
+    *a == *b
+}
+
+/// A meta in plain words.
+#[derive(Clone, Copy)]
+enum Meta {
+    Names(&'static str, NameVariable),
+    Name(NameVariable, usize),
+    Entry(usize),
+    Date,
+}
+
+fn make_meta(alloc: Global, said: Meta) -> Result<ElemMeta, Memory> {
+    match said {
+        Meta::Names(name, variable) => names(alloc, name, variable),
+        Meta::Name(variable, index) => Ok(ElemMeta::Name(variable, index)),
+        Meta::Entry(index) => Ok(ElemMeta::Entry(index)),
+        Meta::Date => Ok(ElemMeta::Date),
+    }
+}
+
+fn are_same(alloc: Global, a: Meta, b: Meta) -> Result<bool, Memory> {
+    let both = vec![in alloc; make_meta(alloc, a)?, make_meta(alloc, b)?]?;
+    match both.as_slice() {
+        [a, b] => Ok(same_meta(a, b)),
+        _ => Ok(false),
+    }
+}
+
+#[test]
+fn metas_are_equal_by_value(rt: HostRuntime) -> Result<(), Fail> {
+    let knuth = Meta::Names("Knuth", NameVariable::Author);
+    let first = Meta::Name(NameVariable::Author, 1);
+    for (row, (a, b, same)) in [
+        (knuth, knuth, true),
+        (knuth, Meta::Names("Knuth", NameVariable::Editor), false),
+        (knuth, Meta::Names("Lamport", NameVariable::Author), false),
+        (knuth, Meta::Date, false),
+        (first, first, true),
+        (first, Meta::Name(NameVariable::Author, 2), false),
+        (first, Meta::Name(NameVariable::Editor, 1), false),
+        (Meta::Entry(1), Meta::Entry(2), false),
+    ]
+    .into_iter()
+    .enumerate()
+    {
+        assert_eq!(rt; are_same(rt.alloc(), a, b)?, same, "in row {row}");
+    }
+    Ok(())
+}
+
+/// What is asked of the children, of the first child and of the element that it is.
+#[derive(Clone, Copy, Debug, PartialEq)]
+struct Asked {
+    is_empty: bool,
+    has_content: bool,
+    str_len: usize,
+}
+
+/// What a tree answers of its children, of the first and of the element that it is, and whether
+/// the children of that may stand in its place.
+fn answers(alloc: Global, source: &str) -> Result<Vec<Asked>, Fail> {
+    let tree = read(alloc, source)?;
+    let mut all = Vec::new(alloc);
+    all.push(Asked {
+        is_empty: tree.is_empty(),
+        has_content: tree.has_content(),
+        str_len: tree.str_len(),
+    })?;
+    if let Some(child) = tree.0.first() {
+        all.push(Asked {
+            is_empty: child.is_empty(),
+            has_content: child.has_content(),
+            str_len: child.str_len(),
+        })?;
+        if let ElemChild::Elem(elem) = child {
+            all.push(Asked {
+                is_empty: elem.is_empty(),
+                has_content: elem.has_content(),
+                str_len: elem.str_len(),
+            })?;
+        }
+    }
+    Ok(all)
+}
+
+fn assert_answers(rt: &impl Abort, alloc: Global, source: &str, wanted: Asked) -> Result<(), Fail> {
+    for answer in &answers(alloc, source)? {
+        assert_eq!(rt; *answer, wanted, "of {source}");
+    }
+    Ok(())
+}
+
+#[test]
+fn white_space_is_no_content(rt: HostRuntime) -> Result<(), Fail> {
+    for (source, is_empty, has_content, str_len) in [
+        (
+            "( @/x|https://x.y/?a=1&b=2 $$m$ #7 ~ )block:entry",
+            false,
+            true,
+            5,
+        ),
+        ("( ~\u{3000}\n )", false, false, 5),
+        ("( _ )block", true, false, 0),
+    ] {
+        let wanted = Asked {
+            is_empty,
+            has_content,
+            str_len,
+        };
+        assert_answers(&rt, rt.alloc(), source, wanted)?;
+    }
+    Ok(())
+}
+
+/// Whether the children of the first element may stand in its place.
+fn may_inline(alloc: Global, source: &str) -> Result<bool, Fail> {
+    let tree = read(alloc, source)?;
+    match tree.0.first() {
+        Some(ElemChild::Elem(elem)) => Ok(elem.may_inline()),
+        _ => Err(Fail::from("no element")),
+    }
+}
+
+#[test]
+fn an_element_that_says_something_stays(rt: HostRuntime) -> Result<(), Fail> {
+    for (source, wanted) in [
+        ("( a )block:entry", false),
+        ("( a )block", false),
+        ("( a ):entry", false),
+        ("( a )", true),
+    ] {
+        assert_eq!(rt; may_inline(rt.alloc(), source)?, wanted, "of {source}");
+    }
+    Ok(())
+}

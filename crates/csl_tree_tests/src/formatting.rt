@@ -1,0 +1,96 @@
+//! Formatting values: when two are equal, what the defaults are, and one over another.
+
+ghost use Rattle.std.specs.Prelude.{◌≡◌, ◌↔◌, IsTrue};
+ghost use Rattle.csl_tree.specs.Tokens.{text_tokens};
+
+use csl_style::{FontStyle, FontVariant, FontWeight, TextDecoration, VerticalAlign, formatting};
+use csl_tree::{Formatted, Formatting};
+use lit_model::Memory;
+use std::alloc::Global;
+use std::test::Fail;
+
+/// Whether the two texts are equal: they are where their tokens are.
+fn same_text(a: &Formatted, b: &Formatted) -> bool
+    ensures { IsTrue result ↔ (text_tokens a.now ≡ text_tokens b.now) }
+{
+    *a == *b
+}
+
+/// The same for formattings.
+fn same_formatting(a: Formatting, b: Formatting) -> bool
+    ensures { IsTrue result ↔ (a ≡ b) }
+{
+    a == b
+}
+
+/// The values that say nothing, written out.
+const BARE: Formatting = Formatting {
+    font_style: FontStyle::Normal,
+    font_variant: FontVariant::Normal,
+    font_weight: FontWeight::Normal,
+    text_decoration: TextDecoration::None,
+    vertical_align: VerticalAlign::None,
+};
+
+const ITALIC: Formatting = Formatting {
+    font_style: FontStyle::Italic,
+    font_variant: FontVariant::Normal,
+    font_weight: FontWeight::Normal,
+    text_decoration: TextDecoration::None,
+    vertical_align: VerticalAlign::None,
+};
+
+#[test]
+fn formattings_are_equal_by_value(rt: HostRuntime) {
+    assert!(rt; same_formatting(BARE, BARE));
+    assert!(rt; !same_formatting(BARE, ITALIC));
+}
+
+fn are_same(
+    alloc: Global,
+    text: &str,
+    formatting: Formatting,
+    other: &str,
+    of_other: Formatting,
+) -> Result<bool, Memory> {
+    let text = formatting.add_text(String::from_str(alloc, text)?);
+    let other = of_other.add_text(String::from_str(alloc, other)?);
+    Ok(same_text(&text, &other))
+}
+
+#[test]
+fn texts_are_equal_by_value(rt: HostRuntime) -> Result<(), Fail> {
+    for (other, of_other, same) in [("a", BARE, true), ("b", BARE, false), ("a", ITALIC, false)] {
+        let is_same = are_same(rt.alloc(), "a", BARE, other, of_other)?;
+        assert_eq!(rt; is_same, same, "{other} in {of_other:?}");
+    }
+    Ok(())
+}
+
+#[test]
+fn defaults_say_nothing(rt: HostRuntime) {
+    assert_eq!(rt; Formatting::default(), BARE);
+    assert_eq!(rt; BARE.apply(formatting::Formatting::default()), BARE);
+}
+
+#[test]
+fn own_attributes_go_over_the_base(rt: HostRuntime) {
+    let own = formatting::Formatting {
+        font_style: Some(FontStyle::Normal),
+        font_weight: Some(FontWeight::Bold),
+        ..formatting::Formatting::default()
+    };
+    let base = formatting::Formatting {
+        font_style: Some(FontStyle::Italic),
+        vertical_align: Some(VerticalAlign::Sup),
+        ..formatting::Formatting::default()
+    };
+    let both = formatting::Formatting {
+        font_style: Some(FontStyle::Normal),
+        font_variant: None,
+        font_weight: Some(FontWeight::Bold),
+        text_decoration: None,
+        vertical_align: Some(VerticalAlign::Sup),
+    };
+    assert_eq!(rt; own.apply(base), both);
+}

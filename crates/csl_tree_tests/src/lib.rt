@@ -1,0 +1,25 @@
+//! Tests of the output tree. What is expected stands here as written out by hand.
+#![tactic(auto)]
+
+#[cfg(test)]
+mod content;
+#[cfg(test)]
+mod copies;
+#[cfg(test)]
+mod elem;
+#[cfg(test)]
+mod formatting;
+#[cfg(test)]
+mod named;
+#[cfg(test)]
+mod places;
+#[cfg(test)]
+mod search;
+#[cfg(test)]
+mod simplify;
+#[cfg(test)]
+mod stack;
+#[cfg(test)]
+mod trees;
+#[cfg(test)]
+mod write;

@@ -1,0 +1,42 @@
+//! The first element of names, lent to be written.
+
+use crate::trees::{assert_tree, read};
+use csl_tree::{ElemChildren, ElemMeta};
+use std::alloc::Global;
+use std::process::Abort;
+use std::test::Fail;
+
+/// Notes a label of the first element of names, and answers whether there is one.
+fn note_label(tree: &mut ElemChildren) -> bool {
+    match tree.find_names_mut() {
+        Some(found) => {
+            found.meta = Some(ElemMeta::Label);
+            true
+        }
+        None => false,
+    }
+}
+
+fn assert_noted(
+    rt: &impl Abort,
+    alloc: Global,
+    source: &str,
+    lent: bool,
+    wanted: &str,
+) -> Result<(), Fail> {
+    let mut tree = read(alloc, source)?;
+    let is_lent = note_label(&mut tree);
+    assert_eq!(rt; is_lent, lent, "of {source}");
+    assert_tree(rt, alloc, tree, wanted, source)
+}
+
+#[test]
+fn find_names_mut_lends_the_first(rt: HostRuntime) -> Result<(), Fail> {
+    for (source, lent, wanted) in [
+        ("( ( x ):x ) ( y ):y", true, "( ( x ):label ) ( y ):y"),
+        ("a", false, "a"),
+    ] {
+        assert_noted(&rt, rt.alloc(), source, lent, wanted)?;
+    }
+    Ok(())
+}

@@ -1,0 +1,130 @@
+//! What is found in a tree, and what is taken out of it.
+
+use crate::trees::{assert_tree, read, read_meta};
+use csl_tree::{Elem, ElemChild, ElemChildren};
+use std::alloc::Global;
+use std::process::Abort;
+use std::test::Fail;
+
+/// An element without meta around names of `x`, then names of `y`.
+const TWO_NAMES: &str = "( ( x ):x ) ( y ):y";
+
+/// What is asked of a tree.
+#[derive(Clone, Copy)]
+enum Asked {
+    /// The first element of names.
+    Names,
+    /// The first element of this meta.
+    Meta(&'static str),
+    /// The first element.
+    Any,
+    /// The first element of some meta.
+    Noted,
+    /// The first element that is none.
+    Nothing,
+    /// The last text.
+    LastText,
+}
+
+/// A tree of what was found alone.
+fn found(alloc: Global, elem: Option<&Elem>) -> Result<ElemChildren, Fail> {
+    match elem {
+        Some(elem) => Ok(ElemChildren(vec![in alloc; ElemChild::from(elem.clone(alloc)?)]?)),
+        None => Ok(ElemChildren::new(alloc)),
+    }
+}
+
+/// What a tree answers.
+fn answer(alloc: Global, tree: &ElemChildren, asked: Asked) -> Result<ElemChildren, Fail> {
+    match asked {
+        Asked::Names => found(alloc, tree.find_names()),
+        Asked::Meta(word) => found(alloc, tree.find_meta(&read_meta(alloc, word)?)),
+        Asked::Any => found(alloc, tree.find_elem_by(&|_: &Elem| true)),
+        Asked::Noted => found(alloc, tree.find_elem_by(&|elem: &Elem| elem.meta.is_some())),
+        Asked::Nothing => found(alloc, tree.find_elem_by(&|_: &Elem| false)),
+        Asked::LastText => match tree.last_text() {
+            Some(text) => Ok(ElemChildren(vec![in alloc; ElemChild::from(text.clone(alloc)?)]?)),
+            None => Ok(ElemChildren::new(alloc)),
+        },
+    }
+}
+
+fn assert_found(
+    rt: &impl Abort,
+    alloc: Global,
+    source: &str,
+    asked: Asked,
+    wanted: &str,
+) -> Result<(), Fail> {
+    let answer = answer(alloc, &read(alloc, source)?, asked)?;
+    assert_tree(rt, alloc, answer, wanted, source)
+}
+
+#[test]
+fn find_names_goes_down_first(rt: HostRuntime) -> Result<(), Fail> {
+    for (source, wanted) in [(TWO_NAMES, "( x ):x"), ("a", "")] {
+        assert_found(&rt, rt.alloc(), source, Asked::Names, wanted)?;
+    }
+    Ok(())
+}
+
+#[test]
+fn find_meta_compares_by_value(rt: HostRuntime) -> Result<(), Fail> {
+    for (meta, wanted) in [("y", "( y ):y"), ("z", ""), ("date", "")] {
+        assert_found(&rt, rt.alloc(), TWO_NAMES, Asked::Meta(meta), wanted)?;
+    }
+    Ok(())
+}
+
+#[test]
+fn find_elem_by_asks_in_preorder(rt: HostRuntime) -> Result<(), Fail> {
+    for (asked, wanted) in [
+        (Asked::Any, "( ( x ):x )"),
+        (Asked::Noted, "( x ):x"),
+        (Asked::Nothing, ""),
+    ] {
+        assert_found(&rt, rt.alloc(), TWO_NAMES, asked, wanted)?;
+    }
+    Ok(())
+}
+
+#[test]
+fn last_text_is_that_of_the_last_child(rt: HostRuntime) -> Result<(), Fail> {
+    for (source, wanted) in [("a @b|", ""), ("a ( b )", "b"), ("", "")] {
+        assert_found(&rt, rt.alloc(), source, Asked::LastText, wanted)?;
+    }
+    Ok(())
+}
+
+/// What is taken out of a tree, and what is left of it, in a list.
+fn removal(alloc: Global, source: &str) -> Result<Vec<ElemChildren>, Fail> {
+    let mut tree = read(alloc, source)?;
+    let mut taken = ElemChildren::new(alloc);
+    if let Some(child) = tree.remove_any_meta() {
+        taken.0.push(child)?;
+    }
+    Ok(vec![in alloc; tree, taken]?)
+}
+
+#[test]
+fn remove_any_meta_leaves_the_rest(rt: HostRuntime) -> Result<(), Fail> {
+    for (source, taken, left) in [
+        ("( a ( b ):date )", "( b ):date", "( a )"),
+        ("( a )", "", "( a )"),
+    ] {
+        assert_removal(&rt, rt.alloc(), source, taken, left)?;
+    }
+    Ok(())
+}
+
+fn assert_removal(
+    rt: &impl Abort,
+    alloc: Global,
+    source: &str,
+    taken: &str,
+    left: &str,
+) -> Result<(), Fail> {
+    let mut both = removal(alloc, source)?;
+    assert_tree(rt, alloc, both.pop().ok_or("taken")?, taken, source)?;
+    assert_tree(rt, alloc, both.pop().ok_or("left")?, left, source)
+}

@@ -1,0 +1,90 @@
+//! Rounds of simplification, and where they end.
+
+use crate::trees::{assert_tree, read};
+use csl_tree::{ElemChild, ElemChildren, simplify_children, simplify_fully};
+use std::alloc::Global;
+use std::process::Abort;
+use std::test::Fail;
+
+fn assert_round(rt: &impl Abort, alloc: Global, source: &str, wanted: &str) -> Result<(), Fail> {
+    let once = simplify_children(alloc, &read(alloc, source)?)?;
+    assert_tree(rt, alloc, once, wanted, source)
+}
+
+/// The first element with a round inside, alone.
+fn elem_round(alloc: Global, source: &str) -> Result<ElemChildren, Fail> {
+    let tree = read(alloc, source)?;
+    match tree.0.first() {
+        Some(ElemChild::Elem(elem)) => {
+            let once = ElemChild::from(elem.simplify(alloc)?);
+            Ok(ElemChildren(vec![in alloc; once]?))
+        }
+        _ => Err(Fail::from("no element")),
+    }
+}
+
+#[test]
+fn plain_element_takes_two_rounds(rt: HostRuntime) -> Result<(), Fail> {
+    for (source, once) in [("( a b )", "a b"), ("a b", "ab"), ("ab", "ab")] {
+        assert_round(&rt, rt.alloc(), source, once)?;
+    }
+    Ok(())
+}
+
+#[test]
+fn texts_join_in_a_round(rt: HostRuntime) -> Result<(), Fail> {
+    for (source, once) in [
+        // A text of a plain element joins none before it, and one behind it joins it.
+        ("a ( b ) c", "a bc"),
+        // Texts of equal formatting join.
+        ("a _ b /c /_ d", "ab /c d"),
+        // Texts meet where a plain element was empty.
+        ("a ( ) b", "ab"),
+    ] {
+        assert_round(&rt, rt.alloc(), source, once)?;
+    }
+    Ok(())
+}
+
+#[test]
+fn other_children_stay(rt: HostRuntime) -> Result<(), Fail> {
+    for source in ["_ /_ ( ):date $_", "a @link|https://example.org #3 $x^2 b"] {
+        assert_round(&rt, rt.alloc(), source, source)?;
+    }
+    Ok(())
+}
+
+#[test]
+fn element_has_a_round_inside(rt: HostRuntime) -> Result<(), Fail> {
+    for (source, once) in [
+        ("( a ( ( b ) ) c )block", "( a ( b ) c )block"),
+        ("( a ( b ) c )block", "( a bc )block"),
+        ("( a bc )block", "( abc )block"),
+    ] {
+        assert_elem_round(&rt, rt.alloc(), source, once)?;
+    }
+    assert_round(
+        &rt,
+        rt.alloc(),
+        "( ( a ( ( b ) ) c )block ):date",
+        "( ( a ( b ) c )block ):date",
+    )
+}
+
+fn assert_elem_round(rt: &impl Abort, alloc: Global, source: &str, once: &str) -> Result<(), Fail> {
+    let simplified = elem_round(alloc, source)?;
+    assert_tree(rt, alloc, simplified, once, source)
+}
+
+fn assert_normal(rt: &impl Abort, alloc: Global, source: &str, normal: &str) -> Result<(), Fail> {
+    let simplified = simplify_fully(alloc, &read(alloc, source)?)?;
+    assert_tree(rt, alloc, simplified, normal, source)
+}
+
+#[test]
+fn rounds_end_in_one_text(rt: HostRuntime) -> Result<(), Fail> {
+    for (source, normal) in [("( a b )", "ab"), ("( ( ( a ) ) )", "a")] {
+        assert_normal(&rt, rt.alloc(), source, normal)?;
+    }
+    Ok(())
+}

@@ -1,0 +1,98 @@
+//! The nonempty stack.
+
+use csl_tree::NonEmptyStack;
+use std::alloc::Global;
+use std::num::NonZeroUsize;
+use std::process::Abort;
+use std::test::Fail;
+
+/// The stack 1, 2, 3, 4.
+fn one_to_four(alloc: Global) -> Result<NonEmptyStack<u8>, Fail> {
+    let mut stack = NonEmptyStack::new(alloc, 1)?;
+    for item in 2..5 {
+        push(&mut stack, item)?;
+    }
+    Ok(stack)
+}
+
+fn push(stack: &mut NonEmptyStack<u8>, item: u8) -> Result<(), Fail> {
+    match stack.push(item) {
+        Ok(()) => Ok(()),
+        Err(_) => Err(Fail::from("no memory")),
+    }
+}
+
+fn items(alloc: Global, stack: &NonEmptyStack<u8>) -> Result<Vec<u8>, Fail> {
+    Ok(stack.iter().copied().collect(alloc)?)
+}
+
+/// How many there are of 1, 2, 3, 4, those from the third on, taken, and those that are left.
+fn drain(alloc: Global) -> Result<(usize, Vec<u8>, Vec<u8>), Fail> {
+    let mut stack = one_to_four(alloc)?;
+    let two = NonZeroUsize::new(2).ok_or("two")?;
+    let len = stack.len();
+    if !(two < len) {
+        return Err(Fail::from("too few"));
+    }
+    let taken = stack.drain(two)?;
+    Ok((len.get(), taken, items(alloc, &stack)?))
+}
+
+fn assert_items(rt: &impl Abort, items: &[u8], wanted: &[u8]) {
+    assert_eq!(rt; items, wanted);
+}
+
+#[test]
+fn drained_at_two(rt: HostRuntime) -> Result<(), Fail> {
+    let (len, taken, left) = drain(rt.alloc())?;
+    assert_eq!(rt; len, 4);
+    assert_items(&rt, taken.as_slice(), &[3, 4]);
+    assert_items(&rt, left.as_slice(), &[1, 2]);
+    Ok(())
+}
+
+/// What two calls of `pop` take of a default item and 7, the last item that is left, and all.
+fn pop_twice(alloc: Global) -> Result<(Option<u8>, Option<u8>, u8, Vec<u8>), Fail> {
+    let mut stack: NonEmptyStack<u8> = NonEmptyStack::with_default(alloc)?;
+    push(&mut stack, 7)?;
+    let first = stack.pop();
+    let second = stack.pop();
+    Ok((first, second, *stack.last(), items(alloc, &stack)?))
+}
+
+#[test]
+fn the_last_item_stays(rt: HostRuntime) -> Result<(), Fail> {
+    let (first, second, last, left) = pop_twice(rt.alloc())?;
+    assert_eq!(rt; first, Some(7));
+    assert_eq!(rt; second, None);
+    assert_eq!(rt; last, 0);
+    assert_items(&rt, left.as_slice(), &[0]);
+    Ok(())
+}
+
+/// The stack 1, 2, 3, 4 with its last, its first and its last odd item written, and whether an
+/// item is 99.
+fn write_items(alloc: Global) -> Result<(Vec<u8>, bool), Fail> {
+    let mut stack = one_to_four(alloc)?;
+    *stack.last_mut() = 40;
+    *stack.first_mut() = 10;
+    if let Some(odd) = stack.last_mut_predicate(|item| *item % 2 == 1) {
+        *odd = 30;
+    }
+    let absent = stack.last_mut_predicate(|item| *item == 99).is_some();
+    Ok((items(alloc, &stack)?, absent))
+}
+
+#[test]
+fn references_write_one_item(rt: HostRuntime) -> Result<(), Fail> {
+    let (items, has_other) = write_items(rt.alloc())?;
+    assert_items(&rt, items.as_slice(), &[10, 2, 30, 40]);
+    assert_eq!(rt; has_other, false);
+    Ok(())
+}
+
+#[test]
+fn one_item_is_given_back(rt: HostRuntime) -> Result<(), Fail> {
+    assert_eq!(rt; NonEmptyStack::new(rt.alloc(), 5u8)?.finish(), 5);
+    Ok(())
+}
