@@ -20,28 +20,3 @@ pub(crate) fn one_chunk(
     pieces.push(StringChunk { value: text, kind })?;
     Ok(ChunkedString(pieces))
 }
-
-#[cfg(test)]
-mod tests {
-    use super::*;
-
-    fn has_one(text: &ChunkedString, value: &str, kind: ChunkKind) -> bool {
-        match text.0.as_slice() {
-            [piece] => piece.value.as_str() == value && piece.kind == kind,
-            _ => false,
-        }
-    }
-
-    #[test]
-    fn one_piece_of_each_kind(rt: HostRuntime) -> Result<(), Memory> {
-        let text = String::from_str(rt.alloc(), "Il Nuovo Cimento")?;
-        let normal = one_chunk(rt.alloc(), text, ChunkKind::Normal)?;
-        assert!(rt; has_one(&normal, "Il Nuovo Cimento", ChunkKind::Normal));
-        let text = String::from_str(rt.alloc(), "10.1007/BF02731494")?;
-        let verbatim = one_chunk(rt.alloc(), text, ChunkKind::Verbatim)?;
-        assert!(rt; has_one(&verbatim, "10.1007/BF02731494", ChunkKind::Verbatim));
-        let empty = one_chunk(rt.alloc(), String::new(rt.alloc()), ChunkKind::Math)?;
-        assert!(rt; has_one(&empty, "", ChunkKind::Math));
-        Ok(())
-    }
-}

@@ -149,6 +149,3 @@ fn year_number(year: i32) -> u32
     let number = (year % 100).unsigned_abs();
     if year <= 0 { number + 1 } else { number }
 }
-
-#[cfg(test)]
-mod tests;

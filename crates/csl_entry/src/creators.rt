@@ -91,6 +91,3 @@ fn or_role<'a>(
     }
     Ok(persons)
 }
-
-#[cfg(test)]
-mod tests;

@@ -175,6 +175,3 @@ fn year_suffix<'s>(
         DisambiguateState::Choose => Ok(None),
     }
 }
-
-#[cfg(test)]
-mod tests;

@@ -32,25 +32,3 @@ fn spelled(alloc: Global, n: u8) -> Result<String, Memory>
     word.push(char::from(b'a' + n % 26))?;
     Ok(word)
 }
-
-#[cfg(test)]
-mod tests {
-    use super::*;
-
-    #[test]
-    fn words_by_length_and_alphabet(rt: HostRuntime) -> Result<(), Memory> {
-        for (n, word) in [
-            (0, "a"),
-            (1, "b"),
-            (25, "z"),
-            (26, "aa"),
-            (27, "ab"),
-            (51, "az"),
-            (52, "ba"),
-            (255, "iv"),
-        ] {
-            assert!(rt; letter(rt.alloc(), n)?.as_str() == word, "{word}");
-        }
-        Ok(())
-    }
-}

@@ -15,8 +15,6 @@ mod name_properties;
 mod number_result;
 mod numbers;
 mod numeric_text;
-#[cfg(test)]
-mod people;
 mod taxonomy;
 
 pub use citation_label::Alphanumerical;

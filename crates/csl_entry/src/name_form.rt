@@ -46,6 +46,3 @@ impl DisambiguatedNameForm {
         }
     }
 }
-
-#[cfg(test)]
-mod tests;

@@ -79,6 +79,3 @@ impl NameDisambiguationProperties {
         })
     }
 }
-
-#[cfg(test)]
-mod tests;

@@ -165,6 +165,3 @@ fn compare_lists(
     let right = b.iter().map(|&(number, _)| number);
     left.cmp(right)
 }
-
-#[cfg(test)]
-mod tests;

@@ -64,22 +64,3 @@ impl NoteNumber {
         self.number
     }
 }
-
-#[cfg(test)]
-mod tests {
-    use super::*;
-
-    #[test]
-    fn citation_numbers_end_below_the_largest_i32(rt: HostRuntime) {
-        assert!(rt; CitationNumber::new(0).is_some_and(|c| c.get() == 0));
-        assert!(rt; CitationNumber::new(2147483646).is_some_and(|c| c.get() == 2147483646));
-        assert!(rt; CitationNumber::new(2147483647).is_none());
-    }
-
-    #[test]
-    fn note_numbers_end_at_the_largest_i32(rt: HostRuntime) {
-        assert!(rt; NoteNumber::new(0).is_some_and(|n| n.get() == 0));
-        assert!(rt; NoteNumber::new(2147483647).is_some_and(|n| n.get() == 2147483647));
-        assert!(rt; NoteNumber::new(2147483648).is_none());
-    }
-}

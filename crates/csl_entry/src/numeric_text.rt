@@ -26,20 +26,3 @@ pub(crate) fn numeric_or_text(alloc: Global, text: &str) -> Result<MaybeTyped<Nu
         Err(NumericError::Memory) => Err(Memory),
     }
 }
-
-#[cfg(test)]
-mod tests {
-    use super::*;
-
-    #[test]
-    fn a_text_is_a_number_or_stays_a_text(rt: HostRuntime) -> Result<(), Memory> {
-        let alloc = rt.alloc();
-        let number = numeric_or_text(alloc, " 12")?;
-        assert!(rt; matches!(&number, MaybeTyped::Typed(n) if n.value() == Some(12)));
-        let text = numeric_or_text(alloc, "12 b")?;
-        assert!(rt; matches!(&text, MaybeTyped::String(s) if s.as_str() == "12 b"));
-        let nothing = numeric_or_text(alloc, "")?;
-        assert!(rt; matches!(&nothing, MaybeTyped::String(s) if s.is_empty()));
-        Ok(())
-    }
-}

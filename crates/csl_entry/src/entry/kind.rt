@@ -275,6 +275,3 @@ fn is_graphic(entry: &Entry) -> bool
 {
     entry.entry_type == EntryType::Artwork && !is_figure(entry)
 }
-
-#[cfg(test)]
-mod tests;

@@ -198,6 +198,3 @@ fn is_one_of(persons: &[Person], person: &Person) -> bool
 {
     persons.contains(person)
 }
-
-#[cfg(test)]
-mod tests;

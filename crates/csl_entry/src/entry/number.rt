@@ -160,6 +160,3 @@ fn volume_number(entry: &Entry) -> Option<&MaybeTyped<Numeric>>
         .and_then(Entry::volume)
         .or(entry.volume())
 }
-
-#[cfg(test)]
-mod tests;

@@ -26,36 +26,3 @@ pub(crate) fn page_variable(
         (PageVariable::Page, None) => Ok(None),
     }
 }
-
-#[cfg(test)]
-mod tests {
-    use super::*;
-    use lit_model::{EntryType, Numeric, PageRangesPart};
-
-    #[test]
-    fn pages_on_which_a_work_stands(rt: HostRuntime) -> Result<(), Memory> {
-        let alloc = rt.alloc();
-        let mut article = Entry::new(alloc, "article", EntryType::Article)?;
-        assert!(rt; page_variable(alloc, &article, PageVariable::Page)?.is_none());
-        let mut ranges = Vec::new(alloc);
-        ranges.push(PageRangesPart::SinglePage(Numeric::new(454)))?;
-        article.page_range = Some(MaybeTyped::Typed(PageRanges { ranges }));
-        let pages = page_variable(alloc, &article, PageVariable::Page)?;
-        assert!(rt; pages == article.page_range);
-        article.page_range = Some(MaybeTyped::String(String::from_str(alloc, "passim")?));
-        let text = page_variable(alloc, &article, PageVariable::Page)?;
-        assert!(rt; text == article.page_range);
-        Ok(())
-    }
-
-    #[test]
-    fn pages_of_a_parent_are_no_answer(rt: HostRuntime) -> Result<(), Memory> {
-        let alloc = rt.alloc();
-        let mut book = Entry::new(alloc, "book", EntryType::Book)?;
-        book.page_range = Some(MaybeTyped::String(String::from_str(alloc, "1-9")?));
-        let mut chapter = Entry::new(alloc, "chapter", EntryType::Chapter)?;
-        chapter.parents.push(book)?;
-        assert!(rt; page_variable(alloc, &chapter, PageVariable::Page)?.is_none());
-        Ok(())
-    }
-}

@@ -200,6 +200,3 @@ fn web_address(url: Option<&QualifiedUrl>) -> Option<&str>
 {
     Some(url?.value.as_str())
 }
-
-#[cfg(test)]
-mod tests;

@@ -1,0 +1,57 @@
+//! What an entry answers, in words.
+
+use lit_model::{ChunkKind, ChunkedString, MaybeTyped, Numeric};
+use std::alloc::Global;
+use std::borrow::Cow;
+use std::process::Abort;
+use std::test::Fail;
+
+/// Asserts that this is the answer to what was asked.
+pub fn assert_answer(rt: &impl Abort, answer: &str, wanted: &str, asked: &str) {
+    assert_eq!(rt; answer, wanted, "{asked}");
+}
+
+/// The number; behind `'` a text that is no number; and `none` where there is no answer.
+pub fn number_said(
+    alloc: Global,
+    found: &Option<MaybeTyped<Cow<'_, Numeric>>>,
+) -> Result<String, Fail> {
+    match found {
+        None => Ok(String::from_str(alloc, "none")?),
+        Some(MaybeTyped::Typed(number)) => Ok(number.as_ref().to_string(alloc)?),
+        Some(MaybeTyped::String(text)) => Ok(format!(in alloc; "'{}", text.as_str())?),
+    }
+}
+
+/// The pieces, with `+` between them, each behind the mark of its kind: a backtick for `Verbatim`,
+/// `$` for `Math`. It is `none` where there is no answer.
+pub fn text_said(alloc: Global, found: Option<&ChunkedString>) -> Result<String, Fail> {
+    let Some(found) = found else {
+        return Ok(String::from_str(alloc, "none")?);
+    };
+    let mut said = String::new(alloc);
+    for (i, piece) in found.0.iter().enumerate() {
+        if i > 0 {
+            said.push('+')?;
+        }
+        said.push_str(mark_of(piece.kind))?;
+        said.push_str(piece.value.as_str())?;
+    }
+    Ok(said)
+}
+
+fn mark_of(kind: ChunkKind) -> &'static str {
+    match kind {
+        ChunkKind::Normal => "",
+        ChunkKind::Verbatim => "`",
+        ChunkKind::Math => "$",
+    }
+}
+
+/// What was found, wherever it lies.
+pub fn borrowed<'a, T: Drop>(found: &'a Option<Cow<'_, T>>) -> Option<&'a T> {
+    match found {
+        Some(value) => Some(value.as_ref()),
+        None => None,
+    }
+}

@@ -1,0 +1,329 @@
+//! Entries made from a short description.
+//!
+//! A description has clauses, with `; ` between them. The first is the type of the entry, and each
+//! that follows says one thing of it: `chapter; volume 9; authors Ann, Ben`. `in book` begins the
+//! work that the one before is a part of, and `also journal` a further work that the entry itself is
+//! a part of. What follows is said of that work.
+//!
+//! A number is written as it is, and after `'` where it is a text that is no number. A text has
+//! pieces, with `+` between them, and after `|` its short form; a piece of `Verbatim` kind begins
+//! with a backtick, and one of `Math` kind with `$`.
+
+use lit_model::{
+    ChunkKind, ChunkedString, Date, Entry, EntryType, FormatString, LanguageIdentifier, MaybeTyped,
+    Numeric, PageRanges, Person, PersonRole, PersonsWithRoles, Publisher, QualifiedUrl,
+    SerialNumber, StringChunk,
+};
+use std::alloc::Global;
+use std::collections::BTreeMap;
+use std::test::Fail;
+use url::Url;
+
+/// The entry that is described.
+pub fn described(alloc: Global, description: &str) -> Result<Entry, Fail> {
+    let mut wholes = description.split("; also ");
+    let mut entry = chain(alloc, wholes.next().unwrap_or(""))?;
+    for whole in wholes {
+        entry.parents.push(chain(alloc, whole)?)?;
+    }
+    Ok(entry)
+}
+
+/// The first of the works, each a part of the next.
+fn chain(alloc: Global, works: &str) -> Result<Entry, Fail> {
+    let mut works = works.rsplit("; in ");
+    let mut entry = work(alloc, works.next().unwrap_or(""))?;
+    for part in works {
+        let whole = entry;
+        entry = work(alloc, part)?;
+        entry.parents.push(whole)?;
+    }
+    Ok(entry)
+}
+
+/// The work, of which no parent is said.
+fn work(alloc: Global, clauses: &str) -> Result<Entry, Fail> {
+    let mut clauses = clauses.split("; ");
+    let mut work = Entry::new(alloc, "key", type_named(clauses.next().unwrap_or(""))?)?;
+    for clause in clauses {
+        let (word, value) = clause.split_once(' ').unwrap_or((clause, ""));
+        state(alloc, &mut work, word, value)?;
+    }
+    Ok(work)
+}
+
+/// Says one thing of the work.
+fn state(alloc: Global, work: &mut Entry, word: &str, value: &str) -> Result<(), Fail> {
+    if let Some(field) = text_field(work, word) {
+        *field = Some(text(alloc, value)?);
+        return Ok(());
+    }
+    if let Some(field) = number_field(work, word) {
+        *field = Some(number(alloc, value)?);
+        return Ok(());
+    }
+    if let Some(role) = role_named(word) {
+        return affiliate(alloc, work, role, value);
+    }
+    match word {
+        "key" => work.key = String::from_str(alloc, value)?,
+        "authors" => work.authors = Some(persons(alloc, value)?),
+        "editors" => work.editors = Some(persons(alloc, value)?),
+        "date" => work.date = date(value)?,
+        "url" => work.url = Some(address(alloc, value)?),
+        "publisher" => work.publisher = Some(publisher(alloc, value)?),
+        "volumes" => work.volume_total = Some(Numeric::new(integer(value)?)),
+        "total" => work.page_total = Some(Numeric::new(integer(value)?)),
+        "pages" => work.page_range = Some(pages(alloc, value)?),
+        "serial" => return add_serial(alloc, work, value),
+        "language" => work.language = Some(language(alloc, value)?),
+        _ => return Err(Fail::from("a word that no description has")),
+    }
+    Ok(())
+}
+
+/// The field of that name, where it holds a text.
+fn text_field<'e>(work: &'e mut Entry, name: &str) -> Option<&'e mut Option<FormatString>> {
+    match name {
+        "title" => Some(&mut work.title),
+        "location" => Some(&mut work.location),
+        "organization" => Some(&mut work.organization),
+        "runtime" => Some(&mut work.runtime),
+        "archive" => Some(&mut work.archive),
+        "archive-location" => Some(&mut work.archive_location),
+        "call-number" => Some(&mut work.call_number),
+        "note" => Some(&mut work.note),
+        "abstract" => Some(&mut work.abstract_),
+        "genre" => Some(&mut work.genre),
+        _ => None,
+    }
+}
+
+/// The field of that name, where it holds a number.
+fn number_field<'e>(
+    work: &'e mut Entry,
+    name: &str,
+) -> Option<&'e mut Option<MaybeTyped<Numeric>>> {
+    match name {
+        "issue" => Some(&mut work.issue),
+        "volume" => Some(&mut work.volume),
+        "edition" => Some(&mut work.edition),
+        "chapter" => Some(&mut work.chapter),
+        _ => None,
+    }
+}
+
+/// The text of these pieces, with its short form where it has one.
+pub fn text(alloc: Global, text: &str) -> Result<FormatString, Fail> {
+    let Some((long, short)) = text.split_once('|') else {
+        let value = pieces(alloc, text)?;
+        return Ok(FormatString { value, short: None });
+    };
+    let value = pieces(alloc, long)?;
+    let short = pieces(alloc, short)?;
+    Ok(FormatString {
+        value,
+        short: Some(short),
+    })
+}
+
+/// The text of these pieces.
+pub fn pieces(alloc: Global, text: &str) -> Result<ChunkedString, Fail> {
+    let mut chunks = Vec::new(alloc);
+    for piece in text.split('+') {
+        let (kind, piece) = kind_of(piece);
+        let value = String::from_str(alloc, piece)?;
+        chunks.push(StringChunk { value, kind })?;
+    }
+    Ok(ChunkedString(chunks))
+}
+
+/// The kind of a piece, and the piece without the mark of its kind.
+fn kind_of(piece: &str) -> (ChunkKind, &str) {
+    if let Some(verbatim) = piece.strip_prefix('`') {
+        return (ChunkKind::Verbatim, verbatim);
+    }
+    if let Some(math) = piece.strip_prefix('$') {
+        return (ChunkKind::Math, math);
+    }
+    (ChunkKind::Normal, piece)
+}
+
+fn integer(digits: &str) -> Result<i32, Fail> {
+    let number = digits.parse::<i32>()?;
+    Ok(number)
+}
+
+fn number(alloc: Global, value: &str) -> Result<MaybeTyped<Numeric>, Fail> {
+    match value.strip_prefix('\'') {
+        Some(text) => Ok(MaybeTyped::String(String::from_str(alloc, text)?)),
+        None => Ok(MaybeTyped::Typed(Numeric::new(integer(value)?))),
+    }
+}
+
+fn pages(alloc: Global, value: &str) -> Result<MaybeTyped<PageRanges>, Fail> {
+    match value.strip_prefix('\'') {
+        Some(text) => Ok(MaybeTyped::String(String::from_str(alloc, text)?)),
+        None => Ok(MaybeTyped::Typed(PageRanges::parse(alloc, value)?)),
+    }
+}
+
+fn date(year: &str) -> Result<Option<Date>, Fail> {
+    Ok(Date::new(integer(year)?, None, None, None, false))
+}
+
+/// An address, and the year in which it was visited where that stands behind it.
+fn address(alloc: Global, value: &str) -> Result<QualifiedUrl, Fail> {
+    let Some((address, year)) = value.split_once(' ') else {
+        return Ok(QualifiedUrl {
+            value: Url::parse(alloc, value)?,
+            visit_date: None,
+        });
+    };
+    Ok(QualifiedUrl {
+        value: Url::parse(alloc, address)?,
+        visit_date: date(year)?,
+    })
+}
+
+/// A name and, behind `|`, a place; with neither, a publisher of whom nothing is known.
+fn publisher(alloc: Global, value: &str) -> Result<Publisher, Fail> {
+    let Some((name, place)) = value.split_once('|') else {
+        return Ok(Publisher {
+            name: None,
+            location: None,
+        });
+    };
+    let name = text(alloc, name)?;
+    let location = text(alloc, place)?;
+    Ok(Publisher {
+        name: Some(name),
+        location: Some(location),
+    })
+}
+
+/// A language and, behind `-`, a region.
+fn language(alloc: Global, value: &str) -> Result<LanguageIdentifier, Fail> {
+    let Some((language, region)) = value.split_once('-') else {
+        let language = String::from_str(alloc, value)?;
+        return Ok(LanguageIdentifier {
+            language,
+            region: None,
+        });
+    };
+    let language = String::from_str(alloc, language)?;
+    let region = String::from_str(alloc, region)?;
+    Ok(LanguageIdentifier {
+        language,
+        region: Some(region),
+    })
+}
+
+/// Adds the number under its scheme, which is the first word.
+fn add_serial(alloc: Global, work: &mut Entry, value: &str) -> Result<(), Fail> {
+    let (scheme, number) = value.split_once(' ').unwrap_or((value, ""));
+    let mut numbers = match work.serial_number.take() {
+        Some(SerialNumber(numbers)) => numbers,
+        None => BTreeMap::new(alloc),
+    };
+    let scheme = String::from_str(alloc, scheme)?;
+    let number = String::from_str(alloc, number)?;
+    numbers.insert(scheme, number)?;
+    work.serial_number = Some(SerialNumber(numbers));
+    Ok(())
+}
+
+/// The persons, with `, ` between them; nobody where there is no name.
+fn persons(alloc: Global, names: &str) -> Result<Vec<Person>, Fail> {
+    let mut persons = Vec::new(alloc);
+    if names.is_empty() {
+        return Ok(persons);
+    }
+    for name in names.split(", ") {
+        persons.push(person(alloc, name)?)?;
+    }
+    Ok(persons)
+}
+
+/// A person of this name and, behind `/`, this given name.
+fn person(alloc: Global, name: &str) -> Result<Person, Fail> {
+    let (name, given) = match name.split_once('/') {
+        Some((name, given)) => (name, Some(String::from_str(alloc, given)?)),
+        None => (name, None),
+    };
+    Ok(Person {
+        name: String::from_str(alloc, name)?,
+        given_name: given,
+        prefix: None,
+        suffix: None,
+        alias: None,
+        comma_suffix: false,
+    })
+}
+
+/// Adds a group of persons of that role.
+fn affiliate(alloc: Global, work: &mut Entry, role: PersonRole, names: &str) -> Result<(), Fail> {
+    let names = persons(alloc, names)?;
+    let mut groups = match work.affiliated.take() {
+        Some(groups) => groups,
+        None => Vec::new(alloc),
+    };
+    groups.push(PersonsWithRoles { names, role })?;
+    work.affiliated = Some(groups);
+    Ok(())
+}
+
+fn role_named(name: &str) -> Option<PersonRole> {
+    match name {
+        "translator" => Some(PersonRole::Translator),
+        "compiler" => Some(PersonRole::Compiler),
+        "founder" => Some(PersonRole::Founder),
+        "collaborator" => Some(PersonRole::Collaborator),
+        "organizer" => Some(PersonRole::Organizer),
+        "cast-member" => Some(PersonRole::CastMember),
+        "composer" => Some(PersonRole::Composer),
+        "producer" => Some(PersonRole::Producer),
+        "executive-producer" => Some(PersonRole::ExecutiveProducer),
+        "writer" => Some(PersonRole::Writer),
+        "director" => Some(PersonRole::Director),
+        "illustrator" => Some(PersonRole::Illustrator),
+        "narrator" => Some(PersonRole::Narrator),
+        _ => None,
+    }
+}
+
+fn type_named(name: &str) -> Result<EntryType, Fail> {
+    let named = match name {
+        "article" => EntryType::Article,
+        "chapter" => EntryType::Chapter,
+        "entry" => EntryType::Entry,
+        "anthos" => EntryType::Anthos,
+        "report" => EntryType::Report,
+        "thesis" => EntryType::Thesis,
+        "web" => EntryType::Web,
+        "artwork" => EntryType::Artwork,
+        "patent" => EntryType::Patent,
+        "case" => EntryType::Case,
+        "newspaper" => EntryType::Newspaper,
+        "legislation" => EntryType::Legislation,
+        "manuscript" => EntryType::Manuscript,
+        "post" => EntryType::Post,
+        "misc" => EntryType::Misc,
+        "performance" => EntryType::Performance,
+        "periodical" => EntryType::Periodical,
+        "proceedings" => EntryType::Proceedings,
+        "book" => EntryType::Book,
+        "blog" => EntryType::Blog,
+        "reference" => EntryType::Reference,
+        "conference" => EntryType::Conference,
+        "anthology" => EntryType::Anthology,
+        "repository" => EntryType::Repository,
+        "thread" => EntryType::Thread,
+        "video" => EntryType::Video,
+        "audio" => EntryType::Audio,
+        "exhibition" => EntryType::Exhibition,
+        "original" => EntryType::Original,
+        _ => return Err(Fail::from("a type that no entry has")),
+    };
+    Ok(named)
+}

@@ -1,0 +1,47 @@
+use crate::asked::borrowed;
+use crate::described::described;
+use csl_entry::EntryLike;
+use csl_style::DateVariable;
+use std::alloc::Global;
+use std::test::Fail;
+
+/// The year of the date.
+fn year(alloc: Global, description: &str, variable: DateVariable) -> Result<Option<i32>, Fail> {
+    let entry = described(alloc, description)?;
+    let date = entry.resolve_date_variable(alloc, variable)?;
+    Ok(borrowed(&date).map(|date| date.year()))
+}
+
+/// A blog post of no date in a blog of 2001 that was read in 2015, shown at a conference of 2002,
+/// first printed in 1999.
+const POST: &str = "article; \
+    in blog; date 2001; url https://aeon.co/essays 2015; \
+    also conference; date 2002; \
+    also original; date 1999";
+
+/// The same, with a date of its own.
+const DATED_POST: &str = "article; date 2010; \
+    in blog; date 2001; url https://aeon.co/essays 2015; \
+    also conference; date 2002; \
+    also original; date 1999";
+
+#[test]
+fn dates_of_an_entry_and_its_parents(rt: HostRuntime) -> Result<(), Fail> {
+    for (description, variable, wanted) in [
+        (POST, DateVariable::Accessed, Some(2015)),
+        (POST, DateVariable::EventDate, Some(2002)),
+        (POST, DateVariable::Issued, Some(2001)),
+        (POST, DateVariable::OriginalDate, Some(1999)),
+        (POST, DateVariable::AvailableDate, None),
+        (POST, DateVariable::Submitted, None),
+        // The own date comes first.
+        (DATED_POST, DateVariable::Issued, Some(2010)),
+        ("book; date 2014", DateVariable::Accessed, None),
+        ("book; date 2014", DateVariable::EventDate, None),
+        ("book; date 2014", DateVariable::OriginalDate, None),
+    ] {
+        let year = year(rt.alloc(), description, variable)?;
+        assert_eq!(rt; year, wanted, "{variable:?} of {description}");
+    }
+    Ok(())
+}

@@ -1,0 +1,201 @@
+use crate::asked::assert_answer;
+use crate::described::described;
+use csl_entry::{EntryLike, legislation_kind, recording_kind};
+use csl_style::Kind;
+use std::alloc::Global;
+use std::process::Abort;
+use std::test::Fail;
+
+static NAMES: [&str; 45] = [
+    "article",
+    "article-journal",
+    "article-magazine",
+    "article-newspaper",
+    "bill",
+    "book",
+    "broadcast",
+    "chapter",
+    "classic",
+    "collection",
+    "dataset",
+    "document",
+    "entry",
+    "entry-dictionary",
+    "entry-encyclopedia",
+    "event",
+    "figure",
+    "graphic",
+    "hearing",
+    "interview",
+    "legal_case",
+    "legislation",
+    "manuscript",
+    "map",
+    "motion_picture",
+    "musical_score",
+    "pamphlet",
+    "paper-conference",
+    "patent",
+    "performance",
+    "periodical",
+    "personal_communication",
+    "post",
+    "post-weblog",
+    "regulation",
+    "report",
+    "review",
+    "review-book",
+    "software",
+    "song",
+    "speech",
+    "standard",
+    "thesis",
+    "treaty",
+    "webpage",
+];
+
+/// The names of all kinds that the entry is of, each with a space behind it.
+fn kinds(alloc: Global, description: &str) -> Result<String, Fail> {
+    let entry = described(alloc, description)?;
+    let mut kinds = String::new(alloc);
+    for name in NAMES {
+        let kind = Kind::from_name(name).ok_or("the name of a kind")?;
+        if entry.matches_entry_type(kind) {
+            kinds.push_str(name)?;
+            kinds.push(' ')?;
+        }
+    }
+    Ok(kinds)
+}
+
+/// Asserts that the entry is of these kinds and of no other.
+fn assert_kinds(
+    rt: &impl Abort,
+    alloc: Global,
+    description: &str,
+    wanted: &str,
+) -> Result<(), Fail> {
+    let kinds = kinds(alloc, description)?;
+    assert_answer(rt, kinds.as_str(), wanted, description);
+    Ok(())
+}
+
+#[test]
+fn articles_by_what_they_stand_in(rt: HostRuntime) -> Result<(), Fail> {
+    for (description, wanted) in [
+        ("article", "article "),
+        ("article; in periodical", "article-journal "),
+        ("article; in newspaper", "article-newspaper "),
+        ("article; in proceedings", "paper-conference "),
+        ("article; in blog", "post-weblog "),
+        ("article; in report", "report "),
+        ("article; in thesis", "thesis "),
+        ("article; in reference", "article entry-encyclopedia "),
+        // The works that it is directly in count each.
+        (
+            "article; in proceedings; also periodical",
+            "article-journal paper-conference ",
+        ),
+        // An article of a blog that can be read on the web is a post, and neither a page nor an
+        // article.
+        (
+            "article; url https://aeon.co/; in blog; in web",
+            "post-weblog ",
+        ),
+    ] {
+        assert_kinds(&rt, rt.alloc(), description, wanted)?;
+    }
+    Ok(())
+}
+
+#[test]
+fn kinds_of_written_works(rt: HostRuntime) -> Result<(), Fail> {
+    for (description, wanted) in [
+        ("report", "report "),
+        ("thesis; in report", "report thesis "),
+        ("manuscript", "manuscript "),
+        ("patent", "patent "),
+        ("book", "book "),
+        ("book; in periodical", "periodical "),
+        ("periodical", ""),
+        ("proceedings; in periodical", "book "),
+        ("anthology", "collection "),
+        ("chapter; in book", "chapter "),
+        ("chapter; in anthology", "chapter "),
+        ("chapter; in periodical", ""),
+        ("anthos; in anthology", "chapter "),
+        ("anthos; in book", ""),
+        ("entry", "entry "),
+        ("entry; in reference", "entry-encyclopedia "),
+    ] {
+        assert_kinds(&rt, rt.alloc(), description, wanted)?;
+    }
+    Ok(())
+}
+
+#[test]
+fn kinds_of_other_works(rt: HostRuntime) -> Result<(), Fail> {
+    for (description, wanted) in [
+        ("exhibition", "event "),
+        ("case", "legal_case "),
+        ("repository", "software "),
+        ("misc", "document "),
+        ("performance", ""),
+        ("audio", "song "),
+        ("audio; in book", "musical_score "),
+        ("audio; in audio", "broadcast "),
+        ("video", "motion_picture "),
+        ("video; in book", "broadcast "),
+        ("artwork", "graphic "),
+        ("artwork; in article", "figure "),
+        ("artwork; in book", "graphic "),
+        ("artwork; in article; in blog", "figure "),
+        ("legislation", "bill "),
+        ("legislation; publisher", "legislation "),
+    ] {
+        assert_kinds(&rt, rt.alloc(), description, wanted)?;
+    }
+    Ok(())
+}
+
+#[test]
+fn posts_sites_and_pages(rt: HostRuntime) -> Result<(), Fail> {
+    for (description, wanted) in [
+        ("post", "post "),
+        ("post; in thread", "post "),
+        ("case; in thread", "legal_case post "),
+        ("post; in blog", "post post-weblog "),
+        ("web", "webpage "),
+        ("blog", "webpage "),
+        ("thread", "webpage "),
+        ("report; in web", "report webpage "),
+        // An address makes a page of what has no type.
+        ("misc; url https://aeon.co/", "document webpage "),
+        ("report; url https://aeon.co/", "report "),
+    ] {
+        assert_kinds(&rt, rt.alloc(), description, wanted)?;
+    }
+    Ok(())
+}
+
+/// What kind of recording and what kind of law the entry is.
+fn narrower_kinds(alloc: Global, description: &str) -> Result<(Option<Kind>, Option<Kind>), Fail> {
+    let entry = described(alloc, description)?;
+    Ok((recording_kind(&entry), legislation_kind(&entry)))
+}
+
+#[test]
+fn one_kind_of_a_recording_or_a_law(rt: HostRuntime) -> Result<(), Fail> {
+    for (description, recording, law) in [
+        ("audio", Some(Kind::Song), None),
+        ("video; in audio", Some(Kind::Broadcast), None),
+        ("book; publisher", None, None),
+        ("audio; in book; publisher", Some(Kind::MusicalScore), None),
+        ("legislation", None, Some(Kind::Bill)),
+        ("legislation; publisher", None, Some(Kind::Legislation)),
+    ] {
+        let kinds = narrower_kinds(rt.alloc(), description)?;
+        assert_eq!(rt; kinds, (recording, law), "{description}");
+    }
+    Ok(())
+}

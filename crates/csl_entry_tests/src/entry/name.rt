@@ -1,0 +1,160 @@
+use crate::asked::assert_answer;
+use crate::described::described;
+use csl_entry::EntryLike;
+use csl_style::NameVariable;
+use std::alloc::Global;
+use std::process::Abort;
+use std::test::Fail;
+
+/// The names, each with a space behind it.
+fn names(alloc: Global, description: &str, variable: NameVariable) -> Result<String, Fail> {
+    let entry = described(alloc, description)?;
+    let mut names = String::new(alloc);
+    for person in &entry.resolve_name_variable(alloc, variable)? {
+        names.push_str(person.as_ref().name.as_str())?;
+        names.push(' ')?;
+    }
+    Ok(names)
+}
+
+fn assert_names(
+    rt: &impl Abort,
+    alloc: Global,
+    description: &str,
+    variable: NameVariable,
+    wanted: &str,
+) -> Result<(), Fail> {
+    let names = names(alloc, description, variable)?;
+    let asked = format!(in alloc; "{variable:?} of {description}")?;
+    assert_answer(rt, names.as_str(), wanted, asked.as_str());
+    Ok(())
+}
+
+/// A chapter of two authors and no editors, in an anthology with an author and two editors, in a
+/// collection that has an editor.
+const CHAPTER: &str = "chapter; authors Ann, Ben; \
+    in anthology; authors Max; editors Eve, Eli; \
+    in periodical; editors Sam";
+
+/// The same chapter, with an editor.
+const EDITED_CHAPTER: &str = "chapter; authors Ann, Ben; editors Own; \
+    in anthology; authors Max; editors Eve, Eli; \
+    in periodical; editors Sam";
+
+/// The same chapter, with a list of editors that is empty.
+const CHAPTER_OF_NO_EDITORS: &str = "chapter; authors Ann, Ben; editors; \
+    in anthology; authors Max; editors Eve, Eli; \
+    in periodical; editors Sam";
+
+/// A translation.
+const TRANSLATION: &str = "book; in original; authors Homer";
+
+#[test]
+fn authors_and_editors(rt: HostRuntime) -> Result<(), Fail> {
+    for (description, variable, wanted) in [
+        (CHAPTER, NameVariable::Author, "Ann Ben "),
+        (CHAPTER, NameVariable::ContainerAuthor, "Max "),
+        (CHAPTER, NameVariable::CollectionEditor, "Sam "),
+        (CHAPTER, NameVariable::Editor, "Eve Eli "),
+        (EDITED_CHAPTER, NameVariable::Editor, "Own "),
+        (CHAPTER_OF_NO_EDITORS, NameVariable::Editor, ""),
+        // Nobody where no work is found.
+        ("book; authors Ann", NameVariable::ContainerAuthor, ""),
+        ("book; authors Ann", NameVariable::OriginalAuthor, ""),
+        ("book; authors Ann", NameVariable::CollectionEditor, ""),
+        ("book; authors Ann", NameVariable::Director, ""),
+        (TRANSLATION, NameVariable::OriginalAuthor, "Homer "),
+        (TRANSLATION, NameVariable::Author, ""),
+    ] {
+        assert_names(&rt, rt.alloc(), description, variable, wanted)?;
+    }
+    Ok(())
+}
+
+const PAPER: &str = "article; in proceedings; director Dan; organizer Olga";
+
+const TALK: &str = "performance; in conference; director Dan; organizer Olga";
+
+const PART_OF_A_BOOK: &str = "chapter; in book; director Dan; organizer Olga";
+
+const ARTWORK: &str = "artwork; in exhibition; director Dan; organizer Olga";
+
+const VIDEO: &str = "video; director Dan; founder Flo";
+
+const EPISODE: &str = "video; director Dan; founder Flo; in video; director Pat; founder Fay";
+
+#[test]
+fn persons_of_the_work_that_holds_the_entry(rt: HostRuntime) -> Result<(), Fail> {
+    for (description, variable, wanted) in [
+        // Proceedings and conferences have chairs, exhibitions have curators.
+        (PAPER, NameVariable::Chair, "Dan "),
+        (PAPER, NameVariable::Curator, ""),
+        (TALK, NameVariable::Chair, "Dan "),
+        (PART_OF_A_BOOK, NameVariable::Chair, ""),
+        (ARTWORK, NameVariable::Curator, "Olga "),
+        (ARTWORK, NameVariable::Organizer, ""),
+        (ARTWORK, NameVariable::Chair, ""),
+        (VIDEO, NameVariable::Director, "Dan "),
+        (VIDEO, NameVariable::SeriesCreator, "Flo "),
+        // Those of the series come before the episode's own.
+        (EPISODE, NameVariable::Director, "Pat "),
+        (EPISODE, NameVariable::SeriesCreator, "Fay "),
+    ] {
+        assert_names(&rt, rt.alloc(), description, variable, wanted)?;
+    }
+    Ok(())
+}
+
+/// A book with persons of five roles, of which the translators stand in two groups.
+const BOOK: &str = "book; translator Tom; compiler Cora; illustrator Ida; collaborator Col; \
+    organizer Oz; translator Tess";
+
+/// A performance with persons of the other roles that a variable names.
+const PLAY: &str = "performance; composer Cy; narrator Nan; producer Pru; \
+    executive-producer Ex; cast-member Mel; writer Wes";
+
+#[test]
+fn persons_of_a_role(rt: HostRuntime) -> Result<(), Fail> {
+    for (description, variable, wanted) in [
+        (BOOK, NameVariable::Translator, "Tom Tess "),
+        (BOOK, NameVariable::Compiler, "Cora "),
+        (BOOK, NameVariable::Illustrator, "Ida "),
+        (BOOK, NameVariable::Contributor, "Col "),
+        (BOOK, NameVariable::Organizer, "Oz "),
+        (PLAY, NameVariable::Composer, "Cy "),
+        (PLAY, NameVariable::Narrator, "Nan "),
+        (PLAY, NameVariable::Producer, "Pru "),
+        (PLAY, NameVariable::ExecutiveProducer, "Ex "),
+        (PLAY, NameVariable::Performer, "Mel "),
+        (PLAY, NameVariable::ScriptWriter, "Wes "),
+        // Nobody by the other variables.
+        (PLAY, NameVariable::EditorialDirector, ""),
+        (PLAY, NameVariable::Guest, ""),
+        (PLAY, NameVariable::Host, ""),
+        (PLAY, NameVariable::Interviewer, ""),
+        (PLAY, NameVariable::Recipient, ""),
+        (PLAY, NameVariable::ReviewedAuthor, ""),
+    ] {
+        assert_names(&rt, rt.alloc(), description, variable, wanted)?;
+    }
+    Ok(())
+}
+
+#[test]
+fn editors_who_translate(rt: HostRuntime) -> Result<(), Fail> {
+    for (editors, wanted) in [
+        ("Tess, Cora", "Tess "),
+        // An editor of another given name is another person.
+        ("Tom, Tess, Tom/A.", "Tom Tess "),
+    ] {
+        let book = format!(in rt.alloc(); "{BOOK}; editors {editors}")?;
+        assert_names(
+            &rt,
+            rt.alloc(),
+            book.as_str(),
+            NameVariable::EditorTranslator,
+            wanted,
+        )?;
+    }
+    Ok(())
+}

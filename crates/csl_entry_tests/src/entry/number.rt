@@ -1,0 +1,120 @@
+use crate::asked::{assert_answer, number_said};
+use crate::described::described;
+use csl_entry::EntryLike;
+use csl_style::NumberVariable;
+use std::alloc::Global;
+use std::process::Abort;
+use std::test::Fail;
+
+fn number(alloc: Global, description: &str, variable: NumberVariable) -> Result<String, Fail> {
+    let entry = described(alloc, description)?;
+    let found = entry.resolve_number_variable(alloc, variable)?;
+    number_said(alloc, &found)
+}
+
+/// Asserts the number; behind `'` a text that is no number; or `none`.
+fn assert_number(
+    rt: &impl Abort,
+    alloc: Global,
+    description: &str,
+    variable: NumberVariable,
+    wanted: &str,
+) -> Result<(), Fail> {
+    let number = number(alloc, description, variable)?;
+    let asked = format!(in alloc; "{variable:?} of {description}")?;
+    assert_answer(rt, number.as_str(), wanted, asked.as_str());
+    Ok(())
+}
+
+/// Chapter 4 of an anthology, volume 2, in a series, volume 7.
+const CHAPTER: &str =
+    "chapter; chapter 4; volume 9; in anthology; volume 2; in book; volume 7; edition 3";
+
+/// An article, volume 5, in proceedings of which no volume is known.
+const PAPER: &str = "article; volume 5; in proceedings";
+
+/// An article on pages 454 to 477 of issue 3 of volume 20 of a journal.
+const ARTICLE: &str = "article; pages 454-477; in periodical; issue 3; volume 20";
+
+/// A law, volume 8 of 12 of a code, on 300 pages.
+const LAW: &str = "case; volume 8; volumes 12; total 300; in legislation";
+
+#[test]
+fn numbers_of_an_entry_and_its_parents(rt: HostRuntime) -> Result<(), Fail> {
+    for (description, variable, wanted) in [
+        (CHAPTER, NumberVariable::ChapterNumber, "4"),
+        (CHAPTER, NumberVariable::Number, "4"),
+        (CHAPTER, NumberVariable::CollectionNumber, "7"),
+        (CHAPTER, NumberVariable::Edition, "3"),
+        (CHAPTER, NumberVariable::Volume, "2"),
+        (CHAPTER, NumberVariable::PartNumber, "none"),
+        (PAPER, NumberVariable::ChapterNumber, "5"),
+        (PAPER, NumberVariable::Volume, "5"),
+        (PAPER, NumberVariable::CollectionNumber, "none"),
+        (PAPER, NumberVariable::Number, "none"),
+        (ARTICLE, NumberVariable::Volume, "20"),
+        (ARTICLE, NumberVariable::Issue, "3"),
+        (ARTICLE, NumberVariable::PageFirst, "454"),
+        (ARTICLE, NumberVariable::ChapterNumber, "none"),
+        (LAW, NumberVariable::PartNumber, "8"),
+        (LAW, NumberVariable::NumberOfVolumes, "12"),
+        (LAW, NumberVariable::NumberOfPages, "300"),
+    ] {
+        assert_number(&rt, rt.alloc(), description, variable, wanted)?;
+    }
+    Ok(())
+}
+
+/// A report with a serial number of its own, in a series with a printing.
+const REPORT: &str = "report; serial serial 123; in book; serial printing 2";
+
+/// A book with a version, in that series.
+const BOOK: &str = "book; serial version 1.2; in book; serial printing 2";
+
+#[test]
+fn serial_numbers(rt: HostRuntime) -> Result<(), Fail> {
+    for (description, variable, wanted) in [
+        (REPORT, NumberVariable::Number, "123"),
+        // Its own serial number has no printing, so the one of the series is not looked for.
+        (REPORT, NumberVariable::PrintingNumber, "none"),
+        (BOOK, NumberVariable::Version, "none"),
+        (
+            "book; in book; serial printing 2",
+            NumberVariable::PrintingNumber,
+            "2",
+        ),
+    ] {
+        assert_number(&rt, rt.alloc(), description, variable, wanted)?;
+    }
+    Ok(())
+}
+
+/// A repository of which nothing that is a text is a number, in that series.
+const REPOSITORY: &str = "repository; serial version 1.2 beta; edition 'second; pages 'passim; \
+    in book; serial printing 2";
+
+#[test]
+fn texts_that_are_no_numbers(rt: HostRuntime) -> Result<(), Fail> {
+    for (variable, wanted) in [
+        (NumberVariable::Version, "'1.2 beta"),
+        (NumberVariable::Edition, "'second"),
+        (NumberVariable::PageFirst, "none"),
+    ] {
+        assert_number(&rt, rt.alloc(), REPOSITORY, variable, wanted)?;
+    }
+    Ok(())
+}
+
+#[test]
+fn an_entry_answers_nothing_that_the_citation_knows(rt: HostRuntime) -> Result<(), Fail> {
+    for variable in [
+        NumberVariable::CitationNumber,
+        NumberVariable::FirstReferenceNoteNumber,
+        NumberVariable::Locator,
+        NumberVariable::Section,
+        NumberVariable::SupplementNumber,
+    ] {
+        assert_number(&rt, rt.alloc(), ARTICLE, variable, "none")?;
+    }
+    Ok(())
+}

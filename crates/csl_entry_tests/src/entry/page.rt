@@ -1,0 +1,32 @@
+use crate::asked::assert_answer;
+use crate::described::described;
+use csl_entry::EntryLike;
+use csl_style::PageVariable;
+use lit_model::MaybeTyped;
+use std::alloc::Global;
+use std::test::Fail;
+
+/// The pages; behind `'` a text that is none; and `none` where there is no answer.
+fn pages(alloc: Global, description: &str) -> Result<String, Fail> {
+    let entry = described(alloc, description)?;
+    match entry.resolve_page_variable(alloc, PageVariable::Page)? {
+        None => Ok(String::from_str(alloc, "none")?),
+        Some(MaybeTyped::Typed(pages)) => Ok(pages.to_string(alloc)?),
+        Some(MaybeTyped::String(text)) => Ok(format!(in alloc; "'{}", text.as_str())?),
+    }
+}
+
+#[test]
+fn pages_on_which_a_work_stands(rt: HostRuntime) -> Result<(), Fail> {
+    for (description, wanted) in [
+        ("article", "none"),
+        ("article; pages 454", "454"),
+        ("article; pages 'passim", "'passim"),
+        // The pages of a parent are no answer.
+        ("chapter; in book; pages '1-9", "none"),
+    ] {
+        let pages = pages(rt.alloc(), description)?;
+        assert_answer(&rt, pages.as_str(), wanted, description);
+    }
+    Ok(())
+}

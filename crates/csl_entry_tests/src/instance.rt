@@ -1,0 +1,334 @@
+use crate::asked::{assert_answer, number_said, text_said};
+use crate::described::pieces;
+use csl_entry::{
+    CertainCiteProperties, CitationNumber, CiteProperties, DisambiguateState,
+    DisambiguatedNameForm, EntryLike, IbidState, InstanceContext, LocatorPayload,
+    NameDisambiguationProperties, NoteNumber, NumberVariableResult, SpecificLocator,
+    SpeculativeCiteProperties,
+};
+use csl_style::{
+    DateVariable, Kind, Locator, NameVariable, NumberVariable, PageVariable, StandardVariable,
+};
+use lit_model::{
+    ChunkedString, Date, LongShortForm, MaybeTyped, Memory, Numeric, NumericDelimiter,
+    NumericValue, PageRanges, Person,
+};
+use std::alloc::Global;
+use std::borrow::{Cow, CowStr};
+use std::test::Fail;
+
+/// An entry that answers the same to each variable of a sort: a number, pages, or a text. It has
+/// no names and no dates.
+#[derive(Drop)]
+struct Sample {
+    number: Numeric,
+    pages: PageRanges,
+    text: ChunkedString,
+}
+
+impl EntryLike for Sample {
+    ghost use Rattle.std.specs.Prelude.{false, [], Some, None};
+    ghost use Rattle.lit_model.specs.MaybeTyped.{typed};
+    ghost use Rattle.lit_model.specs.Numeric.{numeric_view};
+    ghost use Rattle.lit_model.specs.Page.{pages_view};
+    ghost use Rattle.lit_model.specs.Text.{chunks};
+
+    ghost answers = { λ sample. record {
+      numbers = λ _. Some (typed (numeric_view sample.number));
+      pages = λ _. Some (typed (pages_view sample.pages));
+      standards = λ _ _. Some (chunks sample.text);
+      names = λ _. [];
+      dates = λ _. None;
+      kinds = λ _. false;
+    } };
+
+    ghost key_text = { λ _. [] };
+
+    ghost english = { λ _. None };
+
+    fn resolve_number_variable(
+        &self,
+        _alloc: Global,
+        _variable: NumberVariable,
+    ) -> Result<Option<MaybeTyped<Cow<'_, Numeric>>>, Memory> {
+        Ok(Some(MaybeTyped::Typed(Cow::Borrowed(&self.number))))
+    }
+
+    fn resolve_page_variable(
+        &self,
+        alloc: Global,
+        _variable: PageVariable,
+    ) -> Result<Option<MaybeTyped<PageRanges>>, Memory> {
+        let pages = self.pages.clone(alloc)?;
+        Ok(Some(MaybeTyped::Typed(pages)))
+    }
+
+    fn resolve_standard_variable(
+        &self,
+        _alloc: Global,
+        _form: LongShortForm,
+        _variable: StandardVariable,
+    ) -> Result<Option<Cow<'_, ChunkedString>>, Memory> {
+        Ok(Some(Cow::Borrowed(&self.text)))
+    }
+
+    fn resolve_name_variable(
+        &self,
+        alloc: Global,
+        _variable: NameVariable,
+    ) -> Result<Vec<Cow<'_, Person>>, Memory> {
+        Ok(Vec::new(alloc))
+    }
+
+    fn resolve_date_variable(
+        &self,
+        _alloc: Global,
+        _variable: DateVariable,
+    ) -> Result<Option<Cow<'_, Date>>, Memory> {
+        Ok(None)
+    }
+
+    fn matches_entry_type(&self, _kind: Kind) -> bool {
+        false
+    }
+
+    fn is_english(&self) -> Option<bool> {
+        None
+    }
+
+    fn key(&self) -> CowStr<'_, Global> {
+        CowStr::Borrowed("")
+    }
+}
+
+/// Number 20, page 7 and the text `Nature`.
+fn make_sample(alloc: Global) -> Result<Sample, Fail> {
+    Ok(Sample {
+        number: Numeric::new(20),
+        pages: PageRanges::parse(alloc, "7")?,
+        text: pieces(alloc, "`Nature")?,
+    })
+}
+
+/// The third cite that was handed in, of citation number 4; where it has a locator, to a page.
+fn cited<'s>(
+    first_note_number: Option<NoteNumber>,
+    page: Option<LocatorPayload<'s>>,
+    disambiguation: DisambiguateState,
+) -> Result<CiteProperties<'s>, Fail> {
+    let citation_number = CitationNumber::new(4).ok_or("a citation number")?;
+    Ok(CiteProperties {
+        certain: CertainCiteProperties {
+            first_note_number,
+            is_first: true,
+            is_near_note: false,
+            initial_idx: 2,
+        },
+        speculative: SpeculativeCiteProperties {
+            locator: page.map(|page| SpecificLocator(Locator::Page, page)),
+            citation_number,
+            disambiguation,
+            ibid: IbidState::Different,
+        },
+    })
+}
+
+fn instance<'s>(
+    entry: &'s Sample,
+    cite_props: &'s CiteProperties<'s>,
+) -> InstanceContext<'s, Sample> {
+    InstanceContext {
+        entry,
+        cite_props,
+        sorting: None,
+        kind: None,
+    }
+}
+
+/// The number that the cite answers; behind `'` a text that is no number; behind `@` the index of
+/// what the caller writes; and `none` where there is no answer.
+fn number(
+    alloc: Global,
+    first_note_number: Option<NoteNumber>,
+    page: Option<LocatorPayload<'_>>,
+    variable: NumberVariable,
+) -> Result<String, Fail> {
+    let entry = make_sample(alloc)?;
+    let props = cited(first_note_number, page, DisambiguateState::None)?;
+    match instance(&entry, &props).resolve_number_variable(alloc, variable)? {
+        Some(NumberVariableResult::Regular(number)) => number_said(alloc, &Some(number)),
+        Some(NumberVariableResult::Transparent(index)) => Ok(format!(in alloc; "@{index}")?),
+        None => number_said(alloc, &None),
+    }
+}
+
+#[test]
+fn numbers_of_the_citation(rt: HostRuntime) -> Result<(), Fail> {
+    for (note, variable, wanted) in [
+        (NoteNumber::new(6), NumberVariable::CitationNumber, "5"),
+        (
+            NoteNumber::new(6),
+            NumberVariable::FirstReferenceNoteNumber,
+            "6",
+        ),
+        (NoteNumber::new(6), NumberVariable::Locator, "none"),
+        (None, NumberVariable::FirstReferenceNoteNumber, "none"),
+        // All else is asked of the entry.
+        (None, NumberVariable::Volume, "20"),
+    ] {
+        let number = number(rt.alloc(), note, None, variable)?;
+        assert_answer(&rt, number.as_str(), wanted, "a number variable");
+    }
+    Ok(())
+}
+
+#[test]
+fn locators(rt: HostRuntime) -> Result<(), Fail> {
+    for (page, wanted) in [
+        (LocatorPayload::Str(" 12"), "12"),
+        (LocatorPayload::Str("12 b"), "'12 b"),
+        (LocatorPayload::Str("x"), "'x"),
+        (LocatorPayload::Str(""), "'"),
+        (LocatorPayload::Transparent, "@2"),
+    ] {
+        let number = number(rt.alloc(), None, Some(page), NumberVariable::Locator)?;
+        assert_answer(&rt, number.as_str(), wanted, "a locator");
+    }
+    Ok(())
+}
+
+/// A number, and what separates it from the next.
+type Separated = (i32, Option<NumericDelimiter>);
+
+/// The two numbers of a locator, where it is a list of two.
+fn two_numbers(alloc: Global, page: &str) -> Result<Option<(Separated, Separated)>, Fail> {
+    let entry = make_sample(alloc)?;
+    let props = cited(
+        None,
+        Some(LocatorPayload::Str(page)),
+        DisambiguateState::None,
+    )?;
+    let found = instance(&entry, &props).resolve_number_variable(alloc, NumberVariable::Locator)?;
+    let Some(NumberVariableResult::Regular(MaybeTyped::Typed(number))) = &found else {
+        return Ok(None);
+    };
+    let NumericValue::Set(numbers) = &number.as_ref().value else {
+        return Ok(None);
+    };
+    match numbers.as_slice() {
+        [first, second] => Ok(Some((*first, *second))),
+        _ => Ok(None),
+    }
+}
+
+#[test]
+fn a_locator_of_two_numbers(rt: HostRuntime) -> Result<(), Fail> {
+    let numbers = two_numbers(rt.alloc(), "3-5")?;
+    assert_eq!(rt;
+        numbers,
+        Some(((3, Some(NumericDelimiter::Hyphen)), (5, None)))
+    );
+    Ok(())
+}
+
+/// What tells the cite from others.
+#[derive(Clone, Copy, Debug)]
+enum Told {
+    ByNothing,
+    ByNames,
+    ByChoice,
+    BySuffix(u8),
+}
+
+fn state(alloc: Global, told: Told) -> DisambiguateState {
+    match told {
+        Told::ByNothing => DisambiguateState::None,
+        Told::ByNames => {
+            let form = DisambiguatedNameForm::LongFull;
+            let names = NameDisambiguationProperties::new(form, Vec::new(alloc), Vec::new(alloc));
+            DisambiguateState::NameDisambiguation(names)
+        }
+        Told::ByChoice => DisambiguateState::Choose,
+        Told::BySuffix(number) => DisambiguateState::YearSuffix(number),
+    }
+}
+
+/// The text that the cite answers, with the marks of its pieces.
+fn text(
+    alloc: Global,
+    told: Told,
+    form: LongShortForm,
+    variable: StandardVariable,
+) -> Result<String, Fail> {
+    let entry = make_sample(alloc)?;
+    let props = cited(None, None, state(alloc, told))?;
+    let cite = instance(&entry, &props).clone()?;
+    match cite.resolve_standard_variable(alloc, form, variable)? {
+        Some(found) => text_said(alloc, Some(found.as_ref())),
+        None => text_said(alloc, None),
+    }
+}
+
+#[test]
+fn year_suffixes_and_texts_of_the_entry(rt: HostRuntime) -> Result<(), Fail> {
+    for (told, form, variable, wanted) in [
+        (
+            Told::BySuffix(0),
+            LongShortForm::Long,
+            StandardVariable::YearSuffix,
+            "a",
+        ),
+        (
+            Told::BySuffix(0),
+            LongShortForm::Short,
+            StandardVariable::YearSuffix,
+            "a",
+        ),
+        (
+            Told::ByNames,
+            LongShortForm::Long,
+            StandardVariable::YearSuffix,
+            "none",
+        ),
+        (
+            Told::ByChoice,
+            LongShortForm::Long,
+            StandardVariable::YearSuffix,
+            "none",
+        ),
+        (
+            Told::ByNothing,
+            LongShortForm::Long,
+            StandardVariable::YearSuffix,
+            "none",
+        ),
+        // All else is asked of the entry.
+        (
+            Told::BySuffix(0),
+            LongShortForm::Long,
+            StandardVariable::Title,
+            "`Nature",
+        ),
+    ] {
+        let text = text(rt.alloc(), told, form, variable)?;
+        assert_answer(&rt, text.as_str(), wanted, "a standard variable");
+    }
+    Ok(())
+}
+
+/// The pages that the cite answers.
+fn pages(alloc: Global) -> Result<String, Fail> {
+    let entry = make_sample(alloc)?;
+    let props = cited(None, None, DisambiguateState::YearSuffix(0))?;
+    match instance(&entry, &props).resolve_page_variable(alloc, PageVariable::Page)? {
+        Some(MaybeTyped::Typed(pages)) => Ok(pages.to_string(alloc)?),
+        _ => Ok(String::from_str(alloc, "no pages")?),
+    }
+}
+
+#[test]
+fn pages_are_asked_of_the_entry(rt: HostRuntime) -> Result<(), Fail> {
+    let pages = pages(rt.alloc())?;
+    assert_answer(&rt, pages.as_str(), "7", "the pages");
+    Ok(())
+}

@@ -1,0 +1,29 @@
+//! Tests of what an entry and a cite answer to a style.
+#![tactic(auto)]
+
+#[cfg(test)]
+mod asked;
+#[cfg(test)]
+mod citation_label;
+#[cfg(test)]
+mod cite;
+#[cfg(test)]
+mod creators;
+#[cfg(test)]
+mod described;
+#[cfg(test)]
+mod entry;
+#[cfg(test)]
+mod instance;
+#[cfg(test)]
+mod language;
+#[cfg(test)]
+mod letters;
+#[cfg(test)]
+mod name_form;
+#[cfg(test)]
+mod name_properties;
+#[cfg(test)]
+mod number_result;
+#[cfg(test)]
+mod numbers;

@@ -1,0 +1,214 @@
+ghost use Rattle.std.specs.Prelude.{◌≡◌, ◌↔◌, IsTrue};
+ghost use Rattle.csl_entry.specs.NumberResult.{result_view, number_or_page_view};
+
+use csl_entry::{NumberOrPageVariableResult, NumberVariableResult};
+use lit_model::{MaybeTyped, Numeric, PageRanges};
+use std::alloc::Global;
+use std::borrow::Cow;
+use std::cmp::Ordering;
+use std::test::Fail;
+
+/// Whether the two are equal: they are where both are one number, one text or of one index.
+fn same(a: &NumberVariableResult<'_>, b: &NumberVariableResult<'_>) -> bool
+    ensures { IsTrue result ↔ (result_view a.now ≡ result_view b.now) }
+{
+    *a == *b
+}
+
+/// The same where the answer may be of pages, which are no number.
+fn same_kind(a: &NumberOrPageVariableResult<'_>, b: &NumberOrPageVariableResult<'_>) -> bool
+    ensures { IsTrue result ↔ (number_or_page_view a.now ≡ number_or_page_view b.now) }
+{
+    *a == *b
+}
+
+/// An answer, to be made.
+#[derive(Clone, Copy, Debug)]
+enum Answer {
+    /// The number that the text spells.
+    Spelled(&'static str),
+    /// That one number, which no text need spell.
+    One(i32),
+    /// A text that is no number.
+    Text(&'static str),
+    /// What the caller writes at that index.
+    Index(usize),
+}
+
+fn made(alloc: Global, answer: Answer) -> Result<NumberVariableResult<'static>, Fail> {
+    let number = match answer {
+        Answer::Spelled(text) => Numeric::parse(alloc, text)?,
+        Answer::One(value) => Numeric::new(value),
+        Answer::Text(text) => {
+            let text = String::from_str(alloc, text)?;
+            return Ok(NumberVariableResult::from_regular(MaybeTyped::String(text)));
+        }
+        Answer::Index(index) => return Ok(NumberVariableResult::Transparent(index)),
+    };
+    Ok(NumberVariableResult::from_regular(MaybeTyped::Typed(Cow::Owned(number))))
+}
+
+/// The answers, one behind the other.
+fn both(alloc: Global, a: Answer, b: Answer) -> Result<Vec<NumberVariableResult<'static>>, Fail> {
+    let mut both = Vec::new(alloc);
+    both.push(made(alloc, a)?)?;
+    both.push(made(alloc, b)?)?;
+    Ok(both)
+}
+
+/// How the first stands to the second and the second to the first, and whether they are equal.
+fn compared(alloc: Global, a: Answer, b: Answer) -> Result<(Ordering, Ordering, bool), Fail> {
+    let both = both(alloc, a, b)?;
+    match both.as_slice() {
+        [a, b] => Ok((a.csl_cmp(b), b.csl_cmp(a), same(a, b))),
+        _ => Err(Fail::from("two answers")),
+    }
+}
+
+#[test]
+fn answers_in_order(rt: HostRuntime) -> Result<(), Fail> {
+    for (first, second) in [
+        // A number stands before a text, and what the caller writes stands last.
+        (Answer::Spelled("2000"), Answer::Text("1")),
+        (Answer::Spelled("2000"), Answer::Index(0)),
+        (Answer::Text("zero"), Answer::Index(0)),
+        // What the caller writes goes by its index, and numbers go by value.
+        (Answer::Index(2), Answer::Index(10)),
+        (Answer::Spelled("9"), Answer::Spelled("10")),
+        (Answer::One(-1), Answer::One(0)),
+        (Answer::One(-2), Answer::One(-1)),
+        // Texts go by bytes.
+        (Answer::Text("10"), Answer::Text("9")),
+        (Answer::Text("Z"), Answer::Text("a")),
+        // Lists go number by number, and one number goes as a list of one.
+        (Answer::Spelled("1, 2"), Answer::Spelled("1-3")),
+        (Answer::Spelled("1, 2"), Answer::Spelled("1-2, 0")),
+        (Answer::One(1), Answer::Spelled("1 & 2")),
+        (Answer::Spelled("1 & 2"), Answer::One(2)),
+        // Prefixes count after the numbers, and suffixes after the prefixes.
+        (Answer::One(1), Answer::Spelled("b1")),
+        (Answer::Spelled("a1"), Answer::Spelled("b1")),
+        (Answer::Spelled("b1"), Answer::Spelled("a2")),
+        (Answer::One(1), Answer::Spelled("1b")),
+        (Answer::Spelled("1a"), Answer::Spelled("1b")),
+        (Answer::Spelled("1b"), Answer::Spelled("a1a")),
+    ] {
+        let compared = compared(rt.alloc(), first, second)?;
+        let wanted = (Ordering::Less, Ordering::Greater, false);
+        assert_eq!(rt; compared, wanted, "{first:?} and {second:?}");
+    }
+    Ok(())
+}
+
+#[test]
+fn answers_at_one_place(rt: HostRuntime) -> Result<(), Fail> {
+    for (first, second, equal) in [
+        (Answer::Index(2), Answer::Index(2), true),
+        (Answer::One(-1), Answer::One(-1), true),
+        // What separates the numbers does not count.
+        (Answer::Spelled("1-2"), Answer::Spelled("1, 2"), false),
+    ] {
+        let compared = compared(rt.alloc(), first, second)?;
+        let wanted = (Ordering::Equal, Ordering::Equal, equal);
+        assert_eq!(rt; compared, wanted, "{first:?} and {second:?}");
+    }
+    Ok(())
+}
+
+/// Whether the answer equals that number, borrowed.
+fn equals_borrowed(alloc: Global, number: i32, answer: Answer) -> Result<bool, Fail> {
+    let number = Numeric::new(number);
+    let borrowed = NumberVariableResult::from_regular(MaybeTyped::Typed(Cow::Borrowed(&number)));
+    let answer = made(alloc, answer)?;
+    Ok(same(&borrowed, &answer))
+}
+
+#[test]
+fn equal_answers_are_of_one_kind(rt: HostRuntime) -> Result<(), Fail> {
+    for (answer, wanted) in [
+        (Answer::One(7), true),
+        (Answer::Text("7"), false),
+        (Answer::Index(7), false),
+    ] {
+        assert_eq!(rt;
+            equals_borrowed(rt.alloc(), 7, answer)?,
+            wanted,
+            "{answer:?}"
+        );
+    }
+    Ok(())
+}
+
+/// Whether a copy of that number, borrowed, equals it, and whether the copy borrows.
+fn copy_of_borrowed(alloc: Global, number: i32) -> Result<(bool, bool), Fail> {
+    let number = Numeric::new(number);
+    let borrowed = NumberVariableResult::from_regular(MaybeTyped::Typed(Cow::Borrowed(&number)));
+    let copy = borrowed.clone(alloc)?;
+    let borrows = matches!(
+        &copy,
+        NumberVariableResult::Regular(MaybeTyped::Typed(Cow::Borrowed(_)))
+    );
+    Ok((same(&copy, &borrowed), borrows))
+}
+
+#[test]
+fn a_copy_of_a_borrowed_number_borrows(rt: HostRuntime) -> Result<(), Fail> {
+    assert_eq!(rt; copy_of_borrowed(rt.alloc(), 7)?, (true, true));
+    Ok(())
+}
+
+/// Whether a copy equals the answer.
+fn equals_copy(alloc: Global, answer: Answer) -> Result<bool, Fail> {
+    let answer = made(alloc, answer)?;
+    let copy = answer.clone(alloc)?;
+    Ok(same(&copy, &answer))
+}
+
+#[test]
+fn copies_are_equal(rt: HostRuntime) -> Result<(), Fail> {
+    for answer in [
+        Answer::Spelled("a1-2b"),
+        Answer::Text("second"),
+        Answer::Index(3),
+    ] {
+        assert_eq!(rt; equals_copy(rt.alloc(), answer)?, true, "{answer:?}");
+    }
+    Ok(())
+}
+
+/// That number, or the pages that are spelled so.
+fn number_or_pages(
+    alloc: Global,
+    number: i32,
+    pages: Option<&str>,
+) -> Result<NumberOrPageVariableResult<'static>, Fail> {
+    if let Some(pages) = pages {
+        let pages = PageRanges::parse(alloc, pages)?;
+        return Ok(NumberOrPageVariableResult::Page(MaybeTyped::Typed(pages)));
+    }
+    let number = made(alloc, Answer::One(number))?;
+    Ok(NumberOrPageVariableResult::Number(number))
+}
+
+/// Whether the first equals the second, and whether it equals its own copy.
+fn kinds_compared(
+    alloc: Global,
+    first: Option<&str>,
+    second: Option<&str>,
+) -> Result<(bool, bool), Fail> {
+    let first = number_or_pages(alloc, 7, first)?;
+    let mut others = Vec::new(alloc);
+    others.push(number_or_pages(alloc, 7, second)?)?;
+    others.push(first.clone(alloc)?)?;
+    match others.as_slice() {
+        [second, copy] => Ok((same_kind(&first, second), same_kind(copy, &first))),
+        _ => Err(Fail::from("two answers")),
+    }
+}
+
+#[test]
+fn pages_are_no_number(rt: HostRuntime) -> Result<(), Fail> {
+    assert_eq!(rt; kinds_compared(rt.alloc(), Some("7"), None)?, (false, true));
+    assert_eq!(rt; kinds_compared(rt.alloc(), None, Some("7"))?, (false, true));
+    Ok(())
+}
