@@ -211,7 +211,7 @@ fn names<T: EntryLike>(alloc: Global, entry: &T) -> Result<usize> {
 }
 
 /// Asks an entry for every variable, each text in both forms, and counts the answers.
-fn asked<T: EntryLike>(alloc: Global, entry: &T) -> Result<usize> {
+fn answer_count<T: EntryLike>(alloc: Global, entry: &T) -> Result<usize> {
     let numbers = numbers(alloc, entry)?;
     let long = texts(alloc, entry, LongShortForm::Long)?;
     let short = texts(alloc, entry, LongShortForm::Short)?;
@@ -227,7 +227,7 @@ fn asked<T: EntryLike>(alloc: Global, entry: &T) -> Result<usize> {
 /// Asks an article with many authors and translators for every variable, and counts the answers.
 pub fn answers(alloc: Global, size: usize) -> Result<usize> {
     let entry = article(alloc, size)?;
-    asked(alloc, &entry)
+    answer_count(alloc, &entry)
 }
 
 /// Labels an article of four authors many times, and counts the bytes of the labels.

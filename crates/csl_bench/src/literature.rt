@@ -1,11 +1,12 @@
-//! Works over the literature model. Each makes its input by repeating a unit, and does one call on it.
+//! Works over the literature model. Each makes its input by repeating a unit, and does one call
+//! on it.
 
 use anyhow::{Result, bail};
 use lit_model::{Entry, EntryType, Numeric, NumericError, NumericValue, PageRanges, Person};
 use std::alloc::Global;
 
 /// A text of so many units, and its end.
-fn repeated(alloc: Global, unit: &str, size: usize, end: &str) -> Result<String> {
+fn repetition(alloc: Global, unit: &str, size: usize, end: &str) -> Result<String> {
     let mut text = String::new(alloc);
     for _ in 0..size {
         text.push_str(unit)?;
@@ -16,7 +17,7 @@ fn repeated(alloc: Global, unit: &str, size: usize, end: &str) -> Result<String>
 
 /// Reads a list of numbers, and counts them.
 pub fn numeric(alloc: Global, size: usize) -> Result<usize> {
-    let text = repeated(alloc, "17, ", size, "4")?;
+    let text = repetition(alloc, "17, ", size, "4")?;
     match Numeric::parse(alloc, text.as_str()) {
         Ok(numeric) => match &numeric.value {
             NumericValue::Number(_) => Ok(1),
@@ -29,7 +30,7 @@ pub fn numeric(alloc: Global, size: usize) -> Result<usize> {
 
 /// Reads a list of page ranges, and counts its parts.
 pub fn pages(alloc: Global, size: usize) -> Result<usize> {
-    let text = repeated(alloc, "321-328, ", size, "7")?;
+    let text = repetition(alloc, "321-328, ", size, "7")?;
     match PageRanges::parse(alloc, text.as_str()) {
         Ok(pages) => Ok(pages.ranges.len()),
         Err(NumericError::Memory) => bail!("out of memory"),
@@ -51,7 +52,7 @@ fn person(name: String, given_name: String) -> Person {
 /// Writes the initials of many given names, and counts their bytes.
 pub fn initials(alloc: Global, size: usize) -> Result<usize> {
     let name = String::from_str(alloc, "Kwan")?;
-    let given_name = repeated(alloc, "Jean-Luc ", size, "Marie")?;
+    let given_name = repetition(alloc, "Jean-Luc ", size, "Marie")?;
     let mut written = String::new(alloc);
     person(name, given_name).initials(&mut written, Some(". "), true)?;
     Ok(written.len())
@@ -59,7 +60,7 @@ pub fn initials(alloc: Global, size: usize) -> Result<usize> {
 
 /// Finds the particle of a name of many words, and counts its bytes.
 pub fn particle(alloc: Global, size: usize) -> Result<usize> {
-    let name = repeated(alloc, "van der ", size, "Berg")?;
+    let name = repetition(alloc, "van der ", size, "Berg")?;
     let given_name = String::from_str(alloc, "Vincent")?;
     match person(name, given_name).name_particle() {
         Some(particle) => Ok(particle.len()),
@@ -81,13 +82,10 @@ fn entry(alloc: Global, size: usize) -> Result<Entry> {
 }
 
 fn author_count(entry: &Entry) -> usize {
-    match entry.authors() {
-        Some(authors) => authors.len(),
-        None => 0,
-    }
+    entry.authors().map_or(0, |authors| authors.len())
 }
 
-fn copied_authors(alloc: Global, entry: &Entry) -> Result<usize> {
+fn authors_of_copy(alloc: Global, entry: &Entry) -> Result<usize> {
     let copy = entry.clone(alloc)?;
     Ok(author_count(&copy))
 }
@@ -95,5 +93,5 @@ fn copied_authors(alloc: Global, entry: &Entry) -> Result<usize> {
 /// Copies an entry with many authors, and counts those of the copy.
 pub fn clone_entry(alloc: Global, size: usize) -> Result<usize> {
     let entry = entry(alloc, size)?;
-    copied_authors(alloc, &entry)
+    authors_of_copy(alloc, &entry)
 }

@@ -1,7 +1,7 @@
 //! The program `csl_bench`: it does a work of a given size, for whoever counts its instructions.
 //!
-//! `csl_bench WORK N` does the work once, N times as large as its unit, and prints a checksum of the
-//! answer, never a time. Without words it does each work in a small size.
+//! `csl_bench WORK N` does the work once, N times as large as its unit, and prints a checksum of
+//! the answer, never a time. Without words it does each work in a small size.
 #![tactic(auto)]
 
 mod entry;
@@ -38,38 +38,23 @@ const WORKS: [&str; 15] = [
 
 /// Does a work, and answers its checksum.
 fn checksum(alloc: Global, work: &str, size: usize) -> Result<usize> {
-    if work == "numeric" {
-        literature::numeric(alloc, size)
-    } else if work == "pages" {
-        literature::pages(alloc, size)
-    } else if work == "initials" {
-        literature::initials(alloc, size)
-    } else if work == "particle" {
-        literature::particle(alloc, size)
-    } else if work == "clone_entry" {
-        literature::clone_entry(alloc, size)
-    } else if work == "stack" {
-        tree::stack(alloc, size)
-    } else if work == "drain" {
-        tree::drain(alloc, size)
-    } else if work == "search" {
-        tree::search(alloc, size)
-    } else if work == "search_deep" {
-        tree::search_deep(alloc, size)
-    } else if work == "simplify" {
-        tree::simplify(alloc, size)
-    } else if work == "simplify_deep" {
-        tree::simplify_deep(alloc, size)
-    } else if work == "style_chain" {
-        style::chain(alloc, size)
-    } else if work == "style_dense" {
-        style::dense(alloc, size)
-    } else if work == "answers" {
-        entry::answers(alloc, size)
-    } else if work == "labels" {
-        entry::labels(alloc, size)
-    } else {
-        bail!("no such work: {work}");
+    match work {
+        "numeric" => literature::numeric(alloc, size),
+        "pages" => literature::pages(alloc, size),
+        "initials" => literature::initials(alloc, size),
+        "particle" => literature::particle(alloc, size),
+        "clone_entry" => literature::clone_entry(alloc, size),
+        "stack" => tree::stack(alloc, size),
+        "drain" => tree::drain(alloc, size),
+        "search" => tree::search(alloc, size),
+        "search_deep" => tree::search_deep(alloc, size),
+        "simplify" => tree::simplify(alloc, size),
+        "simplify_deep" => tree::simplify_deep(alloc, size),
+        "style_chain" => style::chain(alloc, size),
+        "style_dense" => style::dense(alloc, size),
+        "answers" => entry::answers(alloc, size),
+        "labels" => entry::labels(alloc, size),
+        _ => bail!("no such work: {work}"),
     }
 }
 

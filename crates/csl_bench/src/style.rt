@@ -43,7 +43,7 @@ fn layout(alloc: Global) -> Layout {
 }
 
 /// Makes a style of the macros, and counts them.
-fn made(alloc: Global, macros: Vec<CslMacro>) -> Result<usize> {
+fn macro_count(alloc: Global, macros: Vec<CslMacro>) -> Result<usize> {
     let locales = Vec::new(alloc);
     let settings = StyleSettings::default();
     match Style::new(alloc, settings, macros, layout(alloc), None, locales) {
@@ -65,7 +65,7 @@ pub fn chain(alloc: Global, size: usize) -> Result<usize> {
             size.min(number.saturating_add(2)),
         )?)?;
     }
-    made(alloc, macros)
+    macro_count(alloc, macros)
 }
 
 /// Makes a style in which each macro calls every later one, and counts the macros.
@@ -74,5 +74,5 @@ pub fn dense(alloc: Global, size: usize) -> Result<usize> {
     for number in 0..size {
         macros.push(calls(alloc, number, number + 1, size)?)?;
     }
-    made(alloc, macros)
+    macro_count(alloc, macros)
 }

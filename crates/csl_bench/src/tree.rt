@@ -100,7 +100,7 @@ fn deep(alloc: Global, size: usize) -> Result<ElemChildren> {
 }
 
 /// One round of simplification, and how many children and bytes of text it leaves.
-fn simplified(alloc: Global, children: &ElemChildren) -> Result<usize> {
+fn simplified_size(alloc: Global, children: &ElemChildren) -> Result<usize> {
     let left = simplify_children(alloc, children)?;
     Ok(left.str_len().wrapping_add(left.0.len()))
 }
@@ -108,13 +108,13 @@ fn simplified(alloc: Global, children: &ElemChildren) -> Result<usize> {
 /// Simplifies a wide tree once.
 pub fn simplify(alloc: Global, size: usize) -> Result<usize> {
     let children = wide(alloc, size)?;
-    simplified(alloc, &children)
+    simplified_size(alloc, &children)
 }
 
 /// Simplifies a deep tree once.
 pub fn simplify_deep(alloc: Global, size: usize) -> Result<usize> {
     let children = deep(alloc, size)?;
-    simplified(alloc, &children)
+    simplified_size(alloc, &children)
 }
 
 /// An element that a date made.
@@ -128,7 +128,7 @@ fn date(alloc: Global) -> Result<ElemChild> {
 
 /// How many bytes of text the searches find: the date, no names, the last text, and the date once
 /// more, which is taken out.
-fn found(children: &mut ElemChildren) -> usize {
+fn found_size(children: &mut ElemChildren) -> usize {
     let mut sum: usize = 0;
     if let Some(date) = children.find_meta(&ElemMeta::Date) {
         sum = sum.wrapping_add(date.str_len());
@@ -149,7 +149,7 @@ fn found(children: &mut ElemChildren) -> usize {
 pub fn search(alloc: Global, size: usize) -> Result<usize> {
     let mut children = wide(alloc, size)?;
     children.0.push(date(alloc)?)?;
-    let sum = found(&mut children);
+    let sum = found_size(&mut children);
     Ok(sum.wrapping_add(children.str_len()))
 }
 
@@ -157,6 +157,6 @@ pub fn search(alloc: Global, size: usize) -> Result<usize> {
 pub fn search_deep(alloc: Global, size: usize) -> Result<usize> {
     let mut children = deep(alloc, size)?;
     children.0.push(date(alloc)?)?;
-    let sum = found(&mut children);
+    let sum = found_size(&mut children);
     Ok(sum.wrapping_add(children.str_len()))
 }

@@ -1,3 +1,4 @@
 pub mod Groups
+pub mod Essay
 pub mod Taken
 pub mod KindNames

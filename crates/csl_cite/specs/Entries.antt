@@ -53,8 +53,8 @@ abbrev pub pages : ℕ → ℕ → MaybeView (List PartView)
 pages from to = typed (range (bare_number from) (bare_number to) ∷ [])
 
 -- a year, with a month and a day where they are known; both count from 0
-abbrev pub dated : ℕ → Option ℕ → Option ℕ → Parts
-dated year month day = record { year = pos year; month = month; day = day; season = None; approximate = false }
+abbrev pub calendar_date : ℕ → Option ℕ → Option ℕ → Parts
+calendar_date year month day = record { year = pos year; month = month; day = day; season = None; approximate = false }
 
 -- only a key and a type
 abbrev pub bare : List ℕ → EntryType → Own
@@ -103,9 +103,17 @@ pub record Shows (own : Own) (date : Option Parts) (e : Entry) : Type 0 where
   pub fields : own_of e ≡ record own { date = (out-Entry e).date }
   pub date_is : option_map date_parts (out-Entry e).date ≡ date
 
--- its one parent has these fields, no date and no parents
+-- it has these fields of its own, no date and no parents
+abbrev pub StandsAlone : Own → Entry → Type 0
+StandsAlone own e = Shows own None e × (parents_of e ≡ [])
+
+-- its one parent stands alone with these fields
 abbrev pub HasParent : Own → Entry → Type 0
-HasParent own e = (parent : Entry) × (parents_of e ≡ parent ∷ []) × Shows own None parent × (parents_of parent ≡ [])
+HasParent own e = (parent : Entry) × (parents_of e ≡ parent ∷ []) × StandsAlone own parent
+
+-- only a type and a title, without a key
+abbrev pub only_title : EntryType → List ℕ → Own
+only_title entry_type title = record (bare [] entry_type) { title = Some (plain title) }
 
 abbrev pub crazy_rich : Own
 crazy_rich = record (bare (key_of CrazyRich) Book) {
@@ -144,8 +152,11 @@ transactions = record (bare [] Periodical) {
   issue = Some (number 3);
 }
 
-unfoldable pub essay_address : Option Address
-essay_address = address_from (codes "https://aeon.co/essays/can-you-enjoy-romance-fiction-and-be-a-feminist")
+unfoldable pub essay_text : List ℕ
+essay_text = codes "https://aeon.co/essays/can-you-enjoy-romance-fiction-and-be-a-feminist"
+
+abbrev pub essay_address : Option Address
+essay_address = address_from essay_text
 
 abbrev pub feminism : Own
 feminism = record (bare (key_of Feminism) Article) {
@@ -159,7 +170,7 @@ abbrev pub aeon : Own
 aeon = record (bare [] Blog) { title = Some (plain (codes "Aeon")) }
 
 abbrev pub IsBuiltIn : BuiltIn → Entry → Type 0
-IsBuiltIn CrazyRich e = Shows crazy_rich (Some (dated 2014 None None)) e × (parents_of e ≡ [])
-IsBuiltIn QuantizedVortex e = Shows quantized_vortex (Some (dated 1961 (Some 4) None)) e × HasParent nuovo_cimento e
-IsBuiltIn Dependence e = Shows dependence (Some (dated 1987 (Some 6) None)) e × HasParent transactions e
-IsBuiltIn Feminism e = Shows feminism (Some (dated 2015 (Some 8) (Some 24))) e × HasParent aeon e
+IsBuiltIn CrazyRich e = Shows crazy_rich (Some (calendar_date 2014 None None)) e × (parents_of e ≡ [])
+IsBuiltIn QuantizedVortex e = Shows quantized_vortex (Some (calendar_date 1961 (Some 4) None)) e × HasParent nuovo_cimento e
+IsBuiltIn Dependence e = Shows dependence (Some (calendar_date 1987 (Some 6) None)) e × HasParent transactions e
+IsBuiltIn Feminism e = Shows feminism (Some (calendar_date 2015 (Some 8) (Some 24))) e × HasParent aeon e

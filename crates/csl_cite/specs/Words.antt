@@ -1,6 +1,7 @@
--- The words of the program, judged from the left.
-use Rattle.std.specs.Prelude.{ℕ, List, [], ◌∷◌, Option, Some, None, find, Result, Ok, Err, codes, if◌then◌else◌}
+-- The words of the program, and the verdict on them, from the left.
+use Rattle.std.specs.Prelude.{ℕ, List, [], ◌∷◌, Option, Some, None, find, map, Result, Ok, Err, String, codes, string_bytes, if◌then◌else◌}
 use Rattle.std.specs.Str.{bytes_eq}
+use Rattle.std.specs.declared.alloc.Global.{Global}
 use Rattle.csl_style.specs.Taxonomy.{name_of}
 use Rattle.csl_style.specs.declared.taxonomy.Kind.{Kind}
 use Rattle.csl_style.specs.declared.taxonomy.Kind.TheVariants as kinds
@@ -22,30 +23,30 @@ pub data Verdict : Type 0 where
   unknown : List ℕ → Verdict
 
 -- no word may follow
-abbrev pub ended : Verdict → List (List ℕ) → Verdict
-ended v [] = v
-ended v (word ∷ words) = unknown word
+abbrev pub when_last : Verdict → List (List ℕ) → Verdict
+when_last v [] = v
+when_last v (word ∷ words) = unknown word
 
 -- what a word names, else it is unknown
-abbrev pub known : {T : Type 0} → List ℕ → Option T → (T → Verdict) → Verdict
-known word None then_asked = unknown word
-known word (Some x) then_asked = then_asked x
+abbrev pub or_unknown : {T : Type 0} → List ℕ → Option T → (T → Verdict) → Verdict
+or_unknown word None next = unknown word
+or_unknown word (Some x) next = next x
 
-abbrev pub judged_format : List ℕ → List ℕ → List (List ℕ) → Verdict
-judged_format title format words =
-    if bytes_eq format (codes "plain") then ended (title_in title Plain) words
-    else (if bytes_eq format (codes "html") then ended (title_in title Html) words else unknown format)
+abbrev pub format_verdict : List ℕ → List ℕ → List (List ℕ) → Verdict
+format_verdict title format words =
+    if bytes_eq format (codes "plain") then when_last (title_in title Plain) words
+    else (if bytes_eq format (codes "html") then when_last (title_in title Html) words else unknown format)
 
 -- the words after `title`: the title and its format
-abbrev pub judged_title : List (List ℕ) → Verdict
-judged_title [] = missing
-judged_title (title ∷ []) = missing
-judged_title (title ∷ format ∷ words) = judged_format title format words
+abbrev pub title_verdict : List (List ℕ) → Verdict
+title_verdict [] = missing
+title_verdict (title ∷ []) = missing
+title_verdict (title ∷ format ∷ words) = format_verdict title format words
 
 -- the words after `label`: the entry
-abbrev pub judged_label : List (List ℕ) → Verdict
-judged_label [] = missing
-judged_label (key ∷ words) = known key (named_built_in key) (λ entry. ended (label_of entry) words)
+abbrev pub label_verdict : List (List ℕ) → Verdict
+label_verdict [] = missing
+label_verdict (key ∷ words) = or_unknown key (named_built_in key) (λ entry. when_last (label_of entry) words)
 
 -- the kind of a name
 abbrev pub all_kinds : List Kind
@@ -61,27 +62,27 @@ abbrev pub named_kind : List ℕ → Option Kind
 named_kind name = find (λ kind. bytes_eq name (name_of kind)) all_kinds
 
 -- the word after an entry: the kind
-abbrev pub judged_kind_of : BuiltIn → List (List ℕ) → Verdict
-judged_kind_of entry [] = missing
-judged_kind_of entry (name ∷ words) = known name (named_kind name) (λ kind. ended (kind_of entry kind) words)
+abbrev pub kind_verdict_of : BuiltIn → List (List ℕ) → Verdict
+kind_verdict_of entry [] = missing
+kind_verdict_of entry (name ∷ words) = or_unknown name (named_kind name) (λ kind. when_last (kind_of entry kind) words)
 
 -- the words after `kind`: the entry and the kind
-abbrev pub judged_kind : List (List ℕ) → Verdict
-judged_kind [] = missing
-judged_kind (key ∷ words) = known key (named_built_in key) (λ entry. judged_kind_of entry words)
+abbrev pub kind_verdict : List (List ℕ) → Verdict
+kind_verdict [] = missing
+kind_verdict (key ∷ words) = or_unknown key (named_built_in key) (λ entry. kind_verdict_of entry words)
 
--- no words ask for the title `Nature` in HTML
-abbrev pub judged : List (List ℕ) → Verdict
-judged [] = title_in (codes "Nature") Html
-judged (name ∷ words) =
-    if bytes_eq name (codes "title") then judged_title words
-    else (if bytes_eq name (codes "label") then judged_label words
-    else (if bytes_eq name (codes "kind") then judged_kind words else unknown name))
+-- what the words ask for; no words ask for the title `Nature` in HTML
+abbrev pub verdict_on : List (List ℕ) → Verdict
+verdict_on [] = title_in (codes "Nature") Html
+verdict_on (name ∷ words) =
+    if bytes_eq name (codes "title") then title_verdict words
+    else (if bytes_eq name (codes "label") then label_verdict words
+    else (if bytes_eq name (codes "kind") then kind_verdict words else unknown name))
 
 -- what the code's answer says
-abbrev pub error_verdict : WordsError → Verdict
-error_verdict Missing = missing
-error_verdict (Unknown word) = unknown word.now
+abbrev pub refusal : WordsError → Verdict
+refusal Missing = missing
+refusal (Unknown word) = unknown word.now
 
 abbrev pub command_verdict : Command → Verdict
 command_verdict (commands.Title title format) = title_in title.now format
@@ -90,4 +91,8 @@ command_verdict (commands.Kind entry kind) = kind_of entry kind
 
 abbrev pub verdict_of : Result Command WordsError → Verdict
 verdict_of (Ok command) = command_verdict command
-verdict_of (Err error) = error_verdict error
+verdict_of (Err error) = refusal error
+
+-- what the program takes its words to ask for
+abbrev pub meaning : List (String Global) → Verdict
+meaning words = verdict_on (map string_bytes words)

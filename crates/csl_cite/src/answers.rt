@@ -1,9 +1,8 @@
 //! The answers to words that were understood.
 
 ghost use Rattle.std.specs.Prelude.{◌≡◌, true, OnOk, OnErr, IfOk};
-ghost use Rattle.std.specs.Fmt.{WritesInCalls};
 ghost use Rattle.csl_tree.specs.Tokens.{tokens};
-ghost use Rattle.csl_cite.specs.Answers.{IsAnswer, answer_text, line, truth_text};
+ghost use Rattle.csl_cite.specs.Answers.{IsAnswer, TakesLine, text_of, truth_text};
 ghost use Rattle.csl_cite.specs.Title.{title_layout};
 ghost use Rattle.csl_cite.specs.Tree.{layout_tree};
 ghost use Rattle.csl_cite.specs.Words.{command_verdict};
@@ -36,9 +35,12 @@ fn title_content(alloc: Global, title: &str) -> Result<ElemChildren, Memory>
     layout.render(alloc, &TitleOnly { title })
 }
 
-/// The answer to a command. The error: there was no memory for it, or for the built-in entry.
+/// The answer to a command.
+///
+/// # Errors
+/// [`Memory`]: there was no memory left.
 pub fn answer_to(alloc: Global, command: Command<'_>) -> Result<Answer, Memory>
-    ensures { IfOk result (λ answer. IsAnswer (command_verdict command.entry) (answer_text answer)) }
+    ensures { IfOk result (λ answer. IsAnswer (command_verdict command.entry) (text_of answer)) }
 {
     match command {
         Command::Title { title, format } => {
@@ -66,7 +68,7 @@ fn truth_text(truth: bool) -> &'static str
 /// Writes an answer and a newline.
 #[tactic(auto, using(lit_model::proofs::Writes::two_writes))]
 pub fn write_answer<S: Sink>(answer: &Answer, out: &mut S) -> fmt::Result
-    ensures ok { OnOk result (WritesInCalls S.write_str_gives out.old (line (answer_text answer.now)) out.new) }
+    ensures ok { OnOk result (TakesLine S.write_str_gives out.old (text_of answer.now) out.new) }
     ensures kept { OnOk result (S.refused out.new ≡ S.refused out.old) }
     ensures err { OnErr result (S.refused out.new ≡ true) }
 {

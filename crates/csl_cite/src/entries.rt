@@ -1,11 +1,13 @@
 //! The built-in entries.
 
-ghost use Rattle.std.specs.Prelude.{◌≡◌, ◌∷◌, [], Some, None, IfOk, map, codes};
-ghost use Rattle.lit_model.specs.Entry.{parents_of};
+ghost use Rattle.std.specs.Prelude.{◌≡◌, ◌∷◌, [], Some, None, Err, IfOk, map, codes};
 ghost use Rattle.lit_model.specs.Person.{named};
 ghost use Rattle.lit_model.specs.Source.{serials, address_of};
 ghost use Rattle.lit_model.specs.Text.{forms_of};
-ghost use Rattle.csl_cite.specs.Entries.{IsBuiltIn, address_from, Shows, bare, named_built_in, plain, person, nuovo_cimento, transactions, dependence, essay_address};
+ghost use Rattle.csl_cite.specs.Entries.{IsBuiltIn, StandsAlone, named_built_in, only_title};
+ghost use Rattle.csl_cite.specs.Entries.{plain, person, nuovo_cimento, transactions, dependence};
+ghost use Rattle.csl_cite.specs.Entries.{address_from, essay_address, essay_text};
+ghost use Rattle.csl_cite.specs.declared.entries.AddressError.TheVariants as errors;
 
 use lit_model::{
     ChunkKind, ChunkedString, Date, Entry, EntryType, FormatString, MaybeTyped, Memory, Numeric,
@@ -13,7 +15,7 @@ use lit_model::{
 };
 use std::alloc::Global;
 use std::collections::BTreeMap;
-use url::Url;
+use url::{ParseError, Url};
 
 /// A built-in entry.
 #[derive(Clone, Copy)]
@@ -42,7 +44,10 @@ impl BuiltIn {
         }
     }
 
-    /// The entry. The error: there was no memory for it, or its address was refused.
+    /// The entry.
+    ///
+    /// # Errors
+    /// [`Memory`]: there was no memory left.
     pub fn entry(self, alloc: Global) -> Result<Entry, Memory>
         ensures { IfOk result (IsBuiltIn self) }
     {
@@ -107,17 +112,33 @@ fn doi(alloc: Global, number: &str) -> Result<SerialNumber, Memory>
     Ok(SerialNumber(numbers))
 }
 
-/// The address that a text gives. The error: there was no memory for it, or it was refused.
+/// Why a text gave no address.
+#[derive(Clone, Copy)]
+enum AddressError {
+    /// There was no memory left.
+    Memory,
+    /// The text is no address.
+    NotAddress,
+}
+
+/// The address that a text gives.
+///
+/// # Errors
+/// [`AddressError::Memory`]: there was no memory left.
+/// [`AddressError::NotAddress`]: the text is no address.
 #[tactic(auto, unfolding(crate::specs::Entries::address_from))]
-fn address(alloc: Global, text: &str) -> Result<QualifiedUrl, Memory>
-    ensures { IfOk result (λ url. Some (address_of url) ≡ address_from text.now) }
+fn address(alloc: Global, text: &str) -> Result<QualifiedUrl, AddressError>
+    ensures ok { IfOk result (λ url. Some (address_of url) ≡ address_from text.now) }
+    ensures refused { result ≡ Err errors.NotAddress → address_from text.now ≡ None }
 {
     match Url::parse(alloc, text) {
         Ok(value) => Ok(QualifiedUrl {
             value,
             visit_date: None,
         }),
-        Err(_) => Err(Memory),
+        // The second is an address of 4 GB.
+        Err(ParseError::OutOfMemory | ParseError::Overflow) => Err(AddressError::Memory),
+        Err(_) => Err(AddressError::NotAddress),
     }
 }
 
@@ -139,7 +160,7 @@ fn crazy_rich(alloc: Global) -> Result<Entry, Memory>
 
 /// A periodical or a blog of this title, without a key.
 fn parent(alloc: Global, entry_type: EntryType, title: &str) -> Result<Entry, Memory>
-    ensures { IfOk result (λ e. Shows (record (bare [] entry_type) { title = Some (plain title.now) }) None e × (parents_of e ≡ [])) }
+    ensures { IfOk result (StandsAlone (only_title entry_type title.now)) }
 {
     let mut parent = Entry::new(alloc, "", entry_type)?;
     parent.title = Some(plain(alloc, title)?);
@@ -148,7 +169,7 @@ fn parent(alloc: Global, entry_type: EntryType, title: &str) -> Result<Entry, Me
 
 /// The journal `Il Nuovo Cimento`.
 fn nuovo_cimento(alloc: Global) -> Result<Entry, Memory>
-    ensures { IfOk result (λ e. Shows nuovo_cimento None e × (parents_of e ≡ [])) }
+    ensures { IfOk result (StandsAlone nuovo_cimento) }
 {
     let mut journal = parent(alloc, EntryType::Periodical, "Il Nuovo Cimento")?;
     journal.issue = Some(MaybeTyped::Typed(Numeric::new(3)));
@@ -174,7 +195,7 @@ fn quantized_vortex(alloc: Global) -> Result<Entry, Memory>
 
 /// The journal `ACM Transactions on Programming Languages and Systems`.
 fn transactions(alloc: Global) -> Result<Entry, Memory>
-    ensures { IfOk result (λ e. Shows transactions None e × (parents_of e ≡ [])) }
+    ensures { IfOk result (StandsAlone transactions) }
 {
     let title = "ACM Transactions on Programming Languages and Systems";
     let mut journal = parent(alloc, EntryType::Periodical, title)?;
@@ -209,14 +230,27 @@ fn dependence(alloc: Global) -> Result<Entry, Memory>
     Ok(entry)
 }
 
-/// The address of the essay.
-#[tactic(auto, unfolding(crate::specs::Entries::essay_address))]
+/// The text of the essay's address.
+#[tactic(auto, unfolding(crate::specs::Entries::essay_text))]
+fn essay_text() -> &'static str
+    ensures { result.now ≡ essay_text }
+{
+    "https://aeon.co/essays/can-you-enjoy-romance-fiction-and-be-a-feminist"
+}
+
+/// The address of the essay, which the parser takes.
+///
+/// # Errors
+/// [`Memory`]: there was no memory left.
+#[tactic(auto, using(crate::proofs::Essay::essay_is_address))]
 fn essay_address(alloc: Global) -> Result<QualifiedUrl, Memory>
     ensures { IfOk result (λ url. Some (address_of url) ≡ essay_address) }
 {
-    let text = "https://aeon.co/essays/can-you-enjoy-romance-fiction-and-be-a-feminist";
-    let url = address(alloc, text)?;
-    Ok(url)
+    match address(alloc, essay_text()) {
+        Ok(url) => Ok(url),
+        Err(AddressError::Memory) => Err(Memory),
+        Err(AddressError::NotAddress) => unreachable!(),
+    }
 }
 
 /// The article `She swoons to conquer`.

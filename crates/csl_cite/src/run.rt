@@ -1,29 +1,29 @@
 //! The program's work, over any two writers.
 
-ghost use Rattle.std.specs.Prelude.{◌≡◌, ◌⊎◌, ℕ, List, None, OnOk, OnErr, IsSomeAnd, false, true, map, string_bytes, is_ok, if◌then◌else◌};
-ghost use Rattle.std.specs.Fmt.{WritesInCalls};
-ghost use Rattle.csl_cite.specs.Answers.{IsAnswer, complaint, line, out_of_memory};
-ghost use Rattle.csl_cite.specs.Words.{judged, error_verdict};
+ghost use Rattle.std.specs.Prelude.{◌≡◌, ◌⊎◌, None, OnOk, OnErr, is_ok, true, if◌then◌else◌};
+ghost use Rattle.csl_cite.specs.Answers.{Complains, OneRefuses, Replies, TakesLine};
+ghost use Rattle.csl_cite.specs.Answers.{complaint, out_of_memory};
+ghost use Rattle.csl_cite.specs.Words.{meaning, refusal};
 
 use crate::answers::{answer_to, write_answer};
-use crate::words::{WordsError, asked};
+use crate::words::{WordsError, command_of};
 use lit_model::{Memory, Noting, Sink};
 use std::alloc::Global;
 use std::fmt;
 
 /// Writes why the words were refused, and a newline.
 #[tactic(auto, using(lit_model::proofs::Writes::three_writes))]
-fn write_error<S: Sink>(error: WordsError<'_>, fault: &mut S) -> fmt::Result
-    ensures ok { OnOk result (IsSomeAnd (complaint (error_verdict error.entry)) (λ text. WritesInCalls S.write_str_gives fault.old text fault.new)) }
-    ensures kept { OnOk result (S.refused fault.new ≡ S.refused fault.old) }
-    ensures err { OnErr result (S.refused fault.new ≡ true) }
+fn write_error<S: Sink>(error: WordsError<'_>, sink: &mut S) -> fmt::Result
+    ensures ok { OnOk result (Complains S.write_str_gives (refusal error.entry) sink.old sink.new) }
+    ensures kept { OnOk result (S.refused sink.new ≡ S.refused sink.old) }
+    ensures err { OnErr result (S.refused sink.new ≡ true) }
 {
     match error {
-        WordsError::Missing => fault.put("missing word\n"),
+        WordsError::Missing => sink.put("missing word\n"),
         WordsError::Unknown(word) => {
-            fault.put("unknown: ")?;
-            fault.put(word)?;
-            fault.put("\n")?;
+            sink.put("unknown: ")?;
+            sink.put(word)?;
+            sink.put("\n")?;
             Ok(())
         }
     }
@@ -42,13 +42,17 @@ fn status_of(written: fmt::Result, status: u8) -> u8
 /// - 3: memory ran out, `fault` took a line that says so, and `out` is as it was;
 /// - 4: a sink refused a text; what the sinks hold then is left open.
 pub fn run_into<S: Sink, F: Sink>(alloc: Global, words: &[String], out: &mut S, fault: &mut F) -> u8
-    ensures zero { result ≡ 0 → (text : List ℕ) × IsAnswer (judged (map string_bytes words.now)) text × WritesInCalls S.write_str_gives out.old (line text) out.new × (fault.new ≡ fault.old) }
-    ensures two { result ≡ 2 → IsSomeAnd (complaint (judged (map string_bytes words.now))) (λ text. WritesInCalls F.write_str_gives fault.old text fault.new × (out.new ≡ out.old)) }
-    ensures three { result ≡ 3 → (complaint (judged (map string_bytes words.now)) ≡ None) × WritesInCalls F.write_str_gives fault.old out_of_memory fault.new × (out.new ≡ out.old) }
-    ensures four { S.refused out.old ≡ false → F.refused fault.old ≡ false → result ≡ 4 → (S.refused out.new ≡ true) ⊎ (F.refused fault.new ≡ true) }
+    ensures zero { result ≡ 0 → Replies S.write_str_gives (meaning words.now) out.old out.new }
+    ensures zero_fault { result ≡ 0 → fault.new ≡ fault.old }
+    ensures two { result ≡ 2 → Complains F.write_str_gives (meaning words.now) fault.old fault.new }
+    ensures two_out { result ≡ 2 → out.new ≡ out.old }
+    ensures three { result ≡ 3 → TakesLine F.write_str_gives fault.old out_of_memory fault.new }
+    ensures three_words { result ≡ 3 → complaint (meaning words.now) ≡ None }
+    ensures three_out { result ≡ 3 → out.new ≡ out.old }
+    ensures four { result ≡ 4 → OneRefuses S.refused out.old out.new F.refused fault.old fault.new }
     ensures no_other { (result ≡ 0) ⊎ ((result ≡ 2) ⊎ ((result ≡ 3) ⊎ (result ≡ 4))) }
 {
-    match asked(words) {
+    match command_of(words) {
         Ok(command) => match answer_to(alloc, command) {
             Ok(answer) => status_of(write_answer(&answer, out), 0),
             Err(Memory) => status_of(fault.put("out of memory\n"), 3),
@@ -69,9 +73,13 @@ pub fn run<W: fmt::Write, F: fmt::Write>(
     out: &mut W,
     fault: &mut F,
 ) -> u8
-    ensures zero { result ≡ 0 → (text : List ℕ) × IsAnswer (judged (map string_bytes words.now)) text × WritesInCalls W.write_str_gives out.old (line text) out.new × (fault.new ≡ fault.old) }
-    ensures two { result ≡ 2 → IsSomeAnd (complaint (judged (map string_bytes words.now))) (λ text. WritesInCalls F.write_str_gives fault.old text fault.new × (out.new ≡ out.old)) }
-    ensures three { result ≡ 3 → (complaint (judged (map string_bytes words.now)) ≡ None) × WritesInCalls F.write_str_gives fault.old out_of_memory fault.new × (out.new ≡ out.old) }
+    ensures zero { result ≡ 0 → Replies W.write_str_gives (meaning words.now) out.old out.new }
+    ensures zero_fault { result ≡ 0 → fault.new ≡ fault.old }
+    ensures two { result ≡ 2 → Complains F.write_str_gives (meaning words.now) fault.old fault.new }
+    ensures two_out { result ≡ 2 → out.new ≡ out.old }
+    ensures three { result ≡ 3 → TakesLine F.write_str_gives fault.old out_of_memory fault.new }
+    ensures three_words { result ≡ 3 → complaint (meaning words.now) ≡ None }
+    ensures three_out { result ≡ 3 → out.new ≡ out.old }
     ensures no_other { (result ≡ 0) ⊎ ((result ≡ 2) ⊎ ((result ≡ 3) ⊎ (result ≡ 4))) }
 {
     let mut out_sink = Noting::new(out);

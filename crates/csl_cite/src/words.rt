@@ -1,7 +1,8 @@
 //! The words that the program is called with.
 
 ghost use Rattle.std.specs.Prelude.{◌≡◌, map, string_bytes};
-ghost use Rattle.csl_cite.specs.Words.{judged, judged_title, judged_label, judged_kind, judged_kind_of, named_kind, verdict_of};
+ghost use Rattle.csl_cite.specs.Words.{meaning, named_kind, verdict_of};
+ghost use Rattle.csl_cite.specs.Words.{title_verdict, label_verdict, kind_verdict, kind_verdict_of};
 
 use crate::entries::BuiltIn;
 use csl_style::Kind;
@@ -33,9 +34,9 @@ pub enum WordsError<'a> {
     Unknown(&'a str),
 }
 
-/// What the words ask for, judged from the left. No words ask for the title `Nature` in HTML.
-pub fn asked(words: &[String]) -> Result<Command<'_>, WordsError<'_>>
-    ensures { verdict_of result ≡ judged (map string_bytes words.now) }
+/// What the words ask for, read from the left. No words ask for the title `Nature` in HTML.
+pub fn command_of(words: &[String]) -> Result<Command<'_>, WordsError<'_>>
+    ensures { verdict_of result ≡ meaning words.now }
 {
     match words {
         [] => Ok(Command::Title {
@@ -43,17 +44,17 @@ pub fn asked(words: &[String]) -> Result<Command<'_>, WordsError<'_>>
             format: BufWriteFormat::Html,
         }),
         [name, words @ ..] => match name.as_str() {
-            "title" => title_asked(words),
-            "label" => label_asked(words),
-            "kind" => kind_asked(words),
+            "title" => title_command(words),
+            "label" => label_command(words),
+            "kind" => kind_command(words),
             _ => Err(WordsError::Unknown(name.as_str())),
         },
     }
 }
 
 /// What the words after `title` ask for.
-fn title_asked(words: &[String]) -> Result<Command<'_>, WordsError<'_>>
-    ensures { verdict_of result ≡ judged_title (map string_bytes words.now) }
+fn title_command(words: &[String]) -> Result<Command<'_>, WordsError<'_>>
+    ensures { verdict_of result ≡ title_verdict (map string_bytes words.now) }
 {
     let [title, format, more @ ..] = words else {
         return Err(WordsError::Missing);
@@ -75,8 +76,8 @@ fn title_asked(words: &[String]) -> Result<Command<'_>, WordsError<'_>>
 }
 
 /// What the words after `label` ask for.
-fn label_asked(words: &[String]) -> Result<Command<'_>, WordsError<'_>>
-    ensures { verdict_of result ≡ judged_label (map string_bytes words.now) }
+fn label_command(words: &[String]) -> Result<Command<'_>, WordsError<'_>>
+    ensures { verdict_of result ≡ label_verdict (map string_bytes words.now) }
 {
     let [key, more @ ..] = words else {
         return Err(WordsError::Missing);
@@ -91,21 +92,21 @@ fn label_asked(words: &[String]) -> Result<Command<'_>, WordsError<'_>>
 }
 
 /// What the words after `kind` ask for.
-fn kind_asked(words: &[String]) -> Result<Command<'_>, WordsError<'_>>
-    ensures { verdict_of result ≡ judged_kind (map string_bytes words.now) }
+fn kind_command(words: &[String]) -> Result<Command<'_>, WordsError<'_>>
+    ensures { verdict_of result ≡ kind_verdict (map string_bytes words.now) }
 {
     let [key, more @ ..] = words else {
         return Err(WordsError::Missing);
     };
     match BuiltIn::of_key(key.as_str()) {
-        Some(entry) => kind_asked_of(entry, more),
+        Some(entry) => kind_command_of(entry, more),
         None => Err(WordsError::Unknown(key.as_str())),
     }
 }
 
 /// What the words after `kind` and an entry ask for.
-fn kind_asked_of(entry: BuiltIn, words: &[String]) -> Result<Command<'_>, WordsError<'_>>
-    ensures { verdict_of result ≡ judged_kind_of entry (map string_bytes words.now) }
+fn kind_command_of(entry: BuiltIn, words: &[String]) -> Result<Command<'_>, WordsError<'_>>
+    ensures { verdict_of result ≡ kind_verdict_of entry (map string_bytes words.now) }
 {
     let [name, more @ ..] = words else {
         return Err(WordsError::Missing);

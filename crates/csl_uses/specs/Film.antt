@@ -1,0 +1,51 @@
+-- What a film answers to a style, as plain data.
+use Rattle.std.specs.Prelude.{ℕ, List, [], ◌∷◌, Option, Some, None, Bool, true, false}
+use Rattle.lit_model.specs.Date.{Parts, date_parts}
+use Rattle.lit_model.specs.Person.{Named, named}
+use Rattle.lit_model.specs.Text.{Chunk, chunks}
+use Rattle.lit_model.specs.declared.text.LongShortForm.TheVariants.{Long}
+use Rattle.csl_style.specs.declared.taxonomy.DateVariable.{DateVariable}
+use Rattle.csl_style.specs.declared.taxonomy.DateVariable.TheVariants.{Issued}
+use Rattle.csl_style.specs.declared.taxonomy.Kind.{Kind}
+use Rattle.csl_style.specs.declared.taxonomy.Kind.TheVariants.{MotionPicture}
+use Rattle.csl_style.specs.declared.taxonomy.NameVariable.{NameVariable}
+use Rattle.csl_style.specs.declared.taxonomy.NameVariable.TheVariants.{Director}
+use Rattle.csl_style.specs.declared.taxonomy.StandardVariable.{StandardVariable}
+use Rattle.csl_style.specs.declared.taxonomy.StandardVariable.TheVariants.{Title}
+use Rattle.csl_entry.specs.Answers.{Answers}
+use Rattle.csl_entry.specs.CitationLabel.{joined}
+use Rattle.csl_uses.specs.declared.film.Film.{Film}
+
+abbrev pub text_of : Film → StandardVariable → Option (List Chunk)
+text_of film Title = Some (chunks film.title)
+text_of film _ = None
+
+abbrev pub persons_of : Film → NameVariable → List Named
+persons_of film Director = named film.director ∷ []
+persons_of film _ = []
+
+abbrev pub date_of : Film → DateVariable → Option Parts
+date_of film Issued = Some (date_parts film.shown)
+date_of film _ = None
+
+abbrev pub is_film : Kind → Bool
+is_film MotionPicture = true
+is_film _ = false
+
+abbrev pub answers_of : Film → Answers
+answers_of film = record {
+  numbers = λ _. None;
+  pages = λ _. None;
+  standards = λ _ variable. text_of film variable;
+  names = persons_of film;
+  dates = date_of film;
+  kinds = is_film;
+}
+
+-- the title among the answers of an entry of any type
+abbrev pub title_among : Option (List Chunk) → List ℕ
+title_among (Some title) = joined title
+title_among None = []
+
+abbrev pub title_of : Answers → List ℕ
+title_of answers = title_among (answers.standards Long Title)

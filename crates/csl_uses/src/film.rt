@@ -1,0 +1,146 @@
+//! A type of one's own as an entry: what it answers is said once, in `specs/Film.antt`.
+
+ghost use Rattle.std.specs.Prelude.{◌≡◌, IfOk, string_bytes};
+ghost use Rattle.lit_model.specs.Text.{chunks};
+ghost use Rattle.csl_entry.specs.CitationLabel.{joined};
+ghost use Rattle.csl_uses.specs.Film.{answers_of, title_of};
+
+use crate::book::{person, text};
+use crate::error::UseError;
+use csl_entry::EntryLike;
+use csl_style::{DateVariable, Kind, NameVariable, NumberVariable, PageVariable, StandardVariable};
+use lit_model::{
+    ChunkedString, Date, LongShortForm, MaybeTyped, Memory, Numeric, PageRanges, Person,
+};
+use std::alloc::Global;
+use std::borrow::{Cow, CowStr};
+
+/// A film, as a catalogue of films holds it.
+#[derive(Drop)]
+pub struct Film {
+    /// What the catalogue finds it by.
+    pub key: String,
+    /// The title.
+    pub title: ChunkedString,
+    /// Who directed it.
+    pub director: Person,
+    /// When it was first shown.
+    pub shown: Date,
+}
+
+impl EntryLike for Film {
+    ghost use Rattle.std.specs.Prelude.{None};
+
+    ghost answers = { answers_of };
+
+    ghost key_text = { λ film. string_bytes film.key };
+
+    ghost english = { λ _. None };
+
+    fn resolve_number_variable(
+        &self,
+        _alloc: Global,
+        _variable: NumberVariable,
+    ) -> Result<Option<MaybeTyped<Cow<'_, Numeric>>>, Memory> {
+        Ok(None)
+    }
+
+    fn resolve_page_variable(
+        &self,
+        _alloc: Global,
+        _variable: PageVariable,
+    ) -> Result<Option<MaybeTyped<PageRanges>>, Memory> {
+        Ok(None)
+    }
+
+    fn resolve_standard_variable(
+        &self,
+        _alloc: Global,
+        _form: LongShortForm,
+        variable: StandardVariable,
+    ) -> Result<Option<Cow<'_, ChunkedString>>, Memory> {
+        match variable {
+            StandardVariable::Title => Ok(Some(Cow::Borrowed(&self.title))),
+            _ => Ok(None),
+        }
+    }
+
+    fn resolve_name_variable(
+        &self,
+        alloc: Global,
+        variable: NameVariable,
+    ) -> Result<Vec<Cow<'_, Person>>, Memory> {
+        match variable {
+            NameVariable::Director => {
+                let persons = vec![in alloc; Cow::Borrowed(&self.director)]?;
+                Ok(persons)
+            }
+            _ => Ok(Vec::new(alloc)),
+        }
+    }
+
+    fn resolve_date_variable(
+        &self,
+        _alloc: Global,
+        variable: DateVariable,
+    ) -> Result<Option<Cow<'_, Date>>, Memory> {
+        let date = match variable {
+            DateVariable::Issued => Some(&self.shown),
+            _ => None,
+        };
+        Ok(date.map(Cow::Borrowed))
+    }
+
+    fn matches_entry_type(&self, kind: Kind) -> bool {
+        matches!(kind, Kind::MotionPicture)
+    }
+
+    fn is_english(&self) -> Option<bool> {
+        None
+    }
+
+    fn key(&self) -> CowStr<'_, Global> {
+        CowStr::Borrowed(self.key.as_str())
+    }
+}
+
+/// `Metropolis`.
+///
+/// # Errors
+/// [`UseError::Memory`]: there was no memory left.
+/// [`UseError::NoSuchDay`]: the date is not on the calendar.
+pub fn metropolis(alloc: Global) -> Result<Film, UseError> {
+    // Months and days count from 0: this is the tenth of January.
+    let shown = Date::new(1927, Some(0), Some(9), None, false).ok_or(UseError::NoSuchDay)?;
+    Ok(Film {
+        key: String::from_str(alloc, "metropolis")?,
+        title: text(alloc, "Metropolis")?.value,
+        director: person(alloc, "Lang", "Fritz")?,
+        shown,
+    })
+}
+
+/// The title of an entry of any type, its pieces joined; empty where it has none.
+///
+/// # Errors
+/// [`Memory`]: there was no memory left.
+pub fn title_of<T: EntryLike>(alloc: Global, entry: &T) -> Result<String, Memory>
+    ensures { IfOk result (λ title. string_bytes title ≡ title_of (T.answers entry.now)) }
+{
+    let long = LongShortForm::Long;
+    match entry.resolve_standard_variable(alloc, long, StandardVariable::Title)? {
+        Some(title) => joined(alloc, title.as_ref()),
+        None => Ok(String::new(alloc)),
+    }
+}
+
+/// The pieces of a text, joined.
+fn joined(alloc: Global, text: &ChunkedString) -> Result<String, Memory>
+    ensures { IfOk result (λ whole. string_bytes whole ≡ joined (chunks text.now)) }
+{
+    let mut whole = String::new(alloc);
+    for piece in &text.0 {
+        whole.push_str(piece.value.as_str())?;
+    }
+    Ok(whole)
+}
