@@ -7,6 +7,7 @@ use Rattle.ucd_category.specs.declared.GeneralCategory.{GeneralCategory}
 use Rattle.ucd_category.specs.declared.GeneralCategory.TheVariants.{UppercaseLetter}
 use Rattle.unicode.specs.GeneralCategory.{general_category}
 use Rattle.unicode_segmentation.specs.Grapheme.{graphemes}
+use Rattle.lit_model.specs.Characters.{dot_char, hyphen_char}
 use Rattle.lit_model.specs.declared.person.Person.{Person}
 use Rattle.lit_model.specs.declared.initials.Before.{Before}
 use Rattle.lit_model.specs.declared.initials.Before.TheVariants.{Nothing, Word, Piece}
@@ -29,7 +30,7 @@ first_grapheme piece = slice_get (graphemes true piece) 0
 
 -- the first grapheme of each piece of a word, cut at each `-`
 abbrev pub initials_of : List ℕ → List (List ℕ)
-initials_of word = filter_map first_grapheme (slice_split (λ b. b == 45) word)
+initials_of word = filter_map first_grapheme (slice_split (λ b. b == hyphen_char) word)
 
 -- What is written before an initial: nothing before the first; the given text after another word; after another piece of its word, where hyphens are kept, the given text without its trailing white space and a hyphen.
 abbrev pub gap : List ℕ → Bool → Before → List ℕ
@@ -90,7 +91,7 @@ is_single_capital (c ∷ d ∷ cs) = false
 -- the text without a dot at its end
 abbrev pub without_dot : List ℕ → List ℕ
 without_dot [] = []
-without_dot (b ∷ []) = if b == 46 then [] else b ∷ []
+without_dot (b ∷ []) = if b == dot_char then [] else b ∷ []
 without_dot (b ∷ c ∷ bs) = b ∷ without_dot (c ∷ bs)
 
 -- the letter of a word that is one uppercase letter, with or without a dot

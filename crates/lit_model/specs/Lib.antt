@@ -1,7 +1,9 @@
+pub mod Characters
 pub mod Date
 pub mod Entry
 pub mod Initials
 pub mod MaybeTyped
+pub mod Noting
 pub mod Name
 pub mod Numeric
 pub mod NumericReading

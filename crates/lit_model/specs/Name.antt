@@ -9,6 +9,7 @@ use Rattle.ucd_category.specs.declared.GeneralCategory.{GeneralCategory}
 use Rattle.ucd_category.specs.declared.GeneralCategory.TheVariants.{LowercaseLetter}
 use Rattle.ucd_script.specs.declared.Script.{Script}
 use Rattle.ucd_script.specs.declared.Script.TheVariants.{Han, Hiragana, Katakana, Hangul, Bopomofo}
+use Rattle.lit_model.specs.Characters.{space_char}
 use Rattle.lit_model.specs.declared.person.Person.{Person}
 
 -- ---- institutions
@@ -48,7 +49,7 @@ is_cjk p = are_cjk (letters (string_bytes p.name) ++ letters (given_or_empty p))
 
 -- the words of a text, cut at each space
 abbrev pub words : List ℕ → List (List ℕ)
-words text = slice_split (λ b. b == 32) text
+words text = slice_split (λ b. b == space_char) text
 
 abbrev pub is_lowercase_letter : GeneralCategory → Bool
 is_lowercase_letter LowercaseLetter = true
@@ -77,7 +78,7 @@ after_particle (w ∷ v ∷ ws) = if is_particle_word w then after_particle (v �
 -- words with a space between them, if there are any
 abbrev pub spaced : List (List ℕ) → Option (List ℕ)
 spaced [] = None
-spaced (w ∷ ws) = Some (join_with_byte 32 (w ∷ ws))
+spaced (w ∷ ws) = Some (join_with_byte space_char (w ∷ ws))
 
 -- the particle of a name
 abbrev pub name_particle : List ℕ → Option (List ℕ)
@@ -85,7 +86,7 @@ name_particle name = spaced (particle_words (words name))
 
 -- the name after its particle and the space behind it
 abbrev pub name_without_particle : List ℕ → List ℕ
-name_without_particle name = join_with_byte 32 (after_particle (words name))
+name_without_particle name = join_with_byte space_char (after_particle (words name))
 
 -- ---- articles
 

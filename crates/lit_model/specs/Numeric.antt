@@ -3,6 +3,7 @@ use Rattle.std.specs.Prelude.{◌≡◌, ℕ, ◌^◌, ◌<◌, ◌≤◌, Bool,
 use Rattle.std.specs.Char.{is_ascii_digit, is_whitespace}
 use Rattle.std.specs.List.{AllByRecursion}
 use Rattle.std.specs.Str.Parse.{digits_value}
+use Rattle.lit_model.specs.Characters.{ampersand_char, comma_char, hyphen_char}
 use Rattle.lit_model.specs.declared.numeric.Numeric.{Numeric}
 use Rattle.lit_model.specs.declared.numeric.NumericValue.{NumericValue}
 use Rattle.lit_model.specs.declared.numeric.NumericValue.TheVariants.{Number, Set}
@@ -54,12 +55,12 @@ is_bare v = is_none v.prefix && is_none v.suffix
 
 -- the character that separates two numbers
 abbrev pub delimiter_char : NumericDelimiter → ℕ
-delimiter_char Comma = 44
-delimiter_char Ampersand = 38
-delimiter_char Hyphen = 45
+delimiter_char Comma = comma_char
+delimiter_char Ampersand = ampersand_char
+delimiter_char Hyphen = hyphen_char
 
 abbrev pub is_delimiter : ℕ → Bool
-is_delimiter c = (c == 44 || c == 38) || c == 45
+is_delimiter c = (c == comma_char || c == ampersand_char) || c == hyphen_char
 
 -- a character of a prefix or a suffix: no digit, no white space and no delimiter
 abbrev pub is_affix : ℕ → Bool

@@ -2,6 +2,7 @@
 use Rattle.std.specs.Prelude.{ℕ, zero, suc, ◌^◌, Bool, ◌==◌, nat_lt, if◌then◌else◌, List, [], ◌∷◌, length, ℤ, pos, Option, Some, None, option_and_then, option_map, count_by, encode_utf8_all}
 use Rattle.std.specs.Char.{is_ascii_digit, is_whitespace}
 use Rattle.std.specs.Str.Parse.{digits_value}
+use Rattle.lit_model.specs.Characters.{ampersand_char, comma_char, hyphen_char}
 use Rattle.lit_model.specs.declared.numeric.NumericDelimiter.{NumericDelimiter}
 use Rattle.lit_model.specs.declared.numeric.NumericDelimiter.TheVariants.{Comma, Ampersand, Hyphen}
 use Rattle.lit_model.specs.Numeric.{ValueView, one, several, NumericView, is_affix, is_delimiter}
@@ -40,7 +41,7 @@ integer_at cs = do
 
 -- the delimiter that a character is
 abbrev pub delimiter_of : ℕ → Option NumericDelimiter
-delimiter_of c = if c == 44 then Some Comma else (if c == 38 then Some Ampersand else (if c == 45 then Some Hyphen else None))
+delimiter_of c = if c == comma_char then Some Comma else (if c == ampersand_char then Some Ampersand else (if c == hyphen_char then Some Hyphen else None))
 
 -- the delimiter that the characters begin with, and what follows it and white space
 abbrev pub delimiter_first : List ℕ → Option (NumericDelimiter × List ℕ)

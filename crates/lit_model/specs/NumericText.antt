@@ -2,18 +2,19 @@
 use Rattle.std.specs.Prelude.{ℕ, suc, ◌-◌, Bool, true, false, List, [], ◌∷◌, ◌++◌, length, replicate, ℤ, pos, negsuc, Option, Some, None, codes, decimal, unwrap_or}
 use Rattle.std.specs.Fmt.{signed_decimal}
 use Rattle.std.specs.List.{flat_map}
+use Rattle.lit_model.specs.Characters.{hyphen_char, zero_char}
 use Rattle.lit_model.specs.declared.numeric.NumericDelimiter.{NumericDelimiter}
 use Rattle.lit_model.specs.declared.numeric.NumericDelimiter.TheVariants.{Comma, Ampersand, Hyphen}
 use Rattle.lit_model.specs.Numeric.{ValueView, one, several, NumericView}
 
 -- the digits, with zeros before them up to this many
 abbrev pub with_zeros : ℕ → List ℕ → List ℕ
-with_zeros width digits = replicate (width - length digits) 48 ++ digits
+with_zeros width digits = replicate (width - length digits) zero_char ++ digits
 
 -- a number for sorting: in four places at least, the sign among them
 abbrev pub sorted_integer : ℤ → List ℕ
 sorted_integer (pos n) = with_zeros 4 (decimal n)
-sorted_integer (negsuc n) = 45 ∷ with_zeros 3 (decimal (suc n))
+sorted_integer (negsuc n) = hyphen_char ∷ with_zeros 3 (decimal (suc n))
 
 -- a number for sorting, or to be read
 abbrev pub integer_text : Bool → ℤ → List ℕ

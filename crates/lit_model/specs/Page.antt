@@ -1,6 +1,7 @@
 -- Pages: their values, and the grammar of the texts that stand for them.
 use Rattle.std.specs.Prelude.{◌≡◌, ℕ, Bool, true, false, not, ◌&&◌, ◌||◌, ◌==◌, List, [], ◌∷◌, ◌++◌, map, ℤ, Option, Some, None, ⊤}
 use Rattle.std.specs.Option.{option_or}
+use Rattle.lit_model.specs.Characters.{ampersand_char, comma_char, en_dash_char, hyphen_char}
 use Rattle.lit_model.specs.declared.page.PageRanges.{PageRanges}
 use Rattle.lit_model.specs.declared.page.PageRangesPart.{PageRangesPart}
 use Rattle.lit_model.specs.declared.page.PageRangesPart.TheVariants.{Ampersand, Comma, EscapedRange, SinglePage, Range}
@@ -60,11 +61,11 @@ plural_pages (p ∷ q ∷ more) = true
 
 -- the two characters that join the ends of a range: `-`, and the en dash
 abbrev pub is_range_mark : ℕ → Bool
-is_range_mark c = c == 45 || c == 0x2013
+is_range_mark c = c == hyphen_char || c == en_dash_char
 
 -- the two characters that separate the items
 abbrev pub is_separator : ℕ → Bool
-is_separator c = c == 44 || c == 38
+is_separator c = c == comma_char || c == ampersand_char
 
 -- a character of the prefix or the suffix of a page: as of a number, but no en dash
 abbrev pub is_page_affix : ℕ → Bool
@@ -106,8 +107,8 @@ SpellsItem (range v w) cs = SpellsRange v w cs
 
 -- the character of a separator
 abbrev pub SpellsSeparator : PartView → ℕ → Type 0
-SpellsSeparator ampersand c = c ≡ 38
-SpellsSeparator comma c = c ≡ 44
+SpellsSeparator ampersand c = c ≡ ampersand_char
+SpellsSeparator comma c = c ≡ comma_char
 SpellsSeparator (escaped v w) c = ⊥
 SpellsSeparator (single v) c = ⊥
 SpellsSeparator (range v w) c = ⊥

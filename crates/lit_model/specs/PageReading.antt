@@ -1,6 +1,7 @@
 -- What the parser of pages reads, step by step: functions of the characters that are left.
 use Rattle.std.specs.Prelude.{ℕ, zero, suc, ◌==◌, if◌then◌else◌, List, [], ◌∷◌, Option, Some, None, count_by}
 use Rattle.std.specs.Char.{is_whitespace}
+use Rattle.lit_model.specs.Characters.{ampersand_char, comma_char}
 use Rattle.lit_model.specs.Numeric.{NumericView, one}
 use Rattle.lit_model.specs.NumericReading.{◌>>=◌, front, after, integer_at, affix_from, is_blank}
 use Rattle.lit_model.specs.Page.{PartView, ampersand, comma, single, range, is_page_affix, is_range_mark, is_separator}
@@ -22,7 +23,7 @@ mark_at cs = mark_first (after is_whitespace cs)
 
 -- the separator that a character is
 abbrev pub separator_of : ℕ → Option PartView
-separator_of c = if c == 44 then Some comma else (if c == 38 then Some ampersand else None)
+separator_of c = if c == comma_char then Some comma else (if c == ampersand_char then Some ampersand else None)
 
 -- the separator at the front, and what follows it and white space
 abbrev pub separator_first : List ℕ → Option (PartView × List ℕ)

@@ -20,7 +20,10 @@ use crate::text::copy_forms;
 use std::alloc::Global;
 
 impl Entry {
-    /// A copy, with copies of its parents. The error: there was no memory for it.
+    /// A copy, with copies of its parents.
+    ///
+    /// # Errors
+    /// [`Memory`]: there was no memory left.
     pub fn clone(&self, alloc: Global) -> Result<Entry, Memory>
         ensures { IfOk result (λ e. works e ≡ works self.now) }
     {
@@ -96,7 +99,8 @@ impl Entry {
 }
 
 fn copy_people(value: &Option<Vec<Person>>, alloc: Global) -> Result<Option<Vec<Person>>, Memory>
-    ensures { IfOk result (λ copy. option_map (λ v. map named v.items) copy ≡ option_map (λ v. map named v.items) value.now) }
+    ensures { IfOk result (λ copy. option_map (λ v. map named v.items) copy
+        ≡ option_map (λ v. map named v.items) value.now) }
 {
     match value {
         None => Ok(None),
@@ -111,7 +115,8 @@ fn copy_affiliated(
     value: &Option<Vec<PersonsWithRoles>>,
     alloc: Global,
 ) -> Result<Option<Vec<PersonsWithRoles>>, Memory>
-    ensures { IfOk result (λ copy. option_map (λ v. map group_of v.items) copy ≡ option_map (λ v. map group_of v.items) value.now) }
+    ensures { IfOk result (λ copy. option_map (λ v. map group_of v.items) copy
+        ≡ option_map (λ v. map group_of v.items) value.now) }
 {
     match value {
         None => Ok(None),
@@ -150,7 +155,8 @@ fn copy_number(
     value: &Option<MaybeTyped<Numeric>>,
     alloc: Global,
 ) -> Result<Option<MaybeTyped<Numeric>>, Memory>
-    ensures { IfOk result (λ copy. option_map (maybe_view numeric_view) copy ≡ option_map (maybe_view numeric_view) value.now) }
+    ensures { IfOk result (λ copy. option_map (maybe_view numeric_view) copy
+        ≡ option_map (maybe_view numeric_view) value.now) }
 {
     match value {
         None => Ok(None),
@@ -162,7 +168,8 @@ fn copy_number(
 }
 
 fn copy_total(value: &Option<Numeric>, alloc: Global) -> Result<Option<Numeric>, Memory>
-    ensures { IfOk result (λ copy. option_map numeric_view copy ≡ option_map numeric_view value.now) }
+    ensures { IfOk result (λ copy. option_map numeric_view copy
+        ≡ option_map numeric_view value.now) }
 {
     match value {
         None => Ok(None),
@@ -177,7 +184,8 @@ fn copy_pages(
     value: &Option<MaybeTyped<PageRanges>>,
     alloc: Global,
 ) -> Result<Option<MaybeTyped<PageRanges>>, Memory>
-    ensures { IfOk result (λ copy. option_map (maybe_view pages_view) copy ≡ option_map (maybe_view pages_view) value.now) }
+    ensures { IfOk result (λ copy. option_map (maybe_view pages_view) copy
+        ≡ option_map (maybe_view pages_view) value.now) }
 {
     match value {
         None => Ok(None),

@@ -27,7 +27,8 @@ pub struct Date {
 impl Date {
     ghost use Rattle.lit_model.specs.Date.{IsOnCalendar, date_parts};
 
-    /// A date, where the month is at most 11 and the day at most 30: both count from 0, so January is month 0. Otherwise `None`.
+    /// A date, where the month is at most 11 and the day at most 30: both count from 0, so January
+    /// is month 0. Otherwise `None`.
     pub fn new(
         year: i32,
         month: Option<u8>,
@@ -36,7 +37,13 @@ impl Date {
         approximate: bool,
     ) -> Option<Date>
         ensures calendar { IsSome result ↔ IsOnCalendar month day }
-        ensures value { IfSome result (λ d. date_parts d ≡ record { year = year; month = month; day = day; season = season; approximate = approximate }) }
+        ensures value { IfSome result (λ d. date_parts d ≡ record {
+          year = year;
+          month = month;
+          day = day;
+          season = season;
+          approximate = approximate;
+        }) }
     {
         if month.is_some_and(|m| m > 11) || day.is_some_and(|d| d > 30) {
             return None;

@@ -77,7 +77,10 @@ pub struct Entry {
 }
 
 impl Entry {
-    /// An entry of which only the key and the type are known. The error: there was no memory for the key.
+    /// An entry of which only the key and the type are known.
+    ///
+    /// # Errors
+    /// [`Memory`]: there was no memory left.
     pub fn new(alloc: Global, key: &str, entry_type: EntryType) -> Result<Entry, Memory>
         ensures { IfOk result (IsBare key.now entry_type) }
     {
@@ -366,19 +369,22 @@ impl Entry {
 }
 
 impl Entry {
-    /// The first answer that `f` gives, asked of the entry, and then of each parent and that parent's own parents, before the next parent.
+    /// The first answer that `f` gives, asked of the entry, and then of each parent and that
+    /// parent's own parents, before the next parent.
     ///
     /// `f` is to answer by the entry alone.
     pub fn map<'a, X, F: Fn(&Entry) -> Option<&X>>(&'a self, f: F) -> Option<&'a X>
         requires { F.IsAlwaysCallable f }
-        ensures { (g : Entry → Option X) → AnswersBy (F.post f) g → option_copied result ≡ first_some g (preorder self.now) }
+        ensures { (g : Entry → Option X) → AnswersBy (F.post f) g
+            → option_copied result ≡ first_some g (preorder self.now) }
     {
         self.first(&f)
     }
 
     fn first<'a, X, F: Fn(&Entry) -> Option<&X>>(&'a self, f: &F) -> Option<&'a X>
         requires { F.IsAlwaysCallable f.now }
-        ensures { (g : Entry → Option X) → AnswersBy (F.post f.now) g → option_copied result ≡ first_some g (preorder self.now) }
+        ensures { (g : Entry → Option X) → AnswersBy (F.post f.now) g
+            → option_copied result ≡ first_some g (preorder self.now) }
     {
         if let Some(found) = f(self) {
             return Some(found);

@@ -54,7 +54,8 @@ fn single_letter(word: &str) -> Option<&str>
     }
 }
 
-/// What a word leaves to be written before the next: the white space that ends the text, or else a space.
+/// What a word leaves to be written before the next: the white space that ends the text, or else a
+/// space.
 fn gap_after<'a>(text: &'a str, letter: Option<&str>) -> &'a str
     ensures { result.now ≡ gap_after text.now (option_copied letter.entry) }
 {
@@ -66,7 +67,8 @@ fn gap_after<'a>(text: &'a str, letter: Option<&str>) -> &'a str
 }
 
 fn put_name<S: Sink>(sink: &mut S, text: &str, letter: Option<&str>, word: &str) -> fmt::Result
-    ensures ok { OnOk result (WritesInCalls S.write_str_gives sink.old (name_text text.now (option_copied letter.entry) word.now) sink.new) }
+    ensures ok { OnOk result (WritesInCalls S.write_str_gives sink.old
+        (name_text text.now (option_copied letter.entry) word.now) sink.new) }
     ensures kept { OnOk result (S.refused sink.new ≡ S.refused sink.old) }
     ensures err { OnErr result (S.refused sink.new ≡ true) }
 {
@@ -77,7 +79,8 @@ fn put_name<S: Sink>(sink: &mut S, text: &str, letter: Option<&str>, word: &str)
 }
 
 fn put_names<S: Sink>(sink: &mut S, text: &str, given: &str) -> fmt::Result
-    ensures ok { OnOk result (WritesInCalls S.write_str_gives sink.old (names_text text.now [] (given_words given.now)) sink.new) }
+    ensures ok { OnOk result (WritesInCalls S.write_str_gives sink.old
+        (names_text text.now [] (given_words given.now)) sink.new) }
     ensures kept { OnOk result (S.refused sink.new ≡ S.refused sink.old) }
     ensures err { OnErr result (S.refused sink.new ≡ true) }
 {
@@ -92,13 +95,19 @@ fn put_names<S: Sink>(sink: &mut S, text: &str, given: &str) -> fmt::Result
 }
 
 impl Person {
-    /// Writes the given name to a sink. A word that is one uppercase letter (general category Lu), with or without a dot, is written as the letter and the text `delimiter`, any other as it stands. A space separates words, unless white space is there; no white space ends the whole. It fails only where the sink refuses a text; what the sink holds then is left open.
+    /// Writes the given name to a sink. A word that is one uppercase letter (general category Lu),
+    /// with or without a dot, is written as the letter and the text `delimiter`, any other as it
+    /// stands. A space separates words, unless white space is there; no white space ends the whole.
+    ///
+    /// # Errors
+    /// [`fmt::Error`]: the sink refused a text; what it holds then is left open.
     pub fn first_name_with_delimiter_into<S: Sink>(
         &self,
         sink: &mut S,
         delimiter: Option<&str>,
     ) -> fmt::Result
-        ensures ok { OnOk result (WritesInCalls S.write_str_gives sink.old (person_first_name (option_copied delimiter.entry) self.now) sink.new) }
+        ensures ok { OnOk result (WritesInCalls S.write_str_gives sink.old
+            (person_first_name (option_copied delimiter.entry) self.now) sink.new) }
         ensures kept { OnOk result (S.refused sink.new ≡ S.refused sink.old) }
         ensures err { OnErr result (S.refused sink.new ≡ true) }
     {
@@ -109,13 +118,18 @@ impl Person {
         }
     }
 
-    /// Writes the given name to any writer, as [`Person::first_name_with_delimiter_into`] does to a sink. It fails only where the writer refuses a text; what the writer holds then is left open.
+    /// Writes the given name to any writer, as [`Person::first_name_with_delimiter_into`] does to a
+    /// sink.
+    ///
+    /// # Errors
+    /// [`fmt::Error`]: the writer refused a text; what it holds then is left open.
     pub fn first_name_with_delimiter<W: fmt::Write>(
         &self,
         w: &mut W,
         delimiter: Option<&str>,
     ) -> fmt::Result
-        ensures { OnOk result (WritesInCalls W.write_str_gives w.old (person_first_name (option_copied delimiter.entry) self.now) w.new) }
+        ensures { OnOk result (WritesInCalls W.write_str_gives w.old
+            (person_first_name (option_copied delimiter.entry) self.now) w.new) }
     {
         let mut sink = Noting::new(w);
         let result = self.first_name_with_delimiter_into(&mut sink, delimiter);

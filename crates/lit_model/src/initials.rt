@@ -31,7 +31,8 @@ struct Shortened<'a> {
 
 impl Shortened<'_> {
     fn put_gap<S: Sink>(&self, sink: &mut S, before: Before) -> fmt::Result
-        ensures ok { OnOk result (WritesInCalls S.write_str_gives sink.old (gap self.now.text.now self.now.hyphen before) sink.new) }
+        ensures ok { OnOk result (WritesInCalls S.write_str_gives sink.old
+            (gap self.now.text.now self.now.hyphen before) sink.new) }
         ensures kept { OnOk result (S.refused sink.new ≡ S.refused sink.old) }
         ensures err { OnErr result (S.refused sink.new ≡ true) }
     {
@@ -50,8 +51,11 @@ impl Shortened<'_> {
         piece: &str,
         before: Before,
     ) -> Result<Before, fmt::Error>
-        ensures place { IfOk result (λ b. b ≡ before_piece before (option_to_list (first_grapheme piece.now))) }
-        ensures ok { OnOk result (WritesInCalls S.write_str_gives sink.old (word_text self.now.text.now self.now.hyphen before (option_to_list (first_grapheme piece.now))) sink.new) }
+        ensures place { IfOk result
+            (λ b. b ≡ before_piece before (option_to_list (first_grapheme piece.now))) }
+        ensures ok { OnOk result (WritesInCalls S.write_str_gives sink.old
+            (word_text self.now.text.now self.now.hyphen before
+            (option_to_list (first_grapheme piece.now))) sink.new) }
         ensures kept { OnOk result (S.refused sink.new ≡ S.refused sink.old) }
         ensures err { OnErr result (S.refused sink.new ≡ true) }
     {
@@ -73,7 +77,8 @@ impl Shortened<'_> {
         before: Before,
     ) -> Result<Before, fmt::Error>
         ensures place { IfOk result (λ b. b ≡ before_piece before (initials_of word.now)) }
-        ensures ok { OnOk result (WritesInCalls S.write_str_gives sink.old (word_text self.now.text.now self.now.hyphen before (initials_of word.now)) sink.new) }
+        ensures ok { OnOk result (WritesInCalls S.write_str_gives sink.old
+            (word_text self.now.text.now self.now.hyphen before (initials_of word.now)) sink.new) }
         ensures kept { OnOk result (S.refused sink.new ≡ S.refused sink.old) }
         ensures err { OnErr result (S.refused sink.new ≡ true) }
     {
@@ -89,7 +94,8 @@ impl Shortened<'_> {
 
     /// Writes the initials of all words of a given name.
     fn put_words<S: Sink>(&self, sink: &mut S, given: &str) -> fmt::Result
-        ensures ok { OnOk result (WritesInCalls S.write_str_gives sink.old (initials self.now.text.now self.now.hyphen given.now) sink.new) }
+        ensures ok { OnOk result (WritesInCalls S.write_str_gives sink.old
+            (initials self.now.text.now self.now.hyphen given.now) sink.new) }
         ensures kept { OnOk result (S.refused sink.new ≡ S.refused sink.old) }
         ensures err { OnErr result (S.refused sink.new ≡ true) }
     {
@@ -103,14 +109,14 @@ impl Shortened<'_> {
     }
 
     fn put_end<S: Sink>(&self, sink: &mut S, place: Before) -> fmt::Result
-        ensures ok { OnOk result (WritesInCalls S.write_str_gives sink.old (end_text self.now.text.now place) sink.new) }
+        ensures ok { OnOk result (WritesInCalls S.write_str_gives sink.old
+            (end_text self.now.text.now place) sink.new) }
         ensures kept { OnOk result (S.refused sink.new ≡ S.refused sink.old) }
         ensures err { OnErr result (S.refused sink.new ≡ true) }
     {
         match place {
             Before::Nothing => Ok(()),
-            Before::Word => sink.put(self.text.trim_end()),
-            Before::Piece => sink.put(self.text.trim_end()),
+            Before::Word | Before::Piece => sink.put(self.text.trim_end()),
         }
     }
 }
@@ -122,21 +128,27 @@ impl Before {
     {
         match self {
             Before::Nothing => Before::Nothing,
-            Before::Word => Before::Word,
-            Before::Piece => Before::Word,
+            Before::Word | Before::Piece => Before::Word,
         }
     }
 }
 
 impl Person {
-    /// Writes the initials of the given name to a sink: the first grapheme of each piece between white space or `-`, each followed by the text `delimiter`. Between the pieces of one word, where hyphens are kept, that text loses its trailing white space and a `-` follows; so does the last one lose it. It fails only where the sink refuses a text; what the sink holds then is left open.
+    /// Writes the initials of the given name to a sink: the first grapheme of each piece between
+    /// white space or `-`, each followed by the text `delimiter`. Between the pieces of one word,
+    /// where hyphens are kept, that text loses its trailing white space and a `-` follows; so does
+    /// the last one lose it.
+    ///
+    /// # Errors
+    /// [`fmt::Error`]: the sink refused a text; what it holds then is left open.
     pub fn initials_into<S: Sink>(
         &self,
         sink: &mut S,
         delimiter: Option<&str>,
         with_hyphen: bool,
     ) -> fmt::Result
-        ensures ok { OnOk result (WritesInCalls S.write_str_gives sink.old (person_initials (option_copied delimiter.entry) with_hyphen self.now) sink.new) }
+        ensures ok { OnOk result (WritesInCalls S.write_str_gives sink.old
+            (person_initials (option_copied delimiter.entry) with_hyphen self.now) sink.new) }
         ensures kept { OnOk result (S.refused sink.new ≡ S.refused sink.old) }
         ensures err { OnErr result (S.refused sink.new ≡ true) }
     {
@@ -153,14 +165,19 @@ impl Person {
         }
     }
 
-    /// Writes the initials of the given name to any writer, as [`Person::initials_into`] does to a sink. It fails only where the writer refuses a text; what the writer holds then is left open.
+    /// Writes the initials of the given name to any writer, as [`Person::initials_into`] does to a
+    /// sink.
+    ///
+    /// # Errors
+    /// [`fmt::Error`]: the writer refused a text; what it holds then is left open.
     pub fn initials<W: fmt::Write>(
         &self,
         w: &mut W,
         delimiter: Option<&str>,
         with_hyphen: bool,
     ) -> fmt::Result
-        ensures { OnOk result (WritesInCalls W.write_str_gives w.old (person_initials (option_copied delimiter.entry) with_hyphen self.now) w.new) }
+        ensures { OnOk result (WritesInCalls W.write_str_gives w.old
+            (person_initials (option_copied delimiter.entry) with_hyphen self.now) w.new) }
     {
         let mut sink = Noting::new(w);
         let result = self.initials_into(&mut sink, delimiter, with_hyphen);

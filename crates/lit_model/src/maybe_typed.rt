@@ -20,9 +20,13 @@ pub enum MaybeTyped<T> {
 }
 
 impl MaybeTyped<Numeric> {
-    /// A copy. The error: there was no memory for it.
+    /// A copy.
+    ///
+    /// # Errors
+    /// [`Memory`]: there was no memory left.
     pub fn clone(&self, alloc: Global) -> Result<MaybeTyped<Numeric>, Memory>
-        ensures { IfOk result (λ copy. maybe_view numeric_view copy ≡ maybe_view numeric_view self.now) }
+        ensures { IfOk result (λ copy. maybe_view numeric_view copy
+            ≡ maybe_view numeric_view self.now) }
     {
         match self {
             MaybeTyped::Typed(number) => {
@@ -38,9 +42,13 @@ impl MaybeTyped<Numeric> {
 }
 
 impl MaybeTyped<PageRanges> {
-    /// A copy. The error: there was no memory for it.
+    /// A copy.
+    ///
+    /// # Errors
+    /// [`Memory`]: there was no memory left.
     pub fn clone(&self, alloc: Global) -> Result<MaybeTyped<PageRanges>, Memory>
-        ensures { IfOk result (λ copy. maybe_view pages_view copy ≡ maybe_view pages_view self.now) }
+        ensures { IfOk result (λ copy. maybe_view pages_view copy
+            ≡ maybe_view pages_view self.now) }
     {
         match self {
             MaybeTyped::Typed(pages) => {

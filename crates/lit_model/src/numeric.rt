@@ -1,6 +1,6 @@
 //! Numbers as a bibliography writes them, and the forms that a style asks for.
 
-ghost use Rattle.std.specs.Prelude.{◌≡◌, Option, None, IfOk, option_map, string_bytes};
+ghost use Rattle.std.specs.Prelude.{◌≡◌, Option, None, IfOk};
 ghost use Rattle.lit_model.specs.Numeric.{one, numeric_view, value_view, numbers, only_number, plural, is_bare};
 
 mod error;
@@ -10,9 +10,10 @@ mod roman;
 mod write;
 
 use crate::memory::Memory;
+use crate::text::copy_text;
 pub use error::NumericError;
 pub use form::Ordinals;
-use std::alloc::{AllocError, Global};
+use std::alloc::Global;
 
 /// A number, or several, with the texts around it, as `n4-6a` has.
 #[derive(PartialEq, Eq, Hash, Drop)]
@@ -72,10 +73,10 @@ impl Numeric {
         self.prefix.is_none() && self.suffix.is_none()
     }
 
-    /// An equal value.
+    /// A copy.
     ///
     /// # Errors
-    /// `Memory` where there was none for the copy.
+    /// [`Memory`]: there was no memory left.
     pub fn clone(&self, alloc: Global) -> Result<Numeric, Memory>
         ensures { IfOk result (λ copy. numeric_view copy ≡ numeric_view self.now) }
     {
@@ -83,27 +84,13 @@ impl Numeric {
             NumericValue::Number(number) => NumericValue::Number(*number),
             NumericValue::Set(numbers) => NumericValue::Set(numbers.as_slice().to_vec(alloc)?),
         };
-        let prefix = copied(alloc, &self.prefix)?;
-        let suffix = copied(alloc, &self.suffix)?;
+        let prefix = copy_text(&self.prefix, alloc)?;
+        let suffix = copy_text(&self.suffix, alloc)?;
         Ok(Numeric {
             value,
             prefix,
             suffix,
         })
-    }
-}
-
-/// A copy of a text, where there is one.
-fn copied(alloc: Global, text: &Option<String>) -> Result<Option<String>, AllocError>
-    ensures { IfOk result (λ copy. option_map string_bytes copy
-        ≡ option_map string_bytes text.now) }
-{
-    match text {
-        Some(text) => {
-            let copy = String::from_str(alloc, text.as_str())?;
-            Ok(Some(copy))
-        }
-        None => Ok(None),
     }
 }
 

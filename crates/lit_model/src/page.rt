@@ -44,10 +44,10 @@ impl PageRanges {
         }
     }
 
-    /// An equal value.
+    /// A copy.
     ///
     /// # Errors
-    /// `Memory` where there was none for the copy.
+    /// [`Memory`]: there was no memory left.
     pub fn clone(&self, alloc: Global) -> Result<PageRanges, Memory>
         ensures { IfOk result (λ copy. pages_view copy ≡ pages_view self.now) }
     {
@@ -86,10 +86,10 @@ impl PageRangesPart {
         }
     }
 
-    /// An equal value.
+    /// A copy.
     ///
     /// # Errors
-    /// `Memory` where there was none for the copy.
+    /// [`Memory`]: there was no memory left.
     pub fn clone(&self, alloc: Global) -> Result<PageRangesPart, Memory>
         ensures { IfOk result (λ copy. part_view copy ≡ part_view self.now) }
     {

@@ -66,14 +66,17 @@ pub struct PersonsWithRoles {
 }
 
 impl Person {
-    /// An institution: no given name, no prefix and no suffix. One that is present and empty counts.
+    /// An institution: no given name, no prefix and no suffix. One that is present and empty
+    /// counts.
     pub fn is_institutional(&self) -> bool
         ensures { result ≡ is_institutional self.now }
     {
         self.given_name.is_none() && self.prefix.is_none() && self.suffix.is_none()
     }
 
-    /// A name in a Chinese, Japanese or Korean script: the name and the given name together have a letter (Unicode Alphabetic), and each is of script Han, Hiragana, Katakana, Hangul or Bopomofo.
+    /// A name in a Chinese, Japanese or Korean script: the name and the given name together have a
+    /// letter (Unicode Alphabetic), and each is of script Han, Hiragana, Katakana, Hangul or
+    /// Bopomofo.
     pub fn is_cjk(&self) -> bool
         ensures { result ≡ is_cjk self.now }
     {
@@ -83,7 +86,8 @@ impl Person {
         }
     }
 
-    /// The particle of the name, as `van der`: its longest front of words, cut at each space, that begin with a lowercase letter (general category Ll), but never its last word.
+    /// The particle of the name, as `van der`: its longest front of words, cut at each space, that
+    /// begin with a lowercase letter (general category Ll), but never its last word.
     pub fn name_particle(&self) -> Option<&str>
         ensures { option_copied result ≡ name_particle (string_bytes self.now.name) }
     {
@@ -96,7 +100,8 @@ impl Person {
         Some(&name[..front - 1])
     }
 
-    /// The name after its particle and the space behind that; the whole name where it has no particle.
+    /// The name after its particle and the space behind that; the whole name where it has no
+    /// particle.
     pub fn name_without_particle(&self) -> &str
         ensures { result.now ≡ name_without_particle (string_bytes self.now.name) }
     {
@@ -110,7 +115,8 @@ impl Person {
         rest
     }
 
-    /// The name without an English article before it, `The`, `A` or `An` with a capital or not; the whole name where nothing else would be left.
+    /// The name without an English article before it, `The`, `A` or `An` with a capital or not; the
+    /// whole name where nothing else would be left.
     pub fn name_without_article(&self) -> &str
         ensures { result.now ≡ name_without_article (string_bytes self.now.name) }
     {
@@ -120,7 +126,10 @@ impl Person {
 }
 
 impl Person {
-    /// A copy. The error: there was no memory for it.
+    /// A copy.
+    ///
+    /// # Errors
+    /// [`Memory`]: there was no memory left.
     pub fn clone(&self, alloc: Global) -> Result<Person, Memory>
         ensures { IfOk result (λ p. named p ≡ named self.now) }
     {
@@ -141,7 +150,10 @@ impl Person {
 }
 
 impl PersonRole {
-    /// A copy. The error: there was no memory for it.
+    /// A copy.
+    ///
+    /// # Errors
+    /// [`Memory`]: there was no memory left.
     pub fn clone(&self, alloc: Global) -> Result<PersonRole, Memory>
         ensures { IfOk result (λ r. role_of r ≡ role_of self.now) }
     {
@@ -175,7 +187,10 @@ impl PersonRole {
 }
 
 impl PersonsWithRoles {
-    /// A copy. The error: there was no memory for it.
+    /// A copy.
+    ///
+    /// # Errors
+    /// [`Memory`]: there was no memory left.
     pub fn clone(&self, alloc: Global) -> Result<PersonsWithRoles, Memory>
         ensures { IfOk result (λ g. group_of g ≡ group_of self.now) }
     {
@@ -236,7 +251,8 @@ fn has_letter(text: &str) -> bool
 
 /// Each letter of the text is of a Chinese, Japanese or Korean script.
 fn is_cjk_text(text: &str) -> bool
-    ensures { result ≡ list_all (λ c. not (is_alphabetic c) || is_cjk_script (script c)) (chars text.now) }
+    ensures { result
+        ≡ list_all (λ c. not (is_alphabetic c) || is_cjk_script (script c)) (chars text.now) }
 {
     text.chars().all(|c| !is_alphabetic(c) || is_cjk_script(Script::for_char(c)))
 }

@@ -39,7 +39,8 @@ pub struct Clause<'a> {
     pub own: &'a [EntryType],
     /// The fields that the entry itself must have, all of them.
     pub fields: &'a [Field],
-    /// The types of which a direct parent must have one, where a parent is asked for. None at all: every type.
+    /// The types of which a direct parent must have one, where a parent is asked for. None at all:
+    /// every type.
     pub parent: Option<&'a [EntryType]>,
     /// What is selected.
     pub bind: Bind,
@@ -88,7 +89,8 @@ static CONTAINER: [Clause<'static>; 5] = [
     },
 ];
 
-/// The work that holds an entry: the book of a chapter, the journal of an article, the site of anything.
+/// The work that holds an entry: the book of a chapter, the journal of an article, the site of
+/// anything.
 fn container() -> &'static [Clause<'static>]
     ensures { map rule_of result.now ≡ container }
 {
@@ -145,7 +147,8 @@ static EVENT: [Clause<'static>; 1] = [Clause {
     bind: Bind::Parent,
 }];
 
-/// The event at which a work was shown: its first parent that is an exhibition, a conference or anything else.
+/// The event at which a work was shown: its first parent that is an exhibition, a conference or
+/// anything else.
 pub fn event() -> &'static [Clause<'static>]
     ensures { map rule_of result.now ≡ event }
 {
@@ -179,7 +182,8 @@ static CHAPTER: [Clause<'static>; 4] = [
     },
 ];
 
-/// The work whose volume numbers a chapter: an entry of an anthology, a reference work, proceedings or a book.
+/// The work whose volume numbers a chapter: an entry of an anthology, a reference work, proceedings
+/// or a book.
 pub fn chapter() -> &'static [Clause<'static>]
     ensures { map rule_of result.now ≡ chapter }
 {
@@ -315,7 +319,8 @@ impl Clause<'_> {
 
     /// What it selects of an entry that matches it.
     fn bound<'e>(&self, entry: &'e Entry) -> Option<&'e Entry>
-        ensures { option_copied result ≡ bound_by self.now.bind (rule_of self.now).parent entry.now }
+        ensures { option_copied result
+            ≡ bound_by self.now.bind (rule_of self.now).parent entry.now }
     {
         match self.bind {
             Bind::Nothing => None,
@@ -338,7 +343,8 @@ impl Entry {
         false
     }
 
-    /// What the first clause that matches the entry selects: nothing, the entry, or its first direct parent that fits.
+    /// What the first clause that matches the entry selects: nothing, the entry, or its first
+    /// direct parent that fits.
     pub fn bound_select(&self, clauses: &[Clause<'_>]) -> Option<&Entry>
         ensures { option_copied result ≡ bound_select (map rule_of clauses.now) self.now }
     {
@@ -359,7 +365,8 @@ impl Entry {
             && self.title.is_none()
     }
 
-    /// The work that the entry is a part of: from a chapter or a scene without a title up to its first parent, and on, as long as there is one.
+    /// The work that the entry is a part of: from a chapter or a scene without a title up to its
+    /// first parent, and on, as long as there is one.
     pub fn get_full(&self) -> &Entry
         ensures { result.now ≡ full_of self.now }
     {
@@ -382,7 +389,8 @@ impl Entry {
         self.bound_select(container())
     }
 
-    /// The collection that the entry stands in: where another work holds it, that work's first parent.
+    /// The collection that the entry stands in: where another work holds it, that work's first
+    /// parent.
     pub fn get_collection(&self) -> Option<&Entry>
         ensures { option_copied result ≡ collection_of self.now }
     {
@@ -399,13 +407,17 @@ impl Entry {
         self.bound_select(original())
     }
 
-    /// The entry's own further persons of a role, in order. The error: there was no memory for the list.
+    /// The entry's own further persons of a role, in order.
+    ///
+    /// # Errors
+    /// [`Memory`]: there was no memory left.
     pub fn affiliated_with_role(
         &self,
         alloc: Global,
         role: &PersonRole,
     ) -> Result<Vec<&Person>, Memory>
-        ensures { IfOk result (λ v. map (λ p. p.now) v.items ≡ with_role (λ r. same_role r role.now) (groups_of self.now)) }
+        ensures { IfOk result (λ v. map (λ p. p.now) v.items
+            ≡ with_role (λ r. same_role r role.now) (groups_of self.now)) }
     {
         let mut persons = Vec::new(alloc);
         if let Some(groups) = &self.affiliated {
@@ -420,7 +432,8 @@ impl Entry {
 }
 
 fn push_all<'a>(persons: &mut Vec<&'a Person>, more: &'a [Person]) -> Result<(), Memory>
-    ensures { OnOk result (map (λ p. p.now) persons.new.items ≡ map (λ p. p.now) persons.old.items ++ more.now) }
+    ensures { OnOk result (map (λ p. p.now) persons.new.items
+        ≡ map (λ p. p.now) persons.old.items ++ more.now) }
 {
     for person in more {
         persons.push(person)?;

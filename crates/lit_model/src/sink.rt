@@ -6,6 +6,7 @@
 ghost use Rattle.std.specs.Prelude.{◌≡◌, ℕ, List, Bool, false, true, OnOk, OnErr};
 ghost use Rattle.std.specs.Fmt.{WritesInCalls, WritesOnOk, WritesStyledOnOk, HasWrittenStyled, IsFlush};
 ghost use Rattle.lit_model.specs.Sink.{concat_texts};
+ghost use Rattle.lit_model.specs.Noting.{writer_of, has_refused, formatter_of, has_refused_part};
 
 use std::fmt;
 
@@ -14,17 +15,24 @@ pub trait Sink: fmt::Write {
     /// It has refused a text.
     ghost refused: { Self → Bool };
 
-    /// Hands over a text. It fails only where the writer refuses it.
+    /// Hands over a text.
+    ///
+    /// # Errors
+    /// [`fmt::Error`]: the writer refused it.
     fn put(&mut self, text: &str) -> fmt::Result
         ensures ok { OnOk result (WritesInCalls Self.write_str_gives self.old text.now self.new) }
         ensures kept { OnOk result (refused self.new ≡ refused self.old) }
         ensures err { OnErr result (refused self.new ≡ true) };
 
-    /// Hands over some texts in a row. It fails only where the writer refuses one.
+    /// Hands over some texts in a row.
+    ///
+    /// # Errors
+    /// [`fmt::Error`]: the writer refused one of them.
     final fn put_all(&mut self, texts: &[&str]) -> fmt::Result
     where
         Self: Sized,
-        ensures ok { OnOk result (WritesInCalls Self.write_str_gives self.old (concat_texts texts.now) self.new) }
+        ensures ok { OnOk result (WritesInCalls Self.write_str_gives self.old
+            (concat_texts texts.now) self.new) }
         ensures kept { OnOk result (refused self.new ≡ refused self.old) }
         ensures err { OnErr result (refused self.new ≡ true) }
     {
@@ -45,8 +53,8 @@ pub struct Noting<'a, W> {
 impl<'a, W: fmt::Write> Noting<'a, W> {
     /// A writer that has refused nothing yet.
     pub fn new(inner: &'a mut W) -> Self
-        ensures lent { result.inner ≡ inner.entry }
-        ensures fresh { result.refused ≡ false }
+        ensures lent { writer_of result ≡ inner.entry }
+        ensures fresh { has_refused result ≡ false }
     {
         Noting {
             inner,
@@ -56,14 +64,15 @@ impl<'a, W: fmt::Write> Noting<'a, W> {
 
     /// Gives the writer back.
     pub fn into_inner(self) -> &'a mut W
-        ensures { result ≡ self.entry.inner }
+        ensures { result ≡ writer_of self.entry }
     {
         self.inner
     }
 
     /// Passes a text on.
     fn pass(&mut self, text: &str) -> fmt::Result
-        ensures ok { OnOk result (W.write_str_gives self.old.inner.now text.now self.new.inner.now) }
+        ensures ok { OnOk result
+            (W.write_str_gives self.old.inner.now text.now self.new.inner.now) }
         ensures same { self.new.inner.ghost_name ≡ self.old.inner.ghost_name }
         ensures kept { OnOk result (self.new.refused ≡ self.old.refused) }
         ensures err { OnErr result (self.new.refused ≡ true) }
@@ -79,7 +88,8 @@ impl<'a, W: fmt::Write> Noting<'a, W> {
 }
 
 impl<W: fmt::Write> fmt::Write for Noting<'_, W> {
-    ghost write_str_gives = { λ s bs t. (t.inner.ghost_name ≡ s.inner.ghost_name) × W.write_str_gives s.inner.now bs t.inner.now };
+    ghost write_str_gives = { λ s bs t. ((writer_of t).ghost_name ≡ (writer_of s).ghost_name)
+        × W.write_str_gives (writer_of s).now bs (writer_of t).now };
 
     fn write_str(&mut self, s: &str) -> fmt::Result {
         self.pass(s)
@@ -87,7 +97,7 @@ impl<W: fmt::Write> fmt::Write for Noting<'_, W> {
 }
 
 impl<W: fmt::Write> Sink for Noting<'_, W> {
-    ghost refused = { λ s. s.refused };
+    ghost refused = { has_refused };
 
     fn put(&mut self, text: &str) -> fmt::Result {
         self.pass(text)
@@ -104,8 +114,8 @@ pub struct Displaying<'a, W> {
 impl<'a, W: fmt::Write> Displaying<'a, W> {
     /// A formatter that has refused nothing yet.
     pub fn new(inner: &'a mut fmt::Formatter<W>) -> Self
-        ensures lent { result.inner ≡ inner.entry }
-        ensures fresh { result.refused ≡ false }
+        ensures lent { formatter_of result ≡ inner.entry }
+        ensures fresh { has_refused_part result ≡ false }
     {
         Displaying {
             inner,
@@ -115,14 +125,15 @@ impl<'a, W: fmt::Write> Displaying<'a, W> {
 
     /// Gives the formatter back.
     pub fn into_inner(self) -> &'a mut fmt::Formatter<W>
-        ensures { result ≡ self.entry.inner }
+        ensures { result ≡ formatter_of self.entry }
     {
         self.inner
     }
 
     /// Passes a part of what is displayed on.
     fn pass(&mut self, part: &str) -> fmt::Result
-        ensures ok { OnOk result (IsFlush self.old.inner.now → HasWrittenStyled W.write_str_gives self.old.inner.now part.now self.new.inner.now) }
+        ensures ok { OnOk result (IsFlush self.old.inner.now
+            → HasWrittenStyled W.write_str_gives self.old.inner.now part.now self.new.inner.now) }
         ensures same { self.new.inner.ghost_name ≡ self.old.inner.ghost_name }
         ensures kept { OnOk result (self.new.refused ≡ self.old.refused) }
         ensures err { OnErr result (self.new.refused ≡ true) }
@@ -138,7 +149,10 @@ impl<'a, W: fmt::Write> Displaying<'a, W> {
 }
 
 impl<W: fmt::Write> fmt::Write for Displaying<'_, W> {
-    ghost write_str_gives = { λ s bs t. (t.inner.ghost_name ≡ s.inner.ghost_name) × (IsFlush s.inner.now → HasWrittenStyled W.write_str_gives s.inner.now bs t.inner.now) };
+    ghost write_str_gives = { λ s bs t.
+        ((formatter_of t).ghost_name ≡ (formatter_of s).ghost_name)
+        × (IsFlush (formatter_of s).now
+        → HasWrittenStyled W.write_str_gives (formatter_of s).now bs (formatter_of t).now) };
 
     fn write_str(&mut self, s: &str) -> fmt::Result {
         self.pass(s)
@@ -146,7 +160,7 @@ impl<W: fmt::Write> fmt::Write for Displaying<'_, W> {
 }
 
 impl<W: fmt::Write> Sink for Displaying<'_, W> {
-    ghost refused = { λ s. s.refused };
+    ghost refused = { has_refused_part };
 
     fn put(&mut self, text: &str) -> fmt::Result {
         self.pass(text)
@@ -158,16 +172,21 @@ pub trait Put {
     /// The bytes of the text.
     ghost text: { Self → List ℕ };
 
-    /// Hands the text over. It fails only where the sink refuses a part of it; what the sink holds
-    /// then is left open.
+    /// Hands the text over.
+    ///
+    /// # Errors
+    /// [`fmt::Error`]: the sink refused a part of it; what it holds then is left open.
     fn put_into<S: Sink>(&self, sink: &mut S) -> fmt::Result
-        ensures ok { OnOk result (WritesInCalls S.write_str_gives sink.old (text self.now) sink.new) }
+        ensures ok { OnOk result (WritesInCalls S.write_str_gives sink.old
+            (text self.now) sink.new) }
         ensures kept { OnOk result (S.refused sink.new ≡ S.refused sink.old) }
         ensures err { OnErr result (S.refused sink.new ≡ true) };
 }
 
-/// Writes a text to any writer. It fails only where the writer refuses a part of it, as `put_into`
-/// says of sinks; what the writer holds then is left open.
+/// Writes a text to any writer.
+///
+/// # Errors
+/// [`fmt::Error`]: the writer refused a part of it; what it holds then is left open.
 pub fn write_text<T: Put, W: fmt::Write>(text: &T, w: &mut W) -> fmt::Result
     ensures { OnOk result (WritesInCalls W.write_str_gives w.old (T.text text.now) w.new) }
 {

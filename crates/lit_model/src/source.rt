@@ -89,7 +89,10 @@ impl SerialNumber {
 }
 
 impl Publisher {
-    /// A copy. The error: there was no memory for it.
+    /// A copy.
+    ///
+    /// # Errors
+    /// [`Memory`]: there was no memory left.
     pub fn clone(&self, alloc: Global) -> Result<Publisher, Memory>
         ensures { IfOk result (λ p. press_of p ≡ press_of self.now) }
     {
@@ -100,7 +103,10 @@ impl Publisher {
 }
 
 impl QualifiedUrl {
-    /// A copy. The error: there was no memory for it.
+    /// A copy.
+    ///
+    /// # Errors
+    /// [`Memory`]: there was no memory left.
     pub fn clone(&self, _alloc: Global) -> Result<QualifiedUrl, Memory>
         ensures { IfOk result (λ u. address_of u ≡ address_of self.now) }
     {
@@ -113,7 +119,10 @@ impl QualifiedUrl {
 }
 
 impl SerialNumber {
-    /// A copy. The error: there was no memory for it.
+    /// A copy.
+    ///
+    /// # Errors
+    /// [`Memory`]: there was no memory left.
     pub fn clone(&self, _alloc: Global) -> Result<SerialNumber, Memory>
         ensures { IfOk result (λ s. serials s ≡ serials self.now) }
     {
@@ -123,7 +132,10 @@ impl SerialNumber {
 }
 
 impl LanguageIdentifier {
-    /// A copy. The error: there was no memory for it.
+    /// A copy.
+    ///
+    /// # Errors
+    /// [`Memory`]: there was no memory left.
     pub fn clone(&self, alloc: Global) -> Result<LanguageIdentifier, Memory>
         ensures { IfOk result (λ l. language_of l ≡ language_of self.now) }
     {

@@ -51,7 +51,8 @@ pub struct FormatString {
 }
 
 impl FormatString {
-    /// The text in a form: the short form where it is asked for and there is one, else the whole text.
+    /// The text in a form: the short form where it is asked for and there is one, else the whole
+    /// text.
     pub fn select(&self, form: LongShortForm) -> &ChunkedString
         ensures { result.now ≡ select form self.now }
     {
@@ -66,7 +67,10 @@ impl FormatString {
 }
 
 impl StringChunk {
-    /// A copy. The error: there was no memory for it.
+    /// A copy.
+    ///
+    /// # Errors
+    /// [`Memory`]: there was no memory left.
     pub fn clone(&self, alloc: Global) -> Result<StringChunk, Memory>
         ensures { IfOk result (λ c. chunk_of c ≡ chunk_of self.now) }
     {
@@ -79,7 +83,10 @@ impl StringChunk {
 }
 
 impl ChunkedString {
-    /// A copy. The error: there was no memory for it.
+    /// A copy.
+    ///
+    /// # Errors
+    /// [`Memory`]: there was no memory left.
     pub fn clone(&self, alloc: Global) -> Result<ChunkedString, Memory>
         ensures { IfOk result (λ t. chunks t ≡ chunks self.now) }
     {
@@ -92,7 +99,10 @@ impl ChunkedString {
 }
 
 impl FormatString {
-    /// A copy. The error: there was no memory for it.
+    /// A copy.
+    ///
+    /// # Errors
+    /// [`Memory`]: there was no memory left.
     pub fn clone(&self, alloc: Global) -> Result<FormatString, Memory>
         ensures { IfOk result (λ t. forms_of t ≡ forms_of self.now) }
     {

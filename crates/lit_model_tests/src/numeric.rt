@@ -49,7 +49,8 @@ impl Ordinals for Word {
 
 /// Equal numbers feed a hasher the same.
 fn hashed_alike(a: &Numeric, b: &Numeric)
-    ensures { numeric_view a.now ≡ numeric_view b.now → hash_number.it a.now ≡ hash_number.it b.now }
+    ensures { numeric_view a.now ≡ numeric_view b.now
+        → hash_number.it a.now ≡ hash_number.it b.now }
 {
     let _same = *a == *b;
 }
@@ -92,28 +93,28 @@ fn reads_one_number(rt: HostRuntime) -> Result<(), NumericError> {
     assert_read(&rt, rt.alloc(), " 2nd ", (Some(2), false), ("none", "nd"))
 }
 
-fn is_read_as(alloc: Global, text: &str, number: i32) -> Result<bool, NumericError> {
+/// Whether what is read is this number, and whether a form may rewrite it.
+fn read_as(alloc: Global, text: &str, number: i32) -> Result<(bool, bool), NumericError> {
     let read = Numeric::parse(alloc, text)?;
-    Ok(same(&read, &Numeric::new(number)) && read.will_transform())
+    Ok((same(&read, &Numeric::new(number)), read.will_transform()))
 }
 
 #[test]
 fn reads_the_largest_number(rt: HostRuntime) -> Result<(), NumericError> {
-    let is_largest = is_read_as(rt.alloc(), "2147483647", 2_147_483_647)?;
-    assert_whether(&rt, is_largest, true, "2147483647");
+    let read = read_as(rt.alloc(), "2147483647", 2_147_483_647)?;
+    assert_eq!(rt; read, (true, true));
     Ok(())
 }
 
-/// Whether the text is read as several numbers, which are these.
-fn is_read_as_several(
+/// Whether these numbers are read, the one number, and whether a term is in the plural.
+fn read_as_several(
     alloc: Global,
     text: &str,
     numbers: &[(i32, Option<NumericDelimiter>)],
-) -> Result<bool, NumericError> {
+) -> Result<(bool, Option<i32>, bool), NumericError> {
     let read = Numeric::parse(alloc, text)?;
-    let is_several = read.is_plural(false) && read.value().is_none();
     let wanted = NumericValue::Set(numbers.to_vec(alloc)?);
-    Ok(is_several && read.value == wanted)
+    Ok((read.value == wanted, read.value(), read.is_plural(false)))
 }
 
 #[test]
@@ -123,8 +124,8 @@ fn reads_several_numbers(rt: HostRuntime) -> Result<(), NumericError> {
         (6, Some(NumericDelimiter::Comma)),
         (9, None),
     ];
-    let is_read = is_read_as_several(rt.alloc(), "4-6, 9", &numbers)?;
-    assert_whether(&rt, is_read, true, "4-6, 9");
+    let read = read_as_several(rt.alloc(), "4-6, 9", &numbers)?;
+    assert_eq!(rt; read, (true, None, true));
     Ok(())
 }
 

@@ -38,10 +38,12 @@ pub fn title(alloc: Global, value: &str) -> Result<FormatString, Memory> {
     })
 }
 
+/// The answer is this text.
 pub fn assert_text(rt: &impl Abort, answer: &str, wanted: &str, of: &str) {
     assert_eq!(rt; answer, wanted, "of {of}");
 }
 
+/// The answer is this yes or no.
 pub fn assert_whether(rt: &impl Abort, answer: bool, wanted: bool, of: &str) {
     assert_eq!(rt; answer, wanted, "of {of}");
 }

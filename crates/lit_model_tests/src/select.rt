@@ -12,7 +12,8 @@ use std::process::Abort;
 /// A work to be asked.
 #[derive(Clone, Copy, Debug)]
 enum Work {
-    /// A work of the first type with the key `child`, under one of the second with the key `parent`.
+    /// A work of the first type with the key `child`, under one of the second with the key
+    /// `parent`.
     Child(EntryType, EntryType),
     /// An article in a journal, which stands in a series, which stands in a reference work.
     Article,

@@ -130,10 +130,12 @@ fn put_numbers_in_form<S: Sink, O: Ordinals>(
 }
 
 impl Numeric {
-    /// Writes the number in a form to a sink, or each number of several (CSL 1.0.2, Number). What
-    /// a form cannot write is written plainly, and a number with a prefix or a suffix is written as
-    /// it stands. It fails only where the sink refuses a text; what the sink holds then is left
-    /// open.
+    /// Writes the number in a form to a sink, or each number of several (CSL 1.0.2, Number). What a
+    /// form cannot write is written plainly, and a number with a prefix or a suffix is written as
+    /// it stands.
+    ///
+    /// # Errors
+    /// [`fmt::Error`]: the sink refused a text; what it holds then is left open.
     pub fn with_form_into<S: Sink, O: Ordinals>(
         &self,
         sink: &mut S,
@@ -158,8 +160,10 @@ impl Numeric {
         }
     }
 
-    /// Writes the number in a form to any writer, as [`Numeric::with_form_into`] does to a sink. It
-    /// fails only where the writer refuses a text; what the writer holds then is left open.
+    /// Writes the number in a form to any writer, as [`Numeric::with_form_into`] does to a sink.
+    ///
+    /// # Errors
+    /// [`fmt::Error`]: the writer refused a text; what it holds then is left open.
     pub fn with_form<W: fmt::Write, O: Ordinals>(
         &self,
         w: &mut W,

@@ -123,7 +123,7 @@ pub fn nonempty(alloc: Global, text: &str) -> Result<Option<String>, AllocError>
 }
 
 /// The number that a text stands for.
-pub fn parsed(alloc: Global, text: &str) -> Result<Numeric, NumericError>
+pub fn number_in(alloc: Global, text: &str) -> Result<Numeric, NumericError>
     ensures exact { Gives numeric_view result (numeric_from (chars text.now)) }
     ensures none { numeric_from (chars text.now) ≡ None → result ≡ Err NumericError.NotNumeric }
 {
@@ -149,8 +149,8 @@ impl Numeric {
     /// suffix is any row of other characters, and may be missing.
     ///
     /// # Errors
-    /// `NotNumeric` for any other text, before any memory is taken; `Memory` where there was none
-    /// for the numbers or the texts.
+    /// [`NumericError::NotNumeric`]: the text is any other; no memory was taken.
+    /// [`NumericError::Memory`]: there was no memory left.
     pub fn parse(alloc: Global, text: &str) -> Result<Numeric, NumericError>
         // The value that the characters spell, if there is one.
         ensures exact { Gives numeric_view result (numeric_from (chars text.now)) }
@@ -171,6 +171,6 @@ impl Numeric {
         ensures again { (v : NumericView) → IsWritable v → text.now ≡ numeric_text v
             → MatchResult result (λ n. numeric_view n ≡ v) (λ e. e ≡ NumericError.Memory) }
     {
-        parsed(alloc, text)
+        number_in(alloc, text)
     }
 }

@@ -2,7 +2,8 @@
 
 ghost use Rattle.std.specs.Prelude.{◌≡◌, ◌<◌, true, OnOk, OnErr, replicate};
 ghost use Rattle.std.specs.Fmt.{WritesInCalls};
-ghost use Rattle.lit_model.specs.Roman.{roman_digit, roman};
+ghost use Rattle.lit_model.specs.Characters.{letter_m};
+ghost use Rattle.lit_model.specs.Roman.{hundreds, tens, units, roman};
 
 use crate::sink::Sink;
 use std::fmt;
@@ -10,7 +11,7 @@ use std::fmt;
 /// The thousands, of which there are three at most.
 fn thousands(digit: u32) -> &'static str
     requires { digit < 4 }
-    ensures { result.now ≡ replicate digit 109 }
+    ensures { result.now ≡ replicate digit letter_m }
 {
     match digit {
         0 => "",
@@ -23,7 +24,7 @@ fn thousands(digit: u32) -> &'static str
 /// The digit of the hundreds.
 fn hundreds(digit: u32) -> &'static str
     requires { digit < 10 }
-    ensures { result.now ≡ roman_digit 99 100 109 digit }
+    ensures { result.now ≡ hundreds digit }
 {
     match digit {
         0 => "",
@@ -42,7 +43,7 @@ fn hundreds(digit: u32) -> &'static str
 /// The digit of the tens.
 fn tens(digit: u32) -> &'static str
     requires { digit < 10 }
-    ensures { result.now ≡ roman_digit 120 108 99 digit }
+    ensures { result.now ≡ tens digit }
 {
     match digit {
         0 => "",
@@ -61,7 +62,7 @@ fn tens(digit: u32) -> &'static str
 /// The digit of the units.
 fn units(digit: u32) -> &'static str
     requires { digit < 10 }
-    ensures { result.now ≡ roman_digit 105 118 120 digit }
+    ensures { result.now ≡ units digit }
 {
     match digit {
         0 => "",

@@ -3,6 +3,7 @@
 ghost use Rattle.std.specs.Prelude.{◌≡◌, ◌<◌, Some, true, [], OnOk, OnErr, replicate, unwrap_or, option_map, string_bytes};
 ghost use Rattle.std.specs.Fmt.{WritesInCalls};
 ghost use Rattle.lit_model.specs.Numeric.{numeric_view, value_view};
+ghost use Rattle.lit_model.specs.Characters.{zero_char};
 ghost use Rattle.lit_model.specs.NumericText.{integer_text, delimiter_text, numbers_text, value_text, numeric_text};
 
 use super::{Numeric, NumericDelimiter, NumericValue};
@@ -13,7 +14,7 @@ use std::fmt;
 /// Zeros to stand before a number of fewer digits.
 fn zeros(count: usize) -> &'static str
     requires { count < 5 }
-    ensures { result.now ≡ replicate count 48 }
+    ensures { result.now ≡ replicate count zero_char }
 {
     match count {
         0 => "",
@@ -71,8 +72,10 @@ fn text_or_empty(text: &Option<String>) -> &str
 }
 
 impl NumericValue {
-    /// Writes the number or the numbers to a sink, for sorting or to be read. It fails only where
-    /// the sink refuses a text; what the sink holds then is left open.
+    /// Writes the number or the numbers to a sink, for sorting or to be read.
+    ///
+    /// # Errors
+    /// [`fmt::Error`]: the sink refused a text; what it holds then is left open.
     fn write_into<S: Sink>(&self, sink: &mut S, machine_readable: bool) -> fmt::Result
         ensures ok { OnOk result (WritesInCalls S.write_str_gives sink.old
             (value_text (integer_text machine_readable) (value_view self.now)) sink.new) }
@@ -106,8 +109,10 @@ fn put_numbers<S: Sink>(
 
 impl Numeric {
     /// Writes the number or the numbers to a sink, without prefix and suffix; for sorting
-    /// (`machine_readable`) each number in four places at least. It fails only where the sink
-    /// refuses a text; what the sink holds then is left open.
+    /// (`machine_readable`) each number in four places at least.
+    ///
+    /// # Errors
+    /// [`fmt::Error`]: the sink refused a text; what it holds then is left open.
     pub fn fmt_value_into<S: Sink>(&self, sink: &mut S, machine_readable: bool) -> fmt::Result
         ensures ok { OnOk result (WritesInCalls S.write_str_gives sink.old
             (value_text (integer_text machine_readable) (value_view self.now.value)) sink.new) }
@@ -118,7 +123,10 @@ impl Numeric {
     }
 
     /// Writes the number or the numbers to any writer, as [`Numeric::fmt_value_into`] does to a
-    /// sink. It fails only where the writer refuses a text; what the writer holds then is left open.
+    /// sink.
+    ///
+    /// # Errors
+    /// [`fmt::Error`]: the writer refused a text; what it holds then is left open.
     pub fn fmt_value<W: fmt::Write>(&self, w: &mut W, machine_readable: bool) -> fmt::Result
         ensures { OnOk result (WritesInCalls W.write_str_gives w.old
             (value_text (integer_text machine_readable) (value_view self.now.value)) w.new) }

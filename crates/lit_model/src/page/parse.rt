@@ -207,7 +207,7 @@ fn items_of(text: &str) -> Option<(usize, &str)>
 }
 
 /// The pages that a text stands for.
-fn parsed(alloc: Global, text: &str) -> Result<PageRanges, NumericError>
+fn pages_in(alloc: Global, text: &str) -> Result<PageRanges, NumericError>
     ensures exact { Gives pages_view result (pages_from (chars text.now)) }
     ensures none { pages_from (chars text.now) ≡ None → result ≡ Err NumericError.NotNumeric }
 {
@@ -227,8 +227,8 @@ impl PageRanges {
     /// suffix, as [`Numeric::parse`] reads them, that hold no en dash.
     ///
     /// # Errors
-    /// `NotNumeric` for any other text, before any memory is taken; `Memory` where there was none
-    /// for the parts or their texts.
+    /// [`NumericError::NotNumeric`]: the text is any other; no memory was taken.
+    /// [`NumericError::Memory`]: there was no memory left.
     pub fn parse(alloc: Global, text: &str) -> Result<PageRanges, NumericError>
         // What is read is spelled so.
         ensures found { IfOk result (λ pages. SpellsPages (pages_view pages) (chars text.now)) }
@@ -247,6 +247,6 @@ impl PageRanges {
         ensures again { (v : List PartView) → AreWritable v → text.now ≡ pages_text v
             → MatchResult result (λ pages. pages_view pages ≡ v) (λ e. e ≡ NumericError.Memory) }
     {
-        parsed(alloc, text)
+        pages_in(alloc, text)
     }
 }

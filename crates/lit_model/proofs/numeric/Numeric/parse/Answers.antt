@@ -6,19 +6,19 @@ use Rattle.lit_model.proofs.RoundTrip.{numeric_spelled}
 use Rattle.lit_model.proofs.numeric.Numeric.parse.Goals as goal
 
 pub returns-clause-found : goal.returns-clause-found
-returns-clause-found c = found numeric_view (chars c.args.text.now) c.parsed.result c.parsed.ensures.exact
+returns-clause-found c = found numeric_view (chars c.args.text.now) c.number_in.result c.number_in.ensures.exact
 
 pub returns-clause-only : goal.returns-clause-only
-returns-clause-only c = only numeric_view (chars c.args.text.now) c.parsed.result c.parsed.ensures.exact
+returns-clause-only c = only numeric_view (chars c.args.text.now) c.number_in.result c.number_in.ensures.exact
 
 pub returns-clause-refused : goal.returns-clause-refused
-returns-clause-refused c h = c.parsed.ensures.none (nothing_read (chars c.args.text.now) h)
+returns-clause-refused c h = c.number_in.ensures.none (nothing_read (chars c.args.text.now) h)
 
 pub returns-clause-unique : goal.returns-clause-unique
 returns-clause-unique c = unique (chars c.args.text.now)
 
 pub returns-clause-writable : goal.returns-clause-writable
-returns-clause-writable c = writable numeric_view (chars c.args.text.now) (scalars-chars c.args.text.now c.utf8.text) c.parsed.result c.parsed.ensures.exact
+returns-clause-writable c = writable numeric_view (chars c.args.text.now) (scalars-chars c.args.text.now c.utf8.text) c.number_in.result c.number_in.ensures.exact
 
 pub returns-clause-again : goal.returns-clause-again
-returns-clause-again c v w e = only numeric_view (chars c.args.text.now) c.parsed.result c.parsed.ensures.exact v (subst (λ (t : List ℕ). Spells v (chars t)) (sym e) (numeric_spelled v w))
+returns-clause-again c v w e = only numeric_view (chars c.args.text.now) c.number_in.result c.number_in.ensures.exact v (subst (λ (t : List ℕ). Spells v (chars t)) (sym e) (numeric_spelled v w))
