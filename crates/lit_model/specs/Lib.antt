@@ -1,3 +1,4 @@
+pub mod Chunks
 pub mod Date
 pub mod Entry
 pub mod Initials

@@ -1,6 +1,7 @@
 //! The literature model: what a bibliography knows of a work, and the texts of its parts.
 #![tactic(auto)]
 
+mod chunks;
 mod copies;
 pub mod date;
 pub mod entry;

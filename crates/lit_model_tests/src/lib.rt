@@ -1,0 +1,7 @@
+//! The tests of the literature model. What is expected stands here as written out by hand.
+#![tactic(auto)]
+
+#[cfg(test)]
+mod chunks;
+#[cfg(test)]
+mod samples;
