@@ -20,6 +20,7 @@ pub mod Shapes
 pub mod Shortening
 pub mod Shown
 pub mod Sound
+pub mod SpelledTexts
 pub mod Texts
 pub mod Whole
 pub mod Works

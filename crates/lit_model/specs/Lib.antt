@@ -17,6 +17,7 @@ pub mod Scan
 pub mod Select
 pub mod Sink
 pub mod Source
+pub mod Spelled
 pub mod Text
 pub mod Work
 pub mod Roman

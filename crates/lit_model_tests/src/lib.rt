@@ -4,4 +4,6 @@
 #[cfg(test)]
 mod chunks;
 #[cfg(test)]
+mod numeric_grammar;
+#[cfg(test)]
 mod samples;
