@@ -16,6 +16,7 @@ pub mod Parsed
 pub mod Particles
 pub mod Pieces
 pub mod Preorder
+pub mod SamePersons
 pub mod Shapes
 pub mod Shortening
 pub mod Shown

@@ -13,6 +13,7 @@ pub mod PageReading
 pub mod PageText
 pub mod Parsing
 pub mod Person
+pub mod SamePerson
 pub mod Scan
 pub mod Select
 pub mod Sink

@@ -6,4 +6,6 @@ mod chunks;
 #[cfg(test)]
 mod numeric_grammar;
 #[cfg(test)]
+mod same_person;
+#[cfg(test)]
 mod samples;
