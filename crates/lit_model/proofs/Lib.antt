@@ -1,3 +1,4 @@
+pub mod ChunkTexts
 pub mod Classes
 pub mod Complete
 pub mod Fronts
@@ -15,10 +16,12 @@ pub mod Parsed
 pub mod Particles
 pub mod Pieces
 pub mod Preorder
+pub mod SamePersons
 pub mod Shapes
 pub mod Shortening
 pub mod Shown
 pub mod Sound
+pub mod SpelledTexts
 pub mod Texts
 pub mod Whole
 pub mod Works

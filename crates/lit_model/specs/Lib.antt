@@ -1,4 +1,5 @@
 pub mod Characters
+pub mod Chunks
 pub mod Date
 pub mod Entry
 pub mod Initials
@@ -14,10 +15,12 @@ pub mod PageReading
 pub mod PageText
 pub mod Parsing
 pub mod Person
+pub mod SamePerson
 pub mod Scan
 pub mod Select
 pub mod Sink
 pub mod Source
+pub mod Spelled
 pub mod Text
 pub mod Work
 pub mod Roman

@@ -1,5 +1,5 @@
 -- The parts of a person's name: particle, article, and whether it is of an institution or in a CJK script.
-use Rattle.std.specs.Prelude.{ℕ, Bool, true, false, not, ◌&&◌, ◌==◌, List, [], ◌∷◌, ◌++◌, filter, drop, length, Option, Some, None, is_some, option_map, unwrap_or, string_bytes, codes, nat_lt, chars, if◌then◌else◌}
+use Rattle.std.specs.Prelude.{ℕ, Bool, true, false, not, ◌&&◌, ◌==◌, List, [], ◌∷◌, ◌++◌, filter, drop, length, Option, Some, None, is_some, unwrap_or, codes, nat_lt, chars, if◌then◌else◌}
 use Rattle.std.specs.Option.{option_or}
 use Rattle.std.specs.List.{list_all, slice_split, join_with_byte, starts_with}
 use Rattle.unicode.specs.Binary.{is_alphabetic}
@@ -10,12 +10,12 @@ use Rattle.ucd_category.specs.declared.GeneralCategory.TheVariants.{LowercaseLet
 use Rattle.ucd_script.specs.declared.Script.{Script}
 use Rattle.ucd_script.specs.declared.Script.TheVariants.{Han, Hiragana, Katakana, Hangul, Bopomofo}
 use Rattle.lit_model.specs.Characters.{space_char}
-use Rattle.lit_model.specs.declared.person.Person.{Person}
+use Rattle.lit_model.specs.Person.{Named}
 
 -- ---- institutions
 
 -- an institution has a name alone: no given name, no prefix and no suffix
-abbrev pub is_institutional : Person → Bool
+abbrev pub is_institutional : Named → Bool
 is_institutional p = not (is_some p.given_name) && (not (is_some p.prefix) && not (is_some p.suffix))
 
 -- ---- CJK names
@@ -38,12 +38,12 @@ abbrev pub are_cjk : List ℕ → Bool
 are_cjk cs = nat_lt 0 (length cs) && list_all (λ c. is_cjk_script (script c)) cs
 
 -- the given name, or an empty text
-abbrev pub given_or_empty : Person → List ℕ
-given_or_empty p = unwrap_or (option_map string_bytes p.given_name) []
+abbrev pub given_or_empty : Named → List ℕ
+given_or_empty p = unwrap_or p.given_name []
 
 -- the name and the given name together are in such scripts
-abbrev pub is_cjk : Person → Bool
-is_cjk p = are_cjk (letters (string_bytes p.name) ++ letters (given_or_empty p))
+abbrev pub is_cjk : Named → Bool
+is_cjk p = are_cjk (letters p.name ++ letters (given_or_empty p))
 
 -- ---- particles
 

@@ -1,6 +1,7 @@
 //! The literature model: what a bibliography knows of a work, and the texts of its parts.
 #![tactic(auto)]
 
+mod chunks;
 mod copies;
 pub mod date;
 pub mod entry;
@@ -12,6 +13,7 @@ pub mod memory;
 pub mod numeric;
 pub mod page;
 pub mod person;
+mod same_person;
 mod scan;
 pub mod select;
 pub mod sink;
@@ -28,6 +30,7 @@ pub use numeric::{
 };
 pub use page::{PageRanges, PageRangesPart};
 pub use person::{Person, PersonRole, PersonsWithRoles};
+pub use same_person::show_same;
 pub use select::{Bind, Clause, Field};
 pub use sink::{Displaying, Noting, Put, Sink, display_text, write_text};
 pub use source::{LanguageIdentifier, Publisher, QualifiedUrl, SerialNumber};

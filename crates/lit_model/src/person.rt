@@ -69,7 +69,7 @@ impl Person {
     /// An institution: no given name, no prefix and no suffix. One that is present and empty
     /// counts.
     pub fn is_institutional(&self) -> bool
-        ensures { result ≡ is_institutional self.now }
+        ensures { result ≡ is_institutional (named self.now) }
     {
         self.given_name.is_none() && self.prefix.is_none() && self.suffix.is_none()
     }
@@ -78,7 +78,7 @@ impl Person {
     /// letter (Unicode Alphabetic), and each is of script Han, Hiragana, Katakana, Hangul or
     /// Bopomofo.
     pub fn is_cjk(&self) -> bool
-        ensures { result ≡ is_cjk self.now }
+        ensures { result ≡ is_cjk (named self.now) }
     {
         match &self.given_name {
             Some(given) => is_cjk_name(self.name.as_str(), given.as_str()),

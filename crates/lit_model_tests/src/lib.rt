@@ -2,6 +2,8 @@
 #![tactic(auto)]
 
 #[cfg(test)]
+mod chunks;
+#[cfg(test)]
 mod copies;
 #[cfg(test)]
 mod date;
@@ -16,9 +18,13 @@ mod maybe_typed;
 #[cfg(test)]
 mod numeric;
 #[cfg(test)]
+mod numeric_grammar;
+#[cfg(test)]
 mod page;
 #[cfg(test)]
 mod person;
+#[cfg(test)]
+mod same_person;
 #[cfg(test)]
 mod samples;
 #[cfg(test)]

@@ -1,10 +1,11 @@
 //! Reading of numbers.
 
-ghost use Rattle.std.specs.Prelude.{◌≡◌, ◌<◌, Option, Some, None, IfOk, MatchOption, MatchResult, Err, option_map, chars, string_bytes};
+ghost use Rattle.std.specs.Prelude.{◌≡◌, ◌↔◌, ◌<◌, Option, Some, None, IfOk, IsTrue, MatchOption, MatchResult, Err, option_map, chars, string_bytes};
 ghost use Rattle.lit_model.specs.Numeric.{numeric_view, NumericView, value_view, Spells, IsWritable};
 ghost use Rattle.lit_model.specs.NumericText.{numeric_text};
 ghost use Rattle.lit_model.specs.NumericReading.{read_of, rest_of, integers_at, value_at, numeric_from, text_from};
 ghost use Rattle.lit_model.specs.Parsing.{Gives, IsShapeOf};
+ghost use Rattle.lit_model.specs.Spelled.{IsSpelled};
 
 use super::error::NumericError;
 use super::{Numeric, NumericDelimiter, NumericValue};
@@ -172,5 +173,13 @@ impl Numeric {
             → MatchResult result (λ n. numeric_view n ≡ v) (λ e. e ≡ NumericError.Memory) }
     {
         number_in(alloc, text)
+    }
+
+    /// Whether the text stands for a number, as [`Numeric::parse`] reads it: where this is true,
+    /// `parse` fails for want of memory alone, and where it is false, with `NotNumeric`.
+    pub fn is_spelled_by(text: &str) -> bool
+        ensures { IsTrue result ↔ IsSpelled (chars text.now) }
+    {
+        shape_of(text).is_some()
     }
 }

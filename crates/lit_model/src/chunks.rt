@@ -1,0 +1,57 @@
+//! The text of chunks: joined, empty, white space alone.
+
+ghost use Rattle.std.specs.Prelude.{◌≡◌, string_bytes, chars, IfOk};
+ghost use Rattle.std.specs.Char.{is_whitespace};
+ghost use Rattle.std.specs.List.{list_all};
+ghost use Rattle.lit_model.specs.Chunks.{text_of, is_empty, is_white_space};
+ghost use Rattle.lit_model.specs.Text.{chunks};
+
+use crate::memory::Memory;
+use crate::text::ChunkedString;
+use std::alloc::Global;
+
+impl ChunkedString {
+    /// The text: that of the chunks, one after another.
+    ///
+    /// # Errors
+    /// [`Memory`]: there was no memory left.
+    pub fn to_text(&self, alloc: Global) -> Result<String, Memory>
+        ensures { IfOk result (λ text. string_bytes text ≡ text_of (chunks self.now)) }
+    {
+        let mut text = String::new(alloc);
+        for chunk in &self.0 {
+            text.push_str(chunk.value.as_str())?;
+        }
+        Ok(text)
+    }
+
+    /// Whether the text is empty: there is no chunk, or each is empty.
+    pub fn is_empty(&self) -> bool
+        ensures { result ≡ is_empty (chunks self.now) }
+    {
+        for chunk in &self.0 {
+            if !chunk.value.is_empty() {
+                return false;
+            }
+        }
+        true
+    }
+
+    /// Whether the text is white space alone (Unicode White_Space). An empty text is.
+    pub fn is_white_space(&self) -> bool
+        ensures { result ≡ is_white_space (chunks self.now) }
+    {
+        for chunk in &self.0 {
+            if !is_white_space(chunk.value.as_str()) {
+                return false;
+            }
+        }
+        true
+    }
+}
+
+fn is_white_space(text: &str) -> bool
+    ensures { result ≡ list_all is_whitespace (chars text.now) }
+{
+    text.chars().all(|c| c.is_whitespace())
+}

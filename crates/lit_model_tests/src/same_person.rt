@@ -1,0 +1,96 @@
+//! Persons that show the same.
+
+use crate::samples::{assert_whether, person};
+use lit_model::{Memory, Person, show_same};
+use std::alloc::Global;
+use std::process::Abort;
+
+/// Stands in a row for a text that is missing.
+const MISSING: &str = "-";
+
+/// The texts of a person: name, given name, prefix, suffix and other name.
+const KWAN: [&str; 5] = ["Kwan", "Kevin", "van", "Jr.", "KK"];
+
+fn optional(alloc: Global, text: &str) -> Result<Option<String>, Memory> {
+    if text == MISSING {
+        return Ok(None);
+    }
+    let text = String::from_str(alloc, text)?;
+    Ok(Some(text))
+}
+
+fn person_of(alloc: Global, texts: [&str; 5], comma_suffix: bool) -> Result<Person, Memory> {
+    let [name, given_name, prefix, suffix, alias] = texts;
+    Ok(Person {
+        name: String::from_str(alloc, name)?,
+        given_name: optional(alloc, given_name)?,
+        prefix: optional(alloc, prefix)?,
+        suffix: optional(alloc, suffix)?,
+        alias: optional(alloc, alias)?,
+        comma_suffix,
+    })
+}
+
+/// Whether a person shows the same as Kwan.
+fn shows_kwan(alloc: Global, texts: [&str; 5], comma_suffix: bool) -> Result<bool, Memory> {
+    let kwan = person_of(alloc, KWAN, true)?;
+    let person = person_of(alloc, texts, comma_suffix)?;
+    Ok(kwan.shows_same(&person))
+}
+
+#[test]
+fn each_text_of_a_person_counts(rt: HostRuntime) -> Result<(), Memory> {
+    for (texts, comma_suffix, wanted) in [
+        (["Kwan", "Kevin", "van", "Jr.", "KK"], true, true),
+        (["Kwan", "Kevin", "van", "Jr.", "KK"], false, false),
+        (["Kwon", "Kevin", "van", "Jr.", "KK"], true, false),
+        (["Kwan", "Kelvin", "van", "Jr.", "KK"], true, false),
+        (["Kwan", "Kevin", "von", "Jr.", "KK"], true, false),
+        (["Kwan", "Kevin", "van", "Sr.", "KK"], true, false),
+        (["Kwan", "Kevin", "van", "Jr.", "K"], true, false),
+        (["Kwan", "Kevin", "", "Jr.", "KK"], true, false),
+        (["Kwan", "Kevin", "-", "Jr.", "KK"], true, false),
+        (["Kwan", "Kevin", "van", "Jr.", "-"], true, false),
+    ] {
+        let shows_kwan = shows_kwan(rt.alloc(), texts, comma_suffix)?;
+        let [_, _, prefix, _, _] = texts;
+        assert_whether(&rt, shows_kwan, wanted, prefix);
+    }
+    Ok(())
+}
+
+/// Persons with these names, which white space parts.
+fn people(alloc: Global, names: &str) -> Result<Vec<Person>, Memory> {
+    let mut people = Vec::new(alloc);
+    for name in names.split_whitespace() {
+        people.push(person(alloc, name, None)?)?;
+    }
+    Ok(people)
+}
+
+fn assert_lists(
+    rt: &impl Abort,
+    alloc: Global,
+    (first, second): (&str, &str),
+    wanted: bool,
+) -> Result<(), Memory> {
+    let first = people(alloc, first)?;
+    let others = people(alloc, second)?;
+    assert_whether(rt, show_same(&first, &others), wanted, second);
+    Ok(())
+}
+
+#[test]
+fn lists_of_persons_show_the_same(rt: HostRuntime) -> Result<(), Memory> {
+    for (first, second, wanted) in [
+        ("Kwan Lee", "Kwan Lee", true),
+        ("Kwan Lee", "Lee Kwan", false),
+        ("Kwan", "Kwan Lee", false),
+        ("Kwan Lee", "Kwan", false),
+        ("", "", true),
+        ("", "Kwan", false),
+    ] {
+        assert_lists(&rt, rt.alloc(), (first, second), wanted)?;
+    }
+    Ok(())
+}
