@@ -137,7 +137,7 @@ pub enum Variable {
     Name(NameVariable),
 }
 
-/// A variable that a label may name.
+/// A variable that a number may write and a label may name.
 #[derive(Clone, Copy, Debug, PartialEq, Eq, PartialOrd, Ord, Hash)]
 pub enum NumberOrPageVariable {
     Number(NumberVariable),
