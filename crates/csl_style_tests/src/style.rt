@@ -4,7 +4,7 @@ use crate::asserted::{assert_same, assert_text};
 use crate::made::{EMPTY, LocaleRows, SILENT, StyleRows, copy_text, style};
 use csl_style::{
     CslMacro, DateForm, DemoteNonDroppingParticle, Layout, LayoutRenderingElement, OrdinalSlot,
-    OtherTerm, PageRangeFormat, StyleError, StyleSettings, Term, TermForm, TextTarget,
+    OtherTerm, PageRangeFormat, Scope, StyleError, StyleSettings, Term, TermForm, TextTarget,
 };
 use lit_model::{GrammarGender, Memory};
 use std::alloc::{AllocError, Global};
@@ -130,6 +130,7 @@ fn value_in_macro(found: Option<&CslMacro>) -> Option<&str> {
 enum Part<'s> {
     Citation,
     Bibliography,
+    Layout(Scope),
     Macro(&'s str),
 }
 
@@ -139,6 +140,7 @@ fn text_in_part(alloc: Global, part: Part<'_>) -> Result<Option<String>, StyleEr
     let value = match part {
         Part::Citation => value_in_layout(Some(style.citation())),
         Part::Bibliography => value_in_layout(style.bibliography()),
+        Part::Layout(scope) => value_in_layout(style.layout(scope)),
         Part::Macro(name) => value_in_macro(style.get_macro(name)),
     };
     Ok(copy_text(alloc, value)?)
@@ -149,6 +151,8 @@ fn a_style_hands_out_the_nodes_that_it_was_made_of(rt: HostRuntime) -> Result<()
     for (part, wanted) in [
         (Part::Citation, Some("cite")),
         (Part::Bibliography, Some("entry")),
+        (Part::Layout(Scope::Citation), Some("cite")),
+        (Part::Layout(Scope::Bibliography), Some("entry")),
         // The first macro of a name.
         (Part::Macro("a"), Some("first")),
         (Part::Macro("b"), Some("other")),
@@ -218,6 +222,8 @@ fn assert_locale_is_asked(rt: &impl Abort, alloc: Global) -> Result<(), StyleErr
     assert_text(rt, style.ordinal(-4, None), Some("th"));
     assert_same(rt, &style.localized_date(DateForm::Text).is_some(), &false);
     assert_same(rt, &style.bibliography().is_some(), &false);
+    let bibliography = style.layout(Scope::Bibliography);
+    assert_same(rt, &bibliography.is_some(), &false);
     Ok(())
 }
 
