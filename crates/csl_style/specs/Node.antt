@@ -5,7 +5,6 @@ use Rattle.lit_model.specs.declared.text.LongShortForm.{LongShortForm}
 use Rattle.lit_model.specs.declared.numeric.NumberForm.{NumberForm}
 use Rattle.csl_style.specs.declared.formatting.Formatting.{Formatting}
 use Rattle.csl_style.specs.declared.taxonomy.Variable.{Variable}
-use Rattle.csl_style.specs.declared.taxonomy.NumberVariable.{NumberVariable}
 use Rattle.csl_style.specs.declared.taxonomy.NumberOrPageVariable.{NumberOrPageVariable}
 use Rattle.csl_style.specs.declared.taxonomy.DateVariable.{DateVariable}
 use Rattle.csl_style.specs.declared.taxonomy.Locator.{Locator}
@@ -28,7 +27,7 @@ pub data Target : Type 0 where
   of_value : List ℕ → Target
 
 pub record NumberNode : Type 0 where
-  pub variable : NumberVariable
+  pub variable : NumberOrPageVariable
   pub form : NumberForm
   pub dressing : Dressing
 

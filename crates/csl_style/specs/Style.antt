@@ -5,6 +5,8 @@ use Rattle.csl_style.specs.declared.element.Layout.{Layout}
 use Rattle.csl_style.specs.declared.locale.Locale.{Locale}
 use Rattle.csl_style.specs.declared.style.settings.PageRangeFormat.{PageRangeFormat}
 use Rattle.csl_style.specs.declared.style.settings.PageRangeFormat.TheVariants.{Expanded, Minimal, MinimalTwo, Chicago15, Chicago16}
+use Rattle.csl_style.specs.declared.style.settings.Scope.{Scope}
+use Rattle.csl_style.specs.declared.style.settings.Scope.TheVariants.{Citation, Bibliography}
 use Rattle.csl_style.specs.declared.style.settings.StyleSettings.{StyleSettings}
 use Rattle.csl_style.specs.declared.style.settings.DemoteNonDroppingParticle.TheVariants.{DisplayAndSort}
 use Rattle.csl_style.specs.declared.style.error.StyleError.{StyleError}
@@ -28,6 +30,11 @@ style_of settings macros citation bibliography locales = record {
   bibliography = bibliography;
   locales = locales;
 }
+
+-- the layout of a scope, if the style has one
+abbrev pub layout_of : StyleParts → Scope → Option Layout
+layout_of style Citation = Some style.citation
+layout_of style Bibliography = style.bibliography
 
 -- the page formats that no style here may have
 abbrev is_chicago_format : PageRangeFormat → Bool

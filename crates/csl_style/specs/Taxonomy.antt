@@ -1,7 +1,16 @@
--- The names of the kinds of entries (CSL 1.0.2, Appendix III: Types).
+-- The names of the kinds of entries, and the variables (CSL 1.0.2, Appendix III: Types; Appendix IV: Variables).
 use Rattle.std.specs.Prelude.{ℕ, List, codes}
 use Rattle.csl_style.specs.declared.taxonomy.Kind.{Kind}
 use Rattle.csl_style.specs.declared.taxonomy.Kind.TheVariants as kinds
+use Rattle.csl_style.specs.declared.taxonomy.Variable.{Variable}
+use Rattle.csl_style.specs.declared.taxonomy.Variable.TheVariants as variables
+use Rattle.csl_style.specs.declared.taxonomy.NumberOrPageVariable.{NumberOrPageVariable}
+use Rattle.csl_style.specs.declared.taxonomy.NumberOrPageVariable.TheVariants as either
+
+-- the variable that a number or pages are among the five sorts
+abbrev pub variable_of : NumberOrPageVariable → Variable
+variable_of (either.Number number) = variables.Number number
+variable_of (either.Page page) = variables.Page page
 
 -- the name of a kind
 abbrev pub name_of : Kind → List ℕ

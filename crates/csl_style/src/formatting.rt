@@ -1,7 +1,7 @@
 //! How a style formats its text (CSL 1.0.2, Formatting) and where it places it (Display).
 
 ghost use Rattle.std.specs.Prelude.{◌≡◌};
-ghost use Rattle.csl_style.specs.Formatting.{formatting_over};
+ghost use Rattle.csl_style.specs.Formatting.{over};
 
 /// Whether a text is upright or slanted.
 #[derive(Clone, Copy, Debug, Default, PartialEq, Eq, Hash)]
@@ -72,7 +72,7 @@ pub struct Formatting {
 impl Formatting {
     /// This formatting over another: each attribute that is set here, else that of `base`.
     pub fn apply(self, base: Formatting) -> Formatting
-        ensures { result ≡ formatting_over self base }
+        ensures { result ≡ over self base }
     {
         Formatting {
             font_style: self.font_style.or(base.font_style),

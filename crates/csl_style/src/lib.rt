@@ -39,3 +39,5 @@ pub use taxonomy::{
 };
 pub use term::{OtherTerm, Term, TermForm};
 pub use text::{Text, TextTarget};
+
+pub use lit_model::LongShortForm;

@@ -2,14 +2,14 @@
 
 use crate::affixes::Affixes;
 use crate::formatting::{Display, Formatting};
-use crate::taxonomy::{NumberOrPageVariable, NumberVariable};
+use crate::taxonomy::NumberOrPageVariable;
 use crate::term::TermForm;
 use lit_model::NumberForm;
 
 /// A `cs:number`.
 #[derive(Drop)]
 pub struct Number {
-    pub variable: NumberVariable,
+    pub variable: NumberOrPageVariable,
     pub form: NumberForm,
     pub formatting: Formatting,
     pub affixes: Affixes,

@@ -10,7 +10,7 @@ ghost use Rattle.csl_style.specs.Locale.{terms_of, ordinals_of};
 ghost use Rattle.csl_style.specs.Term.{term_text, term_gender};
 ghost use Rattle.csl_style.specs.Ordinal.{ordinals};
 ghost use Rattle.csl_style.specs.Date.{date_in_form};
-ghost use Rattle.csl_style.specs.Style.{style_of, is_chicago, IsRefusal};
+ghost use Rattle.csl_style.specs.Style.{style_of, layout_of, is_chicago, IsRefusal};
 
 use crate::cycles::first_cyclic;
 use crate::date::{Date, DateForm};
@@ -181,6 +181,16 @@ impl Style {
         ensures { option_copied result ≡ self.now.bibliography }
     {
         self.bibliography.as_ref()
+    }
+
+    /// The layout of a scope. A style may have none of the bibliography.
+    pub fn layout(&self, scope: Scope) -> Option<&Layout>
+        ensures { option_copied result ≡ layout_of self.now scope }
+    {
+        match scope {
+            Scope::Citation => Some(&self.citation),
+            Scope::Bibliography => self.bibliography.as_ref(),
+        }
     }
 
     /// The locales, those that are asked first before the others.

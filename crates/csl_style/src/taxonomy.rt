@@ -2,7 +2,8 @@
 //! Appendix IV: Variables).
 
 ghost use Rattle.std.specs.Prelude.{◌≡◌, ◌↔◌, Some};
-ghost use Rattle.csl_style.specs.Taxonomy.{name_of};
+ghost use Rattle.csl_style.specs.Taxonomy.{name_of, variable_of};
+ghost use Rattle.csl_style.specs.declared.taxonomy.Variable.TheVariants as variables;
 
 /// A variable that holds a number.
 #[derive(Clone, Copy, Debug, PartialEq, Eq, PartialOrd, Ord, Hash)]
@@ -137,11 +138,62 @@ pub enum Variable {
     Name(NameVariable),
 }
 
-/// A variable that a label may name.
+/// A variable that a number may write and a label may name.
 #[derive(Clone, Copy, Debug, PartialEq, Eq, PartialOrd, Ord, Hash)]
 pub enum NumberOrPageVariable {
     Number(NumberVariable),
     Page(PageVariable),
+}
+
+impl From<StandardVariable> for Variable {
+    ghost from_gives = { λ variable result. result ≡ variables.Standard variable };
+
+    fn from(variable: StandardVariable) -> Variable {
+        Variable::Standard(variable)
+    }
+}
+
+impl From<NumberVariable> for Variable {
+    ghost from_gives = { λ variable result. result ≡ variables.Number variable };
+
+    fn from(variable: NumberVariable) -> Variable {
+        Variable::Number(variable)
+    }
+}
+
+impl From<PageVariable> for Variable {
+    ghost from_gives = { λ variable result. result ≡ variables.Page variable };
+
+    fn from(variable: PageVariable) -> Variable {
+        Variable::Page(variable)
+    }
+}
+
+impl From<DateVariable> for Variable {
+    ghost from_gives = { λ variable result. result ≡ variables.Date variable };
+
+    fn from(variable: DateVariable) -> Variable {
+        Variable::Date(variable)
+    }
+}
+
+impl From<NameVariable> for Variable {
+    ghost from_gives = { λ variable result. result ≡ variables.Name variable };
+
+    fn from(variable: NameVariable) -> Variable {
+        Variable::Name(variable)
+    }
+}
+
+impl From<NumberOrPageVariable> for Variable {
+    ghost from_gives = { λ variable result. result ≡ variable_of variable };
+
+    fn from(variable: NumberOrPageVariable) -> Variable {
+        match variable {
+            NumberOrPageVariable::Number(number) => Variable::Number(number),
+            NumberOrPageVariable::Page(page) => Variable::Page(page),
+        }
+    }
 }
 
 /// What a locator counts (CSL 1.0.2, Locators).

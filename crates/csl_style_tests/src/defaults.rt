@@ -3,7 +3,7 @@
 use crate::asserted::assert_same;
 use csl_style::{
     ChooseMatch, DateParts, DelimiterBehavior, DemoteNonDroppingParticle, FontStyle, FontVariant,
-    FontWeight, LabelPluralize, NameForm, PageRangeFormat, TermForm, TextDecoration, VerticalAlign,
+    FontWeight, LabelPluralize, LongShortForm, NameForm, PageRangeFormat, TermForm, TextDecoration, VerticalAlign,
 };
 
 #[test]
@@ -23,6 +23,7 @@ fn options_have_their_defaults(rt: HostRuntime) {
         &DelimiterBehavior::Contextual,
     );
     assert_same(&rt, &ChooseMatch::default(), &ChooseMatch::All);
+    assert_same(&rt, &LongShortForm::default(), &LongShortForm::Long);
     assert_same(&rt, &PageRangeFormat::default(), &PageRangeFormat::Expanded);
     assert_same(
         &rt,

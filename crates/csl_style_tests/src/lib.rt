@@ -17,6 +17,8 @@ mod made;
 #[cfg(test)]
 mod names;
 #[cfg(test)]
+mod number;
+#[cfg(test)]
 mod style;
 #[cfg(test)]
 mod taxonomy;

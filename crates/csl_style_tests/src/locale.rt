@@ -3,7 +3,7 @@
 ghost use Rattle.std.specs.Prelude.{◌≡◌, ◌↔◌, IsTrue};
 
 use crate::asserted::{assert_same, assert_text};
-use crate::made::{LocaleRows, SILENT, copy_text, locales, style_of_locales};
+use crate::made::{EMPTY, LocaleRows, SILENT, StyleRows, copy_text, locales, style};
 use csl_style::{
     DateForm, DateParts, Locale, LocaleOrdinals, Locator, NumberVariable, OrdinalMatch,
     OrdinalSlot, OtherTerm, StyleError, Term, TermForm,
@@ -158,6 +158,10 @@ fn ordinals_by_gender_and_digits(rt: HostRuntime) -> Result<(), Fail> {
     Ok(())
 }
 
+fn with_locales<'s>(locales: &'s [LocaleRows<'s>]) -> StyleRows<'s> {
+    StyleRows { locales, ..EMPTY }
+}
+
 /// The text of a term in two locales.
 fn text_of_term(
     alloc: Global,
@@ -182,7 +186,7 @@ fn text_of_term(
             ..SILENT
         },
     ];
-    let style = style_of_locales(alloc, &rows)?;
+    let style = style(alloc, with_locales(&rows))?;
     Ok(copy_text(alloc, style.term(term, form, plural))?)
 }
 
@@ -219,7 +223,7 @@ fn gender_of_term(alloc: Global, term: Term) -> Result<Option<GrammarGender>, St
             ..SILENT
         },
     ];
-    let style = style_of_locales(alloc, &rows)?;
+    let style = style(alloc, with_locales(&rows))?;
     Ok(style.gender(term))
 }
 
@@ -237,7 +241,7 @@ fn parts_of_date(
     rows: &[LocaleRows<'_>],
     form: DateForm,
 ) -> Result<Option<Option<DateParts>>, StyleError> {
-    let style = style_of_locales(alloc, rows)?;
+    let style = style(alloc, with_locales(rows))?;
     match style.localized_date(form) {
         Some(date) => Ok(Some(date.parts)),
         None => Ok(None),

@@ -136,17 +136,20 @@ enum Around {
     Substitute,
 }
 
-impl Around {
-    fn from_name(name: &str) -> Option<Around> {
-        match name {
-            "if" => Some(Around::If),
-            "else-if" => Some(Around::ElseIf),
-            "else" => Some(Around::Else),
-            "group" => Some(Around::Group),
-            "substitute" => Some(Around::Substitute),
-            _ => None,
+/// What a word says stands around, if it does.
+fn read_around(word: &str) -> Option<Around> {
+    for (name, around) in [
+        ("if", Around::If),
+        ("else-if", Around::ElseIf),
+        ("else", Around::Else),
+        ("group", Around::Group),
+        ("substitute", Around::Substitute),
+    ] {
+        if name == word {
+            return Some(around);
         }
     }
+    None
 }
 
 /// A branch without tests.
@@ -238,12 +241,12 @@ fn text(alloc: Global, word: &str) -> Result<LayoutRenderingElement, AllocError>
 fn nodes<'w>(alloc: Global, words: &[&'w str]) -> Result<Vec<LayoutRenderingElement>, AllocError> {
     let mut nodes = Vec::new(alloc);
     for word in words {
-        if Around::from_name(*word).is_none() {
+        if read_around(*word).is_none() {
             nodes.push(text(alloc, *word)?)?;
         }
     }
     for word in words.iter().rev() {
-        if let Some(around) = Around::from_name(*word) {
+        if let Some(around) = read_around(*word) {
             let node = node_around(alloc, around, nodes)?;
             nodes = vec![in alloc; node]?;
         }
@@ -263,7 +266,7 @@ fn csl_macro(alloc: Global, line: &str) -> Result<CslMacro, AllocError> {
 }
 
 /// The macros of these lines, in order.
-pub(crate) fn macros(alloc: Global, lines: &[&str]) -> Result<Vec<CslMacro>, AllocError> {
+fn macros(alloc: Global, lines: &[&str]) -> Result<Vec<CslMacro>, AllocError> {
     let mut macros = Vec::new(alloc);
     for line in lines {
         macros.push(csl_macro(alloc, *line)?)?;
@@ -272,7 +275,7 @@ pub(crate) fn macros(alloc: Global, lines: &[&str]) -> Result<Vec<CslMacro>, All
 }
 
 /// A layout that prints a word, if there is one.
-pub(crate) fn layout(alloc: Global, word: Option<&str>) -> Result<Layout, AllocError> {
+fn layout(alloc: Global, word: Option<&str>) -> Result<Layout, AllocError> {
     let mut elements = Vec::new(alloc);
     if let Some(word) = word {
         elements.push(text(alloc, word)?)?;
@@ -284,37 +287,35 @@ pub(crate) fn layout(alloc: Global, word: Option<&str>) -> Result<Layout, AllocE
     })
 }
 
-/// A style with a page format and these macros, that prints nothing.
-pub(crate) fn style_of_macros(
-    alloc: Global,
-    format: Option<PageRangeFormat>,
-    lines: &[&str],
-) -> Result<Style, StyleError> {
-    let macros = macros(alloc, lines)?;
-    let mut settings = StyleSettings::default();
-    settings.page_range_format = format;
-    Style::new(
-        alloc,
-        settings,
-        macros,
-        layout(alloc, None)?,
-        None,
-        Vec::new(alloc),
-    )
+/// What a style says: its page format, a line for each macro, a word for each layout, its locales.
+#[derive(Clone, Copy)]
+pub(crate) struct StyleRows<'s> {
+    pub(crate) format: Option<PageRangeFormat>,
+    pub(crate) macros: &'s [&'s str],
+    pub(crate) citation: Option<&'s str>,
+    pub(crate) bibliography: Option<&'s str>,
+    pub(crate) locales: &'s [LocaleRows<'s>],
 }
 
-/// A style with these locales, that prints nothing.
-pub(crate) fn style_of_locales(
-    alloc: Global,
-    rows: &[LocaleRows<'_>],
-) -> Result<Style, StyleError> {
-    let locales = locales(alloc, rows)?;
-    Style::new(
-        alloc,
-        StyleSettings::default(),
-        Vec::new(alloc),
-        layout(alloc, None)?,
-        None,
-        locales,
-    )
+/// A style that says nothing.
+pub(crate) const EMPTY: StyleRows<'static> = StyleRows {
+    format: None,
+    macros: &[],
+    citation: None,
+    bibliography: None,
+    locales: &[],
+};
+
+/// The style of these rows.
+pub(crate) fn style(alloc: Global, rows: StyleRows<'_>) -> Result<Style, StyleError> {
+    let macros = macros(alloc, rows.macros)?;
+    let locales = locales(alloc, rows.locales)?;
+    let citation = layout(alloc, rows.citation)?;
+    let bibliography = match rows.bibliography {
+        Some(word) => Some(layout(alloc, Some(word))?),
+        None => None,
+    };
+    let mut settings = StyleSettings::default();
+    settings.page_range_format = rows.format;
+    Style::new(alloc, settings, macros, citation, bibliography, locales)
 }

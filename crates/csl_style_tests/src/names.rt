@@ -1,6 +1,7 @@
 //! The options of names.
 
 use crate::asserted::{assert_same, assert_text};
+use crate::made::copy_text;
 use csl_style::{
     DelimiterBehavior, InheritableNameOptions, InheritedNameOptions, NameForm, NameOptions,
 };
@@ -30,22 +31,28 @@ fn options_that_are_not_set_have_their_defaults(rt: HostRuntime) {
     assert_text(&rt, Some(options.sort_separator), Some(", "));
 }
 
-/// Two sets of options: those of a node, and those around it.
-fn own_and_around(alloc: Global) -> Result<[InheritableNameOptions; 2], AllocError> {
-    let mut own = InheritableNameOptions::default();
-    own.delimiter = Some(String::from_str(alloc, "")?);
-    own.form = Some(NameForm::Short);
-    let mut around = InheritableNameOptions::default();
-    around.delimiter = Some(String::from_str(alloc, "; ")?);
-    around.names_delimiter = Some(String::from_str(alloc, " | ")?);
-    around.et_al_min = Some(4);
-    Ok([own, around])
+/// Options with these delimiters of names and of their lists.
+fn with_delimiters(
+    alloc: Global,
+    delimiter: Option<&str>,
+    names_delimiter: Option<&str>,
+) -> Result<InheritableNameOptions, AllocError> {
+    let delimiter = copy_text(alloc, delimiter)?;
+    let names_delimiter = copy_text(alloc, names_delimiter)?;
+    Ok(InheritableNameOptions {
+        delimiter,
+        names_delimiter,
+        ..InheritableNameOptions::default()
+    })
 }
 
 /// What counts where a node's own options stand over those around it.
 fn assert_own_options_count(rt: &impl Abort, alloc: Global) -> Result<(), AllocError> {
-    let sets = own_and_around(alloc)?;
-    let options = sets[0].apply(sets[1].as_inherited());
+    let mut around = with_delimiters(alloc, Some("; "), Some(" | "))?;
+    around.et_al_min = Some(4);
+    let mut own = with_delimiters(alloc, Some(""), None)?;
+    own.form = Some(NameForm::Short);
+    let options = own.apply(around.as_inherited());
     assert_text(rt, Some(options.names_delimiter()), Some(" | "));
     let options = options.name_options();
     assert_text(rt, Some(options.delimiter), Some(""));

@@ -1,12 +1,10 @@
 //! Styles: which are refused, and what they hand out.
 
 use crate::asserted::{assert_same, assert_text};
-use crate::made::{
-    LocaleRows, SILENT, copy_text, layout, locales, macros, style_of_locales, style_of_macros,
-};
+use crate::made::{EMPTY, LocaleRows, SILENT, StyleRows, copy_text, style};
 use csl_style::{
     CslMacro, DateForm, DemoteNonDroppingParticle, Layout, LayoutRenderingElement, OrdinalSlot,
-    OtherTerm, PageRangeFormat, Style, StyleError, StyleSettings, Term, TermForm, TextTarget,
+    OtherTerm, PageRangeFormat, Scope, StyleError, StyleSettings, Term, TermForm, TextTarget,
 };
 use lit_model::{GrammarGender, Memory};
 use std::alloc::{AllocError, Global};
@@ -19,7 +17,12 @@ fn refusal(
     format: Option<PageRangeFormat>,
     macros: &[&str],
 ) -> Result<Option<String>, Memory> {
-    match style_of_macros(alloc, format, macros) {
+    let rows = StyleRows {
+        format,
+        macros,
+        ..EMPTY
+    };
+    match style(alloc, rows) {
         Ok(_) => Ok(None),
         Err(StyleError::Memory) => Err(Memory),
         Err(error) => Ok(Some(format!(in alloc; "{}", error)?)),
@@ -86,26 +89,16 @@ fn chicago_pages_are_refused(rt: HostRuntime) -> Result<(), Fail> {
 }
 
 /// A style whose parts can be told from one another.
-fn style_of_parts(alloc: Global) -> Result<Style, StyleError> {
-    let macros = macros(alloc, &["a 'first", "a 'second", "b 'other"])?;
-    let citation = layout(alloc, Some("'cite"))?;
-    let bibliography = layout(alloc, Some("'entry"))?;
-    let rows = [LocaleRows {
+const PARTS: StyleRows<'static> = StyleRows {
+    format: Some(PageRangeFormat::MinimalTwo),
+    macros: &["a 'first", "a 'second", "b 'other"],
+    citation: Some("'cite"),
+    bibliography: Some("'entry"),
+    locales: &[LocaleRows {
         punctuation_in_quote: true,
         ..SILENT
-    }];
-    let locales = locales(alloc, &rows)?;
-    let mut settings = StyleSettings::default();
-    settings.page_range_format = Some(PageRangeFormat::MinimalTwo);
-    Style::new(
-        alloc,
-        settings,
-        macros,
-        citation,
-        Some(bibliography),
-        locales,
-    )
-}
+    }],
+};
 
 /// The text of a value that stands alone.
 fn only_value(elements: &[LayoutRenderingElement]) -> Option<&str> {
@@ -137,15 +130,17 @@ fn value_in_macro(found: Option<&CslMacro>) -> Option<&str> {
 enum Part<'s> {
     Citation,
     Bibliography,
+    Layout(Scope),
     Macro(&'s str),
 }
 
 /// The text in a part of the style of parts.
 fn text_in_part(alloc: Global, part: Part<'_>) -> Result<Option<String>, StyleError> {
-    let style = style_of_parts(alloc)?;
+    let style = style(alloc, PARTS)?;
     let value = match part {
         Part::Citation => value_in_layout(Some(style.citation())),
         Part::Bibliography => value_in_layout(style.bibliography()),
+        Part::Layout(scope) => value_in_layout(style.layout(scope)),
         Part::Macro(name) => value_in_macro(style.get_macro(name)),
     };
     Ok(copy_text(alloc, value)?)
@@ -156,6 +151,8 @@ fn a_style_hands_out_the_nodes_that_it_was_made_of(rt: HostRuntime) -> Result<()
     for (part, wanted) in [
         (Part::Citation, Some("cite")),
         (Part::Bibliography, Some("entry")),
+        (Part::Layout(Scope::Citation), Some("cite")),
+        (Part::Layout(Scope::Bibliography), Some("entry")),
         // The first macro of a name.
         (Part::Macro("a"), Some("first")),
         (Part::Macro("b"), Some("other")),
@@ -169,7 +166,7 @@ fn a_style_hands_out_the_nodes_that_it_was_made_of(rt: HostRuntime) -> Result<()
 
 /// What the style of parts answers besides.
 fn assert_parts(rt: &impl Abort, alloc: Global) -> Result<(), StyleError> {
-    let style = style_of_parts(alloc)?;
+    let style = style(alloc, PARTS)?;
     style.acyclic();
     let format = style.settings().page_range_format;
     assert_same(rt, &format, &Some(PageRangeFormat::MinimalTwo));
@@ -210,18 +207,23 @@ const BY: Term = Term::Other(OtherTerm::By);
 /// What a style with one locale answers, which has a term and an ordinal.
 fn assert_locale_is_asked(rt: &impl Abort, alloc: Global) -> Result<(), StyleError> {
     let feminine = Some(GrammarGender::Feminine);
-    let rows = [LocaleRows {
-        terms: &[(AND, TermForm::Long, "and", None, feminine)],
-        ordinals: &[(OrdinalSlot::Default, None, None, "th")],
-        ..SILENT
-    }];
-    let style = style_of_locales(alloc, &rows)?;
+    let rows = StyleRows {
+        locales: &[LocaleRows {
+            terms: &[(AND, TermForm::Long, "and", None, feminine)],
+            ordinals: &[(OrdinalSlot::Default, None, None, "th")],
+            ..SILENT
+        }],
+        ..EMPTY
+    };
+    let style = style(alloc, rows)?;
     assert_text(rt, style.term(AND, TermForm::Short, true), Some("and"));
     assert_text(rt, style.term(BY, TermForm::Long, false), None);
     assert_same(rt, &style.gender(AND), &feminine);
     assert_text(rt, style.ordinal(-4, None), Some("th"));
     assert_same(rt, &style.localized_date(DateForm::Text).is_some(), &false);
     assert_same(rt, &style.bibliography().is_some(), &false);
+    let bibliography = style.layout(Scope::Bibliography);
+    assert_same(rt, &bibliography.is_some(), &false);
     Ok(())
 }
 

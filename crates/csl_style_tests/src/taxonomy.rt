@@ -4,7 +4,10 @@ ghost use Rattle.std.specs.Prelude.{◌≡◌, ◌↔◌, IsTrue};
 ghost use Rattle.std.specs.declared.cmp.Ordering.TheVariants.{Equal};
 
 use crate::asserted::assert_same;
-use csl_style::{DateVariable, Kind, StandardVariable, Variable};
+use csl_style::{
+    DateVariable, Kind, NameVariable, NumberOrPageVariable, NumberVariable, PageVariable,
+    StandardVariable, Variable,
+};
 use std::cmp::Ordering;
 
 /// Whether the two variables are equal: they are where they are one.
@@ -118,5 +121,28 @@ fn variables_are_equal_where_they_are_one(rt: HostRuntime) {
         (Kind::Book, Kind::ReviewBook, false),
     ] {
         assert_same(&rt, &same_kind(&a, &b), &wanted);
+    }
+}
+
+#[test]
+fn each_sort_of_variable_is_a_variable(rt: HostRuntime) {
+    let title = StandardVariable::Title;
+    let volume = NumberVariable::Volume;
+    let page = PageVariable::Page;
+    let issued = DateVariable::Issued;
+    let editor = NameVariable::Editor;
+    for (variable, wanted) in [
+        (Variable::from(title), Variable::Standard(title)),
+        (Variable::from(volume), Variable::Number(volume)),
+        (Variable::from(page), Variable::Page(page)),
+        (Variable::from(issued), Variable::Date(issued)),
+        (Variable::from(editor), Variable::Name(editor)),
+        (
+            NumberOrPageVariable::Number(volume).into(),
+            Variable::Number(volume),
+        ),
+        (NumberOrPageVariable::Page(page).into(), Variable::Page(page)),
+    ] {
+        assert_same(&rt, &variable, &wanted);
     }
 }

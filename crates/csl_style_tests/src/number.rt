@@ -1,0 +1,54 @@
+//! Numbers.
+
+ghost use Rattle.std.specs.Prelude.{◌≡◌, None};
+ghost use Rattle.csl_style.specs.Dressing.{dressing_of};
+ghost use Rattle.csl_style.specs.Node.{number};
+ghost use Rattle.csl_style.specs.View.{view};
+
+use crate::asserted::assert_same;
+use csl_style::{
+    Affixes, Formatting, LayoutRenderingElement, Number, NumberOrPageVariable, NumberVariable,
+    PageVariable,
+};
+use lit_model::NumberForm;
+
+/// A number as a node. Its data names the same variable.
+fn number_node(
+    variable: NumberOrPageVariable,
+    form: NumberForm,
+    formatting: Formatting,
+    affixes: Affixes,
+) -> LayoutRenderingElement
+    ensures { view result ≡ number (record {
+        variable = variable;
+        form = form;
+        dressing = dressing_of formatting affixes None;
+    }) }
+{
+    LayoutRenderingElement::Number(Number {
+        variable,
+        form,
+        formatting,
+        affixes,
+        display: None,
+    })
+}
+
+/// The variable of a number that was made a node.
+fn variable_in_node(variable: NumberOrPageVariable) -> Option<NumberOrPageVariable> {
+    let formatting = Formatting::default();
+    match number_node(variable, NumberForm::Numeric, formatting, Affixes::default()) {
+        LayoutRenderingElement::Number(number) => Some(number.variable),
+        _ => None,
+    }
+}
+
+#[test]
+fn a_number_may_be_of_pages(rt: HostRuntime) {
+    for variable in [
+        NumberOrPageVariable::Page(PageVariable::Page),
+        NumberOrPageVariable::Number(NumberVariable::Volume),
+    ] {
+        assert_same(&rt, &variable_in_node(variable), &Some(variable));
+    }
+}
