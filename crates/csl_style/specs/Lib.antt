@@ -16,3 +16,4 @@ pub mod Ordinal
 pub mod Style
 pub mod Taxonomy
 pub mod Term
+pub mod Reached

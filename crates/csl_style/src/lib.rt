@@ -10,6 +10,7 @@ pub mod locale;
 pub mod names;
 pub mod number;
 mod places;
+mod reach;
 pub mod style;
 pub mod taxonomy;
 pub mod term;

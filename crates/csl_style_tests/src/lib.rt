@@ -1,0 +1,6 @@
+//! The tests of `csl_style`: its public calls, asked with inputs and answers that are written out
+//! by hand. A module here tests the module of its name there.
+#![tactic(auto)]
+
+#[cfg(test)]
+mod reach;
