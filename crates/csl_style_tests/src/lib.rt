@@ -3,4 +3,8 @@
 #![tactic(auto)]
 
 #[cfg(test)]
+mod of_citation;
+#[cfg(test)]
+mod options_of_scopes;
+#[cfg(test)]
 mod reach;
