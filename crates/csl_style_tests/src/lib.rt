@@ -24,3 +24,8 @@ mod style;
 mod taxonomy;
 #[cfg(test)]
 mod term;
+mod of_citation;
+#[cfg(test)]
+mod options_of_scopes;
+#[cfg(test)]
+mod reach;
