@@ -2,7 +2,7 @@
 use Rattle.std.proofs.Common.{◌≡◌, ℕ, ◌+◌, ◌<◌, suc, zero, arith, Bool, true, false, ◌||◌, List, [], ◌∷◌, ◌++◌, Option, Some, None, length, get_or, set, take, drop, refl, sym, ap, ◌∙◌, subst, append_assoc, add-one, drop-cons}
 use Rattle.std.specs.Prelude.{Vec, option_map, slice_set, option_copied, is_some, is_none, unwrap_or, IfSome, IfNone}
 use Rattle.std.specs.Borrow.{Bor}
-use Rattle.std.specs.List.{flat_map, list_any, remove}
+use Rattle.std.specs.List.{flat_map, list_any, remove, find}
 use Rattle.std.specs.Option.{option_or}
 use Rattle.std.specs.Vec.{with_item}
 use Rattle.std.specs.declared.alloc.Global.{Global}
@@ -15,7 +15,7 @@ use native.Mathlib.Nat.{ℕ_set}
 use Rattle.csl_style.specs.declared.formatting.Display.{Display}
 use Rattle.csl_tree.specs.Tokens.{Token, Meta, solid, opened, closed, around, optional_meta, child_step, elem_step, children_step, child_tokens, elem_tokens, tokens}
 use Rattle.csl_tree.specs.Places.{layer_children, children_of, layer_with, with_children}
-use Rattle.csl_tree.specs.Search.{preorder, child_preorder, find, has_meta, child_has_meta, layer_has_meta, elem_of, layer_elem, opens_meta, NothingNoted, TakenOut}
+use Rattle.csl_tree.specs.Search.{preorder, child_preorder, has_meta, child_has_meta, layer_has_meta, elem_of, layer_elem, opens_meta, NothingNoted, TakenOut}
 use Rattle.csl_tree.specs.declared.elem.ElemMeta.{ElemMeta}
 use Rattle.csl_tree.specs.declared.elem.ElemChild.{ElemChild}
 use Rattle.csl_tree.specs.declared.elem.ElemChild.TheOpen.{ElemChild-F, Text, Elem, Markup, Link, Transparent}

@@ -1,11 +1,12 @@
 -- The preorder of a tree, and the first along it.
 use Rattle.std.proofs.Common.{◌≡◌, ℕ, ◌+◌, ◌<◌, Bool, true, false, List, [], ◌∷◌, ◌++◌, Option, Some, None, length, get_or, drop, map, refl, sym, ap, ◌∙◌, add-one, drop-cons, inl, inr, suc, arith}
+use Rattle.std.specs.List.{find}
 use Rattle.std.specs.Prelude.{flat_map, ◌-◌, slice_get}
 use Rattle.std.specs.Option.{option_or}
 use Rattle.std.specs.Bool.{Decides}
 use Rattle.std.proofs.lemmas.Bool.{false≢true}
-use Rattle.std.proofs.lemmas.List.Folds.{flat_map-map}
-use Rattle.csl_tree.specs.Search.{Walk, child_walk, elem_walk, children_walk, preorder, child_preorder, find, IsFirst, layer_elem, elem_of, last_of, child_last, elem_last, children_last, last_text, last_text_of}
+use Rattle.std.proofs.lemmas.List.Folds.{flat_map-map, find-append}
+use Rattle.csl_tree.specs.Search.{Walk, child_walk, elem_walk, children_walk, preorder, child_preorder, IsFirst, layer_elem, elem_of, last_of, child_last, elem_last, children_last, last_text, last_text_of}
 use Rattle.csl_tree.specs.declared.formatting.Formatted.{Formatted}
 use Rattle.csl_tree.specs.declared.elem.ElemChild.{ElemChild}
 use Rattle.csl_tree.specs.declared.elem.ElemChild.TheOpen.{ElemChild-F, Text, Elem, Markup, Link, Transparent}
@@ -48,16 +49,6 @@ child_out k = ap child_preorder (sym (roll-out-ElemChild k)) ∙ layer_rolled (o
 option_or_assoc : {X : Type 0} (a b c : Option X) → option_or a (option_or b c) ≡ option_or (option_or a b) c
 option_or_assoc None b c = refl
 option_or_assoc (Some x) b c = refl
-
-module _ {A : Type 0} (p : A → Bool) where
-  find_or : (x : A) (xs ys : List A) (b : Bool) → p x ≡ b → find p (xs ++ ys) ≡ option_or (find p xs) (find p ys) → find p ((x ∷ xs) ++ ys) ≡ option_or (find p (x ∷ xs)) (find p ys)
-  find_or x xs ys true e h = rw e refl
-  find_or x xs ys false e h = rw e h
-
-  -- the first along a list and a further one
-  pub find-append : (xs ys : List A) → find p (xs ++ ys) ≡ option_or (find p xs) (find p ys)
-  find-append [] ys = refl
-  find-append (x ∷ xs) ys = find_or x xs ys (p x) refl (find-append xs ys)
 
 elem_layer : (x : ElemChild-F ElemChild elem.Elem ElemChildren) (e : elem.Elem) → Some e ≡ layer_elem x → layer_preorder x ≡ e ∷ preorder (elem.out-Elem e).children
 elem_layer (Text t) e h = cc

@@ -1,9 +1,11 @@
 -- Contents: lists of tokens, joined so that texts of one formatting that meet become one text.
-use Rattle.std.specs.Prelude.{ℕ, List, [], ◌∷◌, ◌++◌, Option, Some, None, if◌then◌else◌}
+use Rattle.std.specs.Prelude.{◌≡◌, ℕ, List, [], ◌∷◌, ◌++◌, Option, Some, None, option_map, if◌then◌else◌}
+use Rattle.std.specs.Borrow.{Bor}
 use Rattle.csl_style.specs.declared.formatting.Display.{Display}
 use Rattle.csl_tree.specs.declared.formatting.Formatting.{Formatting}
 use Rattle.csl_tree.specs.Formatting.{same_formatting}
-use Rattle.csl_tree.specs.Tokens.{Token, Meta, text, solid, around}
+use Rattle.csl_tree.specs.Tokens.{Token, Meta, text, solid, around, tokens}
+use Rattle.csl_tree.specs.declared.elem.ElemChildren.{ElemChildren}
 
 -- a text in front of what follows
 abbrev pub text_before : List ℕ → Formatting → List Token → List Token
@@ -36,6 +38,10 @@ abbrev pub optional_text : Option (List ℕ) → Formatting → List Token
 optional_text None f = []
 optional_text (Some bs) f = text_content bs f
 
+-- the same of a text behind a reference
+abbrev pub lent_text : Option (Bor (List ℕ)) → Formatting → List Token
+lent_text t f = optional_text (option_map (λ s. s.now) t) f
+
 -- an element around a content, unless there is none
 abbrev pub boxed : Option Display → Option Meta → List Token → List Token
 boxed d m [] = []
@@ -45,3 +51,7 @@ boxed d m (t ∷ ts) = around d m (t ∷ ts)
 abbrev pub affixed : List Token → List Token → List Token → List Token
 affixed prefix suffix [] = []
 affixed prefix suffix (t ∷ ts) = prefix ++> ((t ∷ ts) ++> suffix)
+
+-- the children show what they did, and then a further content
+abbrev pub Appends : ElemChildren → ElemChildren → List Token → Type 0
+Appends old new more = tokens new ≡ tokens old ++> more

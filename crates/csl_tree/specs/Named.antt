@@ -59,6 +59,10 @@ names_find = fold-ElemChildren Found Found (Option (List ℕ)) find_child find_e
 abbrev pub find_of_child : ElemChild → Found
 find_of_child = fold-ElemChild Found Found (Option (List ℕ)) find_child find_elem find_children
 
+-- where the child at an index has it
+abbrev pub find_at : ElemChildren → ℕ → Found
+find_at c i = find_of_child (child_at c i)
+
 -- the path less its last index
 abbrev pub levels : List ℕ → List ℕ
 levels [] = []

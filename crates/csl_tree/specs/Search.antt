@@ -2,7 +2,7 @@
 use Rattle.std.specs.Prelude.{◌≡◌, ◌⊎◌, Bool, true, false, List, [], ◌∷◌, ◌++◌, Option, Some, None, is_some, flat_map, option_copied, if◌then◌else◌}
 use Rattle.std.specs.Borrow.{Bor}
 use Rattle.std.specs.List.{list_any}
-use Rattle.csl_tree.specs.Tokens.{Meta, optional_meta, Token, text, solid, markup, link, transparent, opened, closed}
+use Rattle.csl_tree.specs.Tokens.{Meta, meta_of, optional_meta, Token, text, solid, markup, link, transparent, opened, closed}
 use Rattle.csl_tree.specs.declared.formatting.Formatted.{Formatted}
 use Rattle.csl_tree.specs.declared.elem.ElemMeta.{ElemMeta}
 use Rattle.csl_tree.specs.declared.elem.ElemMeta.TheVariants as meta
@@ -39,11 +39,6 @@ preorder = para-ElemChildren Walk Walk Walk child_walk elem_walk children_walk
 abbrev pub child_preorder : ElemChild → List elem.Elem
 child_preorder = para-ElemChild Walk Walk Walk child_walk elem_walk children_walk
 
--- the first that passes a test
-abbrev pub find : {A : Type 0} → (A → Bool) → List A → Option A
-find p [] = None
-find p (x ∷ xs) = if p x then Some x else find p xs
-
 -- the first of which something holds
 abbrev pub IsFirst : {A : Type 0} → (A → Type 0) → List A → Option A → Type 0
 IsFirst P [] o = o ≡ None
@@ -71,6 +66,10 @@ as_child = variants.Elem
 -- what made an element
 abbrev pub made_by : elem.Elem → Option Meta
 made_by e = optional_meta (elem.out-Elem e).meta
+
+-- a meta says what made an element
+abbrev pub IsMadeBy : ElemMeta → elem.Elem → Type 0
+IsMadeBy m e = made_by e ≡ Some (meta_of m)
 
 abbrev pub of_names : Option ElemMeta → Bool
 of_names None = false

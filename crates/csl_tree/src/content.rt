@@ -1,10 +1,10 @@
 //! Contents: children that are written one after another, where texts of equal formatting that
 //! meet become one text.
 
-ghost use Rattle.std.specs.Prelude.{◌≡◌, [], ◌∷◌, ◌++◌, OnOk, IfOk, option_map};
+ghost use Rattle.std.specs.Prelude.{◌≡◌, [], ◌∷◌, ◌++◌, OnOk, IfOk};
 ghost use Rattle.std.specs.Bool.{OnTrue, OnFalse};
 ghost use Rattle.std.specs.List.{flat_map};
-ghost use Rattle.csl_tree.specs.Content.{◌++>◌, text_content, optional_text, boxed, affixed};
+ghost use Rattle.csl_tree.specs.Content.{◌++>◌, text_content, lent_text, boxed, affixed, Appends};
 ghost use Rattle.csl_tree.specs.Tokens.{tokens, child_tokens, text, optional_meta};
 
 use crate::elem::{Elem, ElemChild, ElemChildren, ElemMeta};
@@ -15,14 +15,16 @@ use std::alloc::Global;
 
 impl ElemChildren {
     /// Appends a text, which joins a last text of equal formatting. An empty text writes nothing.
-    /// The only error is want of memory; what the children are then is left open.
+    ///
+    /// # Errors
+    /// [`Memory`]: there was no memory left. What the children are then is left open.
     pub fn push_text(
         &mut self,
         alloc: Global,
         more: &str,
         formatting: Formatting,
     ) -> Result<(), Memory>
-        ensures ok { OnOk result (tokens self.new ≡ tokens self.old ++> text_content more.now formatting) }
+        ensures ok { OnOk result (Appends self.old self.new (text_content more.now formatting)) }
     {
         if more.is_empty() {
             return Ok(());
@@ -31,15 +33,18 @@ impl ElemChildren {
         Ok(())
     }
 
-    /// Appends an element around some children, unless there are none. The only error is want of
-    /// memory; what the children are then is left open.
+    /// Appends an element around some children, unless there are none.
+    ///
+    /// # Errors
+    /// [`Memory`]: there was no memory left. What the children are then is left open.
     pub fn push_box(
         &mut self,
         children: ElemChildren,
         display: Option<Display>,
         meta: Option<ElemMeta>,
     ) -> Result<(), Memory>
-        ensures ok { OnOk result (tokens self.new ≡ tokens self.old ++> boxed display (optional_meta meta) (tokens children)) }
+        ensures ok { OnOk result
+            (Appends self.old self.new (boxed display (optional_meta meta) (tokens children))) }
     {
         if children.0.is_empty() {
             return Ok(());
@@ -52,10 +57,12 @@ impl ElemChildren {
         Ok(())
     }
 
-    /// Appends some children, the first of which may join the last that is there. The only error
-    /// is want of memory; what the children are then is left open.
+    /// Appends some children, the first of which may join the last that is there.
+    ///
+    /// # Errors
+    /// [`Memory`]: there was no memory left. What the children are then is left open.
     pub fn append(&mut self, alloc: Global, children: ElemChildren) -> Result<(), Memory>
-        ensures ok { OnOk result (tokens self.new ≡ tokens self.old ++> tokens children) }
+        ensures ok { OnOk result (Appends self.old self.new (tokens children)) }
     {
         let ElemChildren(mut rest) = children;
         if rest.is_empty() {
@@ -76,7 +83,7 @@ impl ElemChildren {
         more: Option<&str>,
         formatting: Formatting,
     ) -> Result<(), Memory>
-        ensures ok { OnOk result (tokens self.new ≡ tokens self.old ++> optional_text (option_map (λ t. t.now) more.entry) formatting) }
+        ensures ok { OnOk result (Appends self.old self.new (lent_text more.entry formatting)) }
     {
         match more {
             None => Ok(()),
@@ -87,8 +94,10 @@ impl ElemChildren {
         }
     }
 
-    /// Appends some children between two texts, unless there are none. The only error is want of
-    /// memory; what the children are then is left open.
+    /// Appends some children between two texts, unless there are none.
+    ///
+    /// # Errors
+    /// [`Memory`]: there was no memory left. What the children are then is left open.
     pub fn push_affixed(
         &mut self,
         alloc: Global,
@@ -97,7 +106,9 @@ impl ElemChildren {
         suffix: Option<&str>,
         formatting: Formatting,
     ) -> Result<(), Memory>
-        ensures ok { OnOk result (tokens self.new ≡ tokens self.old ++> affixed (optional_text (option_map (λ t. t.now) prefix.entry) formatting) (optional_text (option_map (λ t. t.now) suffix.entry) formatting) (tokens children)) }
+        ensures ok { OnOk result (Appends self.old self.new
+            (affixed (lent_text prefix.entry formatting) (lent_text suffix.entry formatting)
+            (tokens children))) }
     {
         if children.0.is_empty() {
             return Ok(());
@@ -111,9 +122,13 @@ impl ElemChildren {
 
 /// Appends a text to a child that is a text of equal formatting, and says whether it is one.
 fn join_last(last: &mut ElemChild, more: &str, formatting: Formatting) -> Result<bool, Memory>
-    ensures joins { IfOk result (λ did. OnTrue did (child_tokens last.new ≡ child_tokens last.old ++> text more.now formatting ∷ [])) }
-    ensures unchanged { IfOk result (λ did. OnFalse did (child_tokens last.new ≡ child_tokens last.old)) }
-    ensures apart { IfOk result (λ did. OnFalse did (child_tokens last.old ++> text more.now formatting ∷ [] ≡ child_tokens last.old ++ text more.now formatting ∷ [])) }
+    ensures joins { IfOk result (λ did. OnTrue did
+        (child_tokens last.new ≡ child_tokens last.old ++> text more.now formatting ∷ [])) }
+    ensures unchanged { IfOk result (λ did. OnFalse did
+        (child_tokens last.new ≡ child_tokens last.old)) }
+    ensures apart { IfOk result (λ did. OnFalse did
+        (child_tokens last.old ++> text more.now formatting ∷ []
+        ≡ child_tokens last.old ++ text more.now formatting ∷ [])) }
 {
     match last {
         ElemChild::Text(text) => {
@@ -126,11 +141,8 @@ fn join_last(last: &mut ElemChild, more: &str, formatting: Formatting) -> Result
         }
         ElemChild::Elem(_) => Ok(false),
         ElemChild::Markup(_) => Ok(false),
-        ElemChild::Link { text: _, url: _ } => Ok(false),
-        ElemChild::Transparent {
-            cite_idx: _,
-            format: _,
-        } => Ok(false),
+        ElemChild::Link { .. } => Ok(false),
+        ElemChild::Transparent { .. } => Ok(false),
     }
 }
 
@@ -141,7 +153,8 @@ pub(crate) fn push_text_to(
     more: &str,
     formatting: Formatting,
 ) -> Result<(), Memory>
-    ensures ok { OnOk result (flat_map child_tokens children.new.items ≡ flat_map child_tokens children.old.items ++> text more.now formatting ∷ []) }
+    ensures ok { OnOk result (flat_map child_tokens children.new.items
+        ≡ flat_map child_tokens children.old.items ++> text more.now formatting ∷ []) }
 {
     let len = children.len();
     if len > 0 {
@@ -161,7 +174,8 @@ fn push_child_to(
     alloc: Global,
     child: ElemChild,
 ) -> Result<(), Memory>
-    ensures ok { OnOk result (flat_map child_tokens children.new.items ≡ flat_map child_tokens children.old.items ++> child_tokens child) }
+    ensures ok { OnOk result (flat_map child_tokens children.new.items
+        ≡ flat_map child_tokens children.old.items ++> child_tokens child) }
 {
     match child {
         ElemChild::Text(text) => {

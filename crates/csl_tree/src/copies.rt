@@ -11,7 +11,10 @@ use lit_model::{Memory, Person};
 use std::alloc::Global;
 
 impl Formatted {
-    /// An equal text. The only error is want of memory.
+    /// An equal text.
+    ///
+    /// # Errors
+    /// [`Memory`]: there was no memory left.
     pub fn clone(&self, alloc: Global) -> Result<Formatted, Memory>
         ensures { IfOk result (λ copy. text_tokens copy ≡ text_tokens self.now) }
     {
@@ -47,7 +50,10 @@ fn copy_names(
 }
 
 impl ElemMeta {
-    /// An equal meta. The only error is want of memory.
+    /// An equal meta.
+    ///
+    /// # Errors
+    /// [`Memory`]: there was no memory left.
     pub fn clone(&self, alloc: Global) -> Result<ElemMeta, Memory>
         ensures { IfOk result (λ copy. meta_of copy ≡ meta_of self.now) }
     {
@@ -68,6 +74,10 @@ impl ElemMeta {
     }
 }
 
+/// An equal meta, where there is one.
+///
+/// # Errors
+/// [`Memory`]: there was no memory left.
 pub(crate) fn clone_meta(meta: &Option<ElemMeta>, alloc: Global) -> Result<Option<ElemMeta>, Memory>
     ensures { IfOk result (λ copy. optional_meta copy ≡ optional_meta meta.now) }
 {
@@ -78,7 +88,10 @@ pub(crate) fn clone_meta(meta: &Option<ElemMeta>, alloc: Global) -> Result<Optio
 }
 
 impl ElemChildren {
-    /// Equal children. The only error is want of memory.
+    /// Equal children.
+    ///
+    /// # Errors
+    /// [`Memory`]: there was no memory left.
     #[cycle(copies)]
     pub fn clone(&self, alloc: Global) -> Result<ElemChildren, Memory>
         ensures { IfOk result (λ copy. tokens copy ≡ tokens self.now) }
@@ -92,7 +105,10 @@ impl ElemChildren {
 }
 
 impl Elem {
-    /// An equal element. The only error is want of memory.
+    /// An equal element.
+    ///
+    /// # Errors
+    /// [`Memory`]: there was no memory left.
     #[cycle(copies)]
     pub fn clone(&self, alloc: Global) -> Result<Elem, Memory>
         ensures { IfOk result (λ copy. elem_tokens copy ≡ elem_tokens self.now) }
@@ -108,7 +124,10 @@ impl Elem {
 }
 
 impl ElemChild {
-    /// An equal child. The only error is want of memory.
+    /// An equal child.
+    ///
+    /// # Errors
+    /// [`Memory`]: there was no memory left.
     #[cycle(copies)]
     pub fn clone(&self, alloc: Global) -> Result<ElemChild, Memory>
         ensures { IfOk result (λ copy. child_tokens copy ≡ child_tokens self.now) }

@@ -166,7 +166,8 @@ impl Elem {
 
     /// Whether its children may stand in its place: it has neither display nor meta.
     pub fn may_inline(&self) -> bool
-        ensures { IsTrue result ↔ ((out-Elem self.now).display ≡ None) × (optional_meta (out-Elem self.now).meta ≡ None) }
+        ensures { IsTrue result ↔ ((out-Elem self.now).display ≡ None)
+            × (optional_meta (out-Elem self.now).meta ≡ None) }
     {
         self.display.is_none() && self.meta.is_none()
     }
@@ -182,11 +183,8 @@ impl ElemChild {
             ElemChild::Text(text) => text.text.is_empty(),
             ElemChild::Elem(elem) => elem.is_empty(),
             ElemChild::Markup(markup) => markup.is_empty(),
-            ElemChild::Link { text, url: _ } => text.text.is_empty(),
-            ElemChild::Transparent {
-                cite_idx: _,
-                format: _,
-            } => false,
+            ElemChild::Link { text, .. } => text.text.is_empty(),
+            ElemChild::Transparent { .. } => false,
         }
     }
 
@@ -200,11 +198,8 @@ impl ElemChild {
             ElemChild::Text(text) => has_visible(text.text.as_str()),
             ElemChild::Elem(elem) => elem.has_content(),
             ElemChild::Markup(markup) => has_visible(markup.as_str()),
-            ElemChild::Link { text: _, url: _ } => true,
-            ElemChild::Transparent {
-                cite_idx: _,
-                format: _,
-            } => true,
+            ElemChild::Link { .. } => true,
+            ElemChild::Transparent { .. } => true,
         }
     }
 
@@ -217,11 +212,8 @@ impl ElemChild {
             ElemChild::Text(text) => text.text.len(),
             ElemChild::Elem(elem) => elem.str_len(),
             ElemChild::Markup(markup) => markup.len(),
-            ElemChild::Link { text, url: _ } => text.text.len(),
-            ElemChild::Transparent {
-                cite_idx: _,
-                format: _,
-            } => 0,
+            ElemChild::Link { text, .. } => text.text.len(),
+            ElemChild::Transparent { .. } => 0,
         }
     }
 }

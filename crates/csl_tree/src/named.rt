@@ -1,10 +1,11 @@
-//! The first element that a `cs:names` made, lent to be written.
+//! The first element that a `cs:names` made, as a mutable reference.
 
 ghost use Rattle.std.specs.Prelude.{◌≡◌, ◌<◌, Some, None, IsTrue, is_some, vec_len, IfSome, IfNone, option_map};
 ghost use Rattle.std.specs.Borrow.{sem};
-ghost use Rattle.csl_tree.specs.Search.{preorder, find, is_names, elem_of};
+ghost use Rattle.std.specs.List.{find};
+ghost use Rattle.csl_tree.specs.Search.{preorder, is_names, elem_of};
 ghost use Rattle.csl_tree.specs.Places.{child_at};
-ghost use Rattle.csl_tree.specs.Named.{is_here, is_found, find_of_child, found_or, names_find, names_below, names_index, names_items, lends_names_items, lends_names_child, lends_elem, lends_that_names, lends_names, more_here, here_index, first_names};
+ghost use Rattle.csl_tree.specs.Named.{is_here, is_found, find_of_child, find_at, found_or, names_find, names_below, names_index, names_items, lends_names_items, lends_names_child, lends_elem, lends_that_names, lends_names, more_here, here_index, first_names};
 
 use crate::elem::{Elem, ElemChild, ElemChildren, ElemMeta};
 
@@ -14,10 +15,7 @@ impl ElemChild {
         ensures { result ≡ is_here (find_of_child self.now) }
     {
         match self {
-            ElemChild::Elem(elem) => match elem.meta {
-                Some(ElemMeta::Names(_)) => true,
-                _ => false,
-            },
+            ElemChild::Elem(elem) => matches!(elem.meta, Some(ElemMeta::Names(_))),
             _ => false,
         }
     }
@@ -36,7 +34,7 @@ impl ElemChild {
         }
     }
 
-    /// The element of an element, to be written.
+    /// The element that the child is, as a mutable reference.
     fn elem_mut(&mut self) -> &mut Elem
         requires { IsTrue (is_here (find_of_child self.old)) }
         ensures* writes_back { sem 𝓛 (lends_elem self.entry result) }
@@ -68,8 +66,9 @@ impl ElemChildren {
     #[cycle(find)]
     fn names_at(&self) -> Option<usize>
         ensures index { IfSome result (λ i. i < vec_len self.now.0) }
-        ensures found { IfSome result (λ i. IsTrue (is_found (find_of_child (child_at self.now i)))) }
-        ensures some { IfSome result (λ i. names_find self.now ≡ found_or i (find_of_child (child_at self.now i)) None) }
+        ensures found { IfSome result (λ i. IsTrue (is_found (find_at self.now i))) }
+        ensures some { IfSome result (λ i.
+            names_find self.now ≡ found_or i (find_at self.now i) None) }
         ensures none { IfNone result (names_find self.now ≡ None) }
     {
         for i in 0..self.0.len() {
@@ -91,7 +90,7 @@ impl ElemChildren {
         }
     }
 
-    /// That child, to be written.
+    /// That child, as a mutable reference.
     fn names_child_mut(&mut self) -> &mut ElemChild
         requires { IsTrue (names_below self.old) }
         ensures* writes_back { sem 𝓛 (lends_names_child self.entry result) }
@@ -103,7 +102,8 @@ impl ElemChildren {
         }
     }
 
-    /// The children among which the first element that a `cs:names` made is, to be written.
+    /// The children among which the first element that a `cs:names` made is, as a mutable
+    /// reference.
     #[cycle(names)]
     fn names_items_mut(&mut self) -> &mut Vec<ElemChild>
         ensures* writes_back { sem 𝓛 (lends_names_items self.entry result) }
@@ -116,7 +116,7 @@ impl ElemChildren {
         }
     }
 
-    /// That element, to be written, where there is one.
+    /// That element, as a mutable reference, where there is one.
     fn that_names_mut(&mut self) -> &mut Elem
         requires { IsTrue (is_some (names_find self.old)) }
         ensures* writes_back { sem 𝓛 (lends_that_names self.entry result) }
@@ -128,8 +128,8 @@ impl ElemChildren {
         child.elem_mut()
     }
 
-    /// The first element that a `cs:names` made, as `find_names` finds it, to be written. When the
-    /// reference is given back, nothing else has changed.
+    /// The first element that a `cs:names` made, as `find_names` finds it, as a mutable reference.
+    /// When that is given back, nothing else has changed.
     pub fn find_names_mut(&mut self) -> Option<&mut Elem>
         ensures* writes_back { sem 𝓛 (lends_names self.entry result) }
         ensures value { option_map (λ e. e.now) result ≡ find is_names (preorder self.old) }

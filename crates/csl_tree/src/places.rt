@@ -1,5 +1,4 @@
-//! Places in a tree, lent to be written. When the reference is given back, nothing else has
-//! changed.
+//! Places in a tree, as mutable references. When one is given back, nothing else has changed.
 
 ghost use Rattle.std.specs.Prelude.{◌≡◌, ◌<◌, Some, IsTrue, is_some, option_map, vec_len};
 ghost use Rattle.std.specs.Borrow.{sem};
@@ -11,7 +10,7 @@ use crate::elem::{ElemChild, ElemChildren};
 use crate::formatting::Formatted;
 
 impl ElemChild {
-    /// The children of an element, to be written.
+    /// The children of an element, as a mutable reference.
     pub(crate) fn children_mut(&mut self) -> &mut ElemChildren
         requires { IsTrue (is_some (children_of self.old)) }
         ensures* writes_back { sem 𝓛 (lends_children self.entry result) }
@@ -23,7 +22,7 @@ impl ElemChild {
         }
     }
 
-    /// The text of a text, to be written.
+    /// The text of a text, as a mutable reference.
     fn text_mut(&mut self) -> &mut Formatted
         requires { IsTrue (is_some (text_of_child self.old)) }
         ensures* writes_back { sem 𝓛 (lends_text self.entry result) }
@@ -42,13 +41,10 @@ impl ElemChildren {
         ensures value { result ≡ ends_in_elem self.old }
         ensures unchanged { self.new ≡ self.old }
     {
-        match self.0.last() {
-            Some(ElemChild::Elem(_)) => true,
-            _ => false,
-        }
+        matches!(self.0.last(), Some(ElemChild::Elem(_)))
     }
 
-    /// The last child, to be written.
+    /// The last child, as a mutable reference.
     fn last_child_mut(&mut self) -> &mut ElemChild
         requires { 0 < vec_len self.old.0 }
         ensures* writes_back { sem 𝓛 (lends_last_child self.entry result) }
@@ -58,7 +54,7 @@ impl ElemChildren {
         &mut self.0[last]
     }
 
-    /// The list of the children, to be written.
+    /// The list of the children, as a mutable reference.
     pub(crate) fn items_mut(&mut self) -> &mut Vec<ElemChild>
         ensures* writes_back { sem 𝓛 (lends_items self.entry result) }
         ensures value { result.now ≡ self.old.0 }
@@ -66,7 +62,7 @@ impl ElemChildren {
         &mut self.0
     }
 
-    /// The children among which the tree ends, to be written.
+    /// The children among which the tree ends, as a mutable reference.
     #[cycle(inner)]
     fn last_items_mut(&mut self) -> &mut Vec<ElemChild>
         ensures* writes_back { sem 𝓛 (lends_last_items self.entry result) }
@@ -79,7 +75,7 @@ impl ElemChildren {
         }
     }
 
-    /// The last text, to be written, where there is one.
+    /// The last text, as a mutable reference, where there is one.
     fn that_text_mut(&mut self) -> &mut Formatted
         requires { IsTrue (is_some (last_text self.old)) }
         ensures* writes_back { sem 𝓛 (lends_that_text self.entry result) }
@@ -91,7 +87,7 @@ impl ElemChildren {
         child.text_mut()
     }
 
-    /// The last text, as `last_text` finds it, to be written.
+    /// The last text, as `last_text` finds it, as a mutable reference.
     pub fn last_text_mut(&mut self) -> Option<&mut Formatted>
         ensures* writes_back { sem 𝓛 (lends_last_text self.entry result) }
         ensures value { option_map (λ t. t.now) result ≡ last_text self.old }

@@ -1,8 +1,9 @@
 //! Searches in a tree: an element, then what stands inside it, then its right neighbours.
 
-ghost use Rattle.std.specs.Prelude.{◌≡◌, Bool, false, Some, option_copied, option_map, IfSome, IfNone};
-ghost use Rattle.csl_tree.specs.Tokens.{meta_of, tokens, child_tokens};
-ghost use Rattle.csl_tree.specs.Search.{preorder, child_preorder, find, IsFirst, AnswersBy, elem_of, made_by, is_names, last_text, has_meta, child_has_meta, as_child, NothingNoted, TakenOut};
+ghost use Rattle.std.specs.Prelude.{◌≡◌, Bool, false, option_copied, option_map, IfSome, IfNone};
+ghost use Rattle.std.specs.List.{find};
+ghost use Rattle.csl_tree.specs.Tokens.{tokens, child_tokens};
+ghost use Rattle.csl_tree.specs.Search.{preorder, child_preorder, IsFirst, IsMadeBy, AnswersBy, elem_of, is_names, last_text, has_meta, child_has_meta, as_child, NothingNoted, TakenOut};
 
 use crate::elem::{Elem, ElemChild, ElemChildren, ElemMeta};
 use crate::formatting::Formatted;
@@ -14,13 +15,7 @@ impl ElemChild {
     {
         match self {
             ElemChild::Elem(elem) => Some(elem),
-            ElemChild::Text(_) => None,
-            ElemChild::Markup(_) => None,
-            ElemChild::Link { text: _, url: _ } => None,
-            ElemChild::Transparent {
-                cite_idx: _,
-                format: _,
-            } => None,
+            _ => None,
         }
     }
 }
@@ -29,7 +24,8 @@ impl ElemChildren {
     /// The first element that `f` accepts. `f` is to answer by the element alone.
     pub fn find_elem_by<F: Fn(&Elem) -> bool>(&self, f: &F) -> Option<&Elem>
         requires { F.IsAlwaysCallable f.now }
-        ensures { (p : Elem → Bool) → AnswersBy (F.post f.now) p → option_copied result ≡ find p (preorder self.now) }
+        ensures { (p : Elem → Bool) → AnswersBy (F.post f.now) p
+            → option_copied result ≡ find p (preorder self.now) }
     {
         for child in &self.0 {
             if let Some(elem) = child.as_elem() {
@@ -46,7 +42,7 @@ impl ElemChildren {
 
     /// The first element that this meta is noted of.
     pub fn find_meta(&self, meta: &ElemMeta) -> Option<&Elem>
-        ensures { IsFirst (λ e. made_by e ≡ Some (meta_of meta.now)) (preorder self.now) (option_copied result) }
+        ensures { IsFirst (IsMadeBy meta.now) (preorder self.now) (option_copied result) }
     {
         self.find_elem_by(&|elem: &Elem| elem.meta.as_ref() == Some(meta))
     }
@@ -67,13 +63,8 @@ impl ElemChildren {
             Some(ElemChild::Text(text)) => Some(text),
             Some(ElemChild::Elem(elem)) => elem.children.last_text(),
             Some(ElemChild::Markup(_)) => None,
-            Some(ElemChild::Link { text: _, url: _ }) => None,
-            Some(
-                ElemChild::Transparent {
-                    cite_idx: _,
-                    format: _,
-                },
-            ) => None,
+            Some(ElemChild::Link { .. }) => None,
+            Some(ElemChild::Transparent { .. }) => None,
             None => None,
         }
     }
@@ -95,8 +86,10 @@ impl ElemChild {
     fn remove_below(&mut self) -> Option<ElemChild>
         requires { child_has_meta self.old ≡ false }
         ensures found { result ≡ option_map as_child (find has_meta (child_preorder self.old)) }
-        ensures some { IfSome result (λ child. TakenOut (child_tokens self.old) (child_tokens child) (child_tokens self.new)) }
-        ensures none { IfNone result (NothingNoted (child_tokens self.old) × (self.new ≡ self.old)) }
+        ensures some { IfSome result (λ child.
+            TakenOut (child_tokens self.old) (child_tokens child) (child_tokens self.new)) }
+        ensures none { IfNone result
+            (NothingNoted (child_tokens self.old) × (self.new ≡ self.old)) }
     {
         if self.as_elem().is_none() {
             return None;
@@ -110,7 +103,8 @@ impl ElemChildren {
     #[cycle(removal)]
     pub fn remove_any_meta(&mut self) -> Option<ElemChild>
         ensures found { result ≡ option_map as_child (find has_meta (preorder self.old)) }
-        ensures some { IfSome result (λ child. TakenOut (tokens self.old) (child_tokens child) (tokens self.new)) }
+        ensures some { IfSome result (λ child.
+            TakenOut (tokens self.old) (child_tokens child) (tokens self.new)) }
         ensures none { IfNone result (NothingNoted (tokens self.old) × (self.new ≡ self.old)) }
     {
         for i in 0..self.0.len() {

@@ -17,13 +17,18 @@ use std::alloc::Global;
 /// One round of simplification. An element without display and meta stands for its children as
 /// they are, any other for itself with a round inside; then each text that was itself a child joins
 /// a text of equal formatting before it. What the children show stays the same, and children that a
-/// round leaves as they are need no other. The only error is want of memory.
+/// round leaves as they are need no other.
+///
+/// # Errors
+/// [`Memory`]: there was no memory left.
 #[cycle(rounds)]
 pub fn simplify_children(alloc: Global, children: &ElemChildren) -> Result<ElemChildren, Memory>
     ensures round { IfOk result (λ r. tree r ≡ round (tree children.now)) }
     ensures kept { IfOk result (λ r. styled (tree r) ≡ styled (tree children.now)) }
-    ensures normal { IfOk result (λ r. (tree r ≡ tree children.now) ↔ IsTrue (is_normal (tree children.now))) }
-    ensures fewer { IfOk result (λ r. OnFalse (is_normal (tree children.now)) (nodes (tree r) < nodes (tree children.now))) }
+    ensures normal { IfOk result (λ r.
+        (tree r ≡ tree children.now) ↔ IsTrue (is_normal (tree children.now))) }
+    ensures fewer { IfOk result (λ r.
+        OnFalse (is_normal (tree children.now)) (nodes (tree r) < nodes (tree children.now))) }
     ensures as_tokens { IfOk result (λ r. tokens r ≡ tokens_of (round (tree children.now))) }
 {
     let mut simplified = Vec::new(alloc);
@@ -37,7 +42,8 @@ impl ElemChild {
     /// Puts what the child leaves in a round behind what the children before it left.
     #[cycle(rounds)]
     fn simplify_into(&self, alloc: Global, simplified: &mut Vec<ElemChild>) -> Result<(), Memory>
-        ensures ok { OnOk result (row simplified.new.items ≡ round_behind (row simplified.old.items) (child_tree self.now)) }
+        ensures ok { OnOk result (row simplified.new.items
+            ≡ round_behind (row simplified.old.items) (child_tree self.now)) }
     {
         match self {
             ElemChild::Text(text) => {
@@ -54,13 +60,10 @@ impl ElemChild {
             ElemChild::Markup(_) => {
                 simplified.push(self.clone(alloc)?)?;
             }
-            ElemChild::Link { text: _, url: _ } => {
+            ElemChild::Link { .. } => {
                 simplified.push(self.clone(alloc)?)?;
             }
-            ElemChild::Transparent {
-                cite_idx: _,
-                format: _,
-            } => {
+            ElemChild::Transparent { .. } => {
                 simplified.push(self.clone(alloc)?)?;
             }
         }
@@ -69,13 +72,19 @@ impl ElemChild {
 }
 
 impl Elem {
-    /// The element with one round of simplification inside. The only error is want of memory.
+    /// The element with one round of simplification inside.
+    ///
+    /// # Errors
+    /// [`Memory`]: there was no memory left.
     #[cycle(rounds)]
     pub fn simplify(&self, alloc: Global) -> Result<Elem, Memory>
-        ensures round { IfOk result (λ r. elem_tree r ≡ with_inside self.now (round (inside self.now))) }
+        ensures round { IfOk result (λ r.
+            elem_tree r ≡ with_inside self.now (round (inside self.now))) }
         ensures kept { IfOk result (λ r. styled (elem_tree r) ≡ styled (elem_tree self.now)) }
-        ensures normal { IfOk result (λ r. (elem_tree r ≡ elem_tree self.now) ↔ IsTrue (is_normal (inside self.now))) }
-        ensures fewer { IfOk result (λ r. OnFalse (is_normal (inside self.now)) (nodes (elem_tree r) < nodes (elem_tree self.now))) }
+        ensures normal { IfOk result (λ r.
+            (elem_tree r ≡ elem_tree self.now) ↔ IsTrue (is_normal (inside self.now))) }
+        ensures fewer { IfOk result (λ r. OnFalse (is_normal (inside self.now))
+            (nodes (elem_tree r) < nodes (elem_tree self.now))) }
     {
         let children = simplify_children(alloc, &self.children)?;
         let meta = clone_meta(&self.meta, alloc)?;
@@ -89,11 +98,16 @@ impl Elem {
 
 /// The normal form of some children: rounds of simplification until nothing changes, which are at
 /// most as many as there are nodes. Children without empty texts end equal exactly if they show
-/// the same. The only error is want of memory.
+/// the same.
+///
+/// # Errors
+/// [`Memory`]: there was no memory left.
 pub fn simplify_fully(alloc: Global, children: &ElemChildren) -> Result<ElemChildren, Memory>
     ensures rounds { IfOk result (λ r. tree r ≡ normal_form (tree children.now)) }
     ensures normal { IfOk result (λ r. IsTrue (is_normal (tree r))) }
-    ensures tells { IfOk result (λ r. (u : Tree) → IsTrue (has_no_empty_text (tree children.now)) → IsTrue (has_no_empty_text u) → (tree r ≡ normal_form u) ↔ (styled (tree children.now) ≡ styled u)) }
+    ensures tells { IfOk result (λ r. (u : Tree) → IsTrue (has_no_empty_text (tree children.now))
+        → IsTrue (has_no_empty_text u)
+        → (tree r ≡ normal_form u) ↔ (styled (tree children.now) ≡ styled u)) }
 {
     let mut simplified = simplify_children(alloc, children)?;
     while !simplified.is_normal() {
@@ -127,13 +141,7 @@ impl ElemChild {
     {
         match self {
             ElemChild::Text(text) => Some(text.formatting),
-            ElemChild::Elem(_) => None,
-            ElemChild::Markup(_) => None,
-            ElemChild::Link { text: _, url: _ } => None,
-            ElemChild::Transparent {
-                cite_idx: _,
-                format: _,
-            } => None,
+            _ => None,
         }
     }
 
@@ -145,15 +153,10 @@ impl ElemChild {
         match self {
             ElemChild::Text(text) => match last {
                 None => true,
-                Some(last) => !(last == text.formatting),
+                Some(last) => last != text.formatting,
             },
             ElemChild::Elem(elem) => !elem.may_inline() && elem.children.is_normal(),
-            ElemChild::Markup(_) => true,
-            ElemChild::Link { text: _, url: _ } => true,
-            ElemChild::Transparent {
-                cite_idx: _,
-                format: _,
-            } => true,
+            _ => true,
         }
     }
 }

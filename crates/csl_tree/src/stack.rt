@@ -29,7 +29,10 @@ impl<T> Model for NonEmptyStack<T> {
 }
 
 impl<T> NonEmptyStack<T> {
-    /// A stack of one item. The only error is want of memory, and drops the item.
+    /// A stack of one item.
+    ///
+    /// # Errors
+    /// [`Memory`]: there was no memory left. The item is dropped.
     pub fn new(alloc: Global, item: T) -> Result<Self, Memory>
     where
         T: Drop,
@@ -40,7 +43,10 @@ impl<T> NonEmptyStack<T> {
         Ok(NonEmptyStack { items })
     }
 
-    /// A stack of one default item. The only error is want of memory.
+    /// A stack of one default item.
+    ///
+    /// # Errors
+    /// [`Memory`]: there was no memory left.
     pub fn with_default(alloc: Global) -> Result<Self, Memory>
     where
         T: Default + Drop,
@@ -63,7 +69,7 @@ impl<T> NonEmptyStack<T> {
         &self.items[self.items.len() - 1]
     }
 
-    /// The last item, to be written. Nothing else changes.
+    /// The last item, as a mutable reference. Nothing else changes.
     pub fn last_mut(&mut self) -> &mut T
         ensures* writes_back { sem 𝓛 (lends_item T.row self.entry (length self.old - 1) result) }
         ensures value { result.now ≡ slice_index_or self.old (length self.old - 1) result.now }
@@ -72,7 +78,7 @@ impl<T> NonEmptyStack<T> {
         &mut self.items[len - 1]
     }
 
-    /// The first item, to be written. Nothing else changes.
+    /// The first item, as a mutable reference. Nothing else changes.
     pub fn first_mut(&mut self) -> &mut T
         ensures* writes_back { sem 𝓛 (lends_item T.row self.entry 0 result) }
         ensures value { result.now ≡ slice_index_or self.old 0 result.now }
@@ -80,6 +86,7 @@ impl<T> NonEmptyStack<T> {
         &mut self.items[0]
     }
 
+    /// The item at a place, as a mutable reference. Nothing else changes.
     fn at_mut(&mut self, i: usize) -> &mut T
         requires { i < length self.old }
         ensures* writes_back { sem 𝓛 (lends_item T.row self.entry i result) }
@@ -91,7 +98,8 @@ impl<T> NonEmptyStack<T> {
     /// The place of the last item that the predicate accepts.
     fn last_accepted<F: Fn(&T) -> bool + Drop>(&self, predicate: F) -> Option<usize>
         requires { F.IsAlwaysCallable predicate }
-        ensures found { IfSome result (λ i. (i < length self.now) × IsLastAt F.Fn predicate self.now i) }
+        ensures found { IfSome result (λ i.
+            (i < length self.now) × IsLastAt F.Fn predicate self.now i) }
         ensures none { IfNone result (RejectsFrom F.Fn predicate self.now 0) }
     {
         let mut i = self.items.len();
@@ -104,12 +112,13 @@ impl<T> NonEmptyStack<T> {
         None
     }
 
-    /// The last item that the predicate accepts, to be written, or `None` where it accepts none.
-    /// Nothing else changes.
+    /// The last item that the predicate accepts, as a mutable reference, or `None` where it accepts
+    /// none. Nothing else changes.
     pub fn last_mut_predicate<F: Fn(&T) -> bool + Drop>(&mut self, predicate: F) -> Option<&mut T>
         requires { F.IsAlwaysCallable predicate }
         ensures* writes_back { sem 𝓛 (lends_some T.row self.entry result) }
-        ensures value { IfSome result (λ r. (i : ℕ) × (i < length self.old) × IsLastAt F.Fn predicate self.old i × (r.now ≡ slice_index_or self.old i r.now)) }
+        ensures value { IfSome result (λ r. (i : ℕ) × (i < length self.old)
+            × IsLastAt F.Fn predicate self.old i × (r.now ≡ slice_index_or self.old i r.now)) }
         ensures none { IfNone result (RejectsFrom F.Fn predicate self.old 0) }
     {
         match self.last_accepted(predicate) {
@@ -118,7 +127,10 @@ impl<T> NonEmptyStack<T> {
         }
     }
 
-    /// Puts an item behind the others. Where there is no memory for it, it comes back.
+    /// Puts an item behind the others.
+    ///
+    /// # Errors
+    /// The item: there was no memory left.
     pub fn push(&mut self, item: T) -> Result<(), T>
         ensures ok { OnOk result (self.new ≡ self.old ++ item ∷ []) }
         ensures back { IfErr result (λ back. back ≡ item) }
@@ -143,11 +155,14 @@ impl<T> NonEmptyStack<T> {
         }
     }
 
-    /// Takes the items from `idx` on, in order, and leaves those before. The only error is want of
-    /// memory, which leaves all.
+    /// Takes the items from `idx` on, in order, and leaves those before.
+    ///
+    /// # Errors
+    /// [`Memory`]: there was no memory left. All items stay.
     pub fn drain(&mut self, idx: NonZeroUsize) -> Result<Vec<T>, Memory>
         requires { non_zero_usize_get idx < length self.old }
-        ensures taken { IfOk result (λ items. items.items ≡ drop (non_zero_usize_get idx) self.old) }
+        ensures taken { IfOk result (λ items.
+            items.items ≡ drop (non_zero_usize_get idx) self.old) }
         ensures left { OnOk result (self.new ≡ take (non_zero_usize_get idx) self.old) }
         ensures err { OnErr result (self.new ≡ self.old) }
     {

@@ -26,7 +26,8 @@ impl Formatting {
     /// Writes the start tag of a span.
     #[tactic(auto, using(lit_model::proofs::Writes::two_writes))]
     fn write_start<S: Sink>(self, sink: &mut S) -> fmt::Result
-        ensures ok { OnOk result (WritesInCalls S.write_str_gives sink.old (html_bytes_of (start_tag (span self))) sink.new) }
+        ensures ok { OnOk result
+            (WritesInCalls S.write_str_gives sink.old (html_bytes_of (start_tag (span self))) sink.new) }
         ensures kept { OnOk result (S.refused sink.new ≡ S.refused sink.old) }
         ensures err { OnErr result (S.refused sink.new ≡ true) }
     {
@@ -46,7 +47,8 @@ impl Formatted {
     /// Writes the text, in HTML within a span unless its formatting is the default.
     #[tactic(auto, using(lit_model::proofs::Writes::three_writes))]
     fn write_into<S: Sink>(&self, sink: &mut S, format: BufWriteFormat) -> fmt::Result
-        ensures ok { OnOk result (WritesInCalls S.write_str_gives sink.old (written format (text_tokens self.now)) sink.new) }
+        ensures ok { OnOk result
+            (WritesInCalls S.write_str_gives sink.old (written format (text_tokens self.now)) sink.new) }
         ensures kept { OnOk result (S.refused sink.new ≡ S.refused sink.old) }
         ensures err { OnErr result (S.refused sink.new ≡ true) }
     {
@@ -70,7 +72,8 @@ fn write_link<S: Sink>(
     sink: &mut S,
     format: BufWriteFormat,
 ) -> fmt::Result
-    ensures ok { OnOk result (WritesInCalls S.write_str_gives sink.old (written format (link_tokens text.now url.now)) sink.new) }
+    ensures ok { OnOk result
+        (WritesInCalls S.write_str_gives sink.old (written format (link_tokens text.now url.now)) sink.new) }
     ensures kept { OnOk result (S.refused sink.new ≡ S.refused sink.old) }
     ensures err { OnErr result (S.refused sink.new ≡ true) }
 {
@@ -127,11 +130,14 @@ struct InFormat<'a, T> {
 }
 
 impl ElemChildren {
-    /// Writes the children to a sink. It fails only where the sink refuses a text; what the sink
-    /// holds then is left open.
+    /// Writes the children to a sink.
+    ///
+    /// # Errors
+    /// [`fmt::Error`]: the sink refused a text. What it holds then is left open.
     #[cycle(write)]
     pub fn write_into<S: Sink>(&self, sink: &mut S, format: BufWriteFormat) -> fmt::Result
-        ensures ok { OnOk result (WritesInCalls S.write_str_gives sink.old (written format (tokens self.now)) sink.new) }
+        ensures ok { OnOk result
+            (WritesInCalls S.write_str_gives sink.old (written format (tokens self.now)) sink.new) }
         ensures kept { OnOk result (S.refused sink.new ≡ S.refused sink.old) }
         ensures err { OnErr result (S.refused sink.new ≡ true) }
     {
@@ -141,12 +147,15 @@ impl ElemChildren {
         Ok(())
     }
 
-    /// Writes the children to any writer. It fails only where the writer refuses a text, as
-    /// `write_into` says of sinks; what the writer holds then is left open.
+    /// Writes the children to any writer. The HTML is a nested list of tags and texts, and its texts
+    /// are those of the leaves.
     ///
-    /// The HTML is a nested list of tags and texts, and its texts are those of the leaves.
+    /// # Errors
+    /// [`fmt::Error`]: the writer refused a text, as `write_into` says of sinks. What it holds then
+    /// is left open.
     pub fn write_buf<W: fmt::Write>(&self, w: &mut W, format: BufWriteFormat) -> fmt::Result
-        ensures ok { OnOk result (WritesInCalls W.write_str_gives w.old (written format (tokens self.now)) w.new) }
+        ensures ok { OnOk result
+            (WritesInCalls W.write_str_gives w.old (written format (tokens self.now)) w.new) }
         ensures nested { IsNested (html (tokens self.now)) }
         ensures leaves { html_text (html (tokens self.now)) ≡ leaf_text (tokens self.now) }
     {
@@ -179,11 +188,14 @@ impl fmt::Display for ElemChildren {
 }
 
 impl Elem {
-    /// Writes the element to a sink. It fails only where the sink refuses a text; what the sink
-    /// holds then is left open.
+    /// Writes the element to a sink.
+    ///
+    /// # Errors
+    /// [`fmt::Error`]: the sink refused a text. What it holds then is left open.
     #[cycle(write)]
     pub fn write_into<S: Sink>(&self, sink: &mut S, format: BufWriteFormat) -> fmt::Result
-        ensures ok { OnOk result (WritesInCalls S.write_str_gives sink.old (written format (elem_tokens self.now)) sink.new) }
+        ensures ok { OnOk result
+            (WritesInCalls S.write_str_gives sink.old (written format (elem_tokens self.now)) sink.new) }
         ensures kept { OnOk result (S.refused sink.new ≡ S.refused sink.old) }
         ensures err { OnErr result (S.refused sink.new ≡ true) }
     {
@@ -193,14 +205,18 @@ impl Elem {
         Ok(())
     }
 
-    /// Writes the element to any writer. It fails only where the writer refuses a text, as
-    /// `write_into` says of sinks; what the writer holds then is left open.
+    /// Writes the element to any writer. The HTML is a nested list of tags and texts, and its texts
+    /// are those of the leaves.
     ///
-    /// The HTML is a nested list of tags and texts, and its texts are those of the leaves.
+    /// # Errors
+    /// [`fmt::Error`]: the writer refused a text, as `write_into` says of sinks. What it holds then
+    /// is left open.
     pub fn write_buf<W: fmt::Write>(&self, w: &mut W, format: BufWriteFormat) -> fmt::Result
-        ensures ok { OnOk result (WritesInCalls W.write_str_gives w.old (written format (elem_tokens self.now)) w.new) }
+        ensures ok { OnOk result
+            (WritesInCalls W.write_str_gives w.old (written format (elem_tokens self.now)) w.new) }
         ensures nested { IsNested (html (elem_tokens self.now)) }
-        ensures leaves { html_text (html (elem_tokens self.now)) ≡ leaf_text (elem_tokens self.now) }
+        ensures leaves { html_text (html (elem_tokens self.now))
+            ≡ leaf_text (elem_tokens self.now) }
     {
         let elem = InFormat { tree: self, format };
         write_text(&elem, w)
@@ -231,11 +247,14 @@ impl fmt::Display for Elem {
 }
 
 impl ElemChild {
-    /// Writes the child to a sink. It fails only where the sink refuses a text; what the sink
-    /// holds then is left open.
+    /// Writes the child to a sink.
+    ///
+    /// # Errors
+    /// [`fmt::Error`]: the sink refused a text. What it holds then is left open.
     #[cycle(write)]
     pub fn write_into<S: Sink>(&self, sink: &mut S, format: BufWriteFormat) -> fmt::Result
-        ensures ok { OnOk result (WritesInCalls S.write_str_gives sink.old (written format (child_tokens self.now)) sink.new) }
+        ensures ok { OnOk result
+            (WritesInCalls S.write_str_gives sink.old (written format (child_tokens self.now)) sink.new) }
         ensures kept { OnOk result (S.refused sink.new ≡ S.refused sink.old) }
         ensures err { OnErr result (S.refused sink.new ≡ true) }
     {
@@ -244,21 +263,22 @@ impl ElemChild {
             ElemChild::Elem(elem) => elem.write_into(sink, format),
             ElemChild::Markup(markup) => sink.put(markup.as_str()),
             ElemChild::Link { text, url } => write_link(text, url.as_str(), sink, format),
-            ElemChild::Transparent {
-                cite_idx: _,
-                format: _,
-            } => Ok(()),
+            ElemChild::Transparent { .. } => Ok(()),
         }
     }
 
-    /// Writes the child to any writer. It fails only where the writer refuses a text, as
-    /// `write_into` says of sinks; what the writer holds then is left open.
+    /// Writes the child to any writer. The HTML is a nested list of tags and texts, and its texts
+    /// are those of the leaves.
     ///
-    /// The HTML is a nested list of tags and texts, and its texts are those of the leaves.
+    /// # Errors
+    /// [`fmt::Error`]: the writer refused a text, as `write_into` says of sinks. What it holds then
+    /// is left open.
     pub fn write_buf<W: fmt::Write>(&self, w: &mut W, format: BufWriteFormat) -> fmt::Result
-        ensures ok { OnOk result (WritesInCalls W.write_str_gives w.old (written format (child_tokens self.now)) w.new) }
+        ensures ok { OnOk result
+            (WritesInCalls W.write_str_gives w.old (written format (child_tokens self.now)) w.new) }
         ensures nested { IsNested (html (child_tokens self.now)) }
-        ensures leaves { html_text (html (child_tokens self.now)) ≡ leaf_text (child_tokens self.now) }
+        ensures leaves { html_text (html (child_tokens self.now))
+            ≡ leaf_text (child_tokens self.now) }
     {
         let child = InFormat { tree: self, format };
         write_text(&child, w)

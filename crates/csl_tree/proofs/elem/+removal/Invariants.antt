@@ -1,7 +1,7 @@
 use Rattle.std.proofs.Common.{◌≡◌, drop, take}
-use Rattle.std.specs.List.{flat_map}
+use Rattle.std.specs.List.{flat_map, find}
 use Rattle.csl_tree.specs.Tokens.{child_tokens}
-use Rattle.csl_tree.specs.Search.{preorder, child_preorder, find, has_meta, NothingNoted}
+use Rattle.csl_tree.specs.Search.{preorder, child_preorder, has_meta, NothingNoted}
 use Rattle.csl_tree.proofs.elem.+removal.Given as goal
 
 -- nothing has changed, and nothing is noted of the elements in the children before this one

@@ -1,7 +1,8 @@
 use Rattle.std.proofs.Common.{◌≡◌, Bool, drop}
+use Rattle.std.specs.List.{find}
 use Rattle.std.specs.Prelude.{flat_map}
 use Rattle.csl_tree.specs.declared.elem.Elem.{Elem}
-use Rattle.csl_tree.specs.Search.{preorder, child_preorder, find, AnswersBy}
+use Rattle.csl_tree.specs.Search.{preorder, child_preorder, AnswersBy}
 use Rattle.csl_tree.proofs.elem.ElemChildren.+find_elem_by.Given as goal
 
 -- no child before this one holds an element that passes
