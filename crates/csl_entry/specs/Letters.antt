@@ -30,15 +30,15 @@ abbrev pub place_of : List ℕ → ℕ
 place_of w = word_value w - 1
 
 -- the next word, last letter first: behind z comes a, and then the letter before counts on
-abbrev pub counted_on : List ℕ → List ℕ
-counted_on [] = 97 ∷ []
-counted_on (c ∷ cs) = (if c == 122 then 97 ∷ counted_on cs else (c + 1) ∷ cs)
+abbrev pub next_reversed : List ℕ → List ℕ
+next_reversed [] = 97 ∷ []
+next_reversed (c ∷ cs) = (if c == 122 then 97 ∷ next_reversed cs else (c + 1) ∷ cs)
 
 -- so many words after `a`, last letter first
-abbrev pub counted : ℕ → List ℕ
-counted zero = 97 ∷ []
-counted (suc n) = counted_on (counted n)
+abbrev pub reversed_word : ℕ → List ℕ
+reversed_word zero = 97 ∷ []
+reversed_word (suc n) = next_reversed (reversed_word n)
 
 -- word number n
 abbrev pub letters : ℕ → List ℕ
-letters n = reverse (counted n)
+letters n = reverse (reversed_word n)

@@ -1,4 +1,5 @@
 use crate::asked::{assert_answer, number_said, text_said};
+use crate::cite::{Told, state};
 use crate::described::pieces;
 use csl_entry::{
     CertainCiteProperties, CitationNumber, CiteProperties, DisambiguateState,
@@ -231,28 +232,6 @@ fn a_locator_of_two_numbers(rt: HostRuntime) -> Result<(), Fail> {
     Ok(())
 }
 
-/// What tells the cite from others.
-#[derive(Clone, Copy, Debug)]
-enum Told {
-    ByNothing,
-    ByNames,
-    ByChoice,
-    BySuffix(u8),
-}
-
-fn state(alloc: Global, told: Told) -> DisambiguateState {
-    match told {
-        Told::ByNothing => DisambiguateState::None,
-        Told::ByNames => {
-            let form = DisambiguatedNameForm::LongFull;
-            let names = NameDisambiguationProperties::new(form, Vec::new(alloc), Vec::new(alloc));
-            DisambiguateState::NameDisambiguation(names)
-        }
-        Told::ByChoice => DisambiguateState::Choose,
-        Told::BySuffix(number) => DisambiguateState::YearSuffix(number),
-    }
-}
-
 /// The text that the cite answers, with the marks of its pieces.
 fn text(
     alloc: Global,
@@ -261,7 +240,7 @@ fn text(
     variable: StandardVariable,
 ) -> Result<String, Fail> {
     let entry = make_sample(alloc)?;
-    let props = cited(None, None, state(alloc, told))?;
+    let props = cited(None, None, state(alloc, told)?)?;
     let cite = instance(&entry, &props).clone()?;
     match cite.resolve_standard_variable(alloc, form, variable)? {
         Some(found) => text_said(alloc, Some(found.as_ref())),
