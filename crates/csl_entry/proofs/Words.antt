@@ -3,7 +3,7 @@ use Rattle.std.proofs.Math.Nat.{pow-suc, pow-le-pow_right, one-le-pow}
 use Rattle.std.proofs.lemmas.Bool.{cases_order}
 use Rattle.std.proofs.lemmas.Grind.{reverse_onto}
 use Rattle.std.proofs.lemmas.Bool.Decides.{nat_tests}
-use Rattle.csl_entry.specs.Letters.{AreLetters, IsWord, IsEarlier, StandsBefore, word_value, place_of, counted_on, counted, letters}
+use Rattle.csl_entry.specs.Letters.{AreLetters, IsWord, IsEarlier, StandsBefore, word_value, place_of, next_reversed, reversed_word, letters}
 
 -- the value of the word of so many a
 abbrev pub ones : ℕ → ℕ
@@ -120,34 +120,34 @@ letters-reverse [] h = tt
 letters-reverse (c ∷ w) h = subst AreLetters (sym (reverse_onto w c [])) (letters-snoc (reverse w) c (letters-reverse w h.2) h.0 h.1)
 
 -- counting on keeps letters, and adds 1 to the value
-pub counted_on-letters : (w : List ℕ) → AreLetters w → AreLetters (counted_on w)
-counted_on-letters [] h = (lit≤ tt, lit≤ tt, tt)
-counted_on-letters (c ∷ w) h = by_last (counted_on-letters w h.2) (c == 122) refl where
-  by_last : AreLetters (counted_on w) → (b : Bool) → (c == 122) ≡ b → AreLetters (if b then 97 ∷ counted_on w else (c + 1) ∷ w)
+pub next_reversed-letters : (w : List ℕ) → AreLetters w → AreLetters (next_reversed w)
+next_reversed-letters [] h = (lit≤ tt, lit≤ tt, tt)
+next_reversed-letters (c ∷ w) h = by_last (next_reversed-letters w h.2) (c == 122) refl where
+  by_last : AreLetters (next_reversed w) → (b : Bool) → (c == 122) ≡ b → AreLetters (if b then 97 ∷ next_reversed w else (c + 1) ∷ w)
   by_last rest true e = (lit≤ tt, lit≤ tt, rest)
   by_last rest false e = (omega (arith, h.0), grind (arith, nat_tests, e, h.1), h.2)
 
-pub counted_on-value : (w : List ℕ) → AreLetters w → value_back (counted_on w) ≡ 1 + value_back w
-counted_on-value [] h = refl
-counted_on-value (c ∷ w) h = by_last (counted_on-value w h.2) (c == 122) refl where
-  by_last : value_back (counted_on w) ≡ 1 + value_back w → (b : Bool) → (c == 122) ≡ b → value_back (if b then 97 ∷ counted_on w else (c + 1) ∷ w) ≡ 1 + value_back (c ∷ w)
+pub next_reversed-value : (w : List ℕ) → AreLetters w → value_back (next_reversed w) ≡ 1 + value_back w
+next_reversed-value [] h = refl
+next_reversed-value (c ∷ w) h = by_last (next_reversed-value w h.2) (c == 122) refl where
+  by_last : value_back (next_reversed w) ≡ 1 + value_back w → (b : Bool) → (c == 122) ≡ b → value_back (if b then 97 ∷ next_reversed w else (c + 1) ∷ w) ≡ 1 + value_back (c ∷ w)
   by_last rest true e = let last : c ≡ 122 = grind (arith, nat_tests, e) in omega (arith, last, rest)
   by_last rest false e = omega (arith, h.0)
 
-pub counted-letters : (n : ℕ) → AreLetters (counted n)
-counted-letters zero = (lit≤ tt, lit≤ tt, tt)
-counted-letters (suc n) = counted_on-letters (counted n) (counted-letters n)
+pub reversed_word-letters : (n : ℕ) → AreLetters (reversed_word n)
+reversed_word-letters zero = (lit≤ tt, lit≤ tt, tt)
+reversed_word-letters (suc n) = next_reversed-letters (reversed_word n) (reversed_word-letters n)
 
-pub counted-value : (n : ℕ) → value_back (counted n) ≡ suc n
-counted-value zero = refl
-counted-value (suc n) = counted_on-value (counted n) (counted-letters n) ∙ omega (arith, counted-value n)
+pub reversed_word-value : (n : ℕ) → value_back (reversed_word n) ≡ suc n
+reversed_word-value zero = refl
+reversed_word-value (suc n) = next_reversed-value (reversed_word n) (reversed_word-letters n) ∙ omega (arith, reversed_word-value n)
 
 -- the word at a place
 pub letters-value : (n : ℕ) → word_value (letters n) ≡ suc n
-letters-value n = value-reverse (counted n) ∙ counted-value n
+letters-value n = value-reverse (reversed_word n) ∙ reversed_word-value n
 
 pub letters-letters : (n : ℕ) → AreLetters (letters n)
-letters-letters n = letters-reverse (counted n) (counted-letters n)
+letters-letters n = letters-reverse (reversed_word n) (reversed_word-letters n)
 
 pub has_value : (w : List ℕ) → IsWord w → 0 < word_value w
 has_value [] h = h.0

@@ -1,6 +1,6 @@
 -- Labels of a citation, as Kwa14 (CSL 1.0.2, Appendix IV: Standard Variables, citation-label).
 -- Letters are extended grapheme clusters (Unicode, UAX #29).
-use Rattle.std.specs.Prelude.{ℕ, true, zero, suc, pos, negsuc, ℤ, ◌+◌, ◌%◌, List, [], ◌∷◌, ◌++◌, Option, Some, None, take, filter, flat_map, chars, encode_utf8_all, codes, string_bytes, nat_lt, option_and_then, if◌then◌else◌}
+use Rattle.std.specs.Prelude.{ℕ, true, zero, suc, pos, negsuc, ℤ, ◌+◌, ◌%◌, List, [], ◌∷◌, ◌++◌, Option, Some, None, take, filter, flat_map, chars, encode_utf8_all, codes, string_bytes, nat_lt, if◌then◌else◌}
 use Rattle.std.specs.Fmt.{decimal}
 use Rattle.std.specs.List.{concat}
 use Rattle.std.specs.Option.{option_or}
@@ -10,11 +10,11 @@ use Rattle.lit_model.specs.declared.date.Date.{Date}
 use Rattle.lit_model.specs.declared.entry.Entry.{Entry, out-Entry}
 use Rattle.lit_model.specs.declared.text.FormatString.{FormatString}
 use Rattle.lit_model.specs.Date.{date_parts}
-use Rattle.lit_model.specs.Entry.{preorder, first_some}
 use Rattle.lit_model.specs.Person.{Named}
 use Rattle.lit_model.specs.Select.{full_of}
 use Rattle.lit_model.specs.Text.{Chunk, chunks}
 use Rattle.csl_entry.specs.Creators.{creators_of}
+use Rattle.csl_entry.specs.EntryDate.{issued, visit_date}
 
 -- the first n letters of a text; all of them where it has fewer
 abbrev pub first_letters : ℕ → List ℕ → List ℕ
@@ -29,8 +29,8 @@ creators_part n other (p ∷ q ∷ r ∷ []) = first_letters 1 p.name ++ first_l
 creators_part n other (p ∷ q ∷ r ∷ s ∷ more) = first_letters n p.name ++ codes "+"
 
 -- the chunks of a text, joined
-abbrev pub joined : List Chunk → List ℕ
-joined cs = flat_map (λ c. c.value) cs
+abbrev pub whole_text : List Chunk → List ℕ
+whole_text cs = flat_map (λ c. c.value) cs
 
 -- the letters among the characters of a key (Unicode Alphabetic)
 abbrev pub alphabetic : List ℕ → List ℕ
@@ -38,16 +38,16 @@ alphabetic key = encode_utf8_all (filter is_alphabetic (chars key))
 
 -- what stands in for the creators: the organization, else the title, both in full; else the letters of the key
 abbrev pub stand_in_of : Option FormatString → Option FormatString → List ℕ → List ℕ
-stand_in_of (Some organization) title key = joined (chunks organization.value)
-stand_in_of None (Some title) key = joined (chunks title.value)
+stand_in_of (Some organization) title key = whole_text (chunks organization.value)
+stand_in_of None (Some title) key = whole_text (chunks title.value)
 stand_in_of None None key = alphabetic key
 
 abbrev pub stand_in : Entry → List ℕ
 stand_in e = stand_in_of (out-Entry e).organization (out-Entry e).title (string_bytes (out-Entry e).key)
 
--- the date of a label: the first along the entry and its parents, else when the first address along them was visited
-abbrev pub date_of : Entry → Option Date
-date_of e = option_or (first_some (λ x. (out-Entry x).date) (preorder e)) (option_and_then (λ u. u.visit_date) (first_some (λ x. (out-Entry x).url) (preorder e)))
+-- the date of a label: the one as issued, else when the first address was visited
+abbrev pub label_date : Entry → Option Date
+label_date e = option_or (issued e) (visit_date e)
 
 -- the last two digits of a year, without its sign; one more where the year is 0 or less
 abbrev pub year_number : ℤ → ℕ
@@ -66,7 +66,7 @@ year_part (Some date) = two_digits (year_number (date_parts date).year)
 
 -- the label of a work: its creators, then its year
 abbrev pub work_label : ℕ → Entry → List ℕ
-work_label n e = creators_part n (stand_in e) (creators_of e) ++ year_part (date_of e)
+work_label n e = creators_part n (stand_in e) (creators_of e) ++ year_part (label_date e)
 
 -- the label of an entry is that of the work that it is a part of
 abbrev pub label : ℕ → Entry → List ℕ

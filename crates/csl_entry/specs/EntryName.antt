@@ -25,11 +25,11 @@ same_named p q =
     && beq p.comma_suffix q.comma_suffix))))
 
 -- the proceedings or the conference, the exhibition that an entry stands in
-abbrev pub chaired : List Rule
-chaired = parent_of [] (Proceedings ∷ Conference ∷ []) ∷ []
+abbrev pub meeting : List Rule
+meeting = parent_of [] (Proceedings ∷ Conference ∷ []) ∷ []
 
-abbrev pub curated : List Rule
-curated = parent_of [] (Exhibition ∷ []) ∷ []
+abbrev pub exhibition : List Rule
+exhibition = parent_of [] (Exhibition ∷ []) ∷ []
 
 -- the persons of the work that was found, if any
 abbrev pub of_found : (Entry → List Person) → Option Entry → List Person
@@ -49,13 +49,13 @@ is_one_of persons p = list_any (λ q. same_named (named q) (named p)) persons
 -- the persons, by variable
 abbrev pub persons_of : Entry → NameVariable → List Person
 persons_of e Author = own_authors e
-persons_of e Chair = of_found (in_role role.Director) (bound_select chaired e)
+persons_of e Chair = of_found (in_role role.Director) (bound_select meeting e)
 persons_of e CollectionEditor = of_found own_editors (collection_of e)
 persons_of e Compiler = in_role role.Compiler e
 persons_of e Composer = in_role role.Composer e
 persons_of e ContainerAuthor = of_found own_authors (container_of e)
 persons_of e Contributor = in_role role.Collaborator e
-persons_of e Curator = of_found (in_role role.Organizer) (bound_select curated e)
+persons_of e Curator = of_found (in_role role.Organizer) (bound_select exhibition e)
 persons_of e Director = of_found (in_role role.Director) (bound_select audio_video e)
 persons_of e Editor = persons_or (out-Entry e).editors (of_found own_editors (container_of e))
 persons_of e EditorialDirector = []

@@ -18,16 +18,16 @@ use Rattle.lit_model.specs.Source.{serial}
 use Rattle.csl_entry.specs.NumericText.{numeric_or_text}
 
 -- a number that a work holds, or its text
-abbrev pub held : Option (MaybeTyped Numeric) → Option (MaybeView NumericView)
-held o = option_map (maybe_view numeric_view) o
+abbrev pub number_answer : Option (MaybeTyped Numeric) → Option (MaybeView NumericView)
+number_answer o = option_map (maybe_view numeric_view) o
 
 -- how many volumes or pages
-abbrev pub counted : Option Numeric → Option (MaybeView NumericView)
-counted o = option_map (λ n. typed (numeric_view n)) o
+abbrev pub numeric_answer : Option Numeric → Option (MaybeView NumericView)
+numeric_answer o = option_map (λ n. typed (numeric_view n)) o
 
 -- a text of a serial number, as the number that it stands for, if it stands for one
-abbrev pub spelled : Option (List ℕ) → Option (MaybeView NumericView)
-spelled o = option_map numeric_or_text o
+abbrev pub serial_answer : Option (List ℕ) → Option (MaybeView NumericView)
+serial_answer o = option_map numeric_or_text o
 
 abbrev volume_in : Entry → Option (MaybeTyped Numeric)
 volume_in e = (out-Entry e).volume
@@ -42,7 +42,7 @@ collection_number e = option_and_then volume_in (collection_of e)
 
 -- the own serial number, or else a chapter's own chapter
 abbrev pub own_number : Entry → Option (MaybeView NumericView)
-own_number e = option_or (spelled (own_serial (codes "serial") e)) (if same_type (out-Entry e).entry_type Chapter then held (out-Entry e).chapter else None)
+own_number e = option_or (serial_answer (own_serial (codes "serial") e)) (if same_type (out-Entry e).entry_type Chapter then number_answer (out-Entry e).chapter else None)
 
 abbrev first_of : MaybeTyped PageRanges → Option NumericView
 first_of (Typed pages) = first_page (pages_view pages)
@@ -69,20 +69,20 @@ abbrev pub volume_number : Entry → Option (MaybeTyped Numeric)
 volume_number e = option_or (option_and_then volume_in (container_of e)) (volume_in e)
 
 abbrev pub number_of : Entry → NumberVariable → Option (MaybeView NumericView)
-number_of e ChapterNumber = held (chapter_number e)
+number_of e ChapterNumber = number_answer (chapter_number e)
 number_of e CitationNumber = None
-number_of e CollectionNumber = held (collection_number e)
-number_of e Edition = held (first_some (λ x. (out-Entry x).edition) (preorder e))
+number_of e CollectionNumber = number_answer (collection_number e)
+number_of e Edition = number_answer (first_some (λ x. (out-Entry x).edition) (preorder e))
 number_of e FirstReferenceNoteNumber = None
-number_of e Issue = held (first_some (λ x. (out-Entry x).issue) (preorder e))
+number_of e Issue = number_answer (first_some (λ x. (out-Entry x).issue) (preorder e))
 number_of e Locator = None
 number_of e Number = own_number e
-number_of e NumberOfPages = counted (out-Entry e).page_total
-number_of e NumberOfVolumes = counted (out-Entry e).volume_total
+number_of e NumberOfPages = numeric_answer (out-Entry e).page_total
+number_of e NumberOfVolumes = numeric_answer (out-Entry e).volume_total
 number_of e PageFirst = option_map typed (first_page_of e)
-number_of e PartNumber = held (part_number e)
-number_of e PrintingNumber = spelled (printing_number e)
+number_of e PartNumber = number_answer (part_number e)
+number_of e PrintingNumber = serial_answer (printing_number e)
 number_of e Section = None
 number_of e SupplementNumber = None
-number_of e Version = spelled (version_number e)
-number_of e Volume = held (volume_number e)
+number_of e Version = serial_answer (version_number e)
+number_of e Volume = number_answer (volume_number e)

@@ -20,16 +20,16 @@ use Rattle.csl_entry.specs.CitationLabel.{label}
 use Rattle.csl_entry.specs.Language.{language_text}
 
 -- a text in the form that is asked for
-abbrev pub shown : LongShortForm → Option FormatString → Option (List Chunk)
-shown form text = option_map (λ t. chunks (select form t)) text
+abbrev pub in_form : LongShortForm → Option FormatString → Option (List Chunk)
+in_form form text = option_map (λ t. chunks (select form t)) text
 
 -- a text as one piece that no style changes
 abbrev pub verbatim : Option (List ℕ) → Option (List Chunk)
 verbatim text = option_map (one_chunk Verbatim) text
 
 -- a language as one piece
-abbrev pub spoken : Option LanguageIdentifier → Option (List Chunk)
-spoken language = option_map (λ l. one_chunk Normal (language_text (language_of l))) language
+abbrev pub language_answer : Option LanguageIdentifier → Option (List Chunk)
+language_answer language = option_map (λ l. one_chunk Normal (language_text (language_of l))) language
 
 -- the text of an address
 abbrev pub web_address : Option QualifiedUrl → Option (List ℕ)
@@ -65,50 +65,50 @@ repository = parent_of [] (Repository ∷ []) ∷ []
 
 -- the answer to each variable, in the form that is asked for
 abbrev pub standard_of : Entry → LongShortForm → StandardVariable → Option (List Chunk)
-standard_of e form var.Abstract = shown form (inherited (λ x. (out-Entry x).abstract_) e)
-standard_of e form var.Annote = shown form (inherited (λ x. (out-Entry x).note) e)
-standard_of e form var.Archive = shown form (inherited (λ x. (out-Entry x).archive) e)
+standard_of e form var.Abstract = in_form form (inherited (λ x. (out-Entry x).abstract_) e)
+standard_of e form var.Annote = in_form form (inherited (λ x. (out-Entry x).note) e)
+standard_of e form var.Archive = in_form form (inherited (λ x. (out-Entry x).archive) e)
 standard_of e form var.ArchiveCollection = None
-standard_of e form var.ArchiveLocation = shown form (out-Entry e).archive_location
+standard_of e form var.ArchiveLocation = in_form form (out-Entry e).archive_location
 standard_of e form var.ArchivePlace = None
-standard_of e form var.Authority = shown form (out-Entry e).organization
-standard_of e form var.CallNumber = shown form (out-Entry e).call_number
+standard_of e form var.Authority = in_form form (out-Entry e).organization
+standard_of e form var.CallNumber = in_form form (out-Entry e).call_number
 standard_of e form var.CitationKey = verbatim (Some (string_bytes (out-Entry e).key))
 standard_of e form var.CitationLabel = Some (one_chunk Normal (label 3 e))
-standard_of e form var.CollectionTitle = shown form (option_and_then own_title (collection_of e))
-standard_of e form var.ContainerTitle = shown form (option_and_then own_title (container_of e))
-standard_of e form var.ContainerTitleShort = shown Short (option_and_then own_title (container_of e))
-standard_of e form var.Dimensions = shown form (out-Entry e).runtime
+standard_of e form var.CollectionTitle = in_form form (option_and_then own_title (collection_of e))
+standard_of e form var.ContainerTitle = in_form form (option_and_then own_title (container_of e))
+standard_of e form var.ContainerTitleShort = in_form Short (option_and_then own_title (container_of e))
+standard_of e form var.Dimensions = in_form form (out-Entry e).runtime
 standard_of e form var.Division = None
 standard_of e form var.DOI = verbatim (own_serial (codes "doi") e)
-standard_of e form var.Event = shown form (option_and_then own_title (bound_select event e))
-standard_of e form var.EventTitle = shown form (option_and_then own_title (bound_select event e))
-standard_of e form var.EventPlace = shown form (option_and_then own_location (bound_select event e))
-standard_of e form var.Genre = shown form (inherited (λ x. (out-Entry x).genre) e)
+standard_of e form var.Event = in_form form (option_and_then own_title (bound_select event e))
+standard_of e form var.EventTitle = in_form form (option_and_then own_title (bound_select event e))
+standard_of e form var.EventPlace = in_form form (option_and_then own_location (bound_select event e))
+standard_of e form var.Genre = in_form form (inherited (λ x. (out-Entry x).genre) e)
 standard_of e form var.ISBN = verbatim (own_serial (codes "isbn") e)
 standard_of e form var.ISSN = verbatim (own_serial (codes "issn") e)
 standard_of e form var.Jurisdiction = None
 standard_of e form var.Keyword = None
-standard_of e form var.Language = spoken (inherited (λ x. (out-Entry x).language) e)
+standard_of e form var.Language = language_answer (inherited (λ x. (out-Entry x).language) e)
 standard_of e form var.License = None
 standard_of e form var.Medium = None
-standard_of e form var.Note = shown form (out-Entry e).note
-standard_of e form var.OriginalPublisher = shown form (press_name (option_and_then own_publisher (bound_select original e)))
-standard_of e form var.OriginalPublisherPlace = shown form (press_place (option_and_then own_publisher (bound_select original e)))
-standard_of e form var.OriginalTitle = shown form (option_and_then own_title (bound_select original e))
+standard_of e form var.Note = in_form form (out-Entry e).note
+standard_of e form var.OriginalPublisher = in_form form (press_name (option_and_then own_publisher (bound_select original e)))
+standard_of e form var.OriginalPublisherPlace = in_form form (press_place (option_and_then own_publisher (bound_select original e)))
+standard_of e form var.OriginalTitle = in_form form (option_and_then own_title (bound_select original e))
 standard_of e form var.PartTitle = None
 standard_of e form var.PMCID = verbatim (own_serial (codes "pmcid") e)
 standard_of e form var.PMID = verbatim (own_serial (codes "pmid") e)
-standard_of e form var.Publisher = shown form (press_name (inherited own_publisher e))
-standard_of e form var.PublisherPlace = shown form (press_place (inherited own_publisher e))
+standard_of e form var.Publisher = in_form form (press_name (inherited own_publisher e))
+standard_of e form var.PublisherPlace = in_form form (press_place (inherited own_publisher e))
 standard_of e form var.References = None
 standard_of e form var.ReviewedGenre = None
 standard_of e form var.ReviewedTitle = None
 standard_of e form var.Scale = None
-standard_of e form var.Source = shown form (option_and_then own_title (bound_select repository e))
+standard_of e form var.Source = in_form form (option_and_then own_title (bound_select repository e))
 standard_of e form var.Status = None
-standard_of e form var.Title = shown form (own_title e)
-standard_of e form var.TitleShort = shown Short (own_title e)
+standard_of e form var.Title = in_form form (own_title e)
+standard_of e form var.TitleShort = in_form Short (own_title e)
 standard_of e form var.URL = verbatim (web_address (inherited (λ x. (out-Entry x).url) e))
-standard_of e form var.VolumeTitle = shown form (option_and_then own_title (bound_select volume_title e))
+standard_of e form var.VolumeTitle = in_form form (option_and_then own_title (bound_select volume_title e))
 standard_of e form var.YearSuffix = None

@@ -2,10 +2,20 @@
 -- a to z, by length and then by alphabet.
 use Rattle.std.specs.Prelude.{ℕ, zero, suc, reverse, if◌then◌else◌, ◌==◌, ◌+◌, ◌-◌, ◌*◌, ◌^◌, ◌<◌, ◌≤◌, ◌≡◌, ◌⊎◌, List, [], ◌∷◌, length}
 
+-- the byte before `a`
+abbrev pub before_a : ℕ
+before_a = 96
+
+abbrev pub letter_a : ℕ
+letter_a = 97
+
+abbrev pub letter_z : ℕ
+letter_z = 122
+
 -- letters from a to z
 abbrev pub AreLetters : List ℕ → Type 0
 AreLetters [] = Unit {0}
-AreLetters (c ∷ cs) = (97 ≤ c) × (c ≤ 122) × AreLetters cs
+AreLetters (c ∷ cs) = (letter_a ≤ c) × (c ≤ letter_z) × AreLetters cs
 
 -- a word has a letter
 abbrev pub IsWord : List ℕ → Type 0
@@ -23,22 +33,22 @@ StandsBefore v w = (length v < length w) ⊎ ((length v ≡ length w) × IsEarli
 -- the value of a word whose letters are the digits 1 to 26
 abbrev pub word_value : List ℕ → ℕ
 word_value [] = 0
-word_value (c ∷ cs) = (c - 96) * 26 ^ length cs + word_value cs
+word_value (c ∷ cs) = (c - before_a) * 26 ^ length cs + word_value cs
 
 -- the place of a word, from 0
 abbrev pub place_of : List ℕ → ℕ
 place_of w = word_value w - 1
 
 -- the next word, last letter first: behind z comes a, and then the letter before counts on
-abbrev pub counted_on : List ℕ → List ℕ
-counted_on [] = 97 ∷ []
-counted_on (c ∷ cs) = (if c == 122 then 97 ∷ counted_on cs else (c + 1) ∷ cs)
+abbrev pub next_reversed : List ℕ → List ℕ
+next_reversed [] = letter_a ∷ []
+next_reversed (c ∷ cs) = (if c == letter_z then letter_a ∷ next_reversed cs else (c + 1) ∷ cs)
 
 -- so many words after `a`, last letter first
-abbrev pub counted : ℕ → List ℕ
-counted zero = 97 ∷ []
-counted (suc n) = counted_on (counted n)
+abbrev pub reversed_word : ℕ → List ℕ
+reversed_word zero = letter_a ∷ []
+reversed_word (suc n) = next_reversed (reversed_word n)
 
 -- word number n
 abbrev pub letters : ℕ → List ℕ
-letters n = reverse (counted n)
+letters n = reverse (reversed_word n)

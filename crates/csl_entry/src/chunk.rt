@@ -7,8 +7,10 @@ ghost use Rattle.lit_model.specs.Text.{chunks};
 use lit_model::{ChunkKind, ChunkedString, Memory, StringChunk};
 use std::alloc::Global;
 
-/// The text as one piece of that kind (CSL 1.0.2, Standard Variables). It fails with `Memory`
-/// where there is no room for the piece.
+/// The text as one piece of that kind (CSL 1.0.2, Standard Variables).
+///
+/// # Errors
+/// [`Memory`]: there was no memory left.
 pub(crate) fn one_chunk(
     alloc: Global,
     text: String,

@@ -3,9 +3,10 @@
 ghost use Rattle.std.specs.Prelude.{◌≡◌, ◌++◌, option_copied, string_bytes, IfOk, OnOk};
 ghost use Rattle.lit_model.specs.Text.{chunks};
 ghost use Rattle.csl_entry.specs.Creators.{creators_of};
-ghost use Rattle.csl_entry.specs.CitationLabel.{first_letters, creators_part, joined, alphabetic, stand_in, date_of, year_number, year_part, label};
+ghost use Rattle.csl_entry.specs.CitationLabel.{first_letters, creators_part, whole_text, alphabetic, stand_in, label_date, year_number, year_part, label};
 
 use crate::creators::creators;
+use crate::entry::visit_date;
 use lit_model::{ChunkedString, Date, Entry, Memory};
 use std::alloc::Global;
 use std::fmt::Write;
@@ -45,19 +46,21 @@ impl Alphanumerical {
     /// organization counts, else the title, else the letters of the key. The year is that of
     /// the date, else that in which the address was visited; without either there is none.
     ///
-    /// The error: there was no memory for the label.
+    /// # Errors
+    /// [`Memory`]: there was no memory left.
     pub fn citation(self, alloc: Global, entry: &Entry) -> Result<String, Memory>
         ensures { IfOk result (λ s. string_bytes s ≡ label self.letters entry.now) }
     {
         let work = entry.get_full();
         let mut label = String::new(alloc);
         self.push_creators(alloc, &mut label, work)?;
-        push_year(&mut label, date_of(work))?;
+        push_year(&mut label, label_date(work))?;
         Ok(label)
     }
 
     fn push_creators(self, alloc: Global, label: &mut String, work: &Entry) -> Result<(), Memory>
-        ensures { OnOk result (string_bytes label.new ≡ string_bytes label.old ++ creators_part self.letters (stand_in work.now) (creators_of work.now)) }
+        ensures { OnOk result (string_bytes label.new ≡ string_bytes label.old
+            ++ creators_part self.letters (stand_in work.now) (creators_of work.now)) }
     {
         let creators = creators(alloc, work)?;
         match creators.as_slice() {
@@ -86,7 +89,8 @@ impl Alphanumerical {
 
 /// Adds the first letters of a text.
 fn push_letters(label: &mut String, text: &str, count: usize) -> Result<(), Memory>
-    ensures { OnOk result (string_bytes label.new ≡ string_bytes label.old ++ first_letters count text.now) }
+    ensures { OnOk result (string_bytes label.new
+        ≡ string_bytes label.old ++ first_letters count text.now) }
 {
     label.extend(text.graphemes(true).take(count))?;
     Ok(())
@@ -97,22 +101,22 @@ fn stand_in(alloc: Global, work: &Entry) -> Result<String, Memory>
     ensures { IfOk result (λ s. string_bytes s ≡ stand_in work.now) }
 {
     let text = match (&work.organization, &work.title) {
-        (Some(organization), _) => joined(alloc, &organization.value)?,
-        (None, Some(title)) => joined(alloc, &title.value)?,
+        (Some(organization), _) => whole_text(alloc, &organization.value)?,
+        (None, Some(title)) => whole_text(alloc, &title.value)?,
         (None, None) => alphabetic(alloc, work.key.as_str())?,
     };
     Ok(text)
 }
 
-fn joined(alloc: Global, text: &ChunkedString) -> Result<String, Memory>
-    ensures { IfOk result (λ s. string_bytes s ≡ joined (chunks text.now)) }
+fn whole_text(alloc: Global, text: &ChunkedString) -> Result<String, Memory>
+    ensures { IfOk result (λ s. string_bytes s ≡ whole_text (chunks text.now)) }
 {
-    let joined = text
+    let whole = text
         .0
         .iter()
         .map(|chunk| chunk.value.as_str())
         .collect(alloc)?;
-    Ok(joined)
+    Ok(whole)
 }
 
 /// The letters of a key.
@@ -124,17 +128,15 @@ fn alphabetic(alloc: Global, key: &str) -> Result<String, Memory>
 }
 
 /// The date whose year a label shows.
-fn date_of(work: &Entry) -> Option<&Date>
-    ensures { option_copied result ≡ date_of work.now }
+fn label_date(work: &Entry) -> Option<&Date>
+    ensures { option_copied result ≡ label_date work.now }
 {
-    match work.date_any() {
-        Some(date) => Some(date),
-        None => work.url_any()?.visit_date.as_ref(),
-    }
+    work.date_any().or(visit_date(work))
 }
 
 fn push_year(label: &mut String, date: Option<&Date>) -> Result<(), Memory>
-    ensures { OnOk result (string_bytes label.new ≡ string_bytes label.old ++ year_part (option_copied date.entry)) }
+    ensures { OnOk result (string_bytes label.new
+        ≡ string_bytes label.old ++ year_part (option_copied date.entry)) }
 {
     if let Some(date) = date {
         write!(label, "{:02}", year_number(date.year()))?;

@@ -108,7 +108,7 @@ impl DisambiguateState {
     /// An equal value.
     ///
     /// # Errors
-    /// `Memory` where there was none for the copy.
+    /// [`Memory`]: there was no memory left.
     pub fn clone(&self, alloc: Global) -> Result<Self, Memory>
         ensures { IfOk result (λ copy. disambiguation_of copy ≡ disambiguation_of self.now) }
     {
@@ -130,7 +130,7 @@ impl<'s> CiteProperties<'s> {
     /// An equal value.
     ///
     /// # Errors
-    /// `Memory` where there was none for the copy.
+    /// [`Memory`]: there was no memory left.
     pub fn clone(&self, alloc: Global) -> Result<CiteProperties<'s>, Memory>
         ensures { IfOk result (λ copy. cite_state copy ≡ cite_state self.now) }
     {

@@ -24,21 +24,23 @@ fn series() -> &'static [Clause<'static>]
 }
 
 /// The creators, in order: the authors; where none are named, the editors; else, by its type,
-/// those who made it. A list that is named and empty counts. The error: there was no memory for
-/// the list.
+/// those who made it. A list that is named and empty counts.
+///
+/// # Errors
+/// [`Memory`]: there was no memory left.
 #[tactic(auto, using(crate::proofs::Persons::named_each))]
 pub(crate) fn creators(alloc: Global, entry: &Entry) -> Result<Vec<&Person>, Memory>
     ensures { IfOk result (λ v. map (λ p. named p.now) v.items ≡ creators_of entry.now) }
 {
     let creators = match (&entry.authors, &entry.editors) {
-        (Some(authors), _) => listed(alloc, authors)?,
-        (None, Some(editors)) => listed(alloc, editors)?,
+        (Some(authors), _) => references(alloc, authors)?,
+        (None, Some(editors)) => references(alloc, editors)?,
         (None, None) => makers(alloc, entry)?,
     };
     Ok(creators)
 }
 
-fn listed(alloc: Global, persons: &[Person]) -> Result<Vec<&Person>, Memory>
+fn references(alloc: Global, persons: &[Person]) -> Result<Vec<&Person>, Memory>
     ensures { IfOk result (λ v. map (λ p. p.now) v.items ≡ persons.now) }
 {
     let mut list = Vec::with_capacity(alloc, persons.len())?;
@@ -71,7 +73,8 @@ fn followed_by<'a>(
     mut first: Vec<&'a Person>,
     mut second: Vec<&'a Person>,
 ) -> Result<Vec<&'a Person>, Memory>
-    ensures { IfOk result (λ v. map (λ p. p.now) v.items ≡ map (λ p. p.now) first.entry.items ++ map (λ p. p.now) second.entry.items) }
+    ensures { IfOk result (λ v. map (λ p. p.now) v.items
+        ≡ map (λ p. p.now) first.entry.items ++ map (λ p. p.now) second.entry.items) }
 {
     first.append(&mut second)?;
     Ok(first)
@@ -84,7 +87,8 @@ fn or_role<'a>(
     entry: &'a Entry,
     role: &PersonRole,
 ) -> Result<Vec<&'a Person>, Memory>
-    ensures { IfOk result (λ v. map (λ p. p.now) v.items ≡ or_else (map (λ p. p.now) persons.entry.items) (in_role role.now entry.now)) }
+    ensures { IfOk result (λ v. map (λ p. p.now) v.items
+        ≡ or_else (map (λ p. p.now) persons.entry.items) (in_role role.now entry.now)) }
 {
     if persons.as_slice().is_empty() {
         return entry.affiliated_with_role(alloc, role);

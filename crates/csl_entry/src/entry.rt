@@ -13,6 +13,7 @@ mod standard;
 use crate::language;
 use crate::taxonomy::EntryLike;
 use csl_style::{DateVariable, Kind, NameVariable, NumberVariable, PageVariable, StandardVariable};
+pub(crate) use date::visit_date;
 pub use kind::{legislation_kind, recording_kind};
 use lit_model::{
     ChunkedString, Date, Entry, LongShortForm, MaybeTyped, Memory, Numeric, PageRanges, Person,

@@ -53,30 +53,31 @@ impl<'s, T: EntryLike> InstanceContext<'s, T> {
     /// Number Variables). The text of a locator is a number where it stands for one.
     ///
     /// # Errors
-    /// `Memory` where there was none for the answer.
+    /// [`Memory`]: there was no memory left.
     pub fn resolve_number_variable(
         &self,
         alloc: Global,
         variable: NumberVariable,
     ) -> Result<Option<NumberVariableResult<'s>>, Memory>
         ensures { IfOk result (λ found. option_map result_view found
-            ≡ look_number (cite_state self.now.cite_props.now) (T.answers self.now.entry.now) variable) }
+            ≡ look_number (cite_state self.now.cite_props.now)
+            (T.answers self.now.entry.now) variable) }
     {
         match variable {
             NumberVariable::CitationNumber => {
                 let number = self.cite_props.speculative.citation_number.get() + 1;
-                Ok(Some(counted(number)))
+                Ok(Some(plain_number(number)))
             }
             NumberVariable::FirstReferenceNoteNumber => {
                 match self.cite_props.certain.first_note_number {
-                    Some(number) => Ok(Some(counted(number.get()))),
+                    Some(number) => Ok(Some(plain_number(number.get()))),
                     None => Ok(None),
                 }
             }
             NumberVariable::Locator => match &self.cite_props.speculative.locator {
                 Some(locator) => {
                     let index = self.cite_props.certain.initial_idx;
-                    let answer = located(alloc, index, locator.1)?;
+                    let answer = locator_answer(alloc, index, locator.1)?;
                     Ok(Some(answer))
                 }
                 None => Ok(None),
@@ -91,14 +92,15 @@ impl<'s, T: EntryLike> InstanceContext<'s, T> {
     /// What the cite answers to a page variable: what its entry does.
     ///
     /// # Errors
-    /// `Memory` where there was none for the answer.
+    /// [`Memory`]: there was no memory left.
     pub fn resolve_page_variable(
         &self,
         alloc: Global,
         variable: PageVariable,
     ) -> Result<Option<PageVariableResult>, Memory>
         ensures { IfOk result (λ found. option_map (maybe_view pages_view) found
-            ≡ look_page (cite_state self.now.cite_props.now) (T.answers self.now.entry.now) variable) }
+            ≡ look_page (cite_state self.now.cite_props.now)
+            (T.answers self.now.entry.now) variable) }
     {
         self.entry.resolve_page_variable(alloc, variable)
     }
@@ -107,7 +109,7 @@ impl<'s, T: EntryLike> InstanceContext<'s, T> {
     /// the entry answers (CSL 1.0.2, Standard Variables).
     ///
     /// # Errors
-    /// `Memory` where there was none for the answer.
+    /// [`Memory`]: there was no memory left.
     pub fn resolve_standard_variable(
         &self,
         alloc: Global,
@@ -115,7 +117,8 @@ impl<'s, T: EntryLike> InstanceContext<'s, T> {
         variable: StandardVariable,
     ) -> Result<Option<Cow<'s, ChunkedString>>, Memory>
         ensures { IfOk result (λ found. option_map (behind chunks) found
-            ≡ look_standard (cite_state self.now.cite_props.now) (T.answers self.now.entry.now) form variable) }
+            ≡ look_standard (cite_state self.now.cite_props.now)
+            (T.answers self.now.entry.now) form variable) }
     {
         match variable {
             StandardVariable::YearSuffix => {
@@ -127,7 +130,7 @@ impl<'s, T: EntryLike> InstanceContext<'s, T> {
 }
 
 /// A number that was counted, with no text around it. It is at most 2147483647, the largest `i32`.
-fn counted<'s>(number: u32) -> NumberVariableResult<'s>
+fn plain_number<'s>(number: u32) -> NumberVariableResult<'s>
     requires { IsNoteNumber number }
     ensures { result_view result ≡ plain_number number }
 {
@@ -136,12 +139,13 @@ fn counted<'s>(number: u32) -> NumberVariableResult<'s>
 }
 
 /// What a locator answers at the cite of that index.
-fn located<'s>(
+fn locator_answer<'s>(
     alloc: Global,
     index: usize,
     payload: LocatorPayload<'_>,
 ) -> Result<NumberVariableResult<'s>, Memory>
-    ensures { IfOk result (λ found. result_view found ≡ locator_answer index (payload_of payload.entry)) }
+    ensures { IfOk result (λ found. result_view found
+        ≡ locator_answer index (payload_of payload.entry)) }
 {
     match payload {
         LocatorPayload::Str(text) => match numeric_or_text(alloc, text)? {
@@ -162,7 +166,8 @@ fn year_suffix<'s>(
     alloc: Global,
     state: &DisambiguateState,
 ) -> Result<Option<Cow<'s, ChunkedString>>, Memory>
-    ensures { IfOk result (λ found. option_map (behind chunks) found ≡ year_suffix (disambiguation_of state.now)) }
+    ensures { IfOk result (λ found. option_map (behind chunks) found
+        ≡ year_suffix (disambiguation_of state.now)) }
 {
     match state {
         DisambiguateState::YearSuffix(number) => {
@@ -170,8 +175,8 @@ fn year_suffix<'s>(
             let text = one_chunk(alloc, word, ChunkKind::Normal)?;
             Ok(Some(Cow::Owned(text)))
         }
-        DisambiguateState::None => Ok(None),
-        DisambiguateState::NameDisambiguation(_) => Ok(None),
-        DisambiguateState::Choose => Ok(None),
+        DisambiguateState::None
+        | DisambiguateState::NameDisambiguation(_)
+        | DisambiguateState::Choose => Ok(None),
     }
 }

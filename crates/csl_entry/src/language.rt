@@ -10,7 +10,8 @@ use std::alloc::Global;
 /// A language as a style prints it (CSL 1.0.2, Standard Variables: language): the language, then
 /// `-` and the region where there is one, as `en-US`.
 ///
-/// The error: there was no memory for the text.
+/// # Errors
+/// [`Memory`]: there was no memory left.
 pub fn csl_language(alloc: Global, language: &LanguageIdentifier) -> Result<String, Memory>
     ensures { IfOk result (λ s. string_bytes s ≡ language_text (language_of language.now)) }
 {

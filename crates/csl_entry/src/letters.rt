@@ -7,21 +7,25 @@ use lit_model::Memory;
 use std::alloc::Global;
 
 /// Word number `n` of the words over a to z, by length and then by alphabet: `a` is number 0, `z`
-/// 25 and `aa` 26 (CSL 1.0.2, Disambiguation: disambiguate-add-year-suffix). It fails with
-/// `Memory` where there is no room for it.
+/// 25 and `aa` 26 (CSL 1.0.2, Disambiguation: disambiguate-add-year-suffix).
+///
+/// # Errors
+/// [`Memory`]: there was no memory left.
 pub fn letter(alloc: Global, n: u8) -> Result<String, Memory>
-    ensures counted { IfOk result (λ s. string_bytes s ≡ letters n) }
+    ensures letters { IfOk result (λ s. string_bytes s ≡ letters n) }
     ensures word { IfOk result (λ s. IsWord (string_bytes s)) }
     ensures place { IfOk result (λ s. place_of (string_bytes s) ≡ n) }
-    ensures order { IfOk result (λ s. (w : List ℕ) → IsWord w → StandsBefore w (string_bytes s) ↔ (place_of w < n)) }
-    ensures only { IfOk result (λ s. (w : List ℕ) → IsWord w → place_of w ≡ n → w ≡ string_bytes s) }
+    ensures order { IfOk result (λ s. (w : List ℕ) → IsWord w →
+        StandsBefore w (string_bytes s) ↔ (place_of w < n)) }
+    ensures only { IfOk result (λ s. (w : List ℕ) → IsWord w →
+        place_of w ≡ n → w ≡ string_bytes s) }
 {
-    let word = spelled(alloc, n)?;
+    let word = word_at(alloc, n)?;
     Ok(word)
 }
 
 /// The word of that place.
-fn spelled(alloc: Global, n: u8) -> Result<String, Memory>
+fn word_at(alloc: Global, n: u8) -> Result<String, Memory>
     ensures word { IfOk result (λ s. IsWord (string_bytes s)) }
     ensures place { IfOk result (λ s. place_of (string_bytes s) ≡ n) }
 {

@@ -35,7 +35,8 @@ impl DisambiguatedNameForm {
     pub fn disambiguate(self, full: bool) -> Option<DisambiguatedNameForm>
         ensures form { result ≡ fuller_form full self }
         ensures fuller { IfSome result (λ form. form_place self < form_place form) }
-        ensures two_steps { IfSome result (λ form. (again after : Bool) → IfSome (fuller_form again form) (λ last. fuller_form after last ≡ None)) }
+        ensures two_steps { IfSome result (λ form. (again after : Bool) →
+            IfSome (fuller_form again form) (λ last. fuller_form after last ≡ None)) }
     {
         match self {
             DisambiguatedNameForm::ShortInitialized => Some(DisambiguatedNameForm::LongInitialized),

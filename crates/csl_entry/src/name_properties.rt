@@ -63,7 +63,7 @@ impl NameDisambiguationProperties {
     /// An equal value.
     ///
     /// # Errors
-    /// `Memory` where there was none for the copy.
+    /// [`Memory`]: there was no memory left.
     pub fn clone(&self, alloc: Global) -> Result<Self, Memory>
         ensures { IfOk result (λ copy. name_properties copy ≡ name_properties self.now) }
     {

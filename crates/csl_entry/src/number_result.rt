@@ -54,7 +54,8 @@ impl<'a> NumberVariableResult<'a> {
         ensures order { IsOrder csl_order }
 
         // Two numbers stand at one place exactly where they differ in what separates them alone.
-        ensures separators { (v w : NumericView) → SameButSeparators v w ↔ (csl_order (regular (typed v)) (regular (typed w)) ≡ Ordering.Equal) }
+        ensures separators { (v w : NumericView) → SameButSeparators v w
+            ↔ (csl_order (regular (typed v)) (regular (typed w)) ≡ Ordering.Equal) }
     {
         match (self, other) {
             (NumberVariableResult::Regular(a), NumberVariableResult::Regular(b)) => {
@@ -75,10 +76,10 @@ impl<'a> NumberVariableResult<'a> {
     /// An equal value, which borrows the number where this one does.
     ///
     /// # Errors
-    /// `Memory` where there was none for the copy.
+    /// [`Memory`]: there was no memory left.
     pub fn clone(&self, alloc: Global) -> Result<NumberVariableResult<'a>, Memory>
         ensures value { IfOk result (λ copy. result_view copy ≡ result_view self.now) }
-        ensures lent { IfOk result (λ copy. is_lent copy ≡ is_lent self.now) }
+        ensures borrows { IfOk result (λ copy. is_lent copy ≡ is_lent self.now) }
     {
         match self {
             NumberVariableResult::Regular(MaybeTyped::Typed(Cow::Borrowed(number))) => {
@@ -103,7 +104,7 @@ impl<'a> NumberOrPageVariableResult<'a> {
     /// An equal value.
     ///
     /// # Errors
-    /// `Memory` where there was none for the copy.
+    /// [`Memory`]: there was no memory left.
     pub fn clone(&self, alloc: Global) -> Result<NumberOrPageVariableResult<'a>, Memory>
         ensures { IfOk result (λ copy. number_or_page_view copy ≡ number_or_page_view self.now) }
     {
@@ -122,7 +123,8 @@ impl<'a> NumberOrPageVariableResult<'a> {
 
 /// How two numbers or texts stand in order.
 fn compare_regular(a: &MaybeTyped<Cow<'_, Numeric>>, b: &MaybeTyped<Cow<'_, Numeric>>) -> Ordering
-    ensures { result ≡ regular_order (maybe_view (behind numeric_view) a.now) (maybe_view (behind numeric_view) b.now) }
+    ensures { result ≡ regular_order (maybe_view (behind numeric_view) a.now)
+        (maybe_view (behind numeric_view) b.now) }
 {
     match (a, b) {
         (MaybeTyped::Typed(a), MaybeTyped::Typed(b)) => compare_numerics(a.as_ref(), b.as_ref()),

@@ -9,12 +9,15 @@ use lit_model::{MaybeTyped, Memory, Numeric, NumericError};
 use std::alloc::Global;
 
 /// The number that a text stands for, or the text itself where it stands for none (CSL 1.0.2,
-/// Number). It fails with `Memory` where there was none for the number or for the copy of the
-/// text.
+/// Number).
+///
+/// # Errors
+/// [`Memory`]: there was no memory left.
 pub(crate) fn numeric_or_text(alloc: Global, text: &str) -> Result<MaybeTyped<Numeric>, Memory>
-    ensures exact { IfOk result (λ found. maybe_view numeric_view found ≡ numeric_or_text text.now) }
+    ensures exact { IfOk result (λ found.
+        maybe_view numeric_view found ≡ numeric_or_text text.now) }
     // It is a number exactly where the characters spell one, and then that one.
-    ensures spelled { IfOk result (λ found. (v : NumericView) →
+    ensures spells { IfOk result (λ found. (v : NumericView) →
         (maybe_view numeric_view found ≡ typed v) ↔ Spells v (chars text.now)) }
 {
     match Numeric::parse(alloc, text) {

@@ -10,8 +10,6 @@ use std::borrow::{Cow, CowStr};
 /// Anything that a style can be rendered for. Each answer is a function of the value, given by
 /// the ghost member `answers`; the key and the language stand apart, and nothing that is printed
 /// depends on them.
-///
-/// A call that takes memory fails with `Memory` where there was none for its answer.
 pub trait EntryLike {
     ghost use Rattle.std.specs.Prelude.{◌≡◌, ℕ, Bool, List, Option, IfOk, map, option_map};
     ghost use Rattle.std.specs.Cow.{cow_str_bytes};
@@ -30,45 +28,65 @@ pub trait EntryLike {
     ghost english: { Self → Option Bool };
 
     /// The number, or its text where it is no number (CSL 1.0.2, Number Variables).
+    ///
+    /// # Errors
+    /// [`Memory`]: there was no memory left.
     fn resolve_number_variable(
         &self,
         alloc: Global,
         variable: NumberVariable,
     ) -> Result<Option<MaybeTyped<Cow<'_, Numeric>>>, Memory>
-        ensures { IfOk result (λ found. option_map (maybe_view (behind numeric_view)) found ≡ (answers self.now).numbers variable) };
+        ensures { IfOk result (λ found. option_map (maybe_view (behind numeric_view)) found
+            ≡ (answers self.now).numbers variable) };
 
     /// The pages, or their text where they are none.
+    ///
+    /// # Errors
+    /// [`Memory`]: there was no memory left.
     fn resolve_page_variable(
         &self,
         alloc: Global,
         variable: PageVariable,
     ) -> Result<Option<MaybeTyped<PageRanges>>, Memory>
-        ensures { IfOk result (λ found. option_map (maybe_view pages_view) found ≡ (answers self.now).pages variable) };
+        ensures { IfOk result (λ found. option_map (maybe_view pages_view) found
+            ≡ (answers self.now).pages variable) };
 
     /// The text, in a form where it has several (CSL 1.0.2, Standard Variables).
+    ///
+    /// # Errors
+    /// [`Memory`]: there was no memory left.
     fn resolve_standard_variable(
         &self,
         alloc: Global,
         form: LongShortForm,
         variable: StandardVariable,
     ) -> Result<Option<Cow<'_, ChunkedString>>, Memory>
-        ensures { IfOk result (λ found. option_map (behind chunks) found ≡ (answers self.now).standards form variable) };
+        ensures { IfOk result (λ found. option_map (behind chunks) found
+            ≡ (answers self.now).standards form variable) };
 
     /// The persons, in order; none where there are none (CSL 1.0.2, Name Variables).
+    ///
+    /// # Errors
+    /// [`Memory`]: there was no memory left.
     fn resolve_name_variable(
         &self,
         alloc: Global,
         variable: NameVariable,
     ) -> Result<Vec<Cow<'_, Person>>, Memory>
-        ensures { IfOk result (λ found. map (behind named) found.items ≡ (answers self.now).names variable) };
+        ensures { IfOk result (λ found. map (behind named) found.items
+            ≡ (answers self.now).names variable) };
 
     /// The date (CSL 1.0.2, Date Variables).
+    ///
+    /// # Errors
+    /// [`Memory`]: there was no memory left.
     fn resolve_date_variable(
         &self,
         alloc: Global,
         variable: DateVariable,
     ) -> Result<Option<Cow<'_, Date>>, Memory>
-        ensures { IfOk result (λ found. option_map (behind date_parts) found ≡ (answers self.now).dates variable) };
+        ensures { IfOk result (λ found. option_map (behind date_parts) found
+            ≡ (answers self.now).dates variable) };
 
     /// Whether the entry is of that kind (CSL 1.0.2, Types). It may be of several, or of none.
     fn matches_entry_type(&self, kind: Kind) -> bool

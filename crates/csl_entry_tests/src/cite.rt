@@ -62,42 +62,59 @@ fn forms_of_a_cite_are_told_apart(rt: HostRuntime) {
     }
 }
 
-/// Forms of the names of the author.
-fn forms(alloc: Global) -> Result<NameDisambiguationProperties, Memory> {
-    let form = DisambiguatedNameForm::ShortFull;
-    let variables = Vec::from_array(alloc, [NameVariable::Author])?;
-    Ok(NameDisambiguationProperties::new(form, variables, Vec::new(alloc)))
+/// What tells a cite from others.
+#[derive(Clone, Copy, Debug)]
+pub enum Told {
+    ByNothing,
+    ByNames,
+    ByChoice,
+    BySuffix(u8),
+}
+
+/// The state of a cite that is told so, where by names by those of the author.
+pub fn state(alloc: Global, told: Told) -> Result<DisambiguateState, Memory> {
+    match told {
+        Told::ByNothing => Ok(DisambiguateState::None),
+        Told::ByNames => {
+            let form = DisambiguatedNameForm::ShortFull;
+            let variables = Vec::from_array(alloc, [NameVariable::Author])?;
+            let names = NameDisambiguationProperties::new(form, variables, Vec::new(alloc));
+            Ok(DisambiguateState::NameDisambiguation(names))
+        }
+        Told::ByChoice => Ok(DisambiguateState::Choose),
+        Told::BySuffix(number) => Ok(DisambiguateState::YearSuffix(number)),
+    }
 }
 
 /// What a state is, and the number that it holds: of variables, or of a year suffix.
 fn said(state: &DisambiguateState) -> (&'static str, usize) {
     match state {
         DisambiguateState::None => ("none", 0),
-        DisambiguateState::NameDisambiguation(properties) => (
-            "names",
-            properties.variables().len(),
-        ),
+        DisambiguateState::NameDisambiguation(properties) => {
+            ("names", properties.variables().len())
+        }
         DisambiguateState::Choose => ("choose", 0),
         DisambiguateState::YearSuffix(number) => ("year suffix", *number as usize),
     }
 }
 
-fn copy_said(alloc: Global, state: DisambiguateState) -> Result<(&'static str, usize), Memory> {
+fn copy_said(alloc: Global, told: Told) -> Result<(&'static str, usize), Memory> {
+    let state = state(alloc, told)?;
     let copy = state.clone(alloc)?;
     Ok(said(&copy))
 }
 
 #[test]
 fn a_copy_of_each_state(rt: HostRuntime) -> Result<(), Memory> {
-    let alloc = rt.alloc();
-    assert_eq!(rt; copy_said(alloc, DisambiguateState::None)?, ("none", 0));
-    assert_eq!(rt; copy_said(alloc, DisambiguateState::Choose)?, ("choose", 0));
-    assert_eq!(rt;
-        copy_said(alloc, DisambiguateState::YearSuffix(3))?,
-        ("year suffix", 3)
-    );
-    let names = DisambiguateState::NameDisambiguation(forms(alloc)?);
-    assert_eq!(rt; copy_said(alloc, names)?, ("names", 1));
+    for (told, wanted) in [
+        (Told::ByNothing, ("none", 0)),
+        (Told::ByChoice, ("choose", 0)),
+        (Told::BySuffix(3), ("year suffix", 3)),
+        (Told::ByNames, ("names", 1)),
+    ] {
+        let copy = copy_said(rt.alloc(), told)?;
+        assert_eq!(rt; copy, wanted, "{told:?}");
+    }
     Ok(())
 }
 
@@ -119,44 +136,45 @@ fn on_page_five() -> Result<CiteProperties<'static>, Fail> {
     })
 }
 
-/// What a copy says for good, what its state is, and what else it says.
-fn copied(
-    alloc: Global,
-) -> Result<
-    (
-        CertainCiteProperties,
-        &'static str,
-        Option<SpecificLocator<'static>>,
-        u32,
-        IbidState,
-    ),
-    Fail,
-> {
+/// What a citation says for good: the note, whether the cite is the first and near a note, and its
+/// index.
+type Certain = (Option<NoteNumber>, bool, bool, usize);
+
+/// What else it says: what tells the cite from others, its place, its number and how it stands to
+/// the one before it.
+type Speculative = (
+    &'static str,
+    Option<SpecificLocator<'static>>,
+    u32,
+    IbidState,
+);
+
+/// What a copy says.
+fn copied(alloc: Global) -> Result<(Certain, Speculative), Fail> {
     let copy = on_page_five()?.clone(alloc)?;
+    let certain = copy.certain;
     let (state, _) = said(&copy.speculative.disambiguation);
-    let speculative = &copy.speculative;
     Ok((
-        copy.certain,
-        state,
-        speculative.locator,
-        speculative.citation_number.get(),
-        speculative.ibid,
+        (
+            certain.first_note_number,
+            certain.is_first,
+            certain.is_near_note,
+            certain.initial_idx,
+        ),
+        (
+            state,
+            copy.speculative.locator,
+            copy.speculative.citation_number.get(),
+            copy.speculative.ibid,
+        ),
     ))
 }
 
 #[test]
 fn a_copy_of_what_a_citation_says(rt: HostRuntime) -> Result<(), Fail> {
-    let (certain, state, locator, citation_number, ibid) = copied(rt.alloc())?;
-    assert_eq!(rt; certain.first_note_number, NoteNumber::new(6));
-    assert_eq!(rt; certain.is_first, true);
-    assert_eq!(rt; certain.is_near_note, false);
-    assert_eq!(rt; certain.initial_idx, 2);
-    assert_eq!(rt; state, "choose");
-    assert_eq!(rt;
-        locator,
-        Some(SpecificLocator(Locator::Page, LocatorPayload::Str("5")))
-    );
-    assert_eq!(rt; citation_number, 4);
-    assert_eq!(rt; ibid, IbidState::Ibid);
+    let (certain, speculative) = copied(rt.alloc())?;
+    assert_eq!(rt; certain, (NoteNumber::new(6), true, false, 2));
+    let page = SpecificLocator(Locator::Page, LocatorPayload::Str("5"));
+    assert_eq!(rt; speculative, ("choose", Some(page), 4, IbidState::Ibid));
     Ok(())
 }

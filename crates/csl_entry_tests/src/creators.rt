@@ -12,15 +12,16 @@ fn authors_come_before_editors(rt: HostRuntime) -> Result<(), Fail> {
             "book; translator Tom; director Dan; editors Ann, Ben; authors Cid",
             "Cid",
         ),
-        // An empty list of authors counts.
-        (
-            "book; translator Tom; director Dan; editors Ann; authors",
-            "key",
-        ),
     ] {
         assert_label(&rt, rt.alloc(), description, wanted)?;
     }
     Ok(())
+}
+
+#[test]
+fn an_empty_list_of_authors_counts(rt: HostRuntime) -> Result<(), Fail> {
+    let description = "book; translator Tom; director Dan; editors Ann; authors";
+    assert_label(&rt, rt.alloc(), description, "key")
 }
 
 #[test]
@@ -50,16 +51,36 @@ fn a_video_is_by_its_directors_or_executive_producers(rt: HostRuntime) -> Result
 }
 
 #[test]
-fn an_episode_is_by_its_directors_and_writers_or_its_series(rt: HostRuntime) -> Result<(), Fail> {
-    for (own, wanted) in [
-        ("video; issue 3; volume 1; writer Wes", "Wes"),
-        ("video; issue 3; volume 1; writer Wes; director Dan", "DW"),
-        ("video; issue 3; volume 1; executive-producer Own", "Sue"),
-        // Without an issue it is a video like any other.
-        ("video; volume 1; executive-producer Own", "Own"),
+fn an_episode_is_by_its_directors_and_writers(rt: HostRuntime) -> Result<(), Fail> {
+    for (description, wanted) in [
+        (
+            "video; issue 3; volume 1; writer Wes; in video; executive-producer Sue",
+            "Wes",
+        ),
+        (
+            "video; issue 3; volume 1; writer Wes; director Dan; in video; executive-producer Sue",
+            "DW",
+        ),
     ] {
-        let description = format!(in rt.alloc(); "{own}; in video; executive-producer Sue")?;
-        assert_label(&rt, rt.alloc(), description.as_str(), wanted)?;
+        assert_label(&rt, rt.alloc(), description, wanted)?;
+    }
+    Ok(())
+}
+
+#[test]
+fn an_episode_is_else_by_those_of_its_series(rt: HostRuntime) -> Result<(), Fail> {
+    for (description, wanted) in [
+        (
+            "video; issue 3; volume 1; executive-producer Own; in video; executive-producer Sue",
+            "Sue",
+        ),
+        // Without an issue it is a video like any other.
+        (
+            "video; volume 1; executive-producer Own; in video; executive-producer Sue",
+            "Own",
+        ),
+    ] {
+        assert_label(&rt, rt.alloc(), description, wanted)?;
     }
     Ok(())
 }

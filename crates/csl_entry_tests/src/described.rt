@@ -2,8 +2,8 @@
 //!
 //! A description has clauses, with `; ` between them. The first is the type of the entry, and each
 //! that follows says one thing of it: `chapter; volume 9; authors Ann, Ben`. `in book` begins the
-//! work that the one before is a part of, and `also journal` a further work that the entry itself is
-//! a part of. What follows is said of that work.
+//! work that the one before is a part of, and `also periodical` a further work that the entry
+//! itself is a part of. What follows is said of that work.
 //!
 //! A number is written as it is, and after `'` where it is a text that is no number. A text has
 //! pieces, with `+` between them, and after `|` its short form; a piece of `Verbatim` kind begins
@@ -21,24 +21,34 @@ use url::Url;
 
 /// The entry that is described.
 pub fn described(alloc: Global, description: &str) -> Result<Entry, Fail> {
-    let mut wholes = description.split("; also ");
-    let mut entry = chain(alloc, wholes.next().unwrap_or(""))?;
-    for whole in wholes {
-        entry.parents.push(chain(alloc, whole)?)?;
+    let mut chains = description.split("; also ");
+    let mut works = chain(alloc, chains.next().unwrap_or(""))?;
+    let Some(mut entry) = works.pop() else {
+        return Err(Fail::from("no work is described"));
+    };
+    for works in chains {
+        let mut whole = chain(alloc, works)?;
+        entry.parents.append(&mut whole)?;
     }
     Ok(entry)
 }
 
-/// The first of the works, each a part of the next.
-fn chain(alloc: Global, works: &str) -> Result<Entry, Fail> {
-    let mut works = works.rsplit("; in ");
-    let mut entry = work(alloc, works.next().unwrap_or(""))?;
-    for part in works {
-        let whole = entry;
-        entry = work(alloc, part)?;
-        entry.parents.push(whole)?;
+/// The first of the works, each a part of the next; alone in a list.
+fn chain(alloc: Global, works: &str) -> Result<Vec<Entry>, Fail> {
+    let mut chain = Vec::new(alloc);
+    for clauses in works.rsplit("; in ") {
+        chain = part_of(alloc, clauses, chain)?;
     }
-    Ok(entry)
+    Ok(chain)
+}
+
+/// The work, a part of these; alone in a list.
+fn part_of(alloc: Global, clauses: &str, mut wholes: Vec<Entry>) -> Result<Vec<Entry>, Fail> {
+    let mut part = work(alloc, clauses)?;
+    part.parents.append(&mut wholes)?;
+    let mut parts = Vec::new(alloc);
+    parts.push(part)?;
+    Ok(parts)
 }
 
 /// The work, of which no parent is said.
@@ -56,27 +66,30 @@ fn work(alloc: Global, clauses: &str) -> Result<Entry, Fail> {
 fn state(alloc: Global, work: &mut Entry, word: &str, value: &str) -> Result<(), Fail> {
     if let Some(field) = text_field(work, word) {
         *field = Some(text(alloc, value)?);
-        return Ok(());
-    }
-    if let Some(field) = number_field(work, word) {
+    } else if let Some(field) = number_field(work, word) {
         *field = Some(number(alloc, value)?);
-        return Ok(());
+    } else if let Some(field) = total_field(work, word) {
+        *field = Some(Numeric::new(integer(value)?));
+    } else if let Some(field) = persons_field(work, word) {
+        *field = Some(persons(alloc, value)?);
+    } else if let Some(role) = role_named(word) {
+        affiliate(alloc, work, role, value)?;
+    } else {
+        state_rest(alloc, work, word, value)?;
     }
-    if let Some(role) = role_named(word) {
-        return affiliate(alloc, work, role, value);
-    }
+    Ok(())
+}
+
+/// Says what no field of a sort holds.
+fn state_rest(alloc: Global, work: &mut Entry, word: &str, value: &str) -> Result<(), Fail> {
     match word {
         "key" => work.key = String::from_str(alloc, value)?,
-        "authors" => work.authors = Some(persons(alloc, value)?),
-        "editors" => work.editors = Some(persons(alloc, value)?),
         "date" => work.date = date(value)?,
         "url" => work.url = Some(address(alloc, value)?),
         "publisher" => work.publisher = Some(publisher(alloc, value)?),
-        "volumes" => work.volume_total = Some(Numeric::new(integer(value)?)),
-        "total" => work.page_total = Some(Numeric::new(integer(value)?)),
         "pages" => work.page_range = Some(pages(alloc, value)?),
-        "serial" => return add_serial(alloc, work, value),
         "language" => work.language = Some(language(alloc, value)?),
+        "serial" => add_serial(alloc, work, value)?,
         _ => return Err(Fail::from("a word that no description has")),
     }
     Ok(())
@@ -109,6 +122,24 @@ fn number_field<'e>(
         "volume" => Some(&mut work.volume),
         "edition" => Some(&mut work.edition),
         "chapter" => Some(&mut work.chapter),
+        _ => None,
+    }
+}
+
+/// The field of that name, where it says how many there are.
+fn total_field<'e>(work: &'e mut Entry, name: &str) -> Option<&'e mut Option<Numeric>> {
+    match name {
+        "volumes" => Some(&mut work.volume_total),
+        "total" => Some(&mut work.page_total),
+        _ => None,
+    }
+}
+
+/// The field of that name, where it holds persons.
+fn persons_field<'e>(work: &'e mut Entry, name: &str) -> Option<&'e mut Option<Vec<Person>>> {
+    match name {
+        "authors" => Some(&mut work.authors),
+        "editors" => Some(&mut work.editors),
         _ => None,
     }
 }

@@ -1,4 +1,5 @@
 use crate::asked::{assert_answer, number_said, text_said};
+use crate::cite::{Told, state};
 use crate::described::pieces;
 use csl_entry::{
     CertainCiteProperties, CitationNumber, CiteProperties, DisambiguateState,
@@ -183,17 +184,24 @@ fn numbers_of_the_citation(rt: HostRuntime) -> Result<(), Fail> {
 }
 
 #[test]
-fn locators(rt: HostRuntime) -> Result<(), Fail> {
+fn locators_that_are_texts(rt: HostRuntime) -> Result<(), Fail> {
     for (page, wanted) in [
         (LocatorPayload::Str(" 12"), "12"),
         (LocatorPayload::Str("12 b"), "'12 b"),
         (LocatorPayload::Str("x"), "'x"),
         (LocatorPayload::Str(""), "'"),
-        (LocatorPayload::Transparent, "@2"),
     ] {
         let number = number(rt.alloc(), None, Some(page), NumberVariable::Locator)?;
         assert_answer(&rt, number.as_str(), wanted, "a locator");
     }
+    Ok(())
+}
+
+#[test]
+fn a_locator_that_the_caller_writes(rt: HostRuntime) -> Result<(), Fail> {
+    let page = Some(LocatorPayload::Transparent);
+    let number = number(rt.alloc(), None, page, NumberVariable::Locator)?;
+    assert_answer(&rt, number.as_str(), "@2", "a locator");
     Ok(())
 }
 
@@ -231,28 +239,6 @@ fn a_locator_of_two_numbers(rt: HostRuntime) -> Result<(), Fail> {
     Ok(())
 }
 
-/// What tells the cite from others.
-#[derive(Clone, Copy, Debug)]
-enum Told {
-    ByNothing,
-    ByNames,
-    ByChoice,
-    BySuffix(u8),
-}
-
-fn state(alloc: Global, told: Told) -> DisambiguateState {
-    match told {
-        Told::ByNothing => DisambiguateState::None,
-        Told::ByNames => {
-            let form = DisambiguatedNameForm::LongFull;
-            let names = NameDisambiguationProperties::new(form, Vec::new(alloc), Vec::new(alloc));
-            DisambiguateState::NameDisambiguation(names)
-        }
-        Told::ByChoice => DisambiguateState::Choose,
-        Told::BySuffix(number) => DisambiguateState::YearSuffix(number),
-    }
-}
-
 /// The text that the cite answers, with the marks of its pieces.
 fn text(
     alloc: Global,
@@ -261,7 +247,7 @@ fn text(
     variable: StandardVariable,
 ) -> Result<String, Fail> {
     let entry = make_sample(alloc)?;
-    let props = cited(None, None, state(alloc, told))?;
+    let props = cited(None, None, state(alloc, told)?)?;
     let cite = instance(&entry, &props).clone()?;
     match cite.resolve_standard_variable(alloc, form, variable)? {
         Some(found) => text_said(alloc, Some(found.as_ref())),
@@ -270,49 +256,25 @@ fn text(
 }
 
 #[test]
-fn year_suffixes_and_texts_of_the_entry(rt: HostRuntime) -> Result<(), Fail> {
-    for (told, form, variable, wanted) in [
-        (
-            Told::BySuffix(0),
-            LongShortForm::Long,
-            StandardVariable::YearSuffix,
-            "a",
-        ),
-        (
-            Told::BySuffix(0),
-            LongShortForm::Short,
-            StandardVariable::YearSuffix,
-            "a",
-        ),
-        (
-            Told::ByNames,
-            LongShortForm::Long,
-            StandardVariable::YearSuffix,
-            "none",
-        ),
-        (
-            Told::ByChoice,
-            LongShortForm::Long,
-            StandardVariable::YearSuffix,
-            "none",
-        ),
-        (
-            Told::ByNothing,
-            LongShortForm::Long,
-            StandardVariable::YearSuffix,
-            "none",
-        ),
-        // All else is asked of the entry.
-        (
-            Told::BySuffix(0),
-            LongShortForm::Long,
-            StandardVariable::Title,
-            "`Nature",
-        ),
+fn a_year_suffix(rt: HostRuntime) -> Result<(), Fail> {
+    for (told, form, wanted) in [
+        (Told::BySuffix(0), LongShortForm::Long, "a"),
+        (Told::BySuffix(0), LongShortForm::Short, "a"),
+        (Told::ByNames, LongShortForm::Long, "none"),
+        (Told::ByChoice, LongShortForm::Long, "none"),
+        (Told::ByNothing, LongShortForm::Long, "none"),
     ] {
-        let text = text(rt.alloc(), told, form, variable)?;
-        assert_answer(&rt, text.as_str(), wanted, "a standard variable");
+        let suffix = text(rt.alloc(), told, form, StandardVariable::YearSuffix)?;
+        assert_answer(&rt, suffix.as_str(), wanted, "a year suffix");
     }
+    Ok(())
+}
+
+#[test]
+fn texts_are_asked_of_the_entry(rt: HostRuntime) -> Result<(), Fail> {
+    let form = LongShortForm::Long;
+    let title = text(rt.alloc(), Told::BySuffix(0), form, StandardVariable::Title)?;
+    assert_answer(&rt, title.as_str(), "`Nature", "the title");
     Ok(())
 }
 

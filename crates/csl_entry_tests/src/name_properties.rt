@@ -17,7 +17,8 @@ fn same(a: &NameDisambiguationProperties, b: &NameDisambiguationProperties) -> b
 
 /// Equal ones feed a hasher the same.
 fn hashed_alike(a: &NameDisambiguationProperties, b: &NameDisambiguationProperties)
-    ensures { name_properties a.now ≡ name_properties b.now → hash_properties.it a.now ≡ hash_properties.it b.now }
+    ensures { name_properties a.now ≡ name_properties b.now
+        → hash_properties.it a.now ≡ hash_properties.it b.now }
 {
     let _same = *a == *b;
 }

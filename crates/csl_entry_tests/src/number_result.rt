@@ -102,16 +102,21 @@ fn answers_in_order(rt: HostRuntime) -> Result<(), Fail> {
 
 #[test]
 fn answers_at_one_place(rt: HostRuntime) -> Result<(), Fail> {
-    for (first, second, equal) in [
-        (Answer::Index(2), Answer::Index(2), true),
-        (Answer::One(-1), Answer::One(-1), true),
-        // What separates the numbers does not count.
-        (Answer::Spelled("1-2"), Answer::Spelled("1, 2"), false),
+    for (first, second) in [
+        (Answer::Index(2), Answer::Index(2)),
+        (Answer::One(-1), Answer::One(-1)),
     ] {
         let compared = compared(rt.alloc(), first, second)?;
-        let wanted = (Ordering::Equal, Ordering::Equal, equal);
+        let wanted = (Ordering::Equal, Ordering::Equal, true);
         assert_eq!(rt; compared, wanted, "{first:?} and {second:?}");
     }
+    Ok(())
+}
+
+#[test]
+fn separators_do_not_count(rt: HostRuntime) -> Result<(), Fail> {
+    let compared = compared(rt.alloc(), Answer::Spelled("1-2"), Answer::Spelled("1, 2"))?;
+    assert_eq!(rt; compared, (Ordering::Equal, Ordering::Equal, false));
     Ok(())
 }
 
@@ -176,39 +181,37 @@ fn copies_are_equal(rt: HostRuntime) -> Result<(), Fail> {
     Ok(())
 }
 
-/// That number, or the pages that are spelled so.
-fn number_or_pages(
-    alloc: Global,
-    number: i32,
-    pages: Option<&str>,
-) -> Result<NumberOrPageVariableResult<'static>, Fail> {
-    if let Some(pages) = pages {
-        let pages = PageRanges::parse(alloc, pages)?;
-        return Ok(NumberOrPageVariableResult::Page(MaybeTyped::Typed(pages)));
-    }
-    let number = made(alloc, Answer::One(number))?;
-    Ok(NumberOrPageVariableResult::Number(number))
+/// The number 7, and page 7.
+fn number_and_page(alloc: Global) -> Result<Vec<NumberOrPageVariableResult<'static>>, Fail> {
+    let mut both = Vec::new(alloc);
+    let number = made(alloc, Answer::One(7))?;
+    both.push(NumberOrPageVariableResult::Number(number))?;
+    let pages = PageRanges::parse(alloc, "7")?;
+    both.push(NumberOrPageVariableResult::Page(MaybeTyped::Typed(pages)))?;
+    Ok(both)
 }
 
-/// Whether the first equals the second, and whether it equals its own copy.
-fn kinds_compared(
-    alloc: Global,
-    first: Option<&str>,
-    second: Option<&str>,
-) -> Result<(bool, bool), Fail> {
-    let first = number_or_pages(alloc, 7, first)?;
-    let mut others = Vec::new(alloc);
-    others.push(number_or_pages(alloc, 7, second)?)?;
-    others.push(first.clone(alloc)?)?;
-    match others.as_slice() {
-        [second, copy] => Ok((same_kind(&first, second), same_kind(copy, &first))),
+/// Whether a copy equals the answer.
+fn equals_own_copy(alloc: Global, answer: &NumberOrPageVariableResult<'_>) -> Result<bool, Fail> {
+    let copy = answer.clone(alloc)?;
+    Ok(same_kind(&copy, answer))
+}
+
+/// Whether the pages equal the number, and whether each equals its own copy.
+fn kinds_compared(alloc: Global) -> Result<(bool, bool, bool), Fail> {
+    let both = number_and_page(alloc)?;
+    match both.as_slice() {
+        [number, pages] => Ok((
+            same_kind(pages, number),
+            equals_own_copy(alloc, pages)?,
+            equals_own_copy(alloc, number)?,
+        )),
         _ => Err(Fail::from("two answers")),
     }
 }
 
 #[test]
 fn pages_are_no_number(rt: HostRuntime) -> Result<(), Fail> {
-    assert_eq!(rt; kinds_compared(rt.alloc(), Some("7"), None)?, (false, true));
-    assert_eq!(rt; kinds_compared(rt.alloc(), None, Some("7"))?, (false, true));
+    assert_eq!(rt; kinds_compared(rt.alloc())?, (false, true, true));
     Ok(())
 }

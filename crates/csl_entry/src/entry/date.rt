@@ -19,7 +19,7 @@ pub(crate) fn date_variable(entry: &Entry, variable: DateVariable) -> Option<Cow
     ensures { option_map (behind date_parts) result ≡ date_of entry.now variable }
 {
     let date = match variable {
-        DateVariable::Accessed => accessed(entry),
+        DateVariable::Accessed => visit_date(entry),
         DateVariable::EventDate => event_date(entry),
         DateVariable::Issued => entry.date_any(),
         DateVariable::OriginalDate => original_date(entry),
@@ -29,7 +29,7 @@ pub(crate) fn date_variable(entry: &Entry, variable: DateVariable) -> Option<Cow
 }
 
 /// When the first address along the entry and its parents was visited.
-fn accessed(entry: &Entry) -> Option<&Date>
+pub(crate) fn visit_date(entry: &Entry) -> Option<&Date>
     ensures { option_copied result ≡ visit_date entry.now }
 {
     entry.url_any()?.visit_date.as_ref()

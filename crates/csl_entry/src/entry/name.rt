@@ -6,7 +6,7 @@ ghost use Rattle.lit_model.specs.Person.{named};
 ghost use Rattle.lit_model.specs.Select.{rule_of, bound_select, audio_video};
 ghost use Rattle.csl_entry.specs.Answers.{behind};
 ghost use Rattle.csl_entry.specs.Creators.{in_role};
-ghost use Rattle.csl_entry.specs.EntryName.{chaired, curated, of_found, own_authors, own_editors, is_one_of, persons_of, names_of};
+ghost use Rattle.csl_entry.specs.EntryName.{meeting, exhibition, of_found, own_authors, own_editors, is_one_of, persons_of, names_of};
 
 use csl_style::NameVariable;
 use lit_model::select::audio_video;
@@ -14,8 +14,10 @@ use lit_model::{Bind, Clause, Entry, EntryType, Memory, Person, PersonRole};
 use std::alloc::Global;
 use std::borrow::Cow;
 
-/// The persons, in order, borrowed from the entry and its parents. The error: there was no memory
-/// for the list.
+/// The persons, in order, borrowed from the entry and its parents.
+///
+/// # Errors
+/// [`Memory`]: there was no memory left.
 pub(super) fn name_variable(
     alloc: Global,
     entry: &Entry,
@@ -24,20 +26,24 @@ pub(super) fn name_variable(
     ensures { IfOk result (λ found. map (behind named) found.items ≡ names_of entry.now variable) }
 {
     match variable {
-        NameVariable::Author => lent(alloc, authors(Some(entry))),
+        NameVariable::Author => name_answer(alloc, authors(Some(entry))),
         NameVariable::Chair => {
-            in_role(alloc, entry.bound_select(chaired()), &PersonRole::Director)
+            in_role(alloc, entry.bound_select(meeting()), &PersonRole::Director)
         }
-        NameVariable::CollectionEditor => lent(alloc, editors(entry.get_collection())),
+        NameVariable::CollectionEditor => name_answer(alloc, editors(entry.get_collection())),
         NameVariable::Compiler => in_role(alloc, Some(entry), &PersonRole::Compiler),
         NameVariable::Composer => in_role(alloc, Some(entry), &PersonRole::Composer),
-        NameVariable::ContainerAuthor => lent(alloc, authors(entry.get_container())),
+        NameVariable::ContainerAuthor => name_answer(alloc, authors(entry.get_container())),
         NameVariable::Contributor => in_role(alloc, Some(entry), &PersonRole::Collaborator),
         NameVariable::Curator => {
-            in_role(alloc, entry.bound_select(curated()), &PersonRole::Organizer)
+            in_role(
+                alloc,
+                entry.bound_select(exhibition()),
+                &PersonRole::Organizer,
+            )
         }
         NameVariable::Director => in_role(alloc, recording(entry), &PersonRole::Director),
-        NameVariable::Editor => lent(alloc, editors_or_of_container(entry)),
+        NameVariable::Editor => name_answer(alloc, editors_or_of_container(entry)),
         NameVariable::EditorTranslator => editor_translators(alloc, entry),
         NameVariable::ExecutiveProducer => {
             in_role(alloc, Some(entry), &PersonRole::ExecutiveProducer)
@@ -45,7 +51,7 @@ pub(super) fn name_variable(
         NameVariable::Illustrator => in_role(alloc, Some(entry), &PersonRole::Illustrator),
         NameVariable::Narrator => in_role(alloc, Some(entry), &PersonRole::Narrator),
         NameVariable::Organizer => in_role(alloc, Some(entry), &PersonRole::Organizer),
-        NameVariable::OriginalAuthor => lent(alloc, authors(entry.get_original())),
+        NameVariable::OriginalAuthor => name_answer(alloc, authors(entry.get_original())),
         NameVariable::Performer => in_role(alloc, Some(entry), &PersonRole::CastMember),
         NameVariable::Producer => in_role(alloc, Some(entry), &PersonRole::Producer),
         NameVariable::ScriptWriter => in_role(alloc, Some(entry), &PersonRole::Writer),
@@ -60,7 +66,7 @@ pub(super) fn name_variable(
     }
 }
 
-static CHAIRED: [Clause<'static>; 1] = [Clause {
+static MEETING: [Clause<'static>; 1] = [Clause {
     own: &[],
     fields: &[],
     parent: Some(&[EntryType::Proceedings, EntryType::Conference]),
@@ -68,13 +74,13 @@ static CHAIRED: [Clause<'static>; 1] = [Clause {
 }];
 
 /// The proceedings or the conference that an entry stands in.
-fn chaired() -> &'static [Clause<'static>]
-    ensures { map rule_of result.now ≡ chaired }
+fn meeting() -> &'static [Clause<'static>]
+    ensures { map rule_of result.now ≡ meeting }
 {
-    &CHAIRED
+    &MEETING
 }
 
-static CURATED: [Clause<'static>; 1] = [Clause {
+static EXHIBITION: [Clause<'static>; 1] = [Clause {
     own: &[],
     fields: &[],
     parent: Some(&[EntryType::Exhibition]),
@@ -82,10 +88,10 @@ static CURATED: [Clause<'static>; 1] = [Clause {
 }];
 
 /// The exhibition that an entry stands in.
-fn curated() -> &'static [Clause<'static>]
-    ensures { map rule_of result.now ≡ curated }
+fn exhibition() -> &'static [Clause<'static>]
+    ensures { map rule_of result.now ≡ exhibition }
 {
-    &CURATED
+    &EXHIBITION
 }
 
 /// The recording that an entry is of, or is.
@@ -126,7 +132,7 @@ fn editors_or_of_container(entry: &Entry) -> &[Person]
 }
 
 /// These persons, as an answer.
-fn lent(alloc: Global, persons: &[Person]) -> Result<Vec<Cow<'_, Person>>, Memory>
+fn name_answer(alloc: Global, persons: &[Person]) -> Result<Vec<Cow<'_, Person>>, Memory>
     ensures { IfOk result (λ found. map (behind named) found.items ≡ map named persons.now) }
 {
     let mut found = Vec::with_capacity(alloc, persons.len())?;
@@ -137,8 +143,12 @@ fn lent(alloc: Global, persons: &[Person]) -> Result<Vec<Cow<'_, Person>>, Memor
 }
 
 /// The same of references to persons.
-fn borrowed<'a>(alloc: Global, persons: &[&'a Person]) -> Result<Vec<Cow<'a, Person>>, Memory>
-    ensures { IfOk result (λ found. map (behind named) found.items ≡ map named (map (λ p. p.now) persons.now)) }
+fn reference_answer<'a>(
+    alloc: Global,
+    persons: &[&'a Person],
+) -> Result<Vec<Cow<'a, Person>>, Memory>
+    ensures { IfOk result (λ found. map (behind named) found.items
+        ≡ map named (map (λ p. p.now) persons.now)) }
 {
     let mut found = Vec::with_capacity(alloc, persons.len())?;
     for person in persons {
@@ -153,12 +163,13 @@ fn in_role<'a>(
     work: Option<&'a Entry>,
     role: &PersonRole,
 ) -> Result<Vec<Cow<'a, Person>>, Memory>
-    ensures { IfOk result (λ found. map (behind named) found.items ≡ map named (of_found (in_role role.now) (option_copied work.entry))) }
+    ensures { IfOk result (λ found. map (behind named) found.items
+        ≡ map named (of_found (in_role role.now) (option_copied work.entry))) }
 {
     match work {
         Some(work) => {
             let persons = work.affiliated_with_role(alloc, role)?;
-            borrowed(alloc, &persons)
+            reference_answer(alloc, &persons)
         }
         None => Ok(Vec::new(alloc)),
     }
@@ -166,7 +177,8 @@ fn in_role<'a>(
 
 /// The entry's own editors who are among its translators too.
 fn editor_translators(alloc: Global, entry: &Entry) -> Result<Vec<Cow<'_, Person>>, Memory>
-    ensures { IfOk result (λ found. map (behind named) found.items ≡ names_of entry.now NameVariable.EditorTranslator) }
+    ensures { IfOk result (λ found. map (behind named) found.items
+        ≡ names_of entry.now NameVariable.EditorTranslator) }
 {
     let mut found = Vec::new(alloc);
     let editors = editors(Some(entry));

@@ -4,7 +4,7 @@ ghost use Rattle.std.specs.Prelude.{◌≡◌, IfOk, option_map, option_copied};
 ghost use Rattle.lit_model.specs.MaybeTyped.{maybe_view, typed};
 ghost use Rattle.lit_model.specs.Numeric.{numeric_view};
 ghost use Rattle.csl_entry.specs.Answers.{behind};
-ghost use Rattle.csl_entry.specs.EntryNumber.{number_of, held, counted, spelled, first_page_of, chapter_number, collection_number, own_number, part_number, printing_number, version_number, volume_number};
+ghost use Rattle.csl_entry.specs.EntryNumber.{number_of, number_answer, numeric_answer, serial_answer, first_page_of, chapter_number, collection_number, own_number, part_number, printing_number, version_number, volume_number};
 
 use crate::numeric_text::numeric_or_text;
 use csl_style::NumberVariable;
@@ -15,28 +15,31 @@ use std::borrow::Cow;
 
 /// The number that an entry answers (CSL 1.0.2, Number Variables), or its text where it is no
 /// number. What the citation knows (`CitationNumber`, `FirstReferenceNoteNumber`, `Locator`) the
-/// entry does not answer, nor `Section` and `SupplementNumber`. It fails with `Memory` where there
-/// was none for a text that is copied or read.
+/// entry does not answer, nor `Section` and `SupplementNumber`.
+///
+/// # Errors
+/// [`Memory`]: there was no memory left.
 pub(crate) fn number_variable(
     alloc: Global,
     entry: &Entry,
     variable: NumberVariable,
 ) -> Result<Option<MaybeTyped<Cow<'_, Numeric>>>, Memory>
-    ensures { IfOk result (λ found. option_map (maybe_view (behind numeric_view)) found ≡ number_of entry.now variable) }
+    ensures { IfOk result (λ found. option_map (maybe_view (behind numeric_view)) found
+        ≡ number_of entry.now variable) }
 {
     match variable {
-        NumberVariable::ChapterNumber => lent(alloc, chapter_number(entry)),
-        NumberVariable::CollectionNumber => lent(alloc, collection_number(entry)),
-        NumberVariable::Edition => lent(alloc, entry.map(|work| work.edition())),
-        NumberVariable::Issue => lent(alloc, entry.map(|work| work.issue())),
+        NumberVariable::ChapterNumber => number_answer(alloc, chapter_number(entry)),
+        NumberVariable::CollectionNumber => number_answer(alloc, collection_number(entry)),
+        NumberVariable::Edition => number_answer(alloc, entry.map(|work| work.edition())),
+        NumberVariable::Issue => number_answer(alloc, entry.map(|work| work.issue())),
         NumberVariable::Number => own_number(alloc, entry),
-        NumberVariable::NumberOfPages => Ok(counted(entry.page_total())),
-        NumberVariable::NumberOfVolumes => Ok(counted(entry.volume_total())),
-        NumberVariable::PageFirst => Ok(counted(first_page(entry))),
-        NumberVariable::PartNumber => lent(alloc, part_number(entry)),
-        NumberVariable::PrintingNumber => read(alloc, printing_number(entry)),
-        NumberVariable::Version => read(alloc, version_number(entry)),
-        NumberVariable::Volume => lent(alloc, volume_number(entry)),
+        NumberVariable::NumberOfPages => Ok(numeric_answer(entry.page_total())),
+        NumberVariable::NumberOfVolumes => Ok(numeric_answer(entry.volume_total())),
+        NumberVariable::PageFirst => Ok(numeric_answer(first_page(entry))),
+        NumberVariable::PartNumber => number_answer(alloc, part_number(entry)),
+        NumberVariable::PrintingNumber => serial_answer(alloc, printing_number(entry)),
+        NumberVariable::Version => serial_answer(alloc, version_number(entry)),
+        NumberVariable::Volume => number_answer(alloc, volume_number(entry)),
         NumberVariable::CitationNumber
         | NumberVariable::FirstReferenceNoteNumber
         | NumberVariable::Locator
@@ -46,11 +49,12 @@ pub(crate) fn number_variable(
 }
 
 /// A number that an entry holds: borrowed, and copied where it is a text.
-fn lent(
+fn number_answer(
     alloc: Global,
     found: Option<&MaybeTyped<Numeric>>,
 ) -> Result<Option<MaybeTyped<Cow<'_, Numeric>>>, Memory>
-    ensures { IfOk result (λ r. option_map (maybe_view (behind numeric_view)) r ≡ held (option_copied found.entry)) }
+    ensures { IfOk result (λ r. option_map (maybe_view (behind numeric_view)) r
+        ≡ number_answer (option_copied found.entry)) }
 {
     match found {
         None => Ok(None),
@@ -63,7 +67,7 @@ fn lent(
 }
 
 /// A number that is no text, borrowed.
-fn counted(found: Option<&Numeric>) -> Option<MaybeTyped<Cow<'_, Numeric>>>
+fn numeric_answer(found: Option<&Numeric>) -> Option<MaybeTyped<Cow<'_, Numeric>>>
     ensures { option_map (maybe_view (behind numeric_view)) result
         ≡ option_map (λ n. typed (numeric_view n)) (option_copied found.entry) }
 {
@@ -74,11 +78,12 @@ fn counted(found: Option<&Numeric>) -> Option<MaybeTyped<Cow<'_, Numeric>>>
 }
 
 /// A text of a serial number, as the number that it stands for, if it stands for one.
-fn read<'a>(
+fn serial_answer<'a>(
     alloc: Global,
     found: Option<&str>,
 ) -> Result<Option<MaybeTyped<Cow<'a, Numeric>>>, Memory>
-    ensures { IfOk result (λ r. option_map (maybe_view (behind numeric_view)) r ≡ spelled (option_copied found.entry)) }
+    ensures { IfOk result (λ r. option_map (maybe_view (behind numeric_view)) r
+        ≡ serial_answer (option_copied found.entry)) }
 {
     let Some(text) = found else {
         return Ok(None);
@@ -107,11 +112,12 @@ fn collection_number(entry: &Entry) -> Option<&MaybeTyped<Numeric>>
 
 /// The work's own serial number, or else a chapter's own chapter.
 fn own_number(alloc: Global, entry: &Entry) -> Result<Option<MaybeTyped<Cow<'_, Numeric>>>, Memory>
-    ensures { IfOk result (λ r. option_map (maybe_view (behind numeric_view)) r ≡ own_number entry.now) }
+    ensures { IfOk result (λ r. option_map (maybe_view (behind numeric_view)) r
+        ≡ own_number entry.now) }
 {
     match entry.keyed_serial_number("serial") {
-        Some(text) => read(alloc, Some(text)),
-        None if entry.entry_type() == EntryType::Chapter => lent(alloc, entry.chapter()),
+        Some(text) => serial_answer(alloc, Some(text)),
+        None if entry.entry_type() == EntryType::Chapter => number_answer(alloc, entry.chapter()),
         None => Ok(None),
     }
 }

@@ -10,13 +10,17 @@ use lit_model::{Entry, MaybeTyped, Memory, PageRanges};
 use std::alloc::Global;
 
 /// The pages that an entry answers (CSL 1.0.2, Number Variables: page): a copy of those on which
-/// it stands itself. It fails with `Memory` where there was none for the copy.
+/// it stands itself.
+///
+/// # Errors
+/// [`Memory`]: there was no memory left.
 pub(crate) fn page_variable(
     alloc: Global,
     entry: &Entry,
     variable: PageVariable,
 ) -> Result<Option<MaybeTyped<PageRanges>>, Memory>
-    ensures { IfOk result (λ found. option_map (maybe_view pages_view) found ≡ pages_of entry.now variable) }
+    ensures { IfOk result (λ found. option_map (maybe_view pages_view) found
+        ≡ pages_of entry.now variable) }
 {
     match (variable, entry.page_range()) {
         (PageVariable::Page, Some(pages)) => {

@@ -4,7 +4,7 @@ ghost use Rattle.std.specs.Prelude.{◌≡◌, IfOk, map, option_and_then, optio
 ghost use Rattle.csl_entry.specs.Answers.{behind};
 ghost use Rattle.csl_entry.specs.Chunk as spec;
 ghost use Rattle.csl_entry.specs.CitationLabel.{label};
-ghost use Rattle.csl_entry.specs.EntryStandard.{own_location, own_publisher, own_title, press_name, press_place, repository, shown, spoken, standard_of, verbatim, web_address};
+ghost use Rattle.csl_entry.specs.EntryStandard.{own_location, own_publisher, own_title, press_name, press_place, repository, in_form, language_answer, standard_of, verbatim, web_address};
 ghost use Rattle.lit_model.specs.declared.text.ChunkKind.TheVariants.{Normal};
 ghost use Rattle.lit_model.specs.Select.{rule_of};
 ghost use Rattle.lit_model.specs.Text.{chunks};
@@ -36,64 +36,70 @@ fn repository() -> &'static [Clause<'static>]
 }
 
 /// The text that an entry answers to a standard variable (CSL 1.0.2, Appendix IV: Variables), in
-/// the form that is asked for, where it has one. What the entry holds is lent; it fails with
-/// `Memory` where there is no room for a text that is made.
+/// the form that is asked for, where it has one. What the entry holds is borrowed.
+///
+/// # Errors
+/// [`Memory`]: there was no memory left.
 pub(crate) fn standard_variable(
     alloc: Global,
     entry: &Entry,
     form: LongShortForm,
     variable: StandardVariable,
 ) -> Result<Option<Cow<'_, ChunkedString>>, Memory>
-    ensures { IfOk result (λ found. option_map (behind chunks) found ≡ standard_of entry.now form variable) }
+    ensures { IfOk result (λ found. option_map (behind chunks) found
+        ≡ standard_of entry.now form variable) }
 {
     match variable {
-        StandardVariable::Abstract => Ok(lent(entry.map(|work| work.abstract_.as_ref()), form)),
-        StandardVariable::Annote => Ok(lent(entry.map(|work| work.note.as_ref()), form)),
-        StandardVariable::Archive => Ok(lent(entry.map(|work| work.archive.as_ref()), form)),
-        StandardVariable::ArchiveLocation => Ok(lent(entry.archive_location(), form)),
-        StandardVariable::Authority => Ok(lent(entry.organization(), form)),
-        StandardVariable::CallNumber => Ok(lent(entry.call_number(), form)),
+        StandardVariable::Abstract => Ok(in_form(entry.map(|work| work.abstract_.as_ref()), form)),
+        StandardVariable::Annote => Ok(in_form(entry.map(|work| work.note.as_ref()), form)),
+        StandardVariable::Archive => Ok(in_form(entry.map(|work| work.archive.as_ref()), form)),
+        StandardVariable::ArchiveLocation => Ok(in_form(entry.archive_location(), form)),
+        StandardVariable::Authority => Ok(in_form(entry.organization(), form)),
+        StandardVariable::CallNumber => Ok(in_form(entry.call_number(), form)),
         StandardVariable::CitationKey => verbatim(alloc, Some(entry.key())),
-        StandardVariable::CitationLabel => labelled(alloc, entry),
-        StandardVariable::CollectionTitle => Ok(lent(title_of(entry.get_collection()), form)),
-        StandardVariable::ContainerTitle => Ok(lent(title_of(entry.get_container()), form)),
+        StandardVariable::CitationLabel => label_answer(alloc, entry),
+        StandardVariable::CollectionTitle => Ok(in_form(title_of(entry.get_collection()), form)),
+        StandardVariable::ContainerTitle => Ok(in_form(title_of(entry.get_container()), form)),
         StandardVariable::ContainerTitleShort => {
-            Ok(lent(title_of(entry.get_container()), LongShortForm::Short))
+            Ok(in_form(title_of(entry.get_container()), LongShortForm::Short))
         }
-        StandardVariable::Dimensions => Ok(lent(entry.runtime(), form)),
+        StandardVariable::Dimensions => Ok(in_form(entry.runtime(), form)),
         StandardVariable::DOI => verbatim(alloc, entry.doi()),
         StandardVariable::Event | StandardVariable::EventTitle => {
-            Ok(lent(title_of(entry.bound_select(event())), form))
+            Ok(in_form(title_of(entry.bound_select(event())), form))
         }
-        StandardVariable::EventPlace => Ok(lent(location_of(entry.bound_select(event())), form)),
-        StandardVariable::Genre => Ok(lent(entry.map(|work| work.genre.as_ref()), form)),
+        StandardVariable::EventPlace => Ok(in_form(location_of(entry.bound_select(event())), form)),
+        StandardVariable::Genre => Ok(in_form(entry.map(|work| work.genre.as_ref()), form)),
         StandardVariable::ISBN => verbatim(alloc, entry.isbn()),
         StandardVariable::ISSN => verbatim(alloc, entry.issn()),
-        StandardVariable::Language => spoken(alloc, entry.map(|work| work.language.as_ref())),
-        StandardVariable::Note => Ok(lent(entry.note(), form)),
+        StandardVariable::Language => language_answer(
+            alloc,
+            entry.map(|work| work.language.as_ref()),
+        ),
+        StandardVariable::Note => Ok(in_form(entry.note(), form)),
         StandardVariable::OriginalPublisher => {
-            Ok(lent(press_name(publisher_of(entry.get_original())), form))
+            Ok(in_form(press_name(publisher_of(entry.get_original())), form))
         }
         StandardVariable::OriginalPublisherPlace => {
-            Ok(lent(press_place(publisher_of(entry.get_original())), form))
+            Ok(in_form(press_place(publisher_of(entry.get_original())), form))
         }
-        StandardVariable::OriginalTitle => Ok(lent(title_of(entry.get_original()), form)),
+        StandardVariable::OriginalTitle => Ok(in_form(title_of(entry.get_original()), form)),
         StandardVariable::PMCID => verbatim(alloc, entry.pmcid()),
         StandardVariable::PMID => verbatim(alloc, entry.pmid()),
-        StandardVariable::Publisher => Ok(lent(
+        StandardVariable::Publisher => Ok(in_form(
             press_name(entry.map(|work| work.publisher.as_ref())),
             form,
         )),
-        StandardVariable::PublisherPlace => Ok(lent(
+        StandardVariable::PublisherPlace => Ok(in_form(
             press_place(entry.map(|work| work.publisher.as_ref())),
             form,
         )),
-        StandardVariable::Source => Ok(lent(title_of(entry.bound_select(repository())), form)),
-        StandardVariable::Title => Ok(lent(entry.title(), form)),
-        StandardVariable::TitleShort => Ok(lent(entry.title(), LongShortForm::Short)),
+        StandardVariable::Source => Ok(in_form(title_of(entry.bound_select(repository())), form)),
+        StandardVariable::Title => Ok(in_form(entry.title(), form)),
+        StandardVariable::TitleShort => Ok(in_form(entry.title(), LongShortForm::Short)),
         StandardVariable::URL => verbatim(alloc, web_address(entry.url_any())),
         StandardVariable::VolumeTitle => {
-            Ok(lent(title_of(entry.bound_select(volume_title())), form))
+            Ok(in_form(title_of(entry.bound_select(volume_title())), form))
         }
         StandardVariable::ArchiveCollection
         | StandardVariable::ArchivePlace
@@ -113,15 +119,19 @@ pub(crate) fn standard_variable(
 }
 
 /// The text in the form that is asked for, as the entry holds it.
-fn lent(text: Option<&FormatString>, form: LongShortForm) -> Option<Cow<'_, ChunkedString>>
-    ensures { option_map (behind chunks) result ≡ shown form (option_copied text.entry) }
+fn in_form(text: Option<&FormatString>, form: LongShortForm) -> Option<Cow<'_, ChunkedString>>
+    ensures { option_map (behind chunks) result ≡ in_form form (option_copied text.entry) }
 {
     Some(Cow::Borrowed(text?.select(form)))
 }
 
-/// The text as one piece that no style changes, where it is known. The error: there was no memory for it.
+/// The text as one piece that no style changes, where it is known.
+///
+/// # Errors
+/// [`Memory`]: there was no memory left.
 fn verbatim<'t>(alloc: Global, text: Option<&str>) -> Result<Option<Cow<'t, ChunkedString>>, Memory>
-    ensures { IfOk result (λ found. option_map (behind chunks) found ≡ verbatim (option_copied text.entry)) }
+    ensures { IfOk result (λ found. option_map (behind chunks) found
+        ≡ verbatim (option_copied text.entry)) }
 {
     match text {
         None => Ok(None),
@@ -133,12 +143,16 @@ fn verbatim<'t>(alloc: Global, text: Option<&str>) -> Result<Option<Cow<'t, Chun
     }
 }
 
-/// The language as one piece, where it is known. The error: there was no memory for it.
-fn spoken<'t>(
+/// The language as one piece, where it is known.
+///
+/// # Errors
+/// [`Memory`]: there was no memory left.
+fn language_answer<'t>(
     alloc: Global,
     language: Option<&LanguageIdentifier>,
 ) -> Result<Option<Cow<'t, ChunkedString>>, Memory>
-    ensures { IfOk result (λ found. option_map (behind chunks) found ≡ spoken (option_copied language.entry)) }
+    ensures { IfOk result (λ found. option_map (behind chunks) found
+        ≡ language_answer (option_copied language.entry)) }
 {
     match language {
         None => Ok(None),
@@ -150,9 +164,13 @@ fn spoken<'t>(
     }
 }
 
-/// The label of an entry as one piece. The error: there was no memory for it.
-fn labelled<'t>(alloc: Global, entry: &Entry) -> Result<Option<Cow<'t, ChunkedString>>, Memory>
-    ensures { IfOk result (λ found. option_map (behind chunks) found ≡ Some (spec.one_chunk Normal (label 3 entry.now))) }
+/// The label of an entry as one piece.
+///
+/// # Errors
+/// [`Memory`]: there was no memory left.
+fn label_answer<'t>(alloc: Global, entry: &Entry) -> Result<Option<Cow<'t, ChunkedString>>, Memory>
+    ensures { IfOk result (λ found. option_map (behind chunks) found
+        ≡ Some (spec.one_chunk Normal (label 3 entry.now))) }
 {
     let text = Alphanumerical::new().citation(alloc, entry)?;
     let label = one_chunk(alloc, text, ChunkKind::Normal)?;

@@ -48,10 +48,6 @@ fn numbers_of_an_entry_and_its_parents(rt: HostRuntime) -> Result<(), Fail> {
         (CHAPTER, NumberVariable::Edition, "3"),
         (CHAPTER, NumberVariable::Volume, "2"),
         (CHAPTER, NumberVariable::PartNumber, "none"),
-        (PAPER, NumberVariable::ChapterNumber, "5"),
-        (PAPER, NumberVariable::Volume, "5"),
-        (PAPER, NumberVariable::CollectionNumber, "none"),
-        (PAPER, NumberVariable::Number, "none"),
         (ARTICLE, NumberVariable::Volume, "20"),
         (ARTICLE, NumberVariable::Issue, "3"),
         (ARTICLE, NumberVariable::PageFirst, "454"),
@@ -61,6 +57,19 @@ fn numbers_of_an_entry_and_its_parents(rt: HostRuntime) -> Result<(), Fail> {
         (LAW, NumberVariable::NumberOfPages, "300"),
     ] {
         assert_number(&rt, rt.alloc(), description, variable, wanted)?;
+    }
+    Ok(())
+}
+
+#[test]
+fn numbers_of_an_article_in_proceedings(rt: HostRuntime) -> Result<(), Fail> {
+    for (variable, wanted) in [
+        (NumberVariable::ChapterNumber, "5"),
+        (NumberVariable::Volume, "5"),
+        (NumberVariable::CollectionNumber, "none"),
+        (NumberVariable::Number, "none"),
+    ] {
+        assert_number(&rt, rt.alloc(), PAPER, variable, wanted)?;
     }
     Ok(())
 }

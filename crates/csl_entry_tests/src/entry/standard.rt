@@ -101,7 +101,6 @@ fn titles_in_the_form_that_is_asked_for(rt: HostRuntime) -> Result<(), Fail> {
             StandardVariable::TitleShort,
             "The Signal-Man",
         ),
-        (FILM, short, StandardVariable::Dimensions, "12 min"),
     ] {
         assert_text(&rt, rt.alloc(), description, form, variable, wanted)?;
     }
@@ -191,18 +190,53 @@ fn long_texts(rt: HostRuntime) -> Result<(), Fail> {
             StandardVariable::PublisherPlace,
             "Leipzig",
         ),
-        // Of the entry alone.
-        (FILM, StandardVariable::ArchiveLocation, "Shelf 4"),
-        (FILM, StandardVariable::Authority, "Film Society"),
-        (FILM, StandardVariable::CallNumber, "RT 27"),
-        // Of the entry or its parents.
+        // The title stands in for the authors, and there is no date.
+        (ARTICLE, StandardVariable::CitationLabel, "Str"),
+    ] {
+        assert_text(
+            &rt,
+            rt.alloc(),
+            description,
+            LongShortForm::Long,
+            variable,
+            wanted,
+        )?;
+    }
+    Ok(())
+}
+
+#[test]
+fn texts_of_the_entry_alone(rt: HostRuntime) -> Result<(), Fail> {
+    for (form, variable, wanted) in [
+        (
+            LongShortForm::Long,
+            StandardVariable::ArchiveLocation,
+            "Shelf 4",
+        ),
+        (
+            LongShortForm::Long,
+            StandardVariable::Authority,
+            "Film Society",
+        ),
+        (LongShortForm::Long, StandardVariable::CallNumber, "RT 27"),
+        (LongShortForm::Short, StandardVariable::Dimensions, "12 min"),
+        (LongShortForm::Long, StandardVariable::Note, "none"),
+        (LongShortForm::Short, StandardVariable::Note, "none"),
+    ] {
+        assert_text(&rt, rt.alloc(), FILM, form, variable, wanted)?;
+    }
+    Ok(())
+}
+
+#[test]
+fn texts_that_parents_share(rt: HostRuntime) -> Result<(), Fail> {
+    for (description, variable, wanted) in [
         (FILM, StandardVariable::Abstract, "Rays in one week."),
         (FILM, StandardVariable::Annote, "Needs a large screen"),
         (FILM, StandardVariable::Archive, "Vault 2"),
         (FILM, StandardVariable::Source, "Ray Tracer"),
+        // The repository itself has the note, and is no entry's parent here.
         (REPOSITORY, StandardVariable::Note, "Needs a large screen"),
-        // The title stands in for the authors, and there is no date.
-        (ARTICLE, StandardVariable::CitationLabel, "Str"),
     ] {
         assert_text(
             &rt,
@@ -260,15 +294,22 @@ fn variables_that_no_work_answers(rt: HostRuntime) -> Result<(), Fail> {
         (CHAPTER, StandardVariable::VolumeTitle),
         // Events of parents of parents do not count.
         (PAPER_OF_PROCEEDINGS, StandardVariable::Event),
-        // A note and the numbers are the entry's own.
-        (FILM, StandardVariable::Note),
-        (CHAPTER_OF_NUMBERED, StandardVariable::DOI),
-        (CHAPTER_OF_NUMBERED, StandardVariable::ISBN),
-        (CHAPTER_OF_NUMBERED, StandardVariable::ISSN),
-        (CHAPTER_OF_NUMBERED, StandardVariable::PMCID),
-        (CHAPTER_OF_NUMBERED, StandardVariable::PMID),
     ] {
         assert_both(&rt, rt.alloc(), description, variable, "none")?;
+    }
+    Ok(())
+}
+
+#[test]
+fn numbers_are_the_entrys_own(rt: HostRuntime) -> Result<(), Fail> {
+    for variable in [
+        StandardVariable::DOI,
+        StandardVariable::ISBN,
+        StandardVariable::ISSN,
+        StandardVariable::PMCID,
+        StandardVariable::PMID,
+    ] {
+        assert_both(&rt, rt.alloc(), CHAPTER_OF_NUMBERED, variable, "none")?;
     }
     Ok(())
 }
@@ -311,7 +352,7 @@ fn is_borrowed(
 }
 
 #[test]
-fn texts_that_an_entry_holds_are_borrowed(rt: HostRuntime) -> Result<(), Fail> {
+fn texts_that_an_entry_holds_are_lent(rt: HostRuntime) -> Result<(), Fail> {
     for (variable, wanted) in [
         (StandardVariable::TitleShort, Some(true)),
         (StandardVariable::CollectionTitle, Some(true)),
