@@ -49,10 +49,7 @@ impl LayoutRenderingElement {
     fn is_group(&self) -> bool
         ensures { result ≡ is_group (view self.now) }
     {
-        match self {
-            LayoutRenderingElement::Text(_) => false,
-            LayoutRenderingElement::Group(_) => true,
-        }
+        matches!(self, LayoutRenderingElement::Group(_))
     }
 
     /// Whether the node prints something, and what it notes.

@@ -10,10 +10,7 @@ pub struct Output<'a, R> {
 
 impl<R: Print> fmt::Write for Output<'_, R> {
     fn write_str(&mut self, s: &str) -> fmt::Result {
-        match self.rt.print(s) {
-            Ok(()) => Ok(()),
-            Err(_) => Err(fmt::Error),
-        }
+        self.rt.print(s).map_err(|_| fmt::Error)
     }
 }
 
@@ -25,9 +22,6 @@ pub struct Fault<'a, R> {
 
 impl<R: Eprint> fmt::Write for Fault<'_, R> {
     fn write_str(&mut self, s: &str) -> fmt::Result {
-        match self.rt.eprint(s) {
-            Ok(()) => Ok(()),
-            Err(_) => Err(fmt::Error),
-        }
+        self.rt.eprint(s).map_err(|_| fmt::Error)
     }
 }

@@ -1,5 +1,5 @@
--- What a film answers to a style, as plain data.
-use Rattle.std.specs.Prelude.{ℕ, List, [], ◌∷◌, Option, Some, None, Bool, true, false}
+-- A film: what it answers to a style, as plain data, and one that is made.
+use Rattle.std.specs.Prelude.{◌≡◌, ℕ, pos, List, [], ◌∷◌, Option, Some, None, Bool, true, false, codes}
 use Rattle.lit_model.specs.Date.{Parts, date_parts}
 use Rattle.lit_model.specs.Person.{Named, named}
 use Rattle.lit_model.specs.Text.{Chunk, chunks}
@@ -14,6 +14,7 @@ use Rattle.csl_style.specs.declared.taxonomy.StandardVariable.{StandardVariable}
 use Rattle.csl_style.specs.declared.taxonomy.StandardVariable.TheVariants.{Title}
 use Rattle.csl_entry.specs.Answers.{Answers}
 use Rattle.csl_entry.specs.CitationLabel.{joined}
+use Rattle.csl_uses.specs.Book.{one_piece, person_of}
 use Rattle.csl_uses.specs.declared.film.Film.{Film}
 
 abbrev pub text_of : Film → StandardVariable → Option (List Chunk)
@@ -49,3 +50,11 @@ title_among None = []
 
 abbrev pub title_of : Answers → List ℕ
 title_of answers = title_among (answers.standards Long Title)
+
+abbrev pub january_10_1927 : Parts
+january_10_1927 = record { year = pos 1927; month = Some 0; day = Some 9; season = None; approximate = false }
+
+pub record IsMetropolis (film : Film) : Type 0 where
+  pub title_is : chunks film.title ≡ (one_piece (codes "Metropolis")).value
+  pub director_is : named film.director ≡ person_of (codes "Lang") (codes "Fritz")
+  pub date_is : date_parts film.shown ≡ january_10_1927

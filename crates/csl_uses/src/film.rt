@@ -3,7 +3,7 @@
 ghost use Rattle.std.specs.Prelude.{◌≡◌, IfOk, string_bytes};
 ghost use Rattle.lit_model.specs.Text.{chunks};
 ghost use Rattle.csl_entry.specs.CitationLabel.{joined};
-ghost use Rattle.csl_uses.specs.Film.{answers_of, title_of};
+ghost use Rattle.csl_uses.specs.Film.{IsMetropolis, answers_of, title_of};
 
 use crate::book::{person, text};
 use crate::error::UseError;
@@ -109,7 +109,9 @@ impl EntryLike for Film {
 /// # Errors
 /// [`UseError::Memory`]: there was no memory left.
 /// [`UseError::NoSuchDay`]: the date is not on the calendar.
-pub fn metropolis(alloc: Global) -> Result<Film, UseError> {
+pub fn metropolis(alloc: Global) -> Result<Film, UseError>
+    ensures { IfOk result IsMetropolis }
+{
     // Months and days count from 0: this is the tenth of January.
     let shown = Date::new(1927, Some(0), Some(9), None, false).ok_or(UseError::NoSuchDay)?;
     Ok(Film {

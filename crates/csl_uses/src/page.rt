@@ -29,7 +29,8 @@ fn page(alloc: Global) -> Result<ElemChildren, Memory>
     Ok(page)
 }
 
-/// Writes the page as HTML to any writer. Where the writer refuses a text, what it holds is left open.
+/// Writes the page as HTML to any writer. Where the writer refuses a text, what it holds is left
+/// open.
 ///
 /// # Errors
 /// [`UseError::Memory`]: there was no memory left.
