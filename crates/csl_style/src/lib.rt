@@ -27,6 +27,7 @@ pub use element::{
 pub use formatting::{
     Display, FontStyle, FontVariant, FontWeight, Formatting, TextDecoration, VerticalAlign,
 };
+pub use lit_model::LongShortForm;
 pub use locale::{Locale, LocaleOrdinals, OrdinalMatch, OrdinalSlot, OrdinalTerm, TermEntry};
 pub use names::{
     DelimiterBehavior, EtAl, InheritableNameOptions, InheritedNameOptions, Name, NameAnd,
@@ -42,5 +43,3 @@ pub use taxonomy::{
 };
 pub use term::{OtherTerm, Term, TermForm};
 pub use text::{Text, TextTarget};
-
-pub use lit_model::LongShortForm;

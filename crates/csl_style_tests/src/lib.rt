@@ -19,13 +19,14 @@ mod names;
 #[cfg(test)]
 mod number;
 #[cfg(test)]
-mod style;
-#[cfg(test)]
-mod taxonomy;
-#[cfg(test)]
-mod term;
 mod of_citation;
 #[cfg(test)]
 mod options_of_scopes;
 #[cfg(test)]
 mod reach;
+#[cfg(test)]
+mod style;
+#[cfg(test)]
+mod taxonomy;
+#[cfg(test)]
+mod term;

@@ -40,14 +40,7 @@ fn style(
         delimiter: None,
         formatting: Formatting::default(),
     };
-    Style::new(
-        alloc,
-        settings,
-        Vec::new(alloc),
-        citation,
-        None,
-        locales,
-    )
+    Style::new(alloc, settings, Vec::new(alloc), citation, None, locales)
 }
 
 /// The form and the delimiter that names of a scope inherit, where these are set for the style,
