@@ -1,5 +1,5 @@
 -- `==` of metas and texts compares what they say.
-use Rattle.std.proofs.Common.{◌≡◌, ℕ, Bool, ◌&&◌, List, [], ◌∷◌, map, refl, ap, rules}
+use Rattle.std.proofs.Common.{◌≡◌, ℕ, Bool, ◌&&◌, List, [], ◌∷◌, map, ap, rules}
 use Rattle.std.specs.Prelude.{Vec, Option, Some, None}
 use Rattle.std.specs.Bool.{Decides}
 use Rattle.std.specs.Option.{option_eq}
@@ -23,14 +23,14 @@ use Rattle.csl_style.specs.declared.formatting.TextDecoration.{TextDecoration}
 use Rattle.csl_style.specs.contracts.formatting.TextDecorationPartialEq.TheImpl.{eq-value as eq_decoration}
 use Rattle.csl_style.specs.declared.formatting.VerticalAlign.{VerticalAlign}
 use Rattle.csl_style.specs.contracts.formatting.VerticalAlignPartialEq.TheImpl.{eq-value as eq_align}
-use Rattle.csl_tree.specs.Tokens.{Token, text, solid, text_tokens, names_of, Meta, of_names, meta_of, optional_meta}
+use Rattle.csl_tree.specs.Tokens.{Token, text, text_tokens, names_of, Meta, of_names, meta_of, optional_meta}
 use Rattle.csl_tree.specs.Formatting.{default_formatting}
 use Rattle.csl_tree.specs.declared.formatting.Formatting.{Formatting}
 use Rattle.csl_tree.specs.declared.formatting.Formatted.{Formatted}
 use Rattle.csl_tree.specs.contracts.formatting.FormattingPartialEq.TheImpl.{eq-value as eq_formatting}
 use Rattle.csl_tree.specs.contracts.formatting.FormattedPartialEq.TheImpl.{eq-value as eq_formatted}
 use Rattle.csl_tree.specs.declared.elem.ElemMeta.{ElemMeta}
-use Rattle.csl_tree.specs.declared.elem.ElemMeta.TheVariants.{Names, Date, Text, Number, Label, CitationNumber, Name, Entry, CitationLabel}
+use Rattle.csl_tree.specs.declared.elem.ElemMeta.TheVariants.{Names}
 use Rattle.csl_tree.specs.contracts.elem.ElemMetaPartialEq.TheImpl.{eq-value as eq_meta}
 
 abbrev same_names : Vec Person Global × NameVariable → Vec Person Global × NameVariable → Bool

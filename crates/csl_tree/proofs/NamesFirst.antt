@@ -1,11 +1,11 @@
 -- The element that the path leads to is the first of names in preorder.
-use Rattle.std.proofs.Common.{◌≡◌, ℕ, ◌+◌, ◌<◌, length, suc, Bool, true, false, List, [], ◌∷◌, ◌++◌, map, refl, sym, ap, ◌∙◌, subst, arith, slice_index_or, Option, Some, None, is_some}
+use Rattle.std.proofs.Common.{◌≡◌, ℕ, ◌+◌, ◌<◌, length, suc, Bool, true, false, List, [], ◌∷◌, map, refl, sym, ap, ◌∙◌, subst, arith, slice_index_or, Option, Some, None, is_some}
 use Rattle.std.specs.Prelude.{unwrap_or}
 use Rattle.std.specs.List.{flat_map, find}
 use Rattle.std.specs.Option.{option_or}
 use Rattle.csl_tree.specs.Search.{preorder, child_preorder, is_names, elem_of, layer_elem}
-use Rattle.csl_tree.specs.Places.{children_of, layer_children, child_at, down, no_child}
-use Rattle.csl_tree.specs.Named.{Found, absent, here, below, find_of_child, names_find, first_found, found_or, find_from, find_inside, elem_at, first_names, is_found, more}
+use Rattle.csl_tree.specs.Places.{children_of, layer_children, child_at, no_child}
+use Rattle.csl_tree.specs.Named.{Found, absent, here, below, find_of_child, names_find, first_found, found_or, find_from, elem_at, first_names, is_found, more}
 use Rattle.csl_tree.specs.declared.elem.ElemChild.{ElemChild}
 use Rattle.csl_tree.specs.declared.elem.ElemChild.TheOpen.{ElemChild-F, Elem-F, ElemChildren-F, Text, Elem, Markup, Link, Transparent}
 use Rattle.csl_tree.specs.declared.elem.ElemChild.TheViews.{out-ElemChild, out-roll-ElemChild, roll-ElemChild, roll-Elem, roll-ElemChildren}

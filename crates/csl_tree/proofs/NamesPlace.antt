@@ -1,15 +1,14 @@
 -- Where the path to the first element of names leads.
-use Rattle.std.proofs.Common.{◌≡◌, ℕ, ◌-◌, ◌+◌, ◌<◌, ◌≤◌, suc, zero, Bool, true, false, not, List, [], ◌∷◌, length, map, drop, get_or, refl, sym, ap, ◌∙◌, arith, rules, slice_index_or, Option, Some, None, is_some}
-use Rattle.std.proofs.lemmas.Grind.{common_steps}
+use Rattle.std.proofs.Common.{◌≡◌, ℕ, ◌+◌, ◌<◌, suc, Bool, true, false, not, List, [], ◌∷◌, length, map, refl, sym, ap, ◌∙◌, arith, slice_index_or, Option, Some, None, is_some}
 use Rattle.std.specs.Prelude.{unwrap_or}
 use Rattle.std.specs.declared.vec.Vec.{Vec}
 use Rattle.std.specs.declared.alloc.Global.{Global}
-use Rattle.csl_tree.specs.Places.{children_of, layer_children, with_children, child_at, put_child, down, get_at, put_at, no_child}
-use Rattle.csl_tree.specs.Named.{Found, absent, here, below, find_child, find_elem, find_children, find_from, find_inside, first_found, found_or, names_find, find_of_child, levels, some_levels, names_path, more, head, names_below, names_index, names_items, put_names_items, is_found, is_here, more_here, here_index, end_of, elem_at, put_elem_at, first_names, put_first_names}
+use Rattle.csl_tree.specs.Places.{children_of, layer_children, child_at, put_child, down, get_at, put_at, no_child}
+use Rattle.csl_tree.specs.Named.{Found, absent, here, below, find_child, find_elem, find_children, find_from, first_found, found_or, names_find, find_of_child, levels, some_levels, names_path, more, head, names_below, names_index, names_items, put_names_items, is_found, is_here, more_here, here_index, end_of, elem_at, put_elem_at, first_names, put_first_names}
 use Rattle.std.specs.Vec.{with_item}
 use Rattle.csl_tree.specs.declared.elem.ElemChild.TheVariants as variants
 use Rattle.csl_tree.specs.declared.elem.ElemChild.{ElemChild}
-use Rattle.csl_tree.specs.declared.elem.ElemChild.TheOpen.{ElemChild-F, Elem-F, ElemChildren-F, Text, Elem, Markup, Link, Transparent}
+use Rattle.csl_tree.specs.declared.elem.ElemChild.TheOpen.{ElemChild-F, Text, Elem, Markup, Link, Transparent}
 use Rattle.csl_tree.specs.declared.elem.ElemChild.TheViews.{out-ElemChild}
 use Rattle.csl_tree.specs.declared.elem.ElemChild.TheFolds.{fold-Elem, fold_out-ElemChild, fold_out-Elem, fold_out-ElemChildren, map-ElemChild}
 use Rattle.csl_tree.specs.declared.elem.Elem as elem

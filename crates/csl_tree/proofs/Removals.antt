@@ -1,6 +1,6 @@
 -- What is left of a tree when an element was taken out.
-use Rattle.std.proofs.Common.{◌≡◌, ℕ, ◌+◌, ◌<◌, suc, zero, arith, Bool, true, false, ◌||◌, List, [], ◌∷◌, ◌++◌, Option, Some, None, length, get_or, set, take, drop, refl, sym, ap, ◌∙◌, subst, append_assoc, add-one, drop-cons}
-use Rattle.std.specs.Prelude.{Vec, option_map, slice_set, option_copied, is_some, is_none, unwrap_or, IfSome, IfNone}
+use Rattle.std.proofs.Common.{◌≡◌, ℕ, ◌+◌, ◌<◌, suc, zero, arith, true, false, ◌||◌, List, [], ◌∷◌, ◌++◌, Option, Some, None, length, get_or, set, take, drop, refl, sym, ap, ◌∙◌, subst, append_assoc, add-one, drop-cons}
+use Rattle.std.specs.Prelude.{Vec, option_map, option_copied, is_some, is_none, unwrap_or, IfSome, IfNone}
 use Rattle.std.specs.Borrow.{Bor}
 use Rattle.std.specs.List.{flat_map, list_any, remove, find}
 use Rattle.std.specs.Option.{option_or}
@@ -13,7 +13,7 @@ use Rattle.std.proofs.lemmas.Bool.{false≢true}
 use mathlib.Core.HLevel.{is_prop→PathP}
 use native.Mathlib.Nat.{ℕ_set}
 use Rattle.csl_style.specs.declared.formatting.Display.{Display}
-use Rattle.csl_tree.specs.Tokens.{Token, Meta, solid, opened, closed, around, optional_meta, child_step, elem_step, children_step, child_tokens, elem_tokens, tokens}
+use Rattle.csl_tree.specs.Tokens.{Token, solid, opened, closed, around, optional_meta, child_step, elem_step, children_step, child_tokens, elem_tokens, tokens}
 use Rattle.csl_tree.specs.Places.{layer_children, children_of, layer_with, with_children}
 use Rattle.csl_tree.specs.Search.{preorder, child_preorder, has_meta, child_has_meta, layer_has_meta, elem_of, layer_elem, opens_meta, NothingNoted, TakenOut}
 use Rattle.csl_tree.specs.declared.elem.ElemMeta.{ElemMeta}
@@ -24,7 +24,7 @@ use Rattle.csl_tree.specs.declared.elem.ElemChild.TheViews.{out-ElemChild, roll-
 use Rattle.csl_tree.specs.declared.elem.ElemChild.TheVariants as variants
 use Rattle.csl_tree.specs.declared.elem.Elem as elem
 use Rattle.csl_tree.specs.declared.elem.ElemChildren.{ElemChildren}
-use Rattle.csl_tree.proofs.Trees.{tokens_out, elem_tokens_are}
+use Rattle.csl_tree.proofs.Trees.{elem_tokens_are}
 use Rattle.csl_tree.proofs.Appended.{elem_child}
 use Rattle.csl_tree.proofs.Searches.{layer_preorder, child_out, find_turn}
 

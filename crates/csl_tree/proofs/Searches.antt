@@ -1,5 +1,5 @@
 -- The preorder of a tree, and the first along it.
-use Rattle.std.proofs.Common.{◌≡◌, ℕ, ◌+◌, ◌<◌, Bool, true, false, List, [], ◌∷◌, ◌++◌, Option, Some, None, length, get_or, drop, map, refl, sym, ap, ◌∙◌, add-one, drop-cons, inl, inr, suc, arith}
+use Rattle.std.proofs.Common.{◌≡◌, ℕ, ◌+◌, ◌<◌, Bool, true, false, List, [], ◌∷◌, Option, Some, None, length, get_or, drop, map, refl, sym, ap, ◌∙◌, add-one, drop-cons, inl, inr, suc, arith}
 use Rattle.std.specs.List.{find}
 use Rattle.std.specs.Prelude.{flat_map, ◌-◌, slice_get}
 use Rattle.std.specs.Option.{option_or}
@@ -10,9 +10,8 @@ use Rattle.csl_tree.specs.Search.{Walk, child_walk, elem_walk, children_walk, pr
 use Rattle.csl_tree.specs.declared.formatting.Formatted.{Formatted}
 use Rattle.csl_tree.specs.declared.elem.ElemChild.{ElemChild}
 use Rattle.csl_tree.specs.declared.elem.ElemChild.TheOpen.{ElemChild-F, Text, Elem, Markup, Link, Transparent}
-use Rattle.csl_tree.specs.declared.elem.ElemChild.TheViews.{outs-Elem, out-ElemChild, roll-ElemChild, roll-out-ElemChild, out-Elem, roll-Elem, roll-out-Elem, out-ElemChildren, roll-ElemChildren, roll-out-ElemChildren}
+use Rattle.csl_tree.specs.declared.elem.ElemChild.TheViews.{out-ElemChild, roll-ElemChild, roll-out-ElemChild, out-Elem, roll-out-Elem, out-ElemChildren, roll-out-ElemChildren}
 use Rattle.csl_tree.specs.declared.elem.ElemChild.TheFolds.{map-ElemChild, fold-Elem, fold_out-ElemChild, fold_out-Elem, fold_out-ElemChildren, para-Elem, para-roll-ElemChild, para-roll-Elem, para-roll-ElemChildren}
-use Rattle.csl_tree.specs.declared.elem.ElemChild.TheVariants as variants
 use Rattle.csl_tree.specs.declared.elem.Elem as elem
 use Rattle.csl_tree.specs.declared.elem.ElemChildren.{ElemChildren}
 

@@ -1,5 +1,5 @@
 -- Searches in a tree: an element, then what stands inside it, then its right neighbours.
-use Rattle.std.specs.Prelude.{◌≡◌, ◌⊎◌, Bool, true, false, List, [], ◌∷◌, ◌++◌, Option, Some, None, is_some, flat_map, option_copied, if◌then◌else◌}
+use Rattle.std.specs.Prelude.{◌≡◌, ◌⊎◌, Bool, true, false, List, [], ◌∷◌, ◌++◌, Option, Some, None, is_some, flat_map}
 use Rattle.std.specs.Borrow.{Bor}
 use Rattle.std.specs.List.{list_any}
 use Rattle.csl_tree.specs.Tokens.{Meta, meta_of, optional_meta, Token, text, solid, markup, link, transparent, opened, closed}
@@ -9,7 +9,7 @@ use Rattle.csl_tree.specs.declared.elem.ElemMeta.TheVariants as meta
 use Rattle.csl_tree.specs.declared.elem.ElemChild.{ElemChild}
 use Rattle.csl_tree.specs.declared.elem.ElemChild.TheOpen.{ElemChild-F, Elem-F, ElemChildren-F, Text, Elem, Markup, Link, Transparent}
 use Rattle.csl_tree.specs.declared.elem.ElemChild.TheViews.{out-ElemChild}
-use Rattle.csl_tree.specs.declared.elem.ElemChild.TheFolds.{fold-ElemChild, fold-Elem, fold-ElemChildren, para-ElemChild, para-Elem, para-ElemChildren}
+use Rattle.csl_tree.specs.declared.elem.ElemChild.TheFolds.{fold-ElemChild, fold-ElemChildren, para-ElemChild, para-ElemChildren}
 use Rattle.csl_tree.specs.declared.elem.ElemChild.TheVariants as variants
 use Rattle.csl_tree.specs.declared.elem.Elem as elem
 use Rattle.csl_tree.specs.declared.elem.ElemChildren.{ElemChildren}

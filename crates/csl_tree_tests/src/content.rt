@@ -1,6 +1,6 @@
 //! Contents that meet.
 
-use crate::trees::assert_tree;
+use crate::trees::{assert_text, assert_tree};
 use csl_style::Display;
 use csl_tree::{ElemChildren, ElemMeta, Formatting};
 use lit_model::Memory;
@@ -53,10 +53,16 @@ fn assert_contents(rt: &impl Abort, alloc: Global, steps: usize, wanted: &str) -
     assert_tree(rt, alloc, contents(alloc, steps)?, wanted, "contents")
 }
 
+fn assert_plain(rt: &impl Abort, alloc: Global, steps: usize, wanted: &str) -> Result<(), Fail> {
+    let plain = contents(alloc, steps)?.to_string(alloc)?;
+    assert_text(rt, plain.as_str(), wanted, "contents");
+    Ok(())
+}
+
 #[test]
 fn texts_of_equal_formatting_join(rt: HostRuntime) -> Result<(), Fail> {
     for (steps, wanted) in [(1, "a(b)c"), (2, "a(b)c"), (3, "a(b)c ( d ):date")] {
         assert_contents(&rt, rt.alloc(), steps, wanted)?;
     }
-    Ok(())
+    assert_plain(&rt, rt.alloc(), 3, "a(b)cd")
 }

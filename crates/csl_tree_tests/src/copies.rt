@@ -1,6 +1,6 @@
 //! Copies are equal to what they were made of.
 
-use crate::trees::{assert_tree, names, read};
+use crate::trees::{MIXED, assert_tree, names, read};
 use csl_style::NameVariable;
 use csl_tree::{ElemChild, ElemChildren, ElemMeta};
 use lit_model::Memory;
@@ -39,12 +39,17 @@ fn assert_copies(rt: &impl Abort, alloc: Global, source: &str, wanted: usize) ->
     Ok(())
 }
 
+fn assert_children_copy(rt: &impl Abort, alloc: Global, source: &str) -> Result<(), Fail> {
+    let copy = read(alloc, source)?.clone(alloc)?;
+    assert_tree(rt, alloc, copy, source, source)
+}
+
 #[test]
 fn copies_are_equal(rt: HostRuntime) -> Result<(), Fail> {
-    for source in ["( @/x|https://x.y/?a=1&b=2 $$m$ #7 ~ )block:entry", "é"] {
+    for source in [MIXED, "é"] {
         assert_copies(&rt, rt.alloc(), source, 3)?;
     }
-    Ok(())
+    assert_children_copy(&rt, rt.alloc(), "@/x|https://x.y/?a=1&b=2 $$m$ #7 ~")
 }
 
 /// A meta by its place in a table.

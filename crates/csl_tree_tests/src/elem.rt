@@ -3,7 +3,7 @@
 ghost use Rattle.std.specs.Prelude.{◌≡◌, ◌↔◌, IsTrue};
 ghost use Rattle.csl_tree.specs.Tokens.{meta_of};
 
-use crate::trees::{names, read};
+use crate::trees::{MIXED, names, read};
 use csl_style::NameVariable;
 use csl_tree::{ElemChild, ElemMeta};
 use lit_model::Memory;
@@ -111,12 +111,7 @@ fn assert_answers(rt: &impl Abort, alloc: Global, source: &str, wanted: Asked) -
 #[test]
 fn white_space_is_no_content(rt: HostRuntime) -> Result<(), Fail> {
     for (source, is_empty, has_content, str_len) in [
-        (
-            "( @/x|https://x.y/?a=1&b=2 $$m$ #7 ~ )block:entry",
-            false,
-            true,
-            5,
-        ),
+        (MIXED, false, true, 5),
         ("( ~\u{3000}\n )", false, false, 5),
         ("( _ )block", true, false, 0),
     ] {
@@ -142,7 +137,7 @@ fn may_inline(alloc: Global, source: &str) -> Result<bool, Fail> {
 #[test]
 fn an_element_that_says_something_stays(rt: HostRuntime) -> Result<(), Fail> {
     for (source, wanted) in [
-        ("( a )block:entry", false),
+        (MIXED, false),
         ("( a )block", false),
         ("( a ):entry", false),
         ("( a )", true),

@@ -22,6 +22,9 @@ use std::mem;
 use std::process::Abort;
 use std::test::Fail;
 
+/// A block around a link, a markup, a transparent and a text of white space.
+pub const MIXED: &str = "( @/x|https://x.y/?a=1&b=2 $$m$ #7 ~ )block:entry";
+
 /// A text as a word says it.
 fn read_text(alloc: Global, word: &str) -> Result<String, Memory> {
     let mut text = String::new(alloc);

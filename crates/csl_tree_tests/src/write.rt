@@ -1,6 +1,6 @@
 //! How a tree is written.
 
-use crate::trees::{assert_text, read};
+use crate::trees::{MIXED, assert_text, read};
 use csl_style::{FontStyle, FontVariant, FontWeight, TextDecoration, VerticalAlign};
 use csl_tree::{BufWriteFormat, ElemChild, ElemChildren, Formatting};
 use std::alloc::Global;
@@ -131,9 +131,6 @@ fn declarations_in_order(rt: HostRuntime) -> Result<(), Fail> {
     }
     Ok(())
 }
-
-/// A block around a link, a markup, a transparent and a text of white space.
-const MIXED: &str = "( @/x|https://x.y/?a=1&b=2 $$m$ #7 ~ )block:entry";
 
 #[test]
 fn displays(rt: HostRuntime) -> Result<(), Fail> {

@@ -1,10 +1,9 @@
-use Rattle.std.proofs.Common.{rules, ◌≡◌, ℕ, ◌<◌, not, Some, None, false, true, length, get_or, take, set, refl, sym, ap, ◌∙◌, option_map, arith, subst}
+use Rattle.std.proofs.Common.{◌≡◌, ◌<◌, not, Some, true, length, get_or, take, set, refl, sym, ap, ◌∙◌, option_map, arith, subst}
 use Rattle.std.specs.List.{flat_map, remove, find}
 use Rattle.std.specs.Vec.{with_item}
 use Rattle.std.proofs.lemmas.List.{take_all}
 use Rattle.csl_tree.specs.Tokens.{tokens, child_tokens}
-use Rattle.csl_tree.specs.Search.{preorder, child_preorder, has_meta, child_has_meta, as_child, NothingNoted, TakenOut}
-use Rattle.csl_tree.specs.declared.elem.ElemChild.{ElemChild}
+use Rattle.csl_tree.specs.Search.{has_meta, child_has_meta, as_child, NothingNoted}
 use Rattle.csl_tree.specs.declared.elem.ElemChildren.{ElemChildren}
 use Rattle.csl_tree.proofs.Trees.{tokens_out}
 use Rattle.csl_tree.proofs.Removals.{found_here, found_below, found_later, taken_here, taken_below, nothing_more, same_item, children_of_vec, none_elem, none_in, found_inside, taken_in, nothing_inside, same_inside, if_some, if_none, same_at, moved}

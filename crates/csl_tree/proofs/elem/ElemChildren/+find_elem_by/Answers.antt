@@ -1,4 +1,4 @@
-use Rattle.std.proofs.Common.{◌≡◌, ◌<◌, ◌∙◌, length, refl}
+use Rattle.std.proofs.Common.{◌≡◌, ◌∙◌, refl}
 use Rattle.csl_tree.proofs.Searches.{preorder_out, elem_turn, other_turn}
 use Rattle.csl_tree.proofs.elem.ElemChildren.+find_elem_by.Goals as goal
 use Rattle.csl_tree.proofs.elem.ElemChildren.+find_elem_by.Goals.{in-Some+else-f+in_default-find_elem_by, in_default}

@@ -1,25 +1,24 @@
 -- `last_items_mut` lends the children that end the tree, and the tree follows them: by recursion on the length of the path.
-use Rattle.std.proofs.Common.{◌≡◌, ℕ, ◌<◌, Bool, true, false, List, [], ◌∷◌, length, refl, sym, ap, ◌∙◌, arith, MutBor, IsTrue, is_some, Some, vec_len}
-use Prim.Native.Nat.{suc}
+use Rattle.std.proofs.Common.{◌≡◌, ℕ, ◌<◌, Bool, true, false, List, [], ◌∷◌, length, refl, sym, ap, ◌∙◌, MutBor, IsTrue, is_some, Some, vec_len}
 use mathlib.Core.Path.{subst}
 use seplogic.Ra.Ura.{Ura}
 use base.Fraction.{full_share}
-use base.Logic.{SProp, ent, id⊢, sep, via, fst∗, emp}
-use base.Fml.{Lft, Share, GName, ftrue, flft, fres, fdead}
+use base.Logic.{SProp, ent, id⊢, via, fst∗, emp}
+use base.Fml.{Lft, Share, GName, ftrue, flft, fres}
 use lib.WfN.{lt-wf_rel}
-use lib.Dec.{T, T_not}
+use lib.Dec.{T}
 use mir.Syntax.{named, Place}
-use mir.Val.{Val, vptr, vbool}
+use mir.Val.{Val, vptr}
 use prog.Memory.{Memory}
 use prog.Routine.{Routine}
 use prog.Wp.{WpFn, Calls, Loops, Env, Tables}
 use sound.WpLaws.{FmC, fm_of, WpFn-mono}
 use contract.Monad.{fact, fact_i, Fun}
 use contract.Running.{tables, tables_of}
-use types.Logic.{Logic, sem}
-use types.Kit.{Item, Post, Step, ‵, raw, ◌⊛◌, some, later, prop, at_ret, settles, ◌$◌, ◌∵◌, !, qed, done, by, move, keep, drop, use0, use1, use2, use3, split, join, fsplit, fsplit3, fjoin, fjoin3, feq_i, feq_l, pick, await, rewrite, regoal, suffices, frame, group, ⋆}
+use types.Logic.{Logic}
+use types.Kit.{Item, Post, Step, ‵, raw, ◌⊛◌, some, later, at_ret, settles, ◌$◌, ◌∵◌, !, qed, done, by, move, keep, drop, use0, use1, use2, use3, split, join, fsplit, fsplit3, fjoin, fjoin3, feq_i, feq_l, pick, await, rewrite, regoal, suffices, frame, ⋆}
 use types.Run.{enter, of_opd, addr, stop, no_more, and_then, first, branches, exec, returns}
-use types.ByLocal.{alloc_all, pass_all, free_all, look_at, get, through, sets, sets_last, lands_as, lands_last, env}
+use types.ByLocal.{alloc_all, pass_all, free_all, look_at, get, through, sets, lands_as, lands_last, env}
 use types.Tokens.{lft_new, lft_end}
 use denote.Builtin.{RefMutOf}
 use denote.Exit.{no}
@@ -35,11 +34,10 @@ use denote.Triple.Call.{calls_at, calls_at_last, calls_from_last}
 use denote.Triple.Clauses.{lasts}
 use denote.Triple.Statement.{Contract, Triple}
 use mathlib.Core.Bool.{not}
-use denote.Triple.Cycle.{Stated, Below, measured, at_on, mutual_elim}
+use denote.Triple.Cycle.{Stated, measured, at_on, mutual_elim}
 use denote.Triple.Entry.{on_entry}
-use denote.Triple.Spec.{triple_of, Meets}
+use denote.Triple.Spec.{triple_of}
 use denote.Triple.Walked.{Stays, walk_of, says, stay_dropped, Goes-spent_ref, ends_at, walked_at, walk_meets_at}
-use borrow.Follows.Kept.{follows_itself}
 use Rattle.csl_tree.specs.declared.elem.ElemChild.{ElemChild}
 use Rattle.csl_tree.specs.declared.elem.ElemChildren.{ElemChildren}
 use Rattle.std.specs.declared.vec.Vec.{Vec}

@@ -1,4 +1,4 @@
-use Rattle.std.proofs.Common.{◌≡◌, Some, None, refl, sym, ap, ◌∙◌}
+use Rattle.std.proofs.Common.{Some, None, sym, ap, ◌∙◌}
 use Rattle.csl_tree.specs.declared.elem.ElemChild.TheOpen.{Text, Elem, Markup, Link, Transparent}
 use Rattle.csl_tree.specs.declared.elem.ElemChild.TheViews.{out-ElemChild, outs-Text, outs-Elem, outs-Markup, outs-Link, outs-Transparent}
 use Rattle.csl_tree.specs.declared.elem.Elem as elem

@@ -1,4 +1,4 @@
-use Rattle.std.proofs.Common.{◌≡◌, not, ap, ◌∙◌, arith}
+use Rattle.std.proofs.Common.{not, ap, ◌∙◌, arith}
 use Rattle.csl_tree.proofs.NamesPlace.{below_is}
 use Rattle.csl_tree.proofs.elem.ElemChildren.names_below.Goals as goal
 

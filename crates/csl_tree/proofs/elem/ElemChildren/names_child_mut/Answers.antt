@@ -1,4 +1,4 @@
-use Rattle.std.proofs.Common.{◌≡◌, refl, ap, sym, ◌∙◌, arith}
+use Rattle.std.proofs.Common.{◌≡◌, refl, ap, arith}
 use Rattle.csl_tree.specs.Places.{put_child, no_child}
 use Rattle.csl_tree.specs.Named.{names_index}
 use Rattle.csl_tree.proofs.Walks.{at_index}

@@ -1,4 +1,4 @@
-use Rattle.std.proofs.Common.{◌≡◌, ◌<◌, length, refl, ◌∙◌, arith}
+use Rattle.std.proofs.Common.{refl, ◌∙◌, arith}
 use Rattle.csl_tree.proofs.NamesPlace.{has_here, put_names, names_are, child_here}
 use Rattle.csl_tree.proofs.elem.ElemChildren.that_names_mut.Goals as goal
 

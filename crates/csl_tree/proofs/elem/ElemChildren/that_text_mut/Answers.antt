@@ -1,4 +1,4 @@
-use Rattle.std.proofs.Common.{◌≡◌, ◌-◌, ◌∙◌, ap, refl, length, arith, ◌<◌, is_some}
+use Rattle.std.proofs.Common.{◌≡◌, ◌-◌, ◌∙◌, ap, refl, length, arith, is_some}
 use Rattle.csl_tree.specs.Places.{text_of_child}
 use Rattle.csl_tree.proofs.LastPlace.{put_text, final_is, has_final, text_at_end}
 use Rattle.csl_tree.proofs.elem.ElemChildren.that_text_mut.Goals as goal
