@@ -55,3 +55,11 @@ pub fn borrowed<'a, T: Drop>(found: &'a Option<Cow<'_, T>>) -> Option<&'a T> {
         None => None,
     }
 }
+
+/// What is alone in the list.
+pub fn only<T>(list: &[T]) -> Result<&T, Fail> {
+    match list {
+        [value] => Ok(value),
+        _ => Err(Fail::from("not one value")),
+    }
+}

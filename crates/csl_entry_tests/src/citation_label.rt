@@ -1,4 +1,4 @@
-use crate::asked::assert_answer;
+use crate::asked::{assert_answer, only};
 use crate::described::described;
 use csl_entry::Alphanumerical;
 use std::alloc::Global;
@@ -6,8 +6,9 @@ use std::process::Abort;
 use std::test::Fail;
 
 fn label(alloc: Global, letters: usize, description: &str) -> Result<String, Fail> {
-    let entry = described(alloc, description)?;
-    let label = Alphanumerical { letters }.citation(alloc, &entry)?;
+    let works = described(alloc, description)?;
+    let entry = only(&works)?;
+    let label = Alphanumerical { letters }.citation(alloc, entry)?;
     Ok(label)
 }
 

@@ -11,7 +11,7 @@
 
 use lit_model::{
     ChunkKind, ChunkedString, Date, Entry, EntryType, FormatString, LanguageIdentifier, MaybeTyped,
-    Numeric, PageRanges, Person, PersonRole, PersonsWithRoles, Publisher, QualifiedUrl,
+    Memory, Numeric, PageRanges, Person, PersonRole, PersonsWithRoles, Publisher, QualifiedUrl,
     SerialNumber, StringChunk,
 };
 use std::alloc::Global;
@@ -19,21 +19,23 @@ use std::collections::BTreeMap;
 use std::test::Fail;
 use url::Url;
 
-/// The entry that is described.
-pub fn described(alloc: Global, description: &str) -> Result<Entry, Fail> {
+/// The entry that is described, alone in a list: what holds the list is quicker to prove than what
+/// holds the entry.
+pub fn described(alloc: Global, description: &str) -> Result<Vec<Entry>, Fail> {
     let mut chains = description.split("; also ");
-    let mut works = chain(alloc, chains.next().unwrap_or(""))?;
-    let Some(mut entry) = works.pop() else {
-        return Err(Fail::from("no work is described"));
+    let first = chains.next().unwrap_or("");
+    let (own, mut wholes) = match first.split_once("; in ") {
+        Some((own, whole)) => (own, chain(alloc, whole)?),
+        None => (first, Vec::new(alloc)),
     };
     for works in chains {
         let mut whole = chain(alloc, works)?;
-        entry.parents.append(&mut whole)?;
+        wholes.append(&mut whole)?;
     }
-    Ok(entry)
+    part_of(alloc, own, wholes)
 }
 
-/// The first of the works, each a part of the next; alone in a list.
+/// The first of the works, each a part of the next.
 fn chain(alloc: Global, works: &str) -> Result<Vec<Entry>, Fail> {
     let mut chain = Vec::new(alloc);
     for clauses in works.rsplit("; in ") {
@@ -42,24 +44,26 @@ fn chain(alloc: Global, works: &str) -> Result<Vec<Entry>, Fail> {
     Ok(chain)
 }
 
-/// The work, a part of these; alone in a list.
-fn part_of(alloc: Global, clauses: &str, mut wholes: Vec<Entry>) -> Result<Vec<Entry>, Fail> {
-    let mut part = work(alloc, clauses)?;
-    part.parents.append(&mut wholes)?;
-    let mut parts = Vec::new(alloc);
-    parts.push(part)?;
-    Ok(parts)
-}
-
-/// The work, of which no parent is said.
-fn work(alloc: Global, clauses: &str) -> Result<Entry, Fail> {
+/// The work, a part of these.
+fn part_of(alloc: Global, clauses: &str, wholes: Vec<Entry>) -> Result<Vec<Entry>, Fail> {
     let mut clauses = clauses.split("; ");
-    let mut work = Entry::new(alloc, "key", type_named(clauses.next().unwrap_or(""))?)?;
+    let mut works = bare(alloc, type_named(clauses.next().unwrap_or(""))?, wholes)?;
     for clause in clauses {
         let (word, value) = clause.split_once(' ').unwrap_or((clause, ""));
-        state(alloc, &mut work, word, value)?;
+        if let Some(work) = works.last_mut() {
+            state(alloc, work, word, value)?;
+        }
     }
-    Ok(work)
+    Ok(works)
+}
+
+/// A work of that type, a part of these.
+fn bare(alloc: Global, kind: EntryType, wholes: Vec<Entry>) -> Result<Vec<Entry>, Memory> {
+    let mut works = Vec::with_capacity(alloc, 1)?;
+    let mut work = Entry::new(alloc, "key", kind)?;
+    work.parents = wholes;
+    works.push(work)?;
+    Ok(works)
 }
 
 /// Says one thing of the work.

@@ -1,4 +1,4 @@
-use crate::asked::{assert_answer, number_said, text_said};
+use crate::asked::{assert_answer, number_said, only, text_said};
 use crate::cite::{Told, state};
 use crate::described::pieces;
 use csl_entry::{
@@ -102,13 +102,15 @@ impl EntryLike for Sample {
     }
 }
 
-/// Number 20, page 7 and the text `Nature`.
-fn make_sample(alloc: Global) -> Result<Sample, Fail> {
-    Ok(Sample {
+/// Number 20, page 7 and the text `Nature`, alone in a list.
+fn samples(alloc: Global) -> Result<Vec<Sample>, Fail> {
+    let mut samples = Vec::with_capacity(alloc, 1)?;
+    samples.push(Sample {
         number: Numeric::new(20),
         pages: PageRanges::parse(alloc, "7")?,
         text: pieces(alloc, "`Nature")?,
-    })
+    })?;
+    Ok(samples)
 }
 
 /// The third cite that was handed in, of citation number 4; where it has a locator, to a page.
@@ -154,9 +156,10 @@ fn number(
     page: Option<LocatorPayload<'_>>,
     variable: NumberVariable,
 ) -> Result<String, Fail> {
-    let entry = make_sample(alloc)?;
+    let samples = samples(alloc)?;
+    let entry = only(&samples)?;
     let props = cited(first_note_number, page, DisambiguateState::None)?;
-    match instance(&entry, &props).resolve_number_variable(alloc, variable)? {
+    match instance(entry, &props).resolve_number_variable(alloc, variable)? {
         Some(NumberVariableResult::Regular(number)) => number_said(alloc, &Some(number)),
         Some(NumberVariableResult::Transparent(index)) => Ok(format!(in alloc; "@{index}")?),
         None => number_said(alloc, &None),
@@ -210,13 +213,14 @@ type Separated = (i32, Option<NumericDelimiter>);
 
 /// The two numbers of a locator, where it is a list of two.
 fn two_numbers(alloc: Global, page: &str) -> Result<Option<(Separated, Separated)>, Fail> {
-    let entry = make_sample(alloc)?;
+    let samples = samples(alloc)?;
+    let entry = only(&samples)?;
     let props = cited(
         None,
         Some(LocatorPayload::Str(page)),
         DisambiguateState::None,
     )?;
-    let found = instance(&entry, &props).resolve_number_variable(alloc, NumberVariable::Locator)?;
+    let found = instance(entry, &props).resolve_number_variable(alloc, NumberVariable::Locator)?;
     let Some(NumberVariableResult::Regular(MaybeTyped::Typed(number))) = &found else {
         return Ok(None);
     };
@@ -246,9 +250,10 @@ fn text(
     form: LongShortForm,
     variable: StandardVariable,
 ) -> Result<String, Fail> {
-    let entry = make_sample(alloc)?;
+    let samples = samples(alloc)?;
+    let entry = only(&samples)?;
     let props = cited(None, None, state(alloc, told)?)?;
-    let cite = instance(&entry, &props).clone()?;
+    let cite = instance(entry, &props).clone()?;
     match cite.resolve_standard_variable(alloc, form, variable)? {
         Some(found) => text_said(alloc, Some(found.as_ref())),
         None => text_said(alloc, None),
@@ -280,9 +285,10 @@ fn texts_are_asked_of_the_entry(rt: HostRuntime) -> Result<(), Fail> {
 
 /// The pages that the cite answers.
 fn pages(alloc: Global) -> Result<String, Fail> {
-    let entry = make_sample(alloc)?;
+    let samples = samples(alloc)?;
+    let entry = only(&samples)?;
     let props = cited(None, None, DisambiguateState::YearSuffix(0))?;
-    match instance(&entry, &props).resolve_page_variable(alloc, PageVariable::Page)? {
+    match instance(entry, &props).resolve_page_variable(alloc, PageVariable::Page)? {
         Some(MaybeTyped::Typed(pages)) => Ok(pages.to_string(alloc)?),
         _ => Ok(String::from_str(alloc, "no pages")?),
     }

@@ -1,4 +1,4 @@
-use crate::asked::assert_answer;
+use crate::asked::{assert_answer, only};
 use crate::described::described;
 use csl_entry::{EntryLike, csl_language};
 use lit_model::LanguageIdentifier;
@@ -26,7 +26,8 @@ fn printed(alloc: Global, name: &str, region: Option<&str>) -> Result<String, Fa
 }
 
 fn is_english(alloc: Global, description: &str) -> Result<Option<bool>, Fail> {
-    let entry = described(alloc, description)?;
+    let works = described(alloc, description)?;
+    let entry = only(&works)?;
     Ok(entry.is_english())
 }
 

@@ -1,4 +1,4 @@
-use crate::asked::borrowed;
+use crate::asked::{borrowed, only};
 use crate::described::described;
 use csl_entry::EntryLike;
 use csl_style::DateVariable;
@@ -7,7 +7,8 @@ use std::test::Fail;
 
 /// The year of the date.
 fn year(alloc: Global, description: &str, variable: DateVariable) -> Result<Option<i32>, Fail> {
-    let entry = described(alloc, description)?;
+    let works = described(alloc, description)?;
+    let entry = only(&works)?;
     let date = entry.resolve_date_variable(alloc, variable)?;
     Ok(borrowed(&date).map(|date| date.year()))
 }

@@ -1,4 +1,4 @@
-use crate::asked::assert_answer;
+use crate::asked::{assert_answer, only};
 use crate::described::described;
 use csl_entry::{EntryLike, legislation_kind, recording_kind};
 use csl_style::Kind;
@@ -56,7 +56,8 @@ static NAMES: [&str; 45] = [
 
 /// The names of all kinds that the entry is of, each with a space behind it.
 fn kinds(alloc: Global, description: &str) -> Result<String, Fail> {
-    let entry = described(alloc, description)?;
+    let works = described(alloc, description)?;
+    let entry = only(&works)?;
     let mut kinds = String::new(alloc);
     for name in NAMES {
         let kind = Kind::from_name(name).ok_or("the name of a kind")?;
@@ -197,8 +198,9 @@ fn posts_sites_and_pages(rt: HostRuntime) -> Result<(), Fail> {
 
 /// What kind of recording and what kind of law the entry is.
 fn narrower_kinds(alloc: Global, description: &str) -> Result<(Option<Kind>, Option<Kind>), Fail> {
-    let entry = described(alloc, description)?;
-    Ok((recording_kind(&entry), legislation_kind(&entry)))
+    let works = described(alloc, description)?;
+    let entry = only(&works)?;
+    Ok((recording_kind(entry), legislation_kind(entry)))
 }
 
 #[test]

@@ -1,4 +1,4 @@
-use crate::asked::assert_answer;
+use crate::asked::{assert_answer, only};
 use crate::described::described;
 use csl_entry::EntryLike;
 use csl_style::NameVariable;
@@ -8,7 +8,8 @@ use std::test::Fail;
 
 /// The names, each with a space behind it.
 fn names(alloc: Global, description: &str, variable: NameVariable) -> Result<String, Fail> {
-    let entry = described(alloc, description)?;
+    let works = described(alloc, description)?;
+    let entry = only(&works)?;
     let mut names = String::new(alloc);
     for person in &entry.resolve_name_variable(alloc, variable)? {
         names.push_str(person.as_ref().name.as_str())?;

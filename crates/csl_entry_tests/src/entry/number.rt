@@ -1,4 +1,4 @@
-use crate::asked::{assert_answer, number_said};
+use crate::asked::{assert_answer, number_said, only};
 use crate::described::described;
 use csl_entry::EntryLike;
 use csl_style::NumberVariable;
@@ -7,7 +7,8 @@ use std::process::Abort;
 use std::test::Fail;
 
 fn number(alloc: Global, description: &str, variable: NumberVariable) -> Result<String, Fail> {
-    let entry = described(alloc, description)?;
+    let works = described(alloc, description)?;
+    let entry = only(&works)?;
     let found = entry.resolve_number_variable(alloc, variable)?;
     number_said(alloc, &found)
 }

@@ -1,4 +1,4 @@
-use crate::asked::assert_answer;
+use crate::asked::{assert_answer, only};
 use crate::described::described;
 use csl_entry::EntryLike;
 use csl_style::PageVariable;
@@ -8,7 +8,8 @@ use std::test::Fail;
 
 /// The pages; behind `'` a text that is none; and `none` where there is no answer.
 fn pages(alloc: Global, description: &str) -> Result<String, Fail> {
-    let entry = described(alloc, description)?;
+    let works = described(alloc, description)?;
+    let entry = only(&works)?;
     match entry.resolve_page_variable(alloc, PageVariable::Page)? {
         None => Ok(String::from_str(alloc, "none")?),
         Some(MaybeTyped::Typed(pages)) => Ok(pages.to_string(alloc)?),

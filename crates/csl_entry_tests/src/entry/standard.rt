@@ -1,4 +1,4 @@
-use crate::asked::{assert_answer, text_said};
+use crate::asked::{assert_answer, only, text_said};
 use crate::described::described;
 use csl_entry::EntryLike;
 use csl_style::StandardVariable;
@@ -15,7 +15,8 @@ fn text(
     form: LongShortForm,
     variable: StandardVariable,
 ) -> Result<String, Fail> {
-    let entry = described(alloc, description)?;
+    let works = described(alloc, description)?;
+    let entry = only(&works)?;
     match entry.resolve_standard_variable(alloc, form, variable)? {
         Some(found) => text_said(alloc, Some(found.as_ref())),
         None => text_said(alloc, None),
@@ -343,7 +344,8 @@ fn is_borrowed(
     description: &str,
     variable: StandardVariable,
 ) -> Result<Option<bool>, Fail> {
-    let entry = described(alloc, description)?;
+    let works = described(alloc, description)?;
+    let entry = only(&works)?;
     match entry.resolve_standard_variable(alloc, LongShortForm::Short, variable)? {
         Some(Cow::Borrowed(_)) => Ok(Some(true)),
         Some(Cow::Owned(_)) => Ok(Some(false)),
