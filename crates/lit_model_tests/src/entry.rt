@@ -30,7 +30,7 @@ enum Work {
     Above,
 }
 
-fn titled(alloc: Global, text: &str, parents: Vec<Entry>) -> Result<Entry, Memory> {
+fn book_under(alloc: Global, text: &str, parents: Vec<Entry>) -> Result<Entry, Memory> {
     let mut entry = Entry::new(alloc, "key", EntryType::Book)?;
     entry.title = Some(title(alloc, text)?);
     entry.parents = parents;
@@ -38,7 +38,7 @@ fn titled(alloc: Global, text: &str, parents: Vec<Entry>) -> Result<Entry, Memor
 }
 
 fn book(alloc: Global, text: &str) -> Result<Entry, Memory> {
-    titled(alloc, text, Vec::new(alloc))
+    book_under(alloc, text, Vec::new(alloc))
 }
 
 fn newspaper(alloc: Global) -> Result<Entry, Memory> {
@@ -56,13 +56,13 @@ fn one(alloc: Global, entry: Entry) -> Result<Vec<Entry>, Memory> {
 fn beside(alloc: Global) -> Result<Entry, Memory> {
     let mut parents = one(alloc, book(alloc, "B")?)?;
     parents.push(book(alloc, "C")?)?;
-    titled(alloc, "A", parents)
+    book_under(alloc, "A", parents)
 }
 
 fn above(alloc: Global) -> Result<Entry, Memory> {
     let c = one(alloc, book(alloc, "C")?)?;
-    let b = one(alloc, titled(alloc, "B", c)?)?;
-    titled(alloc, "A", b)
+    let b = one(alloc, book_under(alloc, "B", c)?)?;
+    book_under(alloc, "A", b)
 }
 
 fn entry(alloc: Global, work: Work) -> Result<Entry, Memory> {

@@ -61,21 +61,21 @@ fn under(alloc: Global, key: &str, kind: EntryType, parent: Entry) -> Result<Ent
     entry(alloc, key, kind, parents)
 }
 
-fn dated(alloc: Global, key: &str, kind: EntryType, year: i32) -> Result<Entry, Memory> {
+fn with_date(alloc: Global, key: &str, kind: EntryType, year: i32) -> Result<Entry, Memory> {
     let mut entry = lone(alloc, key, kind)?;
     entry.date = Date::new(year, None, None, None, false);
     Ok(entry)
 }
 
 fn series(alloc: Global) -> Result<Entry, Memory> {
-    let reference = dated(alloc, "reference", EntryType::Reference, 2001)?;
+    let reference = with_date(alloc, "reference", EntryType::Reference, 2001)?;
     under(alloc, "series", EntryType::Book, reference)
 }
 
 fn article(alloc: Global) -> Result<Entry, Memory> {
     let mut parents = Vec::new(alloc);
     parents.push(under(alloc, "journal", EntryType::Periodical, series(alloc)?)?)?;
-    parents.push(dated(alloc, "blog", EntryType::Blog, 2002)?)?;
+    parents.push(with_date(alloc, "blog", EntryType::Blog, 2002)?)?;
     entry(alloc, "article", EntryType::Article, parents)
 }
 
@@ -102,7 +102,7 @@ fn translation(alloc: Global, date: Option<Date>) -> Result<Entry, Memory> {
     Ok(work)
 }
 
-fn built(alloc: Global, work: Work) -> Result<Entry, Memory> {
+fn entry_of(alloc: Global, work: Work) -> Result<Entry, Memory> {
     match work {
         Work::Child(child, parent) => {
             under(alloc, "child", child, lone(alloc, "parent", parent)?)
@@ -164,7 +164,7 @@ fn assert_found(
     (work, asked): (Work, Asked),
     wanted: &str,
 ) -> Result<(), Memory> {
-    let entry = built(alloc, work)?;
+    let entry = entry_of(alloc, work)?;
     let (found, is_some) = answer(&entry, asked);
     let wanted = (wanted, wanted != "none");
     assert_eq!(rt; (key_of(found), is_some), wanted, "{asked:?} of {work:?}");
@@ -173,7 +173,7 @@ fn assert_found(
 
 /// The year of `date_any`, and whether `url_any` answers an address.
 fn date_and_url(alloc: Global, work: Work) -> Result<(Option<i32>, bool), Memory> {
-    let entry = built(alloc, work)?;
+    let entry = entry_of(alloc, work)?;
     Ok((
         entry.date_any().map(|date| date.year()),
         entry.url_any().is_some(),
