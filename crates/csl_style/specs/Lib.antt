@@ -21,3 +21,4 @@ pub mod Filled
 pub mod Scopes
 pub mod OfCitation
 pub mod Overlaid
+pub mod NamesParts

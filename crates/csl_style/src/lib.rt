@@ -8,12 +8,14 @@ pub mod element;
 pub mod formatting;
 pub mod locale;
 pub mod names;
+mod names_parts;
 pub mod number;
 mod of_citation;
 mod places;
 mod reach;
 mod scopes;
 pub mod style;
+mod style_ordinals;
 pub mod taxonomy;
 pub mod term;
 pub mod text;
@@ -33,6 +35,7 @@ pub use names::{
     DelimiterBehavior, EtAl, InheritableNameOptions, InheritedNameOptions, Name, NameAnd,
     NameAsSortOrder, NameForm, NameOptions, NamePart, NamePartName,
 };
+pub use names_parts::{NamesParts, PlacedLabel};
 pub use number::{Label, LabelPluralize, Number, VariablelessLabel};
 pub use style::{
     DemoteNonDroppingParticle, PageRangeFormat, Scope, Style, StyleError, StyleSettings,
