@@ -3,8 +3,12 @@
 #![tactic(auto)]
 
 #[cfg(test)]
+mod names_parts;
+#[cfg(test)]
 mod of_citation;
 #[cfg(test)]
 mod options_of_scopes;
 #[cfg(test)]
 mod reach;
+#[cfg(test)]
+mod style_ordinals;
