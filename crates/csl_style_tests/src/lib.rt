@@ -18,6 +18,7 @@ mod made;
 mod names;
 #[cfg(test)]
 mod number;
+mod names_parts;
 #[cfg(test)]
 mod of_citation;
 #[cfg(test)]
@@ -30,3 +31,4 @@ mod style;
 mod taxonomy;
 #[cfg(test)]
 mod term;
+mod style_ordinals;

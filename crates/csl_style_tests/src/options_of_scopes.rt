@@ -130,9 +130,8 @@ fn a_scope_comes_before_the_style(rt: HostRuntime) -> Result<(), Fail> {
     Ok(())
 }
 
-/// Whether punctuation goes into quotes, and whether only the first day is an ordinal, where each
-/// locale says these two.
-fn by_locales(alloc: Global, rows: &[(bool, bool)]) -> Result<(bool, bool), StyleError> {
+/// Locales of no words, each with what it says on quotes and on days.
+fn locales(alloc: Global, rows: &[(bool, bool)]) -> Result<Vec<Locale>, AllocError> {
     let mut locales = Vec::new(alloc);
     for (punctuation_in_quote, limit_day_ordinals_to_day_1) in rows {
         locales.push(Locale {
@@ -143,6 +142,13 @@ fn by_locales(alloc: Global, rows: &[(bool, bool)]) -> Result<(bool, bool), Styl
             limit_day_ordinals_to_day_1: *limit_day_ordinals_to_day_1,
         })?;
     }
+    Ok(locales)
+}
+
+/// Whether punctuation goes into quotes, and whether only the first day is an ordinal, where each
+/// locale says these two.
+fn by_locales(alloc: Global, rows: &[(bool, bool)]) -> Result<(bool, bool), StyleError> {
+    let locales = locales(alloc, rows)?;
     let style = style(alloc, StyleSettings::default(), locales)?;
     Ok((
         style.is_punctuation_in_quote(),
