@@ -17,8 +17,9 @@ mod made;
 #[cfg(test)]
 mod names;
 #[cfg(test)]
-mod number;
 mod names_parts;
+#[cfg(test)]
+mod number;
 #[cfg(test)]
 mod of_citation;
 #[cfg(test)]
@@ -28,7 +29,8 @@ mod reach;
 #[cfg(test)]
 mod style;
 #[cfg(test)]
+mod style_ordinals;
+#[cfg(test)]
 mod taxonomy;
 #[cfg(test)]
 mod term;
-mod style_ordinals;
