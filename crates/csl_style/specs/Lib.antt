@@ -16,3 +16,9 @@ pub mod Ordinal
 pub mod Style
 pub mod Taxonomy
 pub mod Term
+pub mod Reached
+pub mod Filled
+pub mod Scopes
+pub mod OfCitation
+pub mod Overlaid
+pub mod NamesParts

@@ -69,7 +69,7 @@ pub record NamesNode : Type 0 where
   pub et_al : Option EtAlNode
   pub label : Option NamesLabel
 
-abbrev first_of : List NameNode → Option NameNode
+abbrev pub first_of : List NameNode → Option NameNode
 first_of [] = None
 first_of (x ∷ xs) = Some x
 

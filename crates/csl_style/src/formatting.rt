@@ -2,6 +2,7 @@
 
 ghost use Rattle.std.specs.Prelude.{◌≡◌};
 ghost use Rattle.csl_style.specs.Formatting.{over};
+ghost use Rattle.csl_style.specs.Overlaid.{IsBoth};
 
 /// Whether a text is upright or slanted.
 #[derive(Clone, Copy, Debug, Default, PartialEq, Eq, Hash)]
@@ -70,9 +71,12 @@ pub struct Formatting {
 }
 
 impl Formatting {
-    /// This formatting over another: each attribute that is set here, else that of `base`.
+    /// This formatting over another: each attribute that is set here, else that of `base`. The
+    /// result over a third one, full or not, is this over `base` over that one.
+    #[tactic(auto, using(crate::proofs::Overlays::over_both))]
     pub fn apply(self, base: Formatting) -> Formatting
-        ensures { result ≡ over self base }
+        ensures value { result ≡ over self base }
+        ensures both { IsBoth self base result }
     {
         Formatting {
             font_style: self.font_style.or(base.font_style),

@@ -8,9 +8,14 @@ pub mod element;
 pub mod formatting;
 pub mod locale;
 pub mod names;
+mod names_parts;
 pub mod number;
+mod of_citation;
 mod places;
+mod reach;
+mod scopes;
 pub mod style;
+mod style_ordinals;
 pub mod taxonomy;
 pub mod term;
 pub mod text;
@@ -24,11 +29,13 @@ pub use element::{
 pub use formatting::{
     Display, FontStyle, FontVariant, FontWeight, Formatting, TextDecoration, VerticalAlign,
 };
+pub use lit_model::LongShortForm;
 pub use locale::{Locale, LocaleOrdinals, OrdinalMatch, OrdinalSlot, OrdinalTerm, TermEntry};
 pub use names::{
     DelimiterBehavior, EtAl, InheritableNameOptions, InheritedNameOptions, Name, NameAnd,
     NameAsSortOrder, NameForm, NameOptions, NamePart, NamePartName,
 };
+pub use names_parts::{NamesParts, PlacedLabel};
 pub use number::{Label, LabelPluralize, Number, VariablelessLabel};
 pub use style::{
     DemoteNonDroppingParticle, PageRangeFormat, Scope, Style, StyleError, StyleSettings,
@@ -39,5 +46,3 @@ pub use taxonomy::{
 };
 pub use term::{OtherTerm, Term, TermForm};
 pub use text::{Text, TextTarget};
-
-pub use lit_model::LongShortForm;

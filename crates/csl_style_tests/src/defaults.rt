@@ -3,7 +3,8 @@
 use crate::asserted::assert_same;
 use csl_style::{
     ChooseMatch, DateParts, DelimiterBehavior, DemoteNonDroppingParticle, FontStyle, FontVariant,
-    FontWeight, LabelPluralize, LongShortForm, NameForm, PageRangeFormat, TermForm, TextDecoration, VerticalAlign,
+    FontWeight, LabelPluralize, LongShortForm, NameForm, PageRangeFormat, TermForm, TextDecoration,
+    VerticalAlign,
 };
 
 #[test]

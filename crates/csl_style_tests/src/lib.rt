@@ -17,9 +17,19 @@ mod made;
 #[cfg(test)]
 mod names;
 #[cfg(test)]
+mod names_parts;
+#[cfg(test)]
 mod number;
 #[cfg(test)]
+mod of_citation;
+#[cfg(test)]
+mod options_of_scopes;
+#[cfg(test)]
+mod reach;
+#[cfg(test)]
 mod style;
+#[cfg(test)]
+mod style_ordinals;
 #[cfg(test)]
 mod taxonomy;
 #[cfg(test)]

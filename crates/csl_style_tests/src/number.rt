@@ -20,9 +20,9 @@ fn number_node(
     affixes: Affixes,
 ) -> LayoutRenderingElement
     ensures { view result ≡ number (record {
-        variable = variable;
-        form = form;
-        dressing = dressing_of formatting affixes None;
+      variable = variable;
+      form = form;
+      dressing = dressing_of formatting affixes None;
     }) }
 {
     LayoutRenderingElement::Number(Number {
@@ -37,7 +37,12 @@ fn number_node(
 /// The variable of a number that was made a node.
 fn variable_in_node(variable: NumberOrPageVariable) -> Option<NumberOrPageVariable> {
     let formatting = Formatting::default();
-    match number_node(variable, NumberForm::Numeric, formatting, Affixes::default()) {
+    match number_node(
+        variable,
+        NumberForm::Numeric,
+        formatting,
+        Affixes::default(),
+    ) {
         LayoutRenderingElement::Number(number) => Some(number.variable),
         _ => None,
     }

@@ -141,7 +141,10 @@ fn each_sort_of_variable_is_a_variable(rt: HostRuntime) {
             NumberOrPageVariable::Number(volume).into(),
             Variable::Number(volume),
         ),
-        (NumberOrPageVariable::Page(page).into(), Variable::Page(page)),
+        (
+            NumberOrPageVariable::Page(page).into(),
+            Variable::Page(page),
+        ),
     ] {
         assert_same(&rt, &variable, &wanted);
     }

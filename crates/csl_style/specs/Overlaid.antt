@@ -1,0 +1,18 @@
+-- One formatting over another, and both over a third (CSL 1.0.2, Formatting).
+use Rattle.std.specs.Prelude.{◌≡◌, unwrap_or}
+use Rattle.csl_style.specs.declared.formatting.Formatting.{Formatting}
+use Rattle.csl_style.specs.declared.formatting.FontStyle.{FontStyle}
+use Rattle.csl_style.specs.declared.formatting.FontVariant.{FontVariant}
+use Rattle.csl_style.specs.declared.formatting.FontWeight.{FontWeight}
+use Rattle.csl_style.specs.declared.formatting.TextDecoration.{TextDecoration}
+use Rattle.csl_style.specs.declared.formatting.VerticalAlign.{VerticalAlign}
+use Rattle.csl_style.specs.Formatting.{over}
+
+-- Over any formatting, and over a value of each attribute, r is what p is over what q is.
+pub record IsBoth (p q r : Formatting) : Type 0 where
+  pub over_any : (base : Formatting) → over r base ≡ over p (over q base)
+  pub font_style : (v : FontStyle) → unwrap_or r.font_style v ≡ unwrap_or p.font_style (unwrap_or q.font_style v)
+  pub font_variant : (v : FontVariant) → unwrap_or r.font_variant v ≡ unwrap_or p.font_variant (unwrap_or q.font_variant v)
+  pub font_weight : (v : FontWeight) → unwrap_or r.font_weight v ≡ unwrap_or p.font_weight (unwrap_or q.font_weight v)
+  pub text_decoration : (v : TextDecoration) → unwrap_or r.text_decoration v ≡ unwrap_or p.text_decoration (unwrap_or q.text_decoration v)
+  pub vertical_align : (v : VerticalAlign) → unwrap_or r.vertical_align v ≡ unwrap_or p.vertical_align (unwrap_or q.vertical_align v)

@@ -1,0 +1,235 @@
+//! The parts of a names node (CSL 1.0.2, Names): its own, or those of the node that it stands in
+//! for.
+
+ghost use Rattle.std.specs.Prelude.{◌≡◌, false, map, option_map};
+ghost use Rattle.csl_style.specs.NameOptions.{own_options};
+ghost use Rattle.csl_style.specs.Names.{first_of, first_name, in_place_of, view_name, view_et_al, view_label, view_part};
+ghost use Rattle.csl_style.specs.Node.{names, is_childless};
+ghost use Rattle.csl_style.specs.View.{view_child, view_names, view_substitute, name_children, first_et_al, first_label, substitutes};
+ghost use Rattle.csl_style.specs.NamesParts.{names_node, names_substitutes, first_substitute, parts_node, placed_label, default_name, first_part};
+
+use crate::affixes::Affixes;
+use crate::element::{Names, NamesChild, Substitute};
+use crate::formatting::{Display, Formatting};
+use crate::names::{
+    EtAl, InheritableNameOptions, InheritedNameOptions, Name, NamePart, NamePartName,
+};
+use crate::number::{LabelPluralize, VariablelessLabel};
+use crate::taxonomy::NameVariable;
+use crate::term::{OtherTerm, TermForm};
+use std::alloc::Global;
+
+/// The parts of a names node but its substitutes, borrowed from the style. Those of a names node
+/// without children in a substitute come from two nodes.
+#[derive(Clone, Copy)]
+pub struct NamesParts<'s> {
+    pub variables: &'s [NameVariable],
+    pub options: InheritedNameOptions<'s>,
+    pub delimiter: Option<&'s str>,
+    pub formatting: Formatting,
+    pub prefix: Option<&'s str>,
+    pub suffix: Option<&'s str>,
+    pub display: Option<Display>,
+    /// The children whose name, et al. and label count.
+    pub children: &'s [NamesChild],
+}
+
+/// The label of names, and whether it stands behind them.
+#[derive(Clone, Copy)]
+pub struct PlacedLabel<'s> {
+    pub label: &'s VariablelessLabel,
+    pub is_behind: bool,
+}
+
+impl Names {
+    /// Its parts.
+    pub fn parts(&self) -> NamesParts<'_>
+        ensures value { parts_node result ≡ names_node self.now }
+        ensures view { view_names self.now ≡ names (names_node self.now)
+            (names_substitutes self.now) }
+    {
+        NamesParts {
+            variables: &self.variable,
+            options: self.options.as_inherited(),
+            delimiter: self.delimiter.as_deref(),
+            formatting: self.formatting,
+            prefix: self.affixes.prefix.as_deref(),
+            suffix: self.affixes.suffix.as_deref(),
+            display: self.display,
+            children: &self.children,
+        }
+    }
+
+    /// Whether it has no children: then it stands in a substitute for the names around it.
+    #[tactic(auto, using(crate::proofs::NamesChildren::childless))]
+    pub fn is_childless(&self) -> bool
+        ensures { result ≡ is_childless (names_node self.now) (names_substitutes self.now) }
+    {
+        self.children.is_empty()
+    }
+
+    /// Its parts where it stands in for another node: that node's children, its own variables and
+    /// place on the page, and all else from itself where it is set, else from that node.
+    pub fn parts_in_place_of<'s>(&'s self, original: NamesParts<'s>) -> NamesParts<'s>
+        ensures { parts_node result ≡ in_place_of (parts_node original.entry)
+            (names_node self.now) }
+    {
+        NamesParts {
+            variables: &self.variable,
+            options: self.options.apply(original.options),
+            delimiter: self.delimiter.as_deref().or(original.delimiter),
+            formatting: self.formatting.apply(original.formatting),
+            prefix: self.affixes.prefix.as_deref().or(original.prefix),
+            suffix: self.affixes.suffix.as_deref().or(original.suffix),
+            display: self.display,
+            children: original.children,
+        }
+    }
+
+    /// What is printed where there are no persons: the first of its substitutes.
+    pub fn substitute(&self) -> Option<&Substitute>
+        ensures { option_map (λ s. view_substitute s.now) result
+            ≡ first_substitute (names_substitutes self.now) }
+    {
+        substitute_among(&self.children)
+    }
+}
+
+impl<'s> NamesParts<'s> {
+    /// The first name child, which writes the names.
+    pub fn name(self) -> Option<&'s Name>
+        ensures { option_map (λ n. view_name n.now) result ≡ first_name (parts_node self.entry) }
+    {
+        name_among(self.children)
+    }
+
+    /// How the names that are left out are written, where it is said.
+    pub fn et_al(self) -> Option<&'s EtAl>
+        ensures { option_map (λ e. view_et_al e.now) result ≡ (parts_node self.entry).et_al }
+    {
+        et_al_among(self.children)
+    }
+
+    /// The label, where there is one.
+    pub fn label(self) -> Option<PlacedLabel<'s>>
+        ensures { option_map placed_label result ≡ (parts_node self.entry).label }
+    {
+        label_among(self.children)
+    }
+}
+
+/// The first name among children of names.
+fn name_among(children: &[NamesChild]) -> Option<&Name>
+    ensures { option_map (λ n. view_name n.now) result
+        ≡ first_of (name_children (map view_child children.now)) }
+{
+    for child in children {
+        match child {
+            NamesChild::Name(name) => return Some(name),
+            NamesChild::EtAl(_) | NamesChild::Label(_) | NamesChild::Substitute(_) => {}
+        }
+    }
+    None
+}
+
+/// The first et al. among them.
+fn et_al_among(children: &[NamesChild]) -> Option<&EtAl>
+    ensures { option_map (λ e. view_et_al e.now) result
+        ≡ first_et_al (map view_child children.now) }
+{
+    for child in children {
+        match child {
+            NamesChild::EtAl(et_al) => return Some(et_al),
+            NamesChild::Name(_) | NamesChild::Label(_) | NamesChild::Substitute(_) => {}
+        }
+    }
+    None
+}
+
+/// The first label among them: behind the names where a name comes before it.
+fn label_among(children: &[NamesChild]) -> Option<PlacedLabel<'_>>
+    ensures { option_map placed_label result ≡ first_label false (map view_child children.now) }
+{
+    let mut is_behind = false;
+    for child in children {
+        match child {
+            NamesChild::Label(label) => return Some(PlacedLabel { label, is_behind }),
+            NamesChild::Name(_) => is_behind = true,
+            NamesChild::EtAl(_) | NamesChild::Substitute(_) => {}
+        }
+    }
+    None
+}
+
+/// The first substitute among them.
+fn substitute_among(children: &[NamesChild]) -> Option<&Substitute>
+    ensures { option_map (λ s. view_substitute s.now) result
+        ≡ first_substitute (substitutes (map view_child children.now)) }
+{
+    for child in children {
+        match child {
+            NamesChild::Substitute(substitute) => return Some(substitute),
+            NamesChild::Name(_) | NamesChild::EtAl(_) | NamesChild::Label(_) => {}
+        }
+    }
+    None
+}
+
+impl Name {
+    /// A name of which nothing is said.
+    pub fn new(alloc: Global) -> Name
+        ensures { view_name result ≡ default_name }
+    {
+        Name {
+            options: InheritableNameOptions::default(),
+            formatting: Formatting::default(),
+            parts: Vec::new(alloc),
+        }
+    }
+
+    /// How a part of the name is written, where it is said: the first of that part.
+    pub fn part(&self, name: NamePartName) -> Option<&NamePart>
+        ensures { option_map (λ p. view_part p.now) result
+            ≡ first_part name (view_name self.now) }
+    {
+        for part in &self.parts {
+            if part.name == name {
+                return Some(part);
+            }
+        }
+        None
+    }
+}
+
+impl Default for EtAl {
+    ghost use Rattle.std.specs.Prelude.{◌≡◌};
+    ghost use Rattle.csl_style.specs.Names.{view_et_al};
+    ghost use Rattle.csl_style.specs.NamesParts.{default_et_al};
+
+    ghost is_default = { λ e. view_et_al e ≡ default_et_al };
+
+    fn default() -> EtAl {
+        EtAl {
+            term: OtherTerm::EtAl,
+            formatting: Formatting::default(),
+        }
+    }
+}
+
+impl Default for VariablelessLabel {
+    ghost use Rattle.std.specs.Prelude.{◌≡◌};
+    ghost use Rattle.csl_style.specs.Names.{view_label};
+    ghost use Rattle.csl_style.specs.NamesParts.{default_label};
+
+    ghost is_default = { λ l. view_label l ≡ default_label };
+
+    fn default() -> VariablelessLabel {
+        VariablelessLabel {
+            form: TermForm::Long,
+            plural: LabelPluralize::Contextual,
+            formatting: Formatting::default(),
+            affixes: Affixes::default(),
+            strip_periods: false,
+        }
+    }
+}

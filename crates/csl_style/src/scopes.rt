@@ -1,0 +1,45 @@
+//! What a style sets for a scope, and by its first locale.
+
+ghost use Rattle.std.specs.Prelude.{◌≡◌};
+ghost use Rattle.csl_style.specs.NameOptions.{inherited_options};
+ghost use Rattle.csl_style.specs.Scopes.{base_options, is_punctuation_in_quote, are_day_ordinals_limited};
+
+use crate::names::InheritedNameOptions;
+use crate::style::{Scope, Style};
+
+impl Style {
+    /// The options that each names node of the scope inherits (CSL 1.0.2, Inheritable Name
+    /// Options): each one that the scope sets, else that of the whole style.
+    pub fn base_name_options(&self, scope: Scope) -> InheritedNameOptions<'_>
+        ensures { inherited_options result ≡ base_options scope self.now.settings }
+    {
+        let settings = self.settings();
+        let own = match scope {
+            Scope::Citation => &settings.citation_names,
+            Scope::Bibliography => &settings.bibliography_names,
+        };
+        own.apply(settings.names.as_inherited())
+    }
+
+    /// Whether a comma or period behind a closing quote goes before it, by the first locale. It
+    /// does not where there is no locale.
+    pub fn is_punctuation_in_quote(&self) -> bool
+        ensures { result ≡ is_punctuation_in_quote self.now.locales }
+    {
+        match self.locales().first() {
+            Some(locale) => locale.punctuation_in_quote,
+            None => false,
+        }
+    }
+
+    /// Whether only the first day of a month is written as an ordinal, by the first locale. Each
+    /// day is where there is no locale.
+    pub fn are_day_ordinals_limited(&self) -> bool
+        ensures { result ≡ are_day_ordinals_limited self.now.locales }
+    {
+        match self.locales().first() {
+            Some(locale) => locale.limit_day_ordinals_to_day_1,
+            None => false,
+        }
+    }
+}
