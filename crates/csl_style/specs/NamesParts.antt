@@ -12,11 +12,11 @@ use Rattle.csl_style.specs.declared.term.OtherTerm.TheVariants.{EtAl}
 use Rattle.csl_style.specs.declared.term.TermForm.TheVariants.{Long}
 use Rattle.csl_style.specs.declared.number.LabelPluralize.TheVariants.{Contextual}
 use Rattle.csl_style.specs.declared.formatting.Formatting.{Formatting}
-use Rattle.csl_style.specs.Dressing.{dressed_in, text_if}
+use Rattle.csl_style.specs.Dressing.{dressing_of, text_if}
 use Rattle.csl_style.specs.NameOptions.{own_options, inherited_options}
 use Rattle.csl_style.specs.Names.{NamePartNode, NameNode, EtAlNode, LabelNode, view_label, NamesLabel, NamesNode}
 use Rattle.csl_style.specs.Node.{Nodes, Substitutes, no_substitutes, substitute}
-use Rattle.csl_style.specs.Style.{unset}
+use Rattle.csl_style.specs.Style.{no_options}
 use Rattle.csl_style.specs.View.{Child, view_child, name_children, first_et_al, first_label, substitutes}
 
 -- ---- of a node as it is written
@@ -29,7 +29,7 @@ names_node n = record {
   variables = (out-Names n).variable.items;
   options = own_options (out-Names n).options;
   delimiter = text_if (out-Names n).delimiter;
-  dressing = dressed_in (out-Names n).formatting (out-Names n).affixes (out-Names n).display;
+  dressing = dressing_of (out-Names n).formatting (out-Names n).affixes (out-Names n).display;
   name_children = name_children (children_of n);
   et_al = first_et_al (children_of n);
   label = first_label false (children_of n);
@@ -72,7 +72,7 @@ abbrev pub plain : Formatting
 plain = record { font_style = None; font_variant = None; font_weight = None; text_decoration = None; vertical_align = None }
 
 abbrev pub default_name : NameNode
-default_name = record { options = unset; formatting = plain; parts = [] }
+default_name = record { options = no_options; formatting = plain; parts = [] }
 
 abbrev pub default_et_al : EtAlNode
 default_et_al = record { term = EtAl; formatting = plain }

@@ -4,10 +4,8 @@ use Rattle.std.specs.Prelude.{ℕ, Bool, true, false, not, ◌||◌, List, Optio
 use Rattle.csl_style.specs.declared.taxonomy.Variable.{Variable}
 use Rattle.csl_style.specs.declared.taxonomy.Variable.TheVariants as variable
 use Rattle.csl_style.specs.declared.taxonomy.StandardVariable.TheVariants.{YearSuffix}
-use Rattle.csl_style.specs.declared.element.Layout.{Layout}
 use Rattle.csl_style.specs.declared.style.settings.Scope.{Scope}
-use Rattle.csl_style.specs.declared.style.settings.Scope.TheVariants.{Citation, Bibliography}
-use Rattle.csl_style.specs.Style.{StyleParts}
+use Rattle.csl_style.specs.Style.{StyleParts, layout_of}
 use Rattle.csl_style.specs.View.{definitions, view_layout, Child, a_name, an_et_al, a_label, a_substitute}
 use Rattle.csl_style.specs.Meaning.{meaning}
 use Rattle.csl_style.specs.Node.{Target, of_variable, of_term, of_value, Full, printed, called, lacking, numbered, labelled, dated, named, shorthand, chosen, grouped, Fulls, none, more, Cases, no_cases, else_case, case, Insteads, no_insteads, instead, FullLayout, fills, fill_layout}
@@ -16,14 +14,9 @@ use Rattle.csl_style.specs.Node.{Target, of_variable, of_term, of_value, Full, p
 abbrev pub env : StyleParts → List ℕ → Option Fulls
 env s = meaning (definitions s.macros)
 
--- the layout of a scope: a style may have none for its bibliography
-abbrev pub scope_layout : Scope → StyleParts → Option Layout
-scope_layout Citation s = Some s.citation
-scope_layout Bibliography s = s.bibliography
-
--- that layout, with each macro in the place of its name
+-- the layout of a scope, with each macro in the place of its name
 abbrev pub reached_layout : Scope → StyleParts → Option FullLayout
-reached_layout scope s = option_map (λ l. fill_layout (env s) (view_layout l)) (scope_layout scope s)
+reached_layout scope s = option_map (λ l. fill_layout (env s) (view_layout l)) (layout_of s scope)
 
 abbrev pub is_year_suffix : Variable → Bool
 is_year_suffix (variable.Standard YearSuffix) = true

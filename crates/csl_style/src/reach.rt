@@ -104,12 +104,9 @@ impl Style {
     pub fn renders_year_suffix_implicitly(&self, scope: Scope) -> bool
         ensures { result ≡ is_year_suffix_implicit (reached_layout scope self.now) }
     {
-        match scope {
-            Scope::Citation => !any_has_year_suffix(self, &self.citation().elements),
-            Scope::Bibliography => match self.bibliography() {
-                Some(layout) => !any_has_year_suffix(self, &layout.elements),
-                None => true,
-            },
+        match self.layout(scope) {
+            Some(layout) => !any_has_year_suffix(self, &layout.elements),
+            None => true,
         }
     }
 }
