@@ -1,5 +1,6 @@
 -- A film: what it answers to a style, as plain data, and one that is made.
 use Rattle.std.specs.Prelude.{◌≡◌, ℕ, pos, List, [], ◌∷◌, Option, Some, None, Bool, true, false, codes}
+use Rattle.lit_model.specs.Chunks.{text_of}
 use Rattle.lit_model.specs.Date.{Parts, date_parts}
 use Rattle.lit_model.specs.Person.{Named, named}
 use Rattle.lit_model.specs.Text.{Chunk, chunks}
@@ -13,13 +14,12 @@ use Rattle.csl_style.specs.declared.taxonomy.NameVariable.TheVariants.{Director}
 use Rattle.csl_style.specs.declared.taxonomy.StandardVariable.{StandardVariable}
 use Rattle.csl_style.specs.declared.taxonomy.StandardVariable.TheVariants.{Title}
 use Rattle.csl_entry.specs.Answers.{Answers}
-use Rattle.csl_entry.specs.CitationLabel.{joined}
 use Rattle.csl_uses.specs.Book.{one_piece, person_of}
 use Rattle.csl_uses.specs.declared.film.Film.{Film}
 
-abbrev pub text_of : Film → StandardVariable → Option (List Chunk)
-text_of film Title = Some (chunks film.title)
-text_of film _ = None
+abbrev pub standard_of : Film → StandardVariable → Option (List Chunk)
+standard_of film Title = Some (chunks film.title)
+standard_of film _ = None
 
 abbrev pub persons_of : Film → NameVariable → List Named
 persons_of film Director = named film.director ∷ []
@@ -37,7 +37,7 @@ abbrev pub answers_of : Film → Answers
 answers_of film = record {
   numbers = λ _. None;
   pages = λ _. None;
-  standards = λ _ variable. text_of film variable;
+  standards = λ _ variable. standard_of film variable;
   names = persons_of film;
   dates = date_of film;
   kinds = is_film;
@@ -45,7 +45,7 @@ answers_of film = record {
 
 -- the title among the answers of an entry of any type
 abbrev pub title_among : Option (List Chunk) → List ℕ
-title_among (Some title) = joined title
+title_among (Some title) = text_of title
 title_among None = []
 
 abbrev pub title_of : Answers → List ℕ

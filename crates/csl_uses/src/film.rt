@@ -1,8 +1,6 @@
 //! A type of one's own as an entry: what it answers is said once, in `specs/Film.antt`.
 
 ghost use Rattle.std.specs.Prelude.{◌≡◌, IfOk, string_bytes};
-ghost use Rattle.lit_model.specs.Text.{chunks};
-ghost use Rattle.csl_entry.specs.CitationLabel.{joined};
 ghost use Rattle.csl_uses.specs.Film.{IsMetropolis, answers_of, title_of};
 
 use crate::book::{person, text};
@@ -131,18 +129,7 @@ pub fn title_of<T: EntryLike>(alloc: Global, entry: &T) -> Result<String, Memory
 {
     let long = LongShortForm::Long;
     match entry.resolve_standard_variable(alloc, long, StandardVariable::Title)? {
-        Some(title) => joined(alloc, title.as_ref()),
+        Some(title) => title.as_ref().to_text(alloc),
         None => Ok(String::new(alloc)),
     }
-}
-
-/// The pieces of a text, joined.
-fn joined(alloc: Global, text: &ChunkedString) -> Result<String, Memory>
-    ensures { IfOk result (λ whole. string_bytes whole ≡ joined (chunks text.now)) }
-{
-    let mut whole = String::new(alloc);
-    for piece in &text.0 {
-        whole.push_str(piece.value.as_str())?;
-    }
-    Ok(whole)
 }
