@@ -243,7 +243,22 @@ fn a_locator_of_two_numbers(rt: HostRuntime) -> Result<(), Fail> {
     Ok(())
 }
 
-/// The text that the cite answers, with the marks of its pieces.
+/// The text that a copy of the cite answers, with the marks of its pieces.
+fn text_in<'s>(
+    alloc: Global,
+    samples: &'s [Sample],
+    props: &'s CiteProperties<'s>,
+    form: LongShortForm,
+    variable: StandardVariable,
+) -> Result<String, Fail> {
+    let cite = instance(only(samples)?, props).clone()?;
+    match cite.resolve_standard_variable(alloc, form, variable)? {
+        Some(found) => text_said(alloc, Some(found.as_ref())),
+        None => text_said(alloc, None),
+    }
+}
+
+/// The text that the cite answers where entries are told apart in this way.
 fn text(
     alloc: Global,
     told: Told,
@@ -251,13 +266,8 @@ fn text(
     variable: StandardVariable,
 ) -> Result<String, Fail> {
     let samples = samples(alloc)?;
-    let entry = only(&samples)?;
     let props = cited(None, None, state(alloc, told)?)?;
-    let cite = instance(entry, &props).clone()?;
-    match cite.resolve_standard_variable(alloc, form, variable)? {
-        Some(found) => text_said(alloc, Some(found.as_ref())),
-        None => text_said(alloc, None),
-    }
+    text_in(alloc, &samples, &props, form, variable)
 }
 
 #[test]
@@ -284,14 +294,22 @@ fn texts_are_asked_of_the_entry(rt: HostRuntime) -> Result<(), Fail> {
 }
 
 /// The pages that the cite answers.
-fn pages(alloc: Global) -> Result<String, Fail> {
-    let samples = samples(alloc)?;
-    let entry = only(&samples)?;
-    let props = cited(None, None, DisambiguateState::YearSuffix(0))?;
-    match instance(entry, &props).resolve_page_variable(alloc, PageVariable::Page)? {
+fn pages_in<'s>(
+    alloc: Global,
+    samples: &'s [Sample],
+    props: &'s CiteProperties<'s>,
+) -> Result<String, Fail> {
+    let cite = instance(only(samples)?, props);
+    match cite.resolve_page_variable(alloc, PageVariable::Page)? {
         Some(MaybeTyped::Typed(pages)) => Ok(pages.to_string(alloc)?),
         _ => Ok(String::from_str(alloc, "no pages")?),
     }
+}
+
+fn pages(alloc: Global) -> Result<String, Fail> {
+    let samples = samples(alloc)?;
+    let props = cited(None, None, DisambiguateState::YearSuffix(0))?;
+    pages_in(alloc, &samples, &props)
 }
 
 #[test]
