@@ -2,7 +2,9 @@
 //! on it.
 
 use anyhow::{Result, bail};
-use lit_model::{Entry, EntryType, Numeric, NumericError, NumericValue, PageRanges, Person};
+use lit_model::{
+    Date, Entry, EntryType, Memory, Numeric, NumericError, NumericValue, PageRanges, Person,
+};
 use std::alloc::Global;
 
 /// A text of so many units, and its end.
@@ -94,4 +96,49 @@ fn authors_of_copy(alloc: Global, entry: &Entry) -> Result<usize> {
 pub fn clone_entry(alloc: Global, size: usize) -> Result<usize> {
     let entry = entry(alloc, size)?;
     authors_of_copy(alloc, &entry)
+}
+
+/// A work with these parents.
+fn above(alloc: Global, parents: Vec<Entry>, date: Option<Date>) -> Result<Vec<Entry>, Memory> {
+    let mut works = Vec::with_capacity(alloc, 1)?;
+    let mut work = Entry::new(alloc, "work", EntryType::Book)?;
+    work.date = date;
+    work.parents = parents;
+    works.push(work)?;
+    Ok(works)
+}
+
+/// A work with that many others behind it, each the parent of the one before; the last has a date.
+fn chain(alloc: Global, parents: usize) -> Result<Vec<Entry>, Memory> {
+    let date = Date::new(1605, None, None, None, false);
+    let mut works = above(alloc, Vec::new(alloc), date)?;
+    for _ in 0..parents {
+        works = above(alloc, works, None)?;
+    }
+    Ok(works)
+}
+
+/// The first of some works, copied.
+fn copied(alloc: Global, works: &[Entry]) -> Result<Vec<Entry>, Memory> {
+    let mut copies = Vec::new(alloc);
+    if let [work, ..] = works {
+        copies.push(work.clone(alloc)?)?;
+    }
+    Ok(copies)
+}
+
+/// Copies a chain of parents, compares it, and answers the year that is found at the copy's end.
+pub fn family(alloc: Global, size: usize) -> Result<usize> {
+    let works = chain(alloc, size)?;
+    let copies = copied(alloc, &works)?;
+    if copies != works {
+        bail!("the copy differs");
+    }
+    match copies.as_slice() {
+        [copy, ..] => match copy.date_any() {
+            Some(date) => Ok(date.year() as usize),
+            None => bail!("no date"),
+        },
+        [] => bail!("no copy"),
+    }
 }

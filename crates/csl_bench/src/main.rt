@@ -18,12 +18,13 @@ use std::rt::Env;
 const SMALL: usize = 10;
 
 /// The works, by name.
-const WORKS: [&str; 15] = [
+const WORKS: [&str; 16] = [
     "numeric",
     "pages",
     "initials",
     "particle",
     "clone_entry",
+    "family",
     "stack",
     "drain",
     "search",
@@ -44,6 +45,7 @@ fn checksum(alloc: Global, work: &str, size: usize) -> Result<usize> {
         "initials" => literature::initials(alloc, size),
         "particle" => literature::particle(alloc, size),
         "clone_entry" => literature::clone_entry(alloc, size),
+        "family" => literature::family(alloc, size),
         "stack" => tree::stack(alloc, size),
         "drain" => tree::drain(alloc, size),
         "search" => tree::search(alloc, size),

@@ -1,6 +1,6 @@
 //! Copies of entries.
 
-ghost use Rattle.std.specs.Prelude.{◌≡◌, map, option_map, IfOk};
+ghost use Rattle.std.specs.Prelude.{◌≡◌, ◌∷◌, ◌++◌, [], map, option_map, IfOk, OnOk};
 ghost use Rattle.lit_model.specs.Entry.{parents_of};
 ghost use Rattle.lit_model.specs.MaybeTyped.{maybe_view};
 ghost use Rattle.lit_model.specs.Numeric.{numeric_view};
@@ -27,12 +27,40 @@ impl Entry {
     pub fn clone(&self, alloc: Global) -> Result<Entry, Memory>
         ensures { IfOk result (λ e. works e ≡ works self.now) }
     {
-        let mut parents = Vec::with_capacity(alloc, self.parents.len())?;
-        for parent in &self.parents {
-            parents.push(parent.clone(alloc)?)?;
-        }
+        let parents = self.copy_parents(alloc)?;
         let copy = self.copy_under(parents, alloc)?;
         Ok(copy)
+    }
+
+    /// Copies of the parents. It goes as deep as they do, so no copy stands on its stack: each is
+    /// made by [`Entry::push_copy`].
+    fn copy_parents(&self, alloc: Global) -> Result<Vec<Entry>, Memory>
+        ensures { IfOk result
+            (λ copies. map works copies.items ≡ map works (parents_of self.now)) }
+    {
+        let mut copies = Vec::with_capacity(alloc, self.parents.len())?;
+        for parent in &self.parents {
+            let above = parent.copy_parents(alloc)?;
+            parent.push_copy(alloc, above, &mut copies)?;
+        }
+        Ok(copies)
+    }
+
+    /// Appends a copy to the copies, given those of its parents.
+    #[inline(never)]
+    fn push_copy(
+        &self,
+        alloc: Global,
+        above: Vec<Entry>,
+        copies: &mut Vec<Entry>,
+    ) -> Result<(), Memory>
+        requires parents { map works above.items ≡ map works (parents_of self.now) }
+        ensures ok { OnOk result
+            (map works copies.new.items ≡ map works copies.old.items ++ works self.now ∷ []) }
+    {
+        let copy = self.copy_under(above, alloc)?;
+        copies.push(copy)?;
+        Ok(())
     }
 
     /// A copy of the entry's own fields, under other parents.

@@ -1,10 +1,9 @@
 use Rattle.std.proofs.Common.{◌≡◌, ap, ◌∙◌, map, take, arith}
 use Rattle.std.proofs.lemmas.Grind.{common_steps}
 use Rattle.lit_model.specs.Work.{works}
-use Rattle.lit_model.proofs.Works.{works_same}
-use Rattle.lit_model.proofs.entry.Entry.+clone.Goals as goal
+use Rattle.lit_model.proofs.entry.Entry.+copy_parents.Goals as goal
 
 pub returns : goal.returns
 returns t c =
     let whole : take c.loop-parent.parent-index c.deref-parent-items.result.now ≡ c.deref-parent-items.result.now = grind (arith, common_steps) in
-    works_same c.in_ok-copy.copy c.args.self.now c.in_ok-copy.ensures.own (ap (map works) c.in_ok-copy.ensures.parents ∙ c.loop-parent.invariant ∙ ap (map works) (whole ∙ c.deref-parent-items.ensures.value))
+    c.loop-parent.invariant ∙ ap (map works) (whole ∙ c.deref-parent-items.ensures.value)
