@@ -4,7 +4,7 @@ use Rattle.std.specs.Prelude.{IsUtf8}
 use Rattle.std.proofs.lemmas.Bool.Decides.{eqb_tells}
 use Rattle.std.proofs.lemmas.Str.{IsUtf8-past_char, chars_past_char, chars-nil}
 use Rattle.unicode.specs.GeneralCategory.{general_category}
-use Rattle.lit_model.specs.Initials.{is_capital, is_single_capital, without_dot, single_letter, name_text, gap_after, names_text}
+use Rattle.lit_model.specs.FirstNames.{is_capital, is_single_capital, without_dot, single_letter, name_text, gap_after, names_text}
 
 -- ---- one uppercase letter
 

@@ -3,13 +3,15 @@ use Rattle.std.proofs.Common.{◌≡◌, ◌≢◌, ℕ, ◌<◌, Bool, true, fa
 use Rattle.std.specs.Prelude.{filter, filter_map, slice_get, option_to_list, IsUtf8, encode_utf8_all, ⊤}
 use Rattle.std.specs.Char.{is_whitespace, is_not_whitespace}
 use Rattle.std.specs.List.{All, slice_split, onto_first, cons_option}
-use Rattle.std.specs.Str.{NonePass, NoCharPasses, EmptyOrStartsWithPassing}
+use Rattle.std.specs.Str.{trim_end, NonePass, NoCharPasses, EmptyOrStartsWithPassing}
 use Rattle.std.proofs.lemmas.List.Elements.{All-nil, All-cons}
 use Rattle.std.proofs.lemmas.List.Splits.{slice_split_none, slice_split_at}
 use Rattle.std.proofs.lemmas.Str.{encodes-append, encodes-chars, chars_from_encodes, IsUtf8-past_char, chars_past_char, chars-nil}
 use Rattle.unicode_segmentation.specs.Grapheme.{graphemes}
-use Rattle.lit_model.specs.Initials.{is_nonempty, char_words, given_words, first_grapheme, initials_of, gap, word_text, before_piece, before_word, end_text, words_text}
+use Rattle.lit_model.specs.Initials.{is_nonempty, char_words, given_words, first_grapheme, initials_of, between, word_initials, all_initials}
+use Rattle.lit_model.specs.Shortened.{gap, word_text, before_piece, before_word, end_text, words_text}
 use Rattle.lit_model.specs.declared.initials.Before.{Before}
+use Rattle.lit_model.specs.declared.initials.Before.TheVariants.{Nothing, Word, Piece}
 use Rattle.lit_model.proofs.Particles.{lacks}
 
 -- ---- pieces of a word
@@ -145,3 +147,37 @@ next_word text hyphen so_far target before place w all more split at whole =
 -- no word is left
 pub last_word : (text : List ℕ) (hyphen : Bool) (so_far target : List ℕ) (before : Before) (all : List (List ℕ)) → all ≡ [] → so_far ++ words_text text hyphen before (map initials_of all) ≡ target → so_far ++ end_text text before ≡ target
 last_word text hyphen so_far target before all none whole = ap (λ (ws : List (List ℕ)). so_far ++ words_text text hyphen before (map initials_of ws)) (sym none) ∙ whole
+
+-- ---- the initials, as they are written and as they are defined
+
+-- what is written of a word behind its first initial
+later : (text : List ℕ) (hyphen : Bool) (g : List ℕ) (gs : List (List ℕ)) → g ++ word_text text hyphen Piece gs ≡ word_initials text hyphen (g ∷ gs)
+later text hyphen g [] = append-nil g
+later text hyphen g (h ∷ gs) = ap (λ (x : List ℕ). g ++ (between text hyphen ++ x)) (later text hyphen h gs)
+
+module _ (text : List ℕ) (hyphen : Bool) where
+  -- what stands behind a word that has initials, given the words behind it that have some
+  abbrev behind : List (List (List ℕ)) → List ℕ
+  behind [] = trim_end text
+  behind (w ∷ ws) = text ++ all_initials text hyphen (w ∷ ws)
+
+  first_of_all : (w : List (List ℕ)) (ws : List (List (List ℕ))) → word_initials text hyphen w ++ behind ws ≡ all_initials text hyphen (w ∷ ws)
+  first_of_all w [] = refl
+  first_of_all w (v ∷ ws) = refl
+
+  written_behind : (ws : List (List (List ℕ))) → words_text text hyphen Word ws ≡ behind (filter is_nonempty ws)
+  written_behind [] = refl
+  written_behind ([] ∷ ws) = written_behind ws
+  written_behind ((g ∷ gs) ∷ ws) =
+      append_assoc text (g ++ word_text text hyphen Piece gs) (words_text text hyphen Word ws)
+      ∙ ap (λ (x : List ℕ). text ++ (x ++ words_text text hyphen Word ws)) (later text hyphen g gs)
+      ∙ ap (λ (x : List ℕ). text ++ (word_initials text hyphen (g ∷ gs) ++ x)) (written_behind ws)
+      ∙ ap (λ (x : List ℕ). text ++ x) (first_of_all (g ∷ gs) (filter is_nonempty ws))
+
+  pub written_initials : (ws : List (List (List ℕ))) → words_text text hyphen Nothing ws ≡ all_initials text hyphen (filter is_nonempty ws)
+  written_initials [] = refl
+  written_initials ([] ∷ ws) = written_initials ws
+  written_initials ((g ∷ gs) ∷ ws) =
+      ap (λ (x : List ℕ). x ++ words_text text hyphen Word ws) (later text hyphen g gs)
+      ∙ ap (λ (x : List ℕ). word_initials text hyphen (g ∷ gs) ++ x) (written_behind ws)
+      ∙ first_of_all (g ∷ gs) (filter is_nonempty ws)

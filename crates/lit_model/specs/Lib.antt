@@ -2,6 +2,7 @@ pub mod Characters
 pub mod Chunks
 pub mod Date
 pub mod Entry
+pub mod FirstNames
 pub mod Initials
 pub mod MaybeTyped
 pub mod Noting
@@ -18,6 +19,7 @@ pub mod Person
 pub mod SamePerson
 pub mod Scan
 pub mod Select
+pub mod Shortened
 pub mod Sink
 pub mod Source
 pub mod Spelled

@@ -3,7 +3,9 @@
 ghost use Rattle.std.specs.Prelude.{◌≡◌, true, [], option_copied, chars, OnOk, OnErr, IfOk};
 ghost use Rattle.unicode.specs.GeneralCategory.{general_category};
 ghost use Rattle.std.specs.Fmt.{WritesInCalls};
-ghost use Rattle.lit_model.specs.Initials.{is_capital, is_single_capital, without_dot, single_letter, name_text, gap_after, names_text, given_words, person_first_name};
+ghost use Rattle.lit_model.specs.FirstNames.{is_capital, is_single_capital, without_dot, single_letter, name_text, gap_after, names_text, person_first_name};
+ghost use Rattle.lit_model.specs.Initials.{given_words};
+ghost use Rattle.lit_model.specs.Person.{named};
 
 use crate::person::Person;
 use crate::sink::{Noting, Sink};
@@ -107,7 +109,7 @@ impl Person {
         delimiter: Option<&str>,
     ) -> fmt::Result
         ensures ok { OnOk result (WritesInCalls S.write_str_gives sink.old
-            (person_first_name (option_copied delimiter.entry) self.now) sink.new) }
+            (person_first_name (option_copied delimiter.entry) (named self.now)) sink.new) }
         ensures kept { OnOk result (S.refused sink.new ≡ S.refused sink.old) }
         ensures err { OnErr result (S.refused sink.new ≡ true) }
     {
@@ -129,7 +131,7 @@ impl Person {
         delimiter: Option<&str>,
     ) -> fmt::Result
         ensures { OnOk result (WritesInCalls W.write_str_gives w.old
-            (person_first_name (option_copied delimiter.entry) self.now) w.new) }
+            (person_first_name (option_copied delimiter.entry) (named self.now)) w.new) }
     {
         let mut sink = Noting::new(w);
         let result = self.first_name_with_delimiter_into(&mut sink, delimiter);

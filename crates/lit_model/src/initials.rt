@@ -2,7 +2,9 @@
 
 ghost use Rattle.std.specs.Prelude.{◌≡◌, true, map, option_to_list, option_copied, OnOk, OnErr, IfOk};
 ghost use Rattle.std.specs.Fmt.{WritesInCalls};
-ghost use Rattle.lit_model.specs.Initials.{first_grapheme, initials_of, gap, word_text, before_piece, before_word, end_text, initials, person_initials};
+ghost use Rattle.lit_model.specs.Initials.{first_grapheme, initials_of, initials, person_initials};
+ghost use Rattle.lit_model.specs.Person.{named};
+ghost use Rattle.lit_model.specs.Shortened.{gap, word_text, before_piece, before_word, end_text};
 
 use crate::person::Person;
 use crate::sink::{Noting, Sink};
@@ -148,7 +150,7 @@ impl Person {
         with_hyphen: bool,
     ) -> fmt::Result
         ensures ok { OnOk result (WritesInCalls S.write_str_gives sink.old
-            (person_initials (option_copied delimiter.entry) with_hyphen self.now) sink.new) }
+            (person_initials (option_copied delimiter.entry) with_hyphen (named self.now)) sink.new) }
         ensures kept { OnOk result (S.refused sink.new ≡ S.refused sink.old) }
         ensures err { OnErr result (S.refused sink.new ≡ true) }
     {
@@ -177,7 +179,7 @@ impl Person {
         with_hyphen: bool,
     ) -> fmt::Result
         ensures { OnOk result (WritesInCalls W.write_str_gives w.old
-            (person_initials (option_copied delimiter.entry) with_hyphen self.now) w.new) }
+            (person_initials (option_copied delimiter.entry) with_hyphen (named self.now)) w.new) }
     {
         let mut sink = Noting::new(w);
         let result = self.initials_into(&mut sink, delimiter, with_hyphen);

@@ -2,7 +2,8 @@ use Rattle.std.proofs.Common.{◌≡◌, ℕ, List, [], ◌++◌, refl, sym, ap,
 use Rattle.std.specs.Prelude.{IsUtf8, option_copied}
 use Rattle.std.specs.Str.Iter.{split_whitespace_rest}
 use Rattle.std.proofs.lemmas.Str.{IsUtf8-nil}
-use Rattle.lit_model.specs.Initials.{given_words, name_text, names_text}
+use Rattle.lit_model.specs.FirstNames.{name_text, names_text}
+use Rattle.lit_model.specs.Initials.{given_words}
 use Rattle.lit_model.proofs.Marking.{next_name, last_name}
 use Rattle.lit_model.proofs.Shortening.{words_more, words_none}
 use Rattle.lit_model.proofs.Writes.{three_writes, writes_of_eq}

@@ -1,6 +1,6 @@
 use Rattle.std.proofs.Common.{Some, None, lit<, sym, ap, ◌∙◌}
 use Rattle.std.proofs.lemmas.Str.Pattern.{strip_suffix_char}
-use Rattle.lit_model.specs.Initials.{without_dot}
+use Rattle.lit_model.specs.FirstNames.{without_dot}
 use Rattle.lit_model.proofs.Marking.{dot_cut, dot_none}
 use Rattle.lit_model.proofs.first_names.without_dot.Goals as goal
 

@@ -2,7 +2,8 @@ use Rattle.std.proofs.Common.{◌∷◌, ◌++◌, Some, None, length, lit<, ref
 use Rattle.std.specs.Prelude.{option_to_list}
 use Rattle.std.proofs.lemmas.List.{length-append}
 use Rattle.std.proofs.lemmas.Str.Pattern.{split_parts}
-use Rattle.lit_model.specs.Initials.{first_grapheme, initials_of, word_text}
+use Rattle.lit_model.specs.Initials.{first_grapheme, initials_of}
+use Rattle.lit_model.specs.Shortened.{word_text}
 use Rattle.lit_model.proofs.Shortening.{initials_more, initials_one, next_piece, next_place, last_piece, last_place}
 use Rattle.lit_model.proofs.Writes.{two_writes}
 use Rattle.lit_model.proofs.initials.Shortened.put_word.Goals as goal

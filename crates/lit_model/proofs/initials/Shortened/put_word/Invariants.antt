@@ -2,7 +2,8 @@ use Rattle.std.proofs.Common.{◌≡◌, ℕ, List, ◌++◌, length}
 use denote.Text.{Utf8}
 use denote.Shadow.{shadow}
 use Rattle.std.specs.Fmt.{WritesInCalls}
-use Rattle.lit_model.specs.Initials.{initials_of, word_text, before_piece}
+use Rattle.lit_model.specs.Initials.{initials_of}
+use Rattle.lit_model.specs.Shortened.{word_text, before_piece}
 use Rattle.lit_model.proofs.initials.Shortened.put_word.Given as goal
 
 -- what the sink took so far, with the initials of the rest, is what it is to take; the place and the refusals are as they should be

@@ -1,9 +1,10 @@
 use Rattle.std.proofs.Common.{◌≡◌, ℕ, List, [], ◌++◌, map, refl, sym, ap, subst, ◌∙◌, rules}
 use Rattle.std.specs.Prelude.{IsUtf8}
 use Rattle.std.specs.Str.Iter.{split_whitespace_rest}
-use Rattle.lit_model.specs.Initials.{given_words, initials_of, word_text, words_text, before_word}
+use Rattle.lit_model.specs.Initials.{given_words, initials_of}
+use Rattle.lit_model.specs.Shortened.{word_text, words_text, before_word}
 use Rattle.lit_model.specs.declared.initials.Before.TheVariants.{Nothing}
-use Rattle.lit_model.proofs.Shortening.{words_more, words_none, next_word, last_word}
+use Rattle.lit_model.proofs.Shortening.{words_more, words_none, next_word, last_word, written_initials}
 use Rattle.lit_model.proofs.Writes.{two_writes}
 use Rattle.lit_model.proofs.initials.Shortened.put_words.Goals as goal
 
@@ -40,4 +41,4 @@ returns-clause-ok g c =
     let rest = split_whitespace_rest c.loop-word.word-iterator in
     let inv = c.loop-word.invariant in
     let step = c.in-None.ensures.steps in
-    two_writes _ _ _ _ _ _ _ inv.1.1 c.in_ok-put_end.ensures.ok (last_word style.text.now style.hyphen inv.1.0 _ c.loop-word.place (given_words rest) (words_none rest inv.0 step.1) inv.1.2)
+    two_writes _ _ _ _ _ _ _ inv.1.1 c.in_ok-put_end.ensures.ok (last_word style.text.now style.hyphen inv.1.0 _ c.loop-word.place (given_words rest) (words_none rest inv.0 step.1) inv.1.2 ∙ written_initials style.text.now style.hyphen (map initials_of (given_words c.args.given.now)))
