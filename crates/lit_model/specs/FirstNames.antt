@@ -1,5 +1,5 @@
 -- Given names with their letters marked.
-use Rattle.std.specs.Prelude.{ℕ, Bool, true, false, ◌==◌, List, [], ◌∷◌, ◌++◌, Option, Some, None, unwrap_or, codes, nat_lt, length, drop, chars, if◌then◌else◌}
+use Rattle.std.specs.Prelude.{ℕ, Bool, true, false, ◌==◌, List, [], ◌∷◌, ◌++◌, Option, Some, None, unwrap_or, codes, nat_lt, length, chars, if◌then◌else◌}
 use Rattle.std.specs.Str.{trim_end}
 use Rattle.ucd_category.specs.declared.GeneralCategory.{GeneralCategory}
 use Rattle.ucd_category.specs.declared.GeneralCategory.TheVariants.{UppercaseLetter}
@@ -28,24 +28,33 @@ without_dot (b ∷ c ∷ bs) = b ∷ without_dot (c ∷ bs)
 abbrev pub single_letter : List ℕ → Option (List ℕ)
 single_letter word = if is_single_capital (chars (without_dot word)) then Some (without_dot word) else None
 
--- What is written of a word, given its letter if it is one: the letter and the given text without its trailing white space, or the word.
-abbrev pub name_text : List ℕ → Option (List ℕ) → List ℕ → List ℕ
-name_text text None word = word
-name_text text (Some letter) word = letter ++ trim_end text
+-- what is written of a word: a letter with the given text behind it, or the word
+abbrev pub lettered : List ℕ → Option (List ℕ) → List ℕ → List ℕ
+lettered text None word = word
+lettered text (Some letter) word = letter ++ text
 
--- What stands before the next word: the white space that ends the text written, or else a space.
-abbrev pub gap_after : List ℕ → Option (List ℕ) → List ℕ
-gap_after text None = codes " "
-gap_after text (Some letter) = if nat_lt (length (trim_end text)) (length text) then drop (length (trim_end text)) text else codes " "
+-- the same at the end, where no white space stands behind it
+abbrev pub lettered_last : List ℕ → Option (List ℕ) → List ℕ → List ℕ
+lettered_last text None word = word
+lettered_last text (Some letter) word = letter ++ trim_end text
 
--- the words, each after its gap
-abbrev pub names_text : List ℕ → List ℕ → List (List ℕ) → List ℕ
-names_text text gap [] = []
-names_text text gap (w ∷ ws) = gap ++ (name_text text (single_letter w) w ++ names_text text (gap_after text (single_letter w)) ws)
+abbrev pub ends_in_white_space : List ℕ → Bool
+ends_in_white_space text = nat_lt (length (trim_end text)) (length text)
+
+-- a space behind a word, unless white space is there
+abbrev pub space_behind : List ℕ → Option (List ℕ) → List ℕ
+space_behind text None = codes " "
+space_behind text (Some letter) = if ends_in_white_space text then [] else codes " "
+
+-- the words of a given name
+abbrev pub lettered_words : List ℕ → List (List ℕ) → List ℕ
+lettered_words text [] = []
+lettered_words text (w ∷ []) = lettered_last text (single_letter w) w
+lettered_words text (w ∷ v ∷ ws) = lettered text (single_letter w) w ++ (space_behind text (single_letter w) ++ lettered_words text (v ∷ ws))
 
 abbrev pub optional_names : List ℕ → Option (List ℕ) → List ℕ
 optional_names text None = []
-optional_names text (Some given) = names_text text [] (given_words given)
+optional_names text (Some given) = lettered_words text (given_words given)
 
 -- the given name of a person, each letter in it followed by a text
 abbrev pub person_first_name : Option (List ℕ) → Named → List ℕ

@@ -4,6 +4,7 @@ pub mod Date
 pub mod Entry
 pub mod FirstNames
 pub mod Initials
+pub mod Marked
 pub mod MaybeTyped
 pub mod Noting
 pub mod Name

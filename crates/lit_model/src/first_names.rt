@@ -3,8 +3,9 @@
 ghost use Rattle.std.specs.Prelude.{◌≡◌, true, [], option_copied, chars, OnOk, OnErr, IfOk};
 ghost use Rattle.unicode.specs.GeneralCategory.{general_category};
 ghost use Rattle.std.specs.Fmt.{WritesInCalls};
-ghost use Rattle.lit_model.specs.FirstNames.{is_capital, is_single_capital, without_dot, single_letter, name_text, gap_after, names_text, person_first_name};
+ghost use Rattle.lit_model.specs.FirstNames.{is_capital, is_single_capital, without_dot, single_letter, lettered_last, lettered_words, person_first_name};
 ghost use Rattle.lit_model.specs.Initials.{given_words};
+ghost use Rattle.lit_model.specs.Marked.{gap_after};
 ghost use Rattle.lit_model.specs.Person.{named};
 
 use crate::person::Person;
@@ -70,7 +71,7 @@ fn gap_after<'a>(text: &'a str, letter: Option<&str>) -> &'a str
 
 fn put_name<S: Sink>(sink: &mut S, text: &str, letter: Option<&str>, word: &str) -> fmt::Result
     ensures ok { OnOk result (WritesInCalls S.write_str_gives sink.old
-        (name_text text.now (option_copied letter.entry) word.now) sink.new) }
+        (lettered_last text.now (option_copied letter.entry) word.now) sink.new) }
     ensures kept { OnOk result (S.refused sink.new ≡ S.refused sink.old) }
     ensures err { OnErr result (S.refused sink.new ≡ true) }
 {
@@ -82,7 +83,7 @@ fn put_name<S: Sink>(sink: &mut S, text: &str, letter: Option<&str>, word: &str)
 
 fn put_names<S: Sink>(sink: &mut S, text: &str, given: &str) -> fmt::Result
     ensures ok { OnOk result (WritesInCalls S.write_str_gives sink.old
-        (names_text text.now [] (given_words given.now)) sink.new) }
+        (lettered_words text.now (given_words given.now)) sink.new) }
     ensures kept { OnOk result (S.refused sink.new ≡ S.refused sink.old) }
     ensures err { OnErr result (S.refused sink.new ≡ true) }
 {

@@ -2,9 +2,10 @@ use Rattle.std.proofs.Common.{◌≡◌, ℕ, List, [], ◌++◌, refl, sym, ap,
 use Rattle.std.specs.Prelude.{IsUtf8, option_copied}
 use Rattle.std.specs.Str.Iter.{split_whitespace_rest}
 use Rattle.std.proofs.lemmas.Str.{IsUtf8-nil}
-use Rattle.lit_model.specs.FirstNames.{name_text, names_text}
+use Rattle.lit_model.specs.FirstNames.{lettered_last}
+use Rattle.lit_model.specs.Marked.{names_text}
 use Rattle.lit_model.specs.Initials.{given_words}
-use Rattle.lit_model.proofs.Marking.{next_name, last_name}
+use Rattle.lit_model.proofs.Marking.{next_name, last_name, all_written}
 use Rattle.lit_model.proofs.Shortening.{words_more, words_none}
 use Rattle.lit_model.proofs.Writes.{three_writes, writes_of_eq}
 use Rattle.lit_model.proofs.first_names.put_names.Goals as goal
@@ -33,7 +34,7 @@ loop-word-preserved g c =
       c.gap_after-gap.utf8,
       more.1,
       (
-        inv.2.0 ++ (gap ++ name_text text o word),
+        inv.2.0 ++ (gap ++ lettered_last text o word),
         three_writes _ _ _ _ _ _ _ _ _ inv.2.1 c.in_ok-put.ensures.ok c.in_ok-put_name.ensures.ok refl,
         next_name text inv.2.0 _ gap c.gap_after-gap.result.now word o (given_words rest) (given_words after) more.0 c.single_letter-letter.ensures c.gap_after-gap.ensures inv.2.2,
       ),
@@ -44,4 +45,4 @@ pub returns-clause-ok : goal.returns-clause-ok
 returns-clause-ok g c =
     let rest = split_whitespace_rest c.loop-word.word-iterator in
     let inv = c.loop-word.invariant in
-    writes_of_eq _ _ _ _ _ (last_name c.args.text.now inv.2.0 _ c.loop-word.gap.now (given_words rest) (words_none rest inv.1 c.in-None.ensures.steps.1) inv.2.2) inv.2.1
+    writes_of_eq _ _ _ _ _ (last_name c.args.text.now inv.2.0 _ c.loop-word.gap.now (given_words rest) (words_none rest inv.1 c.in-None.ensures.steps.1) inv.2.2 ∙ all_written c.args.text.now (given_words c.args.given.now) c.utf8.text) inv.2.1

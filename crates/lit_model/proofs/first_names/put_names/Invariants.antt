@@ -4,7 +4,7 @@ use denote.Shadow.{shadow}
 use Rattle.std.specs.Prelude.{IsUtf8}
 use Rattle.std.specs.Fmt.{WritesInCalls}
 use Rattle.std.specs.Str.Iter.{split_whitespace_rest}
-use Rattle.lit_model.specs.FirstNames.{names_text}
+use Rattle.lit_model.specs.Marked.{names_text}
 use Rattle.lit_model.specs.Initials.{given_words}
 use Rattle.lit_model.proofs.first_names.put_names.Given as goal
 

@@ -1,0 +1,15 @@
+-- How the words of a given name are written one after another: each behind the gap that the one before it left.
+use Rattle.std.specs.Prelude.{ℕ, List, [], ◌∷◌, ◌++◌, Option, Some, None, codes, length, drop, if◌then◌else◌}
+use Rattle.std.specs.Str.{trim_end}
+use Rattle.lit_model.specs.FirstNames.{single_letter, lettered_last, ends_in_white_space}
+
+-- What stands before the next word: the white space that ends the text written, or else a space.
+abbrev pub gap_after : List ℕ → Option (List ℕ) → List ℕ
+gap_after text None = codes " "
+gap_after text (Some letter) = if ends_in_white_space text then drop (length (trim_end text)) text else codes " "
+
+-- the words, each after its gap
+abbrev pub names_text : List ℕ → List ℕ → List (List ℕ) → List ℕ
+names_text text gap [] = []
+names_text text gap (w ∷ ws) = gap ++ (lettered_last text (single_letter w) w ++ names_text text (gap_after text (single_letter w)) ws)
+
