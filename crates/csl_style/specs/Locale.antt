@@ -43,8 +43,3 @@ terms_of l = map term_view l.terms.items
 
 abbrev pub ordinals_of : Locale → List OrdinalView
 ordinals_of l = map ordinal_view l.ordinals.items
-
--- the first answer that f gives, over a list in order
-abbrev pub first_some : {X Y : Type 0} → (X → Option Y) → List X → Option Y
-first_some f [] = None
-first_some f (x ∷ xs) = option_or (f x) (first_some f xs)

@@ -6,11 +6,18 @@ use Rattle.csl_style.specs.declared.taxonomy.Variable.{Variable}
 use Rattle.csl_style.specs.declared.taxonomy.Variable.TheVariants as variables
 use Rattle.csl_style.specs.declared.taxonomy.NumberOrPageVariable.{NumberOrPageVariable}
 use Rattle.csl_style.specs.declared.taxonomy.NumberOrPageVariable.TheVariants as either
+use Rattle.csl_style.specs.declared.term.Term.{Term}
+use Rattle.csl_style.specs.declared.term.Term.TheVariants as terms
 
 -- the variable that a number or pages are among the five sorts
 abbrev pub variable_of : NumberOrPageVariable → Variable
 variable_of (either.Number number) = variables.Number number
 variable_of (either.Page page) = variables.Page page
+
+-- what a number or pages are called
+abbrev pub term_of : NumberOrPageVariable → Term
+term_of (either.Number number) = terms.Number number
+term_of (either.Page page) = terms.Page page
 
 -- the name of a kind
 abbrev pub name_of : Kind → List ℕ

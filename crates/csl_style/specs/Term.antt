@@ -7,7 +7,8 @@ use Rattle.csl_style.specs.declared.term.TermForm.{TermForm}
 use Rattle.csl_style.specs.declared.term.TermForm.TheVariants.{Long, Short, Verb, VerbShort, Symbol}
 use Rattle.csl_style.specs.contracts.term.TermPartialEq.TheImpl.{eq-value}
 use Rattle.csl_style.specs.contracts.term.TermForm.{the_type}
-use Rattle.csl_style.specs.Locale.{TermView, first_some}
+use Rattle.lit_model.specs.Entry.{first_some}
+use Rattle.csl_style.specs.Locale.{TermView}
 
 -- the two terms are one, as `==` has it
 abbrev pub same_term : Term → Term → Bool

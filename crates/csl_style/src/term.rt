@@ -1,6 +1,10 @@
 //! The terms that a locale may translate (CSL 1.0.2, Terms).
 
-use crate::taxonomy::{Locator, NameVariable, NumberVariable, PageVariable};
+ghost use Rattle.std.specs.Prelude.{◌≡◌};
+ghost use Rattle.csl_style.specs.Taxonomy.{term_of};
+ghost use Rattle.csl_style.specs.declared.term.Term.TheVariants as terms;
+
+use crate::taxonomy::{Locator, NameVariable, NumberOrPageVariable, NumberVariable, PageVariable};
 use lit_model::Season;
 
 /// A term.
@@ -16,6 +20,41 @@ pub enum Term {
     Locator(Locator),
     /// Any other term.
     Other(OtherTerm),
+}
+
+impl From<NameVariable> for Term {
+    ghost from_gives = { λ variable result. result ≡ terms.Name variable };
+
+    fn from(variable: NameVariable) -> Term {
+        Term::Name(variable)
+    }
+}
+
+impl From<NumberVariable> for Term {
+    ghost from_gives = { λ variable result. result ≡ terms.Number variable };
+
+    fn from(variable: NumberVariable) -> Term {
+        Term::Number(variable)
+    }
+}
+
+impl From<PageVariable> for Term {
+    ghost from_gives = { λ variable result. result ≡ terms.Page variable };
+
+    fn from(variable: PageVariable) -> Term {
+        Term::Page(variable)
+    }
+}
+
+impl From<NumberOrPageVariable> for Term {
+    ghost from_gives = { λ variable result. result ≡ term_of variable };
+
+    fn from(variable: NumberOrPageVariable) -> Term {
+        match variable {
+            NumberOrPageVariable::Number(number) => Term::Number(number),
+            NumberOrPageVariable::Page(page) => Term::Page(page),
+        }
+    }
 }
 
 /// A term that names no variable.

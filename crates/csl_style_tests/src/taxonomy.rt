@@ -6,7 +6,7 @@ ghost use Rattle.std.specs.declared.cmp.Ordering.TheVariants.{Equal};
 use crate::asserted::assert_same;
 use csl_style::{
     DateVariable, Kind, NameVariable, NumberOrPageVariable, NumberVariable, PageVariable,
-    StandardVariable, Variable,
+    StandardVariable, Term, Variable,
 };
 use std::cmp::Ordering;
 
@@ -125,7 +125,7 @@ fn variables_are_equal_where_they_are_one(rt: HostRuntime) {
 }
 
 #[test]
-fn each_sort_of_variable_is_a_variable(rt: HostRuntime) {
+fn each_sort_of_variable_is_a_variable_and_has_its_term(rt: HostRuntime) {
     let title = StandardVariable::Title;
     let volume = NumberVariable::Volume;
     let page = PageVariable::Page;
@@ -147,5 +147,17 @@ fn each_sort_of_variable_is_a_variable(rt: HostRuntime) {
         ),
     ] {
         assert_same(&rt, &variable, &wanted);
+    }
+    for (term, wanted) in [
+        (Term::from(volume), Term::Number(volume)),
+        (Term::from(page), Term::Page(page)),
+        (Term::from(editor), Term::Name(editor)),
+        (
+            NumberOrPageVariable::Number(volume).into(),
+            Term::Number(volume),
+        ),
+        (NumberOrPageVariable::Page(page).into(), Term::Page(page)),
+    ] {
+        assert_same(&rt, &term, &wanted);
     }
 }
