@@ -3,6 +3,9 @@ pub mod Written
 pub mod Nested
 pub mod Joins
 pub mod Appended
+pub mod ContentLaws
+pub mod Overlays
+pub mod LastChars
 pub mod Rejects
 pub mod TreeTokens
 pub mod Rounds

@@ -1,17 +1,8 @@
 -- What a stack ends as, once a `&mut` into it has ended, and the last item that a predicate accepts.
-use Rattle.std.specs.Prelude.{Bool, true, false, ◌+◌, ◌≤◌, ◌≡◌, ℕ, ◌<◌, List, length, Option, slice_index_or, slice_set, OnSome}
+use Rattle.std.specs.Prelude.{Bool, true, false, ◌+◌, ◌≤◌, ◌≡◌, ℕ, ◌<◌, List, length, Option, slice_index_or, slice_set, IfSome}
 use Rattle.std.specs.Borrow.{Bor, Fml, RattleType, MutBor, Lends, LendsSo}
 use Rattle.std.specs.Fn.{Shared, FnReturnsAt}
 use Rattle.csl_tree.specs.contracts.stack.NonEmptyStack.{the_row}
-
-module _ (T : RattleType) (s : MutBor (List T.Denot)) where
-  -- item i has the last value behind r
-  abbrev pub lends_item : ℕ → MutBor T.Denot → Fml
-  lends_item i r = Lends (the_row T) T s r (slice_set s.now i)
-
-  -- some item has the last value behind r, and at `None` the stack stays as it is
-  abbrev pub lends_some : Option (MutBor T.Denot) → Fml
-  lends_some r = LendsSo (the_row T) T s r (λ n w. OnSome r ((i : ℕ) × (i < length s.now) × (n ≡ slice_set s.now i w))) (λ n. n ≡ s.now)
 
 -- the predicate rejects each item from place i on
 abbrev pub RejectsFrom : {F T : Type 0} → Shared F (Bor T × Unit {0}) Bool → F → List T → ℕ → Type 0
@@ -20,3 +11,16 @@ RejectsFrom {F} {T} calls f xs i = (k : ℕ) (d : T) → i ≤ k → k < length 
 -- the predicate accepts item i, and no later one
 abbrev pub IsLastAt : {F T : Type 0} → Shared F (Bor T × Unit {0}) Bool → F → List T → ℕ → Type 0
 IsLastAt {F} {T} calls f xs i = ((d : T) → FnReturnsAt calls f (slice_index_or xs i d) true) × RejectsFrom calls f xs (i + 1)
+
+-- item i is x, and the last that the predicate accepts
+abbrev pub IsLastAccepted : {F T : Type 0} → Shared F (Bor T × Unit {0}) Bool → F → List T → ℕ → T → Type 0
+IsLastAccepted calls f xs i x = (i < length xs) × IsLastAt calls f xs i × (x ≡ slice_index_or xs i x)
+
+module _ (T : RattleType) (s : MutBor (List T.Denot)) where
+  -- item i has the last value behind r
+  abbrev pub lends_item : ℕ → MutBor T.Denot → Fml
+  lends_item i r = Lends (the_row T) T s r (slice_set s.now i)
+
+  -- the item behind r is the last that the predicate accepts, and that one has the last value behind r; at `None` the stack stays
+  abbrev pub lends_accepted : {F : Type 0} → Shared F (Bor T.Denot × Unit {0}) Bool → F → Option (MutBor T.Denot) → Fml
+  lends_accepted calls f r = LendsSo (the_row T) T s r (λ n w. IfSome r (λ x. (i : ℕ) × IsLastAccepted calls f s.now i x.now × (n ≡ slice_set s.now i w))) (λ n. n ≡ s.now)

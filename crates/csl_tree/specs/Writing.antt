@@ -8,10 +8,13 @@ use Rattle.csl_tree.specs.declared.elem.BufWriteFormat.TheVariants as format
 use Rattle.csl_tree.specs.Tokens.{Token, text, solid, markup, link, transparent, opened, closed}
 use Rattle.csl_tree.specs.Html.{html, html_bytes}
 
+abbrev pub newline_char : ℕ
+newline_char = 10
+
 -- a newline before and after a block
 abbrev pub line_break : Option Display → List ℕ
 line_break None = []
-line_break (Some Block) = 10 ∷ []
+line_break (Some Block) = newline_char ∷ []
 line_break (Some LeftMargin) = []
 line_break (Some RightInline) = []
 line_break (Some Indent) = []

@@ -4,7 +4,7 @@ ghost use Rattle.std.specs.Prelude.{◌≡◌, ℕ, ◌+◌, ◌-◌, ◌<◌, [
 ghost use Rattle.std.specs.Borrow.{sem};
 ghost use Rattle.std.specs.Int.NonZero.{non_zero_usize_get};
 ghost use Rattle.std.specs.Slice.Iter.{iter_rest};
-ghost use Rattle.csl_tree.specs.Stack.{lends_item, lends_some, IsLastAt, RejectsFrom};
+ghost use Rattle.csl_tree.specs.Stack.{lends_item, lends_accepted, IsLastAccepted, IsLastAt, RejectsFrom};
 
 use lit_model::Memory;
 use std::alloc::Global;
@@ -113,12 +113,12 @@ impl<T> NonEmptyStack<T> {
     }
 
     /// The last item that the predicate accepts, as a mutable reference, or `None` where it accepts
-    /// none. Nothing else changes.
+    /// none. That item changes as the reference does, and nothing else.
     pub fn last_mut_predicate<F: Fn(&T) -> bool + Drop>(&mut self, predicate: F) -> Option<&mut T>
         requires { F.IsAlwaysCallable predicate }
-        ensures* writes_back { sem 𝓛 (lends_some T.row self.entry result) }
-        ensures value { IfSome result (λ r. (i : ℕ) × (i < length self.old)
-            × IsLastAt F.Fn predicate self.old i × (r.now ≡ slice_index_or self.old i r.now)) }
+        ensures* writes_back { sem 𝓛 (lends_accepted T.row self.entry F.Fn predicate result) }
+        ensures value { IfSome result (λ r. (i : ℕ)
+            × IsLastAccepted F.Fn predicate self.old i r.now) }
         ensures none { IfNone result (RejectsFrom F.Fn predicate self.old 0) }
     {
         match self.last_accepted(predicate) {

@@ -147,8 +147,8 @@ impl ElemChildren {
         Ok(())
     }
 
-    /// Writes the children to any writer. The HTML is a nested list of tags and texts, and its texts
-    /// are those of the leaves.
+    /// Writes the children to any writer. The HTML is a nested list of tags and texts, and its
+    /// texts are those of the leaves.
     ///
     /// # Errors
     /// [`fmt::Error`]: the writer refused a text, as `write_into` says of sinks. What it holds then

@@ -4,6 +4,8 @@
 #[cfg(test)]
 mod content;
 #[cfg(test)]
+mod contents;
+#[cfg(test)]
 mod copies;
 #[cfg(test)]
 mod elem;

@@ -1,0 +1,17 @@
+-- Formattings over one another and over that of a place.
+use Rattle.std.proofs.Common.{◌≡◌}
+use Rattle.csl_style.specs.declared.formatting.Formatting as partial
+use Rattle.csl_style.specs.Overlaid.{IsBoth}
+use Rattle.csl_tree.specs.declared.formatting.Formatting.{Formatting}
+use Rattle.csl_tree.specs.Formatting.{over}
+
+-- what is both over a place is the one over what the other is over it
+pub over-both : (p q both : partial.Formatting) (f : Formatting) → IsBoth p q both → over both f ≡ over p (over q f)
+over-both p q both f h =
+    λ i. record {
+      font_style = h.font_style f.font_style i;
+      font_variant = h.font_variant f.font_variant i;
+      font_weight = h.font_weight f.font_weight i;
+      text_decoration = h.text_decoration f.text_decoration i;
+      vertical_align = h.vertical_align f.vertical_align i;
+    }

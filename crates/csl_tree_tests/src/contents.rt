@@ -1,0 +1,149 @@
+//! What is pushed into contents, what these say of their text, and when two trees are equal.
+
+use crate::trees::{assert_tree, read};
+use csl_tree::ElemChildren;
+use std::alloc::Global;
+use std::process::Abort;
+use std::test::Fail;
+
+/// Pushes the one child that there is.
+fn push_only(alloc: Global, all: &mut ElemChildren, only: ElemChildren) -> Result<(), Fail> {
+    let ElemChildren(mut children) = only;
+    let child = children.pop().ok_or("a description has a child")?;
+    Ok(all.push_child(alloc, child)?)
+}
+
+/// A tree, and a child behind it.
+fn with_child(alloc: Global, before: &str, child: &str) -> Result<ElemChildren, Fail> {
+    let mut all = read(alloc, before)?;
+    push_only(alloc, &mut all, read(alloc, child)?)?;
+    Ok(all)
+}
+
+fn assert_pushed(
+    rt: &impl Abort,
+    alloc: Global,
+    (before, child, wanted): (&str, &str, &str),
+) -> Result<(), Fail> {
+    assert_tree(rt, alloc, with_child(alloc, before, child)?, wanted, child)
+}
+
+#[test]
+fn an_empty_child_writes_nothing(rt: HostRuntime) -> Result<(), Fail> {
+    for row in [
+        ("a", "_", "a"),
+        ("a", "$_", "a"),
+        ("a", "@_|u", "a"),
+        ("a", "( )block", "a"),
+        ("", "b", "b"),
+        ("a", "b", "ab"),
+        ("a", "/b", "a /b"),
+        ("/a", "/b", "/ab"),
+        ("$a", "b", "$a b"),
+        ("a", "$b", "a $b"),
+        ("a", "@b|u", "a @b|u"),
+        ("a", "#1", "a #1"),
+        ("a", "( b )block", "a ( b )block"),
+    ] {
+        assert_pushed(&rt, rt.alloc(), row)?;
+    }
+    Ok(())
+}
+
+/// A tree, and behind it the middle of three between the others.
+fn with_between(alloc: Global, tree: &str, three: [&str; 3]) -> Result<ElemChildren, Fail> {
+    let [before, middle, after] = three;
+    let mut all = read(alloc, tree)?;
+    all.push_between(
+        alloc,
+        read(alloc, before)?,
+        read(alloc, middle)?,
+        read(alloc, after)?,
+    )?;
+    Ok(all)
+}
+
+fn assert_between(
+    rt: &impl Abort,
+    alloc: Global,
+    (tree, three, wanted): (&str, [&str; 3], &str),
+) -> Result<(), Fail> {
+    assert_tree(rt, alloc, with_between(alloc, tree, three)?, wanted, tree)
+}
+
+#[test]
+fn nothing_stands_around_nothing(rt: HostRuntime) -> Result<(), Fail> {
+    for row in [
+        ("a", ["b", "", "c"], "a"),
+        ("", ["b", "", "c"], ""),
+        ("a", ["b", "m", "c"], "abmc"),
+        ("a", ["", "m", ""], "am"),
+        ("a", ["/b", "m", "/c"], "a /b m /c"),
+        ("/a", ["/b", "/m", "c"], "/abm c"),
+        ("", ["b", "( m )block", "c"], "b ( m )block c"),
+    ] {
+        assert_between(&rt, rt.alloc(), row)?;
+    }
+    Ok(())
+}
+
+/// Whether a tree has children, has text, and ends in white space.
+fn flags(alloc: Global, source: &str) -> Result<(bool, bool, bool), Fail> {
+    let tree = read(alloc, source)?;
+    Ok((
+        tree.has_children(),
+        tree.has_text(),
+        tree.ends_in_white_space(),
+    ))
+}
+
+#[test]
+fn the_last_character_may_be_white_space(rt: HostRuntime) -> Result<(), Fail> {
+    for (source, wanted) in [
+        ("", (false, false, false)),
+        ("_", (true, false, false)),
+        ("( )", (true, false, false)),
+        ("#1", (true, false, false)),
+        ("a", (true, true, false)),
+        ("a~", (true, true, true)),
+        ("a\u{a0}", (true, true, true)),
+        ("~\u{e9}", (true, true, false)),
+        ("$a~", (true, true, true)),
+        ("@a~|u", (true, true, true)),
+        ("@a|~", (true, true, false)),
+        ("( a ( b~ ):date )block", (true, true, true)),
+        ("( a~ ) ( _ ) #1", (true, true, true)),
+        ("( a~ ) b", (true, true, false)),
+    ] {
+        assert_eq!(rt; flags(rt.alloc(), source)?, wanted, "of {source}");
+    }
+    Ok(())
+}
+
+/// Whether the trees of two descriptions are equal.
+fn are_same(alloc: Global, a: &str, b: &str) -> Result<bool, Fail> {
+    Ok(read(alloc, a)? == read(alloc, b)?)
+}
+
+#[test]
+fn trees_are_equal_by_value(rt: HostRuntime) -> Result<(), Fail> {
+    for (a, b, same) in [
+        ("", "", true),
+        ("", "_", false),
+        ("a", "a", true),
+        ("a b", "ab", false),
+        ("a", "/a", false),
+        ("a", "$a", false),
+        ("@a|u", "@a|u", true),
+        ("@a|u", "@a|w", false),
+        ("#1", "#2", false),
+        ("( a ( b ):date )block", "( a ( b ):date )block", true),
+        ("( a ( b ):date )block", "( a ( b ):date )", false),
+        ("( a ( b ):date )block", "( a ( b ):label )block", false),
+        ("( a ( b ):date )block", "( a ( c ):date )block", false),
+        ("( a ) b", "( a b )", false),
+    ] {
+        assert_eq!(rt; are_same(rt.alloc(), a, b)?, same, "of {a} and {b}");
+    }
+    Ok(())
+}
