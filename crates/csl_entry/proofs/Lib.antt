@@ -6,3 +6,4 @@ pub mod LabelYears
 pub mod ResultOrder
 pub mod ResultEqual
 pub mod Looks
+pub mod AnswersEqual

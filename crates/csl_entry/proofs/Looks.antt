@@ -12,7 +12,7 @@ use Rattle.csl_style.specs.declared.taxonomy.StandardVariable.TheVariants.{YearS
 use Rattle.csl_style.specs.declared.taxonomy.NameVariable.{NameVariable}
 use Rattle.csl_style.specs.declared.taxonomy.DateVariable.{DateVariable}
 use Rattle.csl_entry.specs.Cite.{CiteState}
-use Rattle.csl_entry.specs.Instance.{Instance, plain_number, locator_answer, year_suffix, look_number, look_page, look_number_or_page, look_standard, look_names, look_date, NumberAlike, StandardAlike, NumberOrPageAlike}
+use Rattle.csl_entry.specs.Instance.{Instance, year_suffix, look_number, look_page, look_number_or_page, look_standard, look_names, look_date, NumberAlike, StandardAlike, NumberOrPageAlike}
 use Rattle.csl_entry.specs.NumberResult.{regular, number, page}
 
 pub number_alike : (v : NumberVariable) (i j : Instance) → i.cite ≡ j.cite → NumberAlike i j v → look_number i v ≡ look_number j v
