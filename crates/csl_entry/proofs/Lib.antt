@@ -5,3 +5,5 @@ pub mod LabelTexts
 pub mod LabelYears
 pub mod ResultOrder
 pub mod ResultEqual
+pub mod Looks
+pub mod AnswersEqual

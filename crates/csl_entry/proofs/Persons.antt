@@ -1,37 +1,52 @@
 -- Persons by what they show.
-use Rattle.std.proofs.Common.{◌≡◌, Bool, ◌&&◌, List, map, Option, Some, None, option_map, ap, ◌∙◌, sym, refl, Bor}
-use Rattle.std.specs.Prelude.{String, string_bytes}
+use Rattle.std.proofs.Common.{◌≡◌, true, false, List, [], ◌∷◌, map, length, ap, ◌∙◌, sym, refl, arith, Bor}
+use Rattle.std.specs.Prelude.{Bool, ◌&&◌}
+use Rattle.std.specs.Bool.{Decides}
 use Rattle.std.specs.List.{list_any}
-use Rattle.std.specs.Option.{option_eq}
-use Rattle.std.specs.Str.{bytes_eq}
-use Rattle.std.specs.declared.alloc.Global.{Global}
+use Rattle.std.specs.Cmp.Lexicographic.{pointwise}
+use Rattle.std.specs.Cow.{cow_value}
+use Rattle.std.specs.declared.borrow.Cow.{Cow}
 use Rattle.std.proofs.lemmas.Simd.{map-map}
 use Rattle.lit_model.specs.declared.person.Person.{Person}
 use Rattle.lit_model.specs.contracts.person.PersonPartialEq.TheImpl.{eq-value as eq_person}
-use Rattle.lit_model.specs.Person.{named}
-use Rattle.csl_entry.specs.EntryName.{same_named, is_one_of}
+use Rattle.lit_model.specs.Person.{Named, named}
+use Rattle.lit_model.specs.SamePerson.{same_named, same_people}
+use Rattle.lit_model.proofs.PageEqual.{pointwise_view}
+use Rattle.lit_model.proofs.PersonEqual.{person_decides}
+use Rattle.lit_model.proofs.SamePersons.{person_same}
+use Rattle.csl_entry.specs.Answers.{behind}
+use Rattle.csl_entry.specs.EntryName.{is_one_of}
 
 pub named_each : (ps : List (Bor Person)) (qs : List Person) → map (λ p. p.now) ps ≡ qs → map (λ p. named p.now) ps ≡ map named qs
 named_each ps qs same = sym (map-map named (λ (p : Bor Person). p.now) ps) ∙ ap (map named) same
 
--- `==` of persons compares what they show
+pub one_of_same : (ps : List Person) (p : Person) → list_any (λ q. eq_person.it q p) ps ≡ is_one_of ps p
+one_of_same ps p = λ i. list_any (λ q. person_same q p i) ps
+
+-- `==` of persons that may be borrowed compares what they show
 
 both_same : (a b c d : Bool) → a ≡ b → c ≡ d → (a && c) ≡ (b && d)
 both_same a b c d h k = λ i. h i && k i
 
-optional_same : (x y : Option (String Global)) → option_eq (λ a b. bytes_eq (string_bytes a) (string_bytes b)) x y ≡ option_eq bytes_eq (option_map string_bytes x) (option_map string_bytes y)
-optional_same None None = refl
-optional_same None (Some y) = refl
-optional_same (Some x) None = refl
-optional_same (Some x) (Some y) = refl
+abbrev equal_behind : Cow Person → Cow Person → Bool
+equal_behind c d = eq_person.it (cow_value c) (cow_value d)
 
-pub person_same : (p q : Person) → eq_person.it p q ≡ same_named (named p) (named q)
-person_same p q =
-    both_same _ _ _ _ refl
-    (both_same _ _ _ _ (optional_same p.given_name q.given_name)
-    (both_same _ _ _ _ (optional_same p.prefix q.prefix)
-    (both_same _ _ _ _ (optional_same p.suffix q.suffix)
-    (both_same _ _ _ _ (optional_same p.alias q.alias) refl))))
+pub people_decide : (ps qs : List (Cow Person)) → Decides (pointwise equal_behind ps qs) (map (behind named) ps ≡ map (behind named) qs)
+people_decide ps qs = pointwise_view equal_behind (behind named) (λ c d. person_decides (cow_value c) (cow_value d)) ps qs
 
-pub one_of_same : (ps : List Person) (p : Person) → list_any (λ q. eq_person.it q p) ps ≡ is_one_of ps p
-one_of_same ps p = λ i. list_any (λ q. person_same q p i) ps
+pub people_same : (ps qs : List (Cow Person)) → pointwise equal_behind ps qs ≡ same_people (map (behind named) ps) (map (behind named) qs)
+people_same [] [] = refl
+people_same [] (q ∷ qs) = refl
+people_same (p ∷ ps) [] = refl
+people_same (p ∷ ps) (q ∷ qs) = both_same _ _ _ _ (person_same (cow_value p) (cow_value q)) (people_same ps qs)
+
+and_false : (b : Bool) → (b && false) ≡ false
+and_false true = refl
+and_false false = refl
+
+-- lists of two lengths do not show the same
+pub people_apart : (xs ys : List Named) → (length xs ≡ length ys → ⊥) → same_people xs ys ≡ false
+people_apart [] [] h = absurd (h refl)
+people_apart [] (y ∷ ys) h = refl
+people_apart (x ∷ xs) [] h = refl
+people_apart (x ∷ xs) (y ∷ ys) h = ap (λ b. same_named x y && b) (people_apart xs ys (λ e. h (omega (arith, e)))) ∙ and_false (same_named x y)

@@ -28,10 +28,10 @@ use Rattle.lit_model.specs.contracts.page.PageRangesPartialEq.TheImpl.{ghosts as
 use Rattle.lit_model.proofs.PageEqual.{numeric_decides}
 use Rattle.lit_model.proofs.MaybeEqual.{maybe_decides, pages_decide}
 
-number_or_text : (a b : MaybeTyped (Cow Numeric)) → Decides ((eq_maybe (cow_row static_lft numeric_row) (cow_ghosts numeric_row numeric_ghosts numeric_dict) no_dict).it a b) (maybe_view (behind numeric_view) a ≡ maybe_view (behind numeric_view) b)
+pub number_or_text : (a b : MaybeTyped (Cow Numeric)) → Decides ((eq_maybe (cow_row static_lft numeric_row) (cow_ghosts numeric_row numeric_ghosts numeric_dict) no_dict).it a b) (maybe_view (behind numeric_view) a ≡ maybe_view (behind numeric_view) b)
 number_or_text a b = maybe_decides (cow_row static_lft numeric_row) (cow_ghosts numeric_row numeric_ghosts numeric_dict) no_dict (behind numeric_view) (λ c d. numeric_decides (cow_value c) (cow_value d)) a b
 
-pages_or_text : (a b : MaybeTyped PageRanges) → Decides ((eq_maybe pages_row pages_ghosts no_dict).it a b) (maybe_view pages_view a ≡ maybe_view pages_view b)
+pub pages_or_text : (a b : MaybeTyped PageRanges) → Decides ((eq_maybe pages_row pages_ghosts no_dict).it a b) (maybe_view pages_view a ≡ maybe_view pages_view b)
 pages_or_text a b = maybe_decides pages_row pages_ghosts no_dict pages_view pages_decide a b
 
 pub result_decides : (x y : NumberVariableResult) → Decides (eq_result.it x y) (result_view x ≡ result_view y)

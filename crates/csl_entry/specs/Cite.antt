@@ -9,6 +9,7 @@ use Rattle.csl_entry.specs.declared.cite.IbidState.{IbidState}
 use Rattle.csl_entry.specs.declared.cite.DisambiguateState.{DisambiguateState}
 use Rattle.csl_entry.specs.declared.cite.DisambiguateState.TheVariants as of_state
 use Rattle.csl_entry.specs.declared.cite.CiteProperties.{CiteProperties}
+use Rattle.csl_entry.specs.declared.cite.SpeculativeCiteProperties.{SpeculativeCiteProperties}
 use Rattle.csl_entry.specs.Numbers.{citation_number, note_number}
 use Rattle.csl_entry.specs.NameProperties.{NameProperties, name_properties}
 
@@ -52,14 +53,29 @@ disambiguation_of (of_state.NameDisambiguation p) = names (name_properties p)
 disambiguation_of of_state.Choose = choose
 disambiguation_of (of_state.YearSuffix n) = suffix n
 
+-- what a citation says of a cite as far as it was rendered
+pub record Speculation : Type 0 where
+  pub locator : Option Place
+  pub citation_number : ℕ
+  pub disambiguation : Disambiguation
+  pub ibid : IbidState
+
+abbrev pub speculation : SpeculativeCiteProperties → Speculation
+speculation s = record {
+  locator = option_map place_of s.locator;
+  citation_number = citation_number s.citation_number;
+  disambiguation = disambiguation_of s.disambiguation;
+  ibid = s.ibid;
+}
+
 abbrev pub cite_state : CiteProperties → CiteState
 cite_state c = record {
   first_note = option_map note_number c.certain.first_note_number;
   is_first = c.certain.is_first;
   is_near_note = c.certain.is_near_note;
   initial_index = c.certain.initial_idx;
-  locator = option_map place_of c.speculative.locator;
-  citation_number = citation_number c.speculative.citation_number;
-  disambiguation = disambiguation_of c.speculative.disambiguation;
-  ibid = c.speculative.ibid;
+  locator = (speculation c.speculative).locator;
+  citation_number = (speculation c.speculative).citation_number;
+  disambiguation = (speculation c.speculative).disambiguation;
+  ibid = (speculation c.speculative).ibid;
 }

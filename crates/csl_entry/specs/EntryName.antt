@@ -1,9 +1,6 @@
 -- What an entry answers to a name variable (CSL 1.0.2, Appendix IV: Name Variables).
-use Rattle.std.specs.Prelude.{Bool, ◌&&◌, List, [], ◌∷◌, map, Option, Some, None}
-use Rattle.std.specs.Bool.{beq}
+use Rattle.std.specs.Prelude.{Bool, List, [], ◌∷◌, map, Option, Some, None}
 use Rattle.std.specs.List.{list_any, filter}
-use Rattle.std.specs.Option.{option_eq}
-use Rattle.std.specs.Str.{bytes_eq}
 use Rattle.csl_style.specs.declared.taxonomy.NameVariable.{NameVariable}
 use Rattle.csl_style.specs.declared.taxonomy.NameVariable.TheVariants.{Author, Chair, CollectionEditor, Compiler, Composer, ContainerAuthor, Contributor, Curator, Director, Editor, EditorialDirector, EditorTranslator, ExecutiveProducer, Guest, Host, Illustrator, Interviewer, Narrator, Organizer, OriginalAuthor, Performer, Producer, Recipient, ReviewedAuthor, ScriptWriter, SeriesCreator, Translator}
 use Rattle.lit_model.specs.declared.entry.Entry.{Entry, out-Entry}
@@ -11,18 +8,9 @@ use Rattle.lit_model.specs.declared.entry_type.EntryType.TheVariants.{Proceeding
 use Rattle.lit_model.specs.declared.person.Person.{Person}
 use Rattle.lit_model.specs.declared.person.PersonRole.TheVariants as role
 use Rattle.lit_model.specs.Person.{Named, named}
+use Rattle.lit_model.specs.SamePerson.{same_named}
 use Rattle.lit_model.specs.Select.{Rule, parent_of, bound_select, original, audio_video, container_of, collection_of}
 use Rattle.csl_entry.specs.Creators.{in_role, persons_or}
-
--- the two show the same
-abbrev pub same_named : Named → Named → Bool
-same_named p q =
-    bytes_eq p.name q.name
-    && (option_eq bytes_eq p.given_name q.given_name
-    && (option_eq bytes_eq p.prefix q.prefix
-    && (option_eq bytes_eq p.suffix q.suffix
-    && (option_eq bytes_eq p.alias q.alias
-    && beq p.comma_suffix q.comma_suffix))))
 
 -- the proceedings or the conference, the exhibition that an entry stands in
 abbrev pub meeting : List Rule

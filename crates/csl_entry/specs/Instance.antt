@@ -1,23 +1,50 @@
 -- What a cite answers to a variable: the citation answers four of them, the entry all the others (CSL 1.0.2, Appendix IV:
--- Number Variables, Standard Variables; Locators; Disambiguation: disambiguate-add-year-suffix).
-use Rattle.std.specs.Prelude.{ℕ, ◌+◌, List, Option, Some, None, option_map, pos}
+-- Variables; Locators; Disambiguation: disambiguate-add-year-suffix).
+use Rattle.std.specs.Prelude.{◌≡◌, ℕ, false, ◌+◌, List, Option, Some, None, option_map, pos}
 use Rattle.csl_style.specs.declared.taxonomy.NumberVariable.{NumberVariable}
 use Rattle.csl_style.specs.declared.taxonomy.NumberVariable.TheVariants.{CitationNumber, FirstReferenceNoteNumber, Locator}
 use Rattle.csl_style.specs.declared.taxonomy.PageVariable.{PageVariable}
+use Rattle.csl_style.specs.declared.taxonomy.NumberOrPageVariable.{NumberOrPageVariable}
+use Rattle.csl_style.specs.declared.taxonomy.NumberOrPageVariable.TheVariants as number_or_page
 use Rattle.csl_style.specs.declared.taxonomy.StandardVariable.{StandardVariable}
 use Rattle.csl_style.specs.declared.taxonomy.StandardVariable.TheVariants.{YearSuffix}
+use Rattle.csl_style.specs.declared.taxonomy.NameVariable.{NameVariable}
+use Rattle.csl_style.specs.declared.taxonomy.DateVariable.{DateVariable}
+use Rattle.csl_style.specs.declared.taxonomy.Variable.TheVariants as variable
+use Rattle.csl_style.specs.OfCitation.{is_of_citation}
 use Rattle.lit_model.specs.declared.text.ChunkKind.TheVariants.{Normal}
 use Rattle.lit_model.specs.declared.text.LongShortForm.{LongShortForm}
+use Rattle.lit_model.specs.Date.{Parts}
 use Rattle.lit_model.specs.MaybeTyped.{MaybeView, typed}
 use Rattle.lit_model.specs.Numeric.{one}
 use Rattle.lit_model.specs.Page.{PartView}
+use Rattle.lit_model.specs.Person.{Named}
 use Rattle.lit_model.specs.Text.{Chunk}
+use Rattle.csl_entry.specs.declared.cite.Sorting.{Sorting}
+use Rattle.csl_entry.specs.declared.cite.SpecialForm.{SpecialForm}
+use Rattle.csl_entry.specs.declared.instance.InstanceContext.{InstanceContext}
 use Rattle.csl_entry.specs.Answers.{Answers}
 use Rattle.csl_entry.specs.Chunk.{one_chunk}
-use Rattle.csl_entry.specs.Cite.{CiteState, Payload, printed, left_open, Disambiguation, nothing, names, choose, suffix}
+use Rattle.csl_entry.specs.Cite.{CiteState, cite_state, Payload, printed, left_open, Disambiguation, nothing, names, choose, suffix}
 use Rattle.csl_entry.specs.Letters.{letters}
-use Rattle.csl_entry.specs.NumberResult.{ResultView, regular, transparent}
+use Rattle.csl_entry.specs.NumberResult.{ResultView, regular, transparent, NumberOrPageView, number, page}
 use Rattle.csl_entry.specs.NumericText.{numeric_or_text}
+
+-- a cite with its entry, without where they lie in memory
+pub record Instance : Type 0 where
+  pub answers : Answers
+  pub cite : CiteState
+  pub sorting : Option Sorting
+  pub special : Option SpecialForm
+
+-- a cite, whose entry answers by that function
+abbrev pub instance_of : {T : Type 0} → (T → Answers) → InstanceContext T → Instance
+instance_of answers cite = record {
+  answers = answers cite.entry.now;
+  cite = cite_state cite.cite_props.now;
+  sorting = cite.sorting;
+  special = cite.kind;
+}
 
 -- a number with no text around it
 abbrev pub plain_number : ℕ → ResultView
@@ -35,16 +62,40 @@ year_suffix (names forms) = None
 year_suffix choose = None
 year_suffix (suffix n) = Some (one_chunk Normal (letters n))
 
+-- ---- Look: what the cite answers to a variable
+
 -- a citation number counts from 0 and is printed one higher
-abbrev pub look_number : CiteState → Answers → NumberVariable → Option ResultView
-look_number state answers CitationNumber = Some (plain_number (state.citation_number + 1))
-look_number state answers FirstReferenceNoteNumber = option_map plain_number state.first_note
-look_number state answers Locator = option_map (λ place. locator_answer state.initial_index place.payload) state.locator
-look_number state answers other = option_map regular (answers.numbers other)
+abbrev pub look_number : Instance → NumberVariable → Option ResultView
+look_number i CitationNumber = Some (plain_number (i.cite.citation_number + 1))
+look_number i FirstReferenceNoteNumber = option_map plain_number i.cite.first_note
+look_number i Locator = option_map (λ place. locator_answer i.cite.initial_index place.payload) i.cite.locator
+look_number i other = option_map regular (i.answers.numbers other)
 
-abbrev pub look_page : CiteState → Answers → PageVariable → Option (MaybeView (List PartView))
-look_page state answers variable = answers.pages variable
+abbrev pub look_page : Instance → PageVariable → Option (MaybeView (List PartView))
+look_page i v = i.answers.pages v
 
-abbrev pub look_standard : CiteState → Answers → LongShortForm → StandardVariable → Option (List Chunk)
-look_standard state answers form YearSuffix = year_suffix state.disambiguation
-look_standard state answers form other = answers.standards form other
+abbrev pub look_number_or_page : Instance → NumberOrPageVariable → Option NumberOrPageView
+look_number_or_page i (number_or_page.Number v) = option_map number (look_number i v)
+look_number_or_page i (number_or_page.Page v) = option_map page (look_page i v)
+
+abbrev pub look_standard : Instance → LongShortForm → StandardVariable → Option (List Chunk)
+look_standard i form YearSuffix = year_suffix i.cite.disambiguation
+look_standard i form other = i.answers.standards form other
+
+abbrev pub look_names : Instance → NameVariable → List Named
+look_names i v = i.answers.names v
+
+abbrev pub look_date : Instance → DateVariable → Option Parts
+look_date i v = i.answers.dates v
+
+-- ---- on what a look depends: on the citation, and on that one answer where the variable is not the citation's
+
+abbrev pub NumberAlike : Instance → Instance → NumberVariable → Type 0
+NumberAlike i j v = is_of_citation (variable.Number v) ≡ false → i.answers.numbers v ≡ j.answers.numbers v
+
+abbrev pub StandardAlike : Instance → Instance → LongShortForm → StandardVariable → Type 0
+StandardAlike i j form v = is_of_citation (variable.Standard v) ≡ false → i.answers.standards form v ≡ j.answers.standards form v
+
+abbrev pub NumberOrPageAlike : Instance → Instance → NumberOrPageVariable → Type 0
+NumberOrPageAlike i j (number_or_page.Number v) = NumberAlike i j v
+NumberOrPageAlike i j (number_or_page.Page v) = i.answers.pages v ≡ j.answers.pages v

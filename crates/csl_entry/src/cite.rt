@@ -134,15 +134,30 @@ impl<'s> CiteProperties<'s> {
     pub fn clone(&self, alloc: Global) -> Result<CiteProperties<'s>, Memory>
         ensures { IfOk result (λ copy. cite_state copy ≡ cite_state self.now) }
     {
-        let disambiguation = self.speculative.disambiguation.clone(alloc)?;
+        let speculative = self.speculative.clone(alloc)?;
         Ok(CiteProperties {
             certain: self.certain,
-            speculative: SpeculativeCiteProperties {
-                locator: self.speculative.locator,
-                citation_number: self.speculative.citation_number,
-                disambiguation,
-                ibid: self.speculative.ibid,
-            },
+            speculative,
+        })
+    }
+}
+
+impl<'s> SpeculativeCiteProperties<'s> {
+    ghost use Rattle.csl_entry.specs.Cite.{speculation};
+
+    /// An equal value.
+    ///
+    /// # Errors
+    /// [`Memory`]: there was no memory left.
+    pub fn clone(&self, alloc: Global) -> Result<SpeculativeCiteProperties<'s>, Memory>
+        ensures { IfOk result (λ copy. speculation copy ≡ speculation self.now) }
+    {
+        let disambiguation = self.disambiguation.clone(alloc)?;
+        Ok(SpeculativeCiteProperties {
+            locator: self.locator,
+            citation_number: self.citation_number,
+            disambiguation,
+            ibid: self.ibid,
         })
     }
 }

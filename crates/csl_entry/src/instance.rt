@@ -1,23 +1,32 @@
 //! A cite with its entry: what it answers to a style.
 
-ghost use Rattle.std.specs.Prelude.{◌≡◌, IfOk, option_map};
+ghost use Rattle.std.specs.Prelude.{◌≡◌, map, IfOk, option_map};
+ghost use Rattle.lit_model.specs.Date.{date_parts};
 ghost use Rattle.lit_model.specs.MaybeTyped.{maybe_view};
 ghost use Rattle.lit_model.specs.Page.{pages_view};
+ghost use Rattle.lit_model.specs.Person.{named};
 ghost use Rattle.lit_model.specs.Text.{chunks};
 ghost use Rattle.csl_entry.specs.Answers.{behind};
-ghost use Rattle.csl_entry.specs.Cite.{cite_state, disambiguation_of, payload_of};
-ghost use Rattle.csl_entry.specs.Instance.{plain_number, locator_answer, year_suffix, look_number, look_page, look_standard};
-ghost use Rattle.csl_entry.specs.NumberResult.{result_view};
+ghost use Rattle.csl_entry.specs.Cite.{disambiguation_of, payload_of};
+ghost use Rattle.csl_entry.specs.Instance.{Instance, instance_of, plain_number, locator_answer, year_suffix};
+ghost use Rattle.csl_entry.specs.Instance.{look_number, look_page, look_number_or_page, look_standard, look_names, look_date};
+ghost use Rattle.csl_entry.specs.Instance.{NumberAlike, StandardAlike};
+ghost use Rattle.csl_entry.specs.NumberResult.{result_view, number_or_page_view};
 ghost use Rattle.csl_entry.specs.Numbers.{IsNoteNumber};
 
 use crate::chunk::one_chunk;
 use crate::cite::{CiteProperties, DisambiguateState, LocatorPayload, Sorting, SpecialForm};
 use crate::letters::letter;
-use crate::number_result::{NumberVariableResult, PageVariableResult};
+use crate::number_result::{NumberOrPageVariableResult, NumberVariableResult, PageVariableResult};
 use crate::numeric_text::numeric_or_text;
 use crate::taxonomy::EntryLike;
-use csl_style::{NumberVariable, PageVariable, StandardVariable};
-use lit_model::{ChunkKind, ChunkedString, LongShortForm, MaybeTyped, Memory, Numeric};
+use csl_style::{
+    DateVariable, NameVariable, NumberOrPageVariable, NumberVariable, PageVariable,
+    StandardVariable,
+};
+use lit_model::{
+    ChunkKind, ChunkedString, Date, LongShortForm, MaybeTyped, Memory, Numeric, Person,
+};
 use std::alloc::{AllocError, Global};
 use std::borrow::Cow;
 
@@ -54,14 +63,19 @@ impl<'s, T: EntryLike> InstanceContext<'s, T> {
     ///
     /// # Errors
     /// [`Memory`]: there was no memory left.
+    #[tactic(auto, using(crate::proofs::Looks::number_alike))]
     pub fn resolve_number_variable(
         &self,
         alloc: Global,
         variable: NumberVariable,
     ) -> Result<Option<NumberVariableResult<'s>>, Memory>
-        ensures { IfOk result (λ found. option_map result_view found
-            ≡ look_number (cite_state self.now.cite_props.now)
-            (T.answers self.now.entry.now) variable) }
+        ensures value { IfOk result (λ found. option_map result_view found
+            ≡ look_number (instance_of T.answers self.now) variable) }
+
+        // It depends on the citation, and on the entry's answer to this variable alone, where the
+        // variable is not the citation's.
+        ensures depends { (i j : Instance) → i.cite ≡ j.cite → NumberAlike i j variable
+            → look_number i variable ≡ look_number j variable }
     {
         match variable {
             NumberVariable::CitationNumber => {
@@ -99,10 +113,38 @@ impl<'s, T: EntryLike> InstanceContext<'s, T> {
         variable: PageVariable,
     ) -> Result<Option<PageVariableResult>, Memory>
         ensures { IfOk result (λ found. option_map (maybe_view pages_view) found
-            ≡ look_page (cite_state self.now.cite_props.now)
-            (T.answers self.now.entry.now) variable) }
+            ≡ look_page (instance_of T.answers self.now) variable) }
     {
         self.entry.resolve_page_variable(alloc, variable)
+    }
+
+    /// What the cite answers to a variable that holds a number or pages: what it answers to that
+    /// number variable, or to that page variable.
+    ///
+    /// # Errors
+    /// [`Memory`]: there was no memory left.
+    pub fn resolve_number_or_page_variable(
+        &self,
+        alloc: Global,
+        variable: NumberOrPageVariable,
+    ) -> Result<Option<NumberOrPageVariableResult<'s>>, Memory>
+        ensures { IfOk result (λ found. option_map number_or_page_view found
+            ≡ look_number_or_page (instance_of T.answers self.now) variable) }
+    {
+        match variable {
+            NumberOrPageVariable::Number(variable) => {
+                match self.resolve_number_variable(alloc, variable)? {
+                    Some(number) => Ok(Some(NumberOrPageVariableResult::Number(number))),
+                    None => Ok(None),
+                }
+            }
+            NumberOrPageVariable::Page(variable) => {
+                match self.resolve_page_variable(alloc, variable)? {
+                    Some(pages) => Ok(Some(NumberOrPageVariableResult::Page(pages))),
+                    None => Ok(None),
+                }
+            }
+        }
     }
 
     /// What the cite answers to a standard variable: its year suffix, where it has one; all else
@@ -110,15 +152,20 @@ impl<'s, T: EntryLike> InstanceContext<'s, T> {
     ///
     /// # Errors
     /// [`Memory`]: there was no memory left.
+    #[tactic(auto, using(crate::proofs::Looks::standard_alike))]
     pub fn resolve_standard_variable(
         &self,
         alloc: Global,
         form: LongShortForm,
         variable: StandardVariable,
     ) -> Result<Option<Cow<'s, ChunkedString>>, Memory>
-        ensures { IfOk result (λ found. option_map (behind chunks) found
-            ≡ look_standard (cite_state self.now.cite_props.now)
-            (T.answers self.now.entry.now) form variable) }
+        ensures value { IfOk result (λ found. option_map (behind chunks) found
+            ≡ look_standard (instance_of T.answers self.now) form variable) }
+
+        // It depends on the citation, and on the entry's answer to this variable in this form
+        // alone, where the variable is not the citation's.
+        ensures depends { (i j : Instance) → i.cite ≡ j.cite → StandardAlike i j form variable
+            → look_standard i form variable ≡ look_standard j form variable }
     {
         match variable {
             StandardVariable::YearSuffix => {
@@ -126,6 +173,37 @@ impl<'s, T: EntryLike> InstanceContext<'s, T> {
             }
             _ => self.entry.resolve_standard_variable(alloc, form, variable),
         }
+    }
+
+    /// What the cite answers to a name variable: the persons that its entry does, in order; none
+    /// where there are none (CSL 1.0.2, Name Variables).
+    ///
+    /// # Errors
+    /// [`Memory`]: there was no memory left.
+    pub fn resolve_name_variable(
+        &self,
+        alloc: Global,
+        variable: NameVariable,
+    ) -> Result<Vec<Cow<'s, Person>>, Memory>
+        ensures { IfOk result (λ found. map (behind named) found.items
+            ≡ look_names (instance_of T.answers self.now) variable) }
+    {
+        self.entry.resolve_name_variable(alloc, variable)
+    }
+
+    /// What the cite answers to a date variable: what its entry does (CSL 1.0.2, Date Variables).
+    ///
+    /// # Errors
+    /// [`Memory`]: there was no memory left.
+    pub fn resolve_date_variable(
+        &self,
+        alloc: Global,
+        variable: DateVariable,
+    ) -> Result<Option<Cow<'s, Date>>, Memory>
+        ensures { IfOk result (λ found. option_map (behind date_parts) found
+            ≡ look_date (instance_of T.answers self.now) variable) }
+    {
+        self.entry.resolve_date_variable(alloc, variable)
     }
 }
 

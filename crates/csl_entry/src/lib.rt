@@ -15,6 +15,7 @@ mod name_properties;
 mod number_result;
 mod numbers;
 mod numeric_text;
+mod same;
 mod taxonomy;
 
 pub use citation_label::Alphanumerical;
@@ -30,4 +31,5 @@ pub use name_form::DisambiguatedNameForm;
 pub use name_properties::NameDisambiguationProperties;
 pub use number_result::{NumberOrPageVariableResult, NumberVariableResult, PageVariableResult};
 pub use numbers::{CitationNumber, NoteNumber};
+pub use same::{same_date, same_number, same_pages, same_people, same_text};
 pub use taxonomy::EntryLike;

@@ -1,0 +1,96 @@
+//! Whether two answers show the same, whichever entries gave them.
+
+ghost use Rattle.std.specs.Prelude.{◌≡◌, ◌↔◌, map, option_map, option_copied, IsTrue};
+ghost use Rattle.lit_model.specs.Date.{date_parts};
+ghost use Rattle.lit_model.specs.MaybeTyped.{maybe_view};
+ghost use Rattle.lit_model.specs.Numeric.{numeric_view};
+ghost use Rattle.lit_model.specs.Page.{pages_view};
+ghost use Rattle.lit_model.specs.Person.{named};
+ghost use Rattle.lit_model.specs.SamePerson.{same_people};
+ghost use Rattle.lit_model.specs.Text.{chunks};
+ghost use Rattle.std.specs.Cow.{cow_value};
+ghost use Rattle.csl_entry.specs.Answers.{behind};
+
+use crate::number_result::PageVariableResult;
+use lit_model::{ChunkedString, Date, MaybeTyped, Numeric, Person};
+use std::borrow::Cow;
+
+/// Whether the two lists of persons are equally long and the persons at each place show the same
+/// in every text (CSL 1.0.2, Name Variables).
+pub fn same_people(people: &[Cow<'_, Person>], others: &[Cow<'_, Person>]) -> bool
+    ensures texts { IsTrue result
+        ↔ (map (behind named) people.now ≡ map (behind named) others.now) }
+    ensures test { result
+        ≡ same_people (map (behind named) people.now) (map (behind named) others.now) }
+{
+    same_each(people, others)
+}
+
+/// The same, person by person.
+fn same_each(people: &[Cow<'_, Person>], others: &[Cow<'_, Person>]) -> bool
+    ensures { result ≡ same_people (map (behind named) people.now) (map (behind named) others.now) }
+{
+    if people.len() != others.len() {
+        return false;
+    }
+    for place in 0..people.len() {
+        if !people[place].as_ref().shows_same(others[place].as_ref()) {
+            return false;
+        }
+    }
+    true
+}
+
+/// Whether both texts are absent, or both are there and agree in the text and the kind of each
+/// chunk (CSL 1.0.2, Standard Variables).
+pub fn same_text(
+    text: &Option<Cow<'_, ChunkedString>>,
+    other: &Option<Cow<'_, ChunkedString>>,
+) -> bool
+    ensures { IsTrue result
+        ↔ (option_map (behind chunks) text.now ≡ option_map (behind chunks) other.now) }
+{
+    *text == *other
+}
+
+/// Whether both numbers are absent, or both are there and agree as numbers, what separates them,
+/// prefixes and suffixes included, or as texts (CSL 1.0.2, Number Variables).
+pub fn same_number(
+    number: &Option<MaybeTyped<Cow<'_, Numeric>>>,
+    other: &Option<MaybeTyped<Cow<'_, Numeric>>>,
+) -> bool
+    ensures { IsTrue result
+        ↔ (option_map (maybe_view (behind numeric_view)) number.now
+        ≡ option_map (maybe_view (behind numeric_view)) other.now) }
+{
+    *number == *other
+}
+
+/// Whether both answers to the page variable are absent, or both are there and agree as pages,
+/// ranges and separators in order, or as texts (CSL 1.0.2, Number Variables: page).
+pub fn same_pages(pages: &Option<PageVariableResult>, others: &Option<PageVariableResult>) -> bool
+    ensures { IsTrue result
+        ↔ (option_map (maybe_view pages_view) pages.now
+        ≡ option_map (maybe_view pages_view) others.now) }
+{
+    *pages == *others
+}
+
+/// Whether both dates are absent, or both are there and agree in year, month, day, season and
+/// whether they are approximate (CSL 1.0.2, Date Variables).
+pub fn same_date(date: &Option<Cow<'_, Date>>, other: &Option<Cow<'_, Date>>) -> bool
+    ensures { IsTrue result
+        ↔ (option_map (behind date_parts) date.now ≡ option_map (behind date_parts) other.now) }
+{
+    lent(date) == lent(other)
+}
+
+/// What was found, wherever it lies.
+fn lent<'a, T: Drop>(found: &'a Option<Cow<'_, T>>) -> Option<&'a T>
+    ensures { option_copied result ≡ option_map cow_value found.now }
+{
+    match found {
+        Some(value) => Some(value.as_ref()),
+        None => None,
+    }
+}
