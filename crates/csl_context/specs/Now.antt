@@ -20,7 +20,7 @@ use Rattle.csl_entry.specs.NameProperties.{NameProperties}
 use Rattle.csl_entry.specs.Instance.{Instance}
 use Rattle.csl_context.specs.State.{State, Inherited, looked}
 use Rattle.csl_context.specs.World.{World}
-use Rattle.csl_context.specs.declared.context.Mark.{Mark}
+use Rattle.csl_context.specs.declared.mark.Mark.{Mark}
 use Rattle.csl_context.specs.declared.error.RenderError.{RenderError}
 use Rattle.csl_context.specs.declared.error.RenderError.TheVariants.{Memory, Failed}
 

@@ -1,6 +1,6 @@
 //! What the nodes of a context inherit.
 
-ghost use Rattle.std.specs.Prelude.{◌≡◌, ◌<◌, length, false, true, option_map, OnOk, IfErr};
+ghost use Rattle.std.specs.Prelude.{◌≡◌, ◌<◌, ◌||◌, length, false, true, option_map, OnOk, IfErr};
 ghost use Rattle.std.specs.Bool.{OnFalse};
 ghost use Rattle.csl_style.specs.NameOptions.{own_options};
 ghost use Rattle.csl_context.specs.Now.{FailsAs, Leaves, with_format, without_format, with_delimiter, without_delimiter, with_options, without_options, with_stripping};
@@ -23,9 +23,10 @@ impl<'s, T> Context<'s, T> {
         if self.writing.failed {
             return Err(RenderError::Failed);
         }
-        match self.writing.formats.push(self.writing.formatting) {
+        let under = self.writing.formatting;
+        match self.writing.formats.push(under) {
             Ok(()) => {
-                self.writing.formatting = self.writing.formatting.apply(format);
+                self.writing.formatting = under.apply(format);
                 Ok(())
             }
             Err(_) => {
@@ -65,7 +66,8 @@ impl<'s, T> Context<'s, T> {
         if self.writing.failed {
             return Err(RenderError::Failed);
         }
-        match self.writing.delimiters.push(self.writing.delimiter) {
+        let under = self.writing.delimiter;
+        match self.writing.delimiters.push(under) {
             Ok(()) => {
                 self.writing.delimiter = delimiter;
                 Ok(())
@@ -110,9 +112,10 @@ impl<'s, T> Context<'s, T> {
         if self.writing.failed {
             return Err(RenderError::Failed);
         }
-        match self.writing.outer_options.push(self.writing.options) {
+        let under = self.writing.options;
+        match self.writing.outer_options.push(under) {
             Ok(()) => {
-                self.writing.options = options.apply(self.writing.options);
+                self.writing.options = options.apply(under);
                 Ok(())
             }
             Err(_) => {

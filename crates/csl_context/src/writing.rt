@@ -234,7 +234,8 @@ impl<'s, T> Context<'s, T> {
             None => unreachable!(),
             Some(part) => {
                 let content = mem::replace(&mut self.writing.inner, part);
-                match self.writing.inner.append(self.writing.alloc, content) {
+                let alloc = self.writing.alloc;
+                match self.writing.inner.append(alloc, content) {
                     Ok(()) => Ok(()),
                     Err(_) => {
                         self.writing.failed = true;
