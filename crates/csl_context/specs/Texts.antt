@@ -6,6 +6,7 @@ use Rattle.lit_model.specs.Text.{Chunk}
 use Rattle.lit_model.specs.declared.text.ChunkKind.TheVariants.{Normal, Verbatim, Math}
 use Rattle.lit_model.specs.declared.text.ChunkKind.{ChunkKind}
 use Rattle.csl_style.specs.Dressing.{AffixTexts}
+use Rattle.csl_tree.specs.declared.formatting.Formatting.{Formatting}
 use Rattle.csl_tree.specs.Tokens.{Token, solid, markup, link, transparent}
 use Rattle.csl_tree.specs.Content.{◌++>◌, text_content, affixed}
 use Rattle.csl_context.specs.State.{Inherited}
@@ -21,13 +22,20 @@ without_periods bs = encode_utf8_all (filter is_no_period (chars bs))
 abbrev pub stripped : Bool → List ℕ → List ℕ
 stripped stripping bs = if stripping then without_periods bs else bs
 
--- a text in the inherited formatting
+-- a text in a formatting, where periods are stripped or not
+abbrev pub text_of : Bool → Formatting → List ℕ → List Token
+text_of stripping f bs = text_content (stripped stripping bs) f
+
+abbrev pub text_of_if : Bool → Formatting → Option (List ℕ) → List Token
+text_of_if stripping f None = []
+text_of_if stripping f (Some bs) = text_of stripping f bs
+
+-- a text in what it inherits
 abbrev pub text_in : Inherited → List ℕ → List Token
-text_in inh bs = text_content (stripped inh.stripping bs) inh.formatting
+text_in inh bs = text_of inh.stripping inh.formatting bs
 
 abbrev pub text_in_if : Inherited → Option (List ℕ) → List Token
-text_in_if inh None = []
-text_in_if inh (Some bs) = text_in inh bs
+text_in_if inh text = text_of_if inh.stripping inh.formatting text
 
 abbrev pub markup_content : List ℕ → List Token
 markup_content [] = []

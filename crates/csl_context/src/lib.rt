@@ -8,6 +8,7 @@ mod error;
 mod inherited;
 mod look;
 mod mark;
+mod quotes;
 mod state;
 mod terms;
 mod texts;

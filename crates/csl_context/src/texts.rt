@@ -1,8 +1,9 @@
 //! Texts, markups and links behind what is written (CSL 1.0.2, Formatting, Strip-periods).
 
 ghost use Rattle.std.specs.Prelude.{◌≡◌, string_bytes, option_map, IfOk, OnOk};
-ghost use Rattle.csl_tree.specs.Content.{Appends, text_content};
-ghost use Rattle.csl_context.specs.Texts.{without_periods, stripped, markup_content};
+ghost use Rattle.csl_tree.specs.Content.{◌++>◌, Appends};
+ghost use Rattle.csl_tree.specs.Tokens.{tokens};
+ghost use Rattle.csl_context.specs.Texts.{without_periods, text_of, text_of_if, markup_content};
 
 use csl_tree::{ElemChild, ElemChildren, Formatting};
 use lit_model::Memory;
@@ -28,15 +29,50 @@ impl Pen {
     /// Writes a text behind some children.
     pub(crate) fn write(self, part: &mut ElemChildren, text: &str) -> Result<(), Memory>
         ensures { OnOk result (Appends part.old part.new
-            (text_content (stripped self.stripping text.now) self.formatting)) }
+            (text_of self.stripping self.formatting text.now)) }
     {
         if self.stripping {
             let text = without_periods(self.alloc, text)?;
-            part.push_text(self.alloc, text.as_str(), self.formatting)?;
+            part.push_text(self.alloc, text.as_str(), self.formatting)
         } else {
-            part.push_text(self.alloc, text, self.formatting)?;
+            part.push_text(self.alloc, text, self.formatting)
         }
-        Ok(())
+    }
+
+    /// Writes a text behind some children, if there is one.
+    fn write_if(self, part: &mut ElemChildren, text: Option<&str>) -> Result<(), Memory>
+        ensures { OnOk result (Appends part.old part.new
+            (text_of_if self.stripping self.formatting (option_map (λ t. t.now) text.entry))) }
+    {
+        match text {
+            Some(text) => self.write(part, text),
+            None => Ok(()),
+        }
+    }
+
+    /// The content of a text, if there is one.
+    pub(crate) fn content(self, text: Option<&str>) -> Result<ElemChildren, Memory>
+        ensures { IfOk result (λ c. tokens c
+            ≡ text_of_if self.stripping self.formatting (option_map (λ t. t.now) text.entry)) }
+    {
+        let mut content = ElemChildren::new(self.alloc);
+        self.write_if(&mut content, text)?;
+        Ok(content)
+    }
+
+    /// The content of two texts in a row, as far as they are there.
+    pub(crate) fn contents(
+        self,
+        first: Option<&str>,
+        second: Option<&str>,
+    ) -> Result<ElemChildren, Memory>
+        ensures { IfOk result (λ c. tokens c
+            ≡ text_of_if self.stripping self.formatting (option_map (λ t. t.now) first.entry)
+            ++> text_of_if self.stripping self.formatting (option_map (λ t. t.now) second.entry)) }
+    {
+        let mut content = self.content(first)?;
+        self.write_if(&mut content, second)?;
+        Ok(content)
     }
 }
 
