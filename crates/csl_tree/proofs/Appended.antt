@@ -1,12 +1,15 @@
--- A content that ends in a child, and what follows.
+-- A content that ends in an item of a list, and what follows.
 use Rattle.std.proofs.Common.{◌≡◌, ℕ, ◌+◌, ◌<◌, ◌≤◌, List, [], ◌∷◌, ◌++◌, length, get_or, take, set, refl, sym, ap, ◌∙◌, append_assoc, arith}
 use Rattle.std.specs.List.{flat_map}
 use Rattle.std.proofs.lemmas.Grind.{flat_map-append}
-use Rattle.csl_tree.specs.Tokens.{Token, Solid, text, Meta, solid, opened, closed, markup, link, transparent, optional_meta, child_step, elem_step, children_step, child_tokens, elem_tokens, tokens}
+use Rattle.csl_tree.specs.Tokens.{Token, Solid, text, Meta, solid, opened, closed, markup, link, transparent, optional_meta, child_step, elem_step, children_step, child_tokens, elem_tokens, tokens, has_children}
 use Rattle.csl_tree.specs.Formatting.{same_formatting}
-use Rattle.csl_tree.specs.Content.{last_before, ◌++>◌, boxed, affixed}
+use Rattle.csl_tree.specs.Content.{last_before, ◌++>◌, boxed, affixed, layer_content, child_content}
 use Rattle.csl_tree.proofs.Joins.{join_assoc}
-use Rattle.std.proofs.Common.{true, false, cond, Option}
+use Rattle.std.proofs.Common.{Bool, true, false, not, cond, Option, vec_len, ◌==◌}
+use Rattle.std.specs.Bool.{OnFalse}
+use Rattle.std.specs.Prelude.{Result, Ok, Err, OnErr}
+use Rattle.std.proofs.lemmas.Grind.{common_steps}
 use Rattle.std.specs.List.{remove}
 use Rattle.csl_tree.proofs.Trees.{tokens_out, elem_tokens_are}
 use Rattle.csl_style.specs.declared.formatting.Display.{Display}
@@ -19,10 +22,15 @@ use Rattle.csl_tree.specs.declared.formatting.Formatted.{Formatted}
 use Rattle.csl_tree.specs.declared.elem.Elem as elem
 use Rattle.csl_tree.specs.declared.elem.ElemChildren.{ElemChildren}
 use Rattle.csl_tree.specs.declared.elem.ElemChild.TheOpen.{ElemChild-F, Text, Elem, Markup, Link, Transparent}
-use Rattle.csl_tree.specs.declared.elem.ElemChild.TheViews.{out-ElemChild}
+use Rattle.csl_tree.specs.declared.elem.ElemChild.TheViews.{out-ElemChild, outs-Elem}
 use Rattle.csl_tree.specs.declared.elem.ElemChild.TheFolds.{fold_out-ElemChild, map-ElemChild, fold-roll-ElemChild}
 use Rattle.csl_tree.specs.declared.elem.ElemChild.TheVariants as variants
 use Rattle.std.proofs.lemmas.List.{take_more, take_more_set, take_all, append-nil, length-set}
+
+-- what holds is so of whatever error a call hands on
+pub on_err : {T E P : Type 0} (r : Result T E) → P → OnErr r P
+on_err (Ok x) p = tt
+on_err (Err e) p = p
 
 -- what stands before a content that is not empty stays as it is
 pub join_after : (p : List Token) (u : Token) (l b : List Token) → (p ++ u ∷ l) ++> b ≡ p ++ ((u ∷ l) ++> b)
@@ -49,10 +57,6 @@ layer_begins (Transparent n f) = record { first = _; rest = _; is = refl }
 pub child_begins : (k : ElemChild) → Begins (child_tokens k)
 child_begins k = let e = fold_out-ElemChild (List Token) (List Token) (List Token) child_step elem_step children_step k in let b = layer_begins (out-ElemChild k) in record { first = b.first; rest = b.rest; is = e ∙ b.is }
 
--- what follows joins the last child alone
-pub join_child : (p : List Token) (k : ElemChild) (b : List Token) → (p ++ child_tokens k) ++> b ≡ p ++ (child_tokens k ++> b)
-join_child p k b = let h = child_begins k in rw h.is (join_after p h.first h.rest b)
-
 pub elem_child : (e : elem.Elem) → child_tokens (variants.Elem e) ≡ elem_tokens e
 elem_child e = ap child_tokens (sym (variants.rolls-Elem e)) ∙ fold-roll-ElemChild (List Token) (List Token) (List Token) child_step elem_step children_step (Elem e)
 
@@ -70,62 +74,12 @@ module _ {A B : Type 0} (f : A → List B) (xs : List A) (i : ℕ) (last : i + 1
   flat_map-set_last y =
       sym (ap (flat_map f) (take_all (i + 1) (set xs i y) (omega (arith, length-set {A = A})))) ∙ ap (flat_map f) (take_more_set xs i y (omega arith)) ∙ flat_map-append f (take i xs) (y ∷ []) ∙ ap (λ l. flat_map f (take i xs) ++ l) (append-nil (f y))
 
--- a last child that the text joined
-pub last_joined : (xs : List ElemChild) (i : ℕ) (x y : ElemChild) (b : List Token) → i + 1 ≡ length xs → x ≡ get_or xs i x → child_tokens y ≡ child_tokens x ++> b → flat_map child_tokens (set xs i y) ≡ flat_map child_tokens xs ++> b
-last_joined xs i x y b h k e = rw (flat_map-set_last child_tokens xs i h y, flat_map-last child_tokens xs i h x k, e) (sym (join_child _ x b))
-
--- a last child that the text did not join
-pub last_apart : (xs ys : List ElemChild) (i : ℕ) (x y : ElemChild) (b : List Token) → i + 1 ≡ length xs → x ≡ get_or xs i x → ys ≡ set xs i y → child_tokens y ≡ child_tokens x → child_tokens x ++> b ≡ child_tokens x ++ b → flat_map child_tokens ys ++ b ≡ flat_map child_tokens xs ++> b
-last_apart xs ys i x y b h k s e a = rw (s, flat_map-set_last child_tokens xs i h y, flat_map-last child_tokens xs i h x k, e, join_child _ x b, a) (append_assoc (flat_map child_tokens (take i xs)) (child_tokens x) b)
-
--- no child, and a text
-pub none_apart : (xs ys : List ElemChild) (b : List Token) → ys ≡ xs → length xs ≤ 0 → flat_map child_tokens ys ++ b ≡ flat_map child_tokens xs ++> b
-none_apart [] ys b e h = rw e
-none_apart (x ∷ xs) ys b e h = absurd (omega arith)
-
-pub text_child : (f : Formatted) → child_tokens (variants.Text f) ≡ text (string_bytes f.text) f.formatting ∷ []
-text_child f = ap child_tokens (sym (variants.rolls-Text f)) ∙ fold-roll-ElemChild (List Token) (List Token) (List Token) child_step elem_step children_step (Text f)
-
--- some children, and then a text
-pub pushed : (xs ys : List ElemChild) (s : String Global) (bs : List ℕ) (f : Formatting) → ys ≡ xs ++ variants.Text (record { text = s; formatting = f }) ∷ [] → string_bytes s ≡ bs → flat_map child_tokens ys ≡ flat_map child_tokens xs ++ text bs f ∷ []
-pushed xs ys s bs f e h =
-    ap (flat_map child_tokens) e ∙ flat_map-append child_tokens xs (variants.Text (record { text = s; formatting = f }) ∷ [])
-    ∙ ap (λ l. flat_map child_tokens xs ++ (l ++ [])) (text_child (record { text = s; formatting = f }))
-    ∙ ap (λ l. flat_map child_tokens xs ++ text l f ∷ []) h
-
 -- what begins with no text joins nothing
 pub solid_next : (a : List Token) (s : Solid) (b : List Token) → a ++> (solid s ∷ b) ≡ a ++ solid s ∷ b
 solid_next [] s b = refl
 solid_next (text x f ∷ []) s b = refl
 solid_next (solid u ∷ []) s b = refl
 solid_next (t ∷ u ∷ a) s b = ap (λ l. t ∷ l) (solid_next (u ∷ a) s b)
-
--- one child more, which begins with no text
-pub solid_pushed : (xs ys : List ElemChild) (k : ElemChild) (s : Solid) (l : List Token) → ys ≡ xs ++ k ∷ [] → child_tokens k ≡ solid s ∷ l → flat_map child_tokens ys ≡ flat_map child_tokens xs ++> child_tokens k
-solid_pushed xs ys k s l e h =
-    ap (flat_map child_tokens) e ∙ flat_map-append child_tokens xs (k ∷ []) ∙ ap (λ w. flat_map child_tokens xs ++ w) (append-nil (child_tokens k) ∙ h)
-    ∙ sym (solid_next (flat_map child_tokens xs) s l) ∙ ap (λ w. flat_map child_tokens xs ++> w) (sym h)
-
-markup_child : (m : String Global) → child_tokens (variants.Markup m) ≡ solid (markup (string_bytes m)) ∷ []
-markup_child m = ap child_tokens (sym (variants.rolls-Markup m)) ∙ fold-roll-ElemChild (List Token) (List Token) (List Token) child_step elem_step children_step (Markup m)
-
-link_child : (f : Formatted) (u : String Global) → child_tokens (variants.Link f u) ≡ solid (link (string_bytes f.text) f.formatting (string_bytes u)) ∷ []
-link_child f u = ap child_tokens (sym (variants.rolls-Link f u)) ∙ fold-roll-ElemChild (List Token) (List Token) (List Token) child_step elem_step children_step (Link f u)
-
-transparent_child : (n : ℕ) (f : Formatting) → child_tokens (variants.Transparent n f) ≡ solid (transparent n f) ∷ []
-transparent_child n f = ap child_tokens (sym (variants.rolls-Transparent n f)) ∙ fold-roll-ElemChild (List Token) (List Token) (List Token) child_step elem_step children_step (Transparent n f)
-
-pub markup_pushed : (xs ys : List ElemChild) (m : String Global) → ys ≡ xs ++ variants.Markup m ∷ [] → flat_map child_tokens ys ≡ flat_map child_tokens xs ++> child_tokens (variants.Markup m)
-markup_pushed xs ys m e = solid_pushed xs ys _ _ [] e (markup_child m)
-
-pub link_pushed : (xs ys : List ElemChild) (f : Formatted) (u : String Global) → ys ≡ xs ++ variants.Link f u ∷ [] → flat_map child_tokens ys ≡ flat_map child_tokens xs ++> child_tokens (variants.Link f u)
-link_pushed xs ys f u e = solid_pushed xs ys _ _ [] e (link_child f u)
-
-pub transparent_pushed : (xs ys : List ElemChild) (n : ℕ) (f : Formatting) → ys ≡ xs ++ variants.Transparent n f ∷ [] → flat_map child_tokens ys ≡ flat_map child_tokens xs ++> child_tokens (variants.Transparent n f)
-transparent_pushed xs ys n f e = solid_pushed xs ys _ _ [] e (transparent_child n f)
-
-pub elem_pushed : (xs ys : List ElemChild) (e : elem.Elem) → ys ≡ xs ++ variants.Elem e ∷ [] → flat_map child_tokens ys ≡ flat_map child_tokens xs ++> child_tokens (variants.Elem e)
-elem_pushed xs ys e h = solid_pushed xs ys _ _ _ h (elem_child e ∙ elem_tokens_are e)
 
 -- what stands after the first token of the second content stays as it is
 last_next : (t u : Token) (l r : List Token) → last_before t (u ∷ (l ++ r)) ≡ last_before t (u ∷ l) ++ r
@@ -138,13 +92,73 @@ join_next [] u l r = refl
 join_next (t ∷ []) u l r = last_next t u l r
 join_next (t ∷ v ∷ a) u l r = ap (λ w. t ∷ w) (join_next (v ∷ a) u l r)
 
--- some children, the first of which may join what is there
-pub appended : (xs first_put all moved rest : List ElemChild) (k : ElemChild) → moved ≡ k ∷ rest → flat_map child_tokens first_put ≡ flat_map child_tokens xs ++> child_tokens k → all ≡ first_put ++ rest → flat_map child_tokens all ≡ flat_map child_tokens xs ++> flat_map child_tokens moved
-appended xs first_put all moved rest k m h e =
-    let b = child_begins k in
-    rw (e, m, flat_map-append child_tokens first_put rest, h, b.is) (sym (join_next (flat_map child_tokens xs) b.first b.rest (flat_map child_tokens rest)))
+-- the last item of a list, of any items that have tokens
+module _ {A : Type 0} (tokens_of : A → List Token) (begins : (a : A) → Begins (tokens_of a)) where
+  -- what follows joins the last item alone
+  join_item : (p : List Token) (k : A) (b : List Token) → (p ++ tokens_of k) ++> b ≡ p ++ (tokens_of k ++> b)
+  join_item p k b = let h = begins k in rw h.is (join_after p h.first h.rest b)
 
-pub first_removed : (xs ys : List ElemChild) (k : ElemChild) → 0 < length xs → k ≡ get_or xs 0 k → ys ≡ remove xs 0 → xs ≡ k ∷ ys
+  -- it is another, which is the old one and a text that joined it
+  pub last_joined : (xs : List A) (i : ℕ) (x y : A) (b : List Token) → i + 1 ≡ length xs → x ≡ get_or xs i x → tokens_of y ≡ tokens_of x ++> b → flat_map tokens_of (set xs i y) ≡ flat_map tokens_of xs ++> b
+  last_joined xs i x y b h k e = rw (flat_map-set_last tokens_of xs i h y, flat_map-last tokens_of xs i h x k, e) (sym (join_item _ x b))
+
+  -- it shows what it did, and what follows does not join it
+  pub last_apart : (xs ys : List A) (i : ℕ) (x y : A) (b : List Token) → i + 1 ≡ length xs → x ≡ get_or xs i x → ys ≡ set xs i y → tokens_of y ≡ tokens_of x → tokens_of x ++> b ≡ tokens_of x ++ b → flat_map tokens_of ys ++ b ≡ flat_map tokens_of xs ++> b
+  last_apart xs ys i x y b h k s e a = rw (s, flat_map-set_last tokens_of xs i h y, flat_map-last tokens_of xs i h x k, e, join_item _ x b, a) (append_assoc (flat_map tokens_of (take i xs)) (tokens_of x) b)
+
+  -- it shows what it did
+  pub last_kept : (xs ys : List A) (i : ℕ) (x y : A) → i + 1 ≡ length xs → x ≡ get_or xs i x → ys ≡ set xs i y → tokens_of y ≡ tokens_of x → flat_map tokens_of ys ≡ flat_map tokens_of xs
+  last_kept xs ys i x y h k s e = rw (s, flat_map-set_last tokens_of xs i h y, flat_map-last tokens_of xs i h x k, e) refl
+
+  -- there is none
+  pub none_apart : (xs ys : List A) (b : List Token) → ys ≡ xs → length xs ≤ 0 → flat_map tokens_of ys ++ b ≡ flat_map tokens_of xs ++> b
+  none_apart [] ys b e h = rw e
+  none_apart (x ∷ xs) ys b e h = absurd (omega arith)
+
+  -- one more, which begins with no text
+  pub solid_pushed : (xs ys : List A) (k : A) (s : Solid) (l : List Token) → ys ≡ xs ++ k ∷ [] → tokens_of k ≡ solid s ∷ l → flat_map tokens_of ys ≡ flat_map tokens_of xs ++> tokens_of k
+  solid_pushed xs ys k s l e h =
+      ap (flat_map tokens_of) e ∙ flat_map-append tokens_of xs (k ∷ []) ∙ ap (λ w. flat_map tokens_of xs ++ w) (append-nil (tokens_of k) ∙ h)
+      ∙ sym (solid_next (flat_map tokens_of xs) s l) ∙ ap (λ w. flat_map tokens_of xs ++> w) (sym h)
+
+  -- some more, the first of which may join what is there
+  pub appended : (xs first_put all moved rest : List A) (k : A) → moved ≡ k ∷ rest → flat_map tokens_of first_put ≡ flat_map tokens_of xs ++> tokens_of k → all ≡ first_put ++ rest → flat_map tokens_of all ≡ flat_map tokens_of xs ++> flat_map tokens_of moved
+  appended xs first_put all moved rest k m h e =
+      let b = begins k in
+      rw (e, m, flat_map-append tokens_of first_put rest, h, b.is) (sym (join_next (flat_map tokens_of xs) b.first b.rest (flat_map tokens_of rest)))
+
+pub text_child : (f : Formatted) → child_tokens (variants.Text f) ≡ text (string_bytes f.text) f.formatting ∷ []
+text_child f = ap child_tokens (sym (variants.rolls-Text f)) ∙ fold-roll-ElemChild (List Token) (List Token) (List Token) child_step elem_step children_step (Text f)
+
+-- some children, and then a text
+pub pushed : (xs ys : List ElemChild) (s : String Global) (bs : List ℕ) (f : Formatting) → ys ≡ xs ++ variants.Text (record { text = s; formatting = f }) ∷ [] → string_bytes s ≡ bs → flat_map child_tokens ys ≡ flat_map child_tokens xs ++ text bs f ∷ []
+pushed xs ys s bs f e h =
+    ap (flat_map child_tokens) e ∙ flat_map-append child_tokens xs (variants.Text (record { text = s; formatting = f }) ∷ [])
+    ∙ ap (λ l. flat_map child_tokens xs ++ (l ++ [])) (text_child (record { text = s; formatting = f }))
+    ∙ ap (λ l. flat_map child_tokens xs ++ text l f ∷ []) h
+
+markup_child : (m : String Global) → child_tokens (variants.Markup m) ≡ solid (markup (string_bytes m)) ∷ []
+markup_child m = ap child_tokens (sym (variants.rolls-Markup m)) ∙ fold-roll-ElemChild (List Token) (List Token) (List Token) child_step elem_step children_step (Markup m)
+
+link_child : (f : Formatted) (u : String Global) → child_tokens (variants.Link f u) ≡ solid (link (string_bytes f.text) f.formatting (string_bytes u)) ∷ []
+link_child f u = ap child_tokens (sym (variants.rolls-Link f u)) ∙ fold-roll-ElemChild (List Token) (List Token) (List Token) child_step elem_step children_step (Link f u)
+
+pub transparent_child : (n : ℕ) (f : Formatting) → child_tokens (variants.Transparent n f) ≡ solid (transparent n f) ∷ []
+transparent_child n f = ap child_tokens (sym (variants.rolls-Transparent n f)) ∙ fold-roll-ElemChild (List Token) (List Token) (List Token) child_step elem_step children_step (Transparent n f)
+
+pub markup_pushed : (xs ys : List ElemChild) (m : String Global) → ys ≡ xs ++ variants.Markup m ∷ [] → flat_map child_tokens ys ≡ flat_map child_tokens xs ++> child_tokens (variants.Markup m)
+markup_pushed xs ys m e = solid_pushed child_tokens child_begins xs ys _ _ [] e (markup_child m)
+
+pub link_pushed : (xs ys : List ElemChild) (f : Formatted) (u : String Global) → ys ≡ xs ++ variants.Link f u ∷ [] → flat_map child_tokens ys ≡ flat_map child_tokens xs ++> child_tokens (variants.Link f u)
+link_pushed xs ys f u e = solid_pushed child_tokens child_begins xs ys _ _ [] e (link_child f u)
+
+pub transparent_pushed : (xs ys : List ElemChild) (n : ℕ) (f : Formatting) → ys ≡ xs ++ variants.Transparent n f ∷ [] → flat_map child_tokens ys ≡ flat_map child_tokens xs ++> child_tokens (variants.Transparent n f)
+transparent_pushed xs ys n f e = solid_pushed child_tokens child_begins xs ys _ _ [] e (transparent_child n f)
+
+pub elem_pushed : (xs ys : List ElemChild) (e : elem.Elem) → ys ≡ xs ++ variants.Elem e ∷ [] → flat_map child_tokens ys ≡ flat_map child_tokens xs ++> child_tokens (variants.Elem e)
+elem_pushed xs ys e h = solid_pushed child_tokens child_begins xs ys _ _ _ h (elem_child e ∙ elem_tokens_are e)
+
+pub first_removed : {A : Type 0} (xs ys : List A) (k : A) → 0 < length xs → k ≡ get_or xs 0 k → ys ≡ remove xs 0 → xs ≡ k ∷ ys
 first_removed [] ys k h e r = absurd (omega arith)
 first_removed (x ∷ xs) ys k h e r = cc
 
@@ -159,6 +173,13 @@ some (x ∷ xs) h = let b = child_begins x in record { first = b.first; rest = b
 pub tokens_none : (c : ElemChildren) → length c.0.items ≡ 0 → tokens c ≡ []
 tokens_none c h = tokens_out c ∙ none c.0.items h
 
+has_more : (xs : List ElemChild) (n : ℕ) → n ≡ length xs → has_children (flat_map child_tokens xs) ≡ not (n == 0)
+has_more [] n h = rw h refl
+has_more (x ∷ xs) n h = let b = child_begins x in let more : not (n == 0) ≡ true = grind (arith, common_steps, h) in rw b.is (sym more)
+
+pub has_children_is : (c : ElemChildren) → has_children (tokens c) ≡ not (vec_len c.0 == 0)
+has_children_is c = ap has_children (tokens_out c) ∙ has_more c.0.items (vec_len c.0) (omega (arith, c.0.ok.0))
+
 pub boxed_is : (d : Option Display) (m : Option Meta) (c : ElemChildren) → 0 < length c.0.items → boxed d m (tokens c) ≡ solid (opened d m) ∷ (tokens c ++ solid (closed d) ∷ [])
 boxed_is d m c h = let b = some c.0.items h in rw (tokens_out c ∙ b.is) refl
 
@@ -172,10 +193,18 @@ no_items (x ∷ xs) h = let b = some (x ∷ xs) (omega arith) in cc (b.is)
 pub items_none : (c : ElemChildren) → tokens c ≡ [] → length c.0.items ≡ 0
 items_none c h = no_items c.0.items (sym (tokens_out c) ∙ h)
 
+-- an element shows nothing exactly where it has no children
+pub elem_shows : (e : elem.Elem) (r : Bool) → r ≡ (vec_len (elem.out-Elem e).children.0 == 0) → OnFalse r (child_content (variants.Elem e) ≡ child_tokens (variants.Elem e))
+elem_shows e true h = tt
+elem_shows e false h =
+    let inside = (elem.out-Elem e).children in
+    let some : 0 < length inside.0.items = grind (arith, common_steps, inside.0.ok.0) in
+    ap layer_content (outs-Elem e) ∙ boxed_is (elem.out-Elem e).display (optional_meta (elem.out-Elem e).meta) inside some ∙ sym (elem_child e ∙ elem_tokens_are e)
+
 -- children that are not none, between two contents
 pub affixed_is : (p s : List Token) (c : ElemChildren) → 0 < length c.0.items → affixed p s (tokens c) ≡ p ++> (tokens c ++> s)
 affixed_is p s c h = let b = some c.0.items h in rw (tokens_out c ∙ b.is) refl
 
--- three contents, one after another
-pub joined_in_turn : (old p inner s a b d : List Token) → a ≡ old ++> p → b ≡ a ++> inner → d ≡ b ++> s → d ≡ old ++> (p ++> (inner ++> s))
-joined_in_turn old p inner s a b d e f g = g ∙ ap (λ l. l ++> s) (f ∙ ap (λ l. l ++> inner) e) ∙ join_assoc (old ++> p) inner s ∙ join_assoc old p (inner ++> s)
+-- three contents, one after another, behind what was there
+pub joined_in_turn : (old p inner s a b new : List Token) → a ≡ p ++> inner → b ≡ a ++> s → new ≡ old ++> b → new ≡ old ++> (p ++> (inner ++> s))
+joined_in_turn old p inner s a b new e f g = g ∙ ap (λ l. old ++> l) (f ∙ ap (λ l. l ++> s) e ∙ join_assoc p inner s)

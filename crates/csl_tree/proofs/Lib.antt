@@ -3,6 +3,7 @@ pub mod Written
 pub mod Nested
 pub mod Joins
 pub mod Appended
+pub mod LastChars
 pub mod Rejects
 pub mod TreeTokens
 pub mod Rounds

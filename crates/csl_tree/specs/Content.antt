@@ -1,11 +1,15 @@
 -- Contents: lists of tokens, joined so that texts of one formatting that meet become one text.
-use Rattle.std.specs.Prelude.{◌≡◌, ℕ, List, [], ◌∷◌, ◌++◌, Option, Some, None, option_map, if◌then◌else◌}
+use Rattle.std.specs.Prelude.{◌≡◌, ℕ, List, [], ◌∷◌, ◌++◌, Option, Some, None, option_map, string_bytes, if◌then◌else◌}
 use Rattle.std.specs.Borrow.{Bor}
 use Rattle.csl_style.specs.declared.formatting.Display.{Display}
 use Rattle.csl_tree.specs.declared.formatting.Formatting.{Formatting}
 use Rattle.csl_tree.specs.Formatting.{same_formatting}
-use Rattle.csl_tree.specs.Tokens.{Token, Meta, text, solid, around, tokens}
+use Rattle.csl_tree.specs.Tokens.{Token, Meta, text, solid, markup, link, transparent, opened, closed, around, optional_meta, tokens}
+use Rattle.csl_tree.specs.declared.elem.Elem as elem
 use Rattle.csl_tree.specs.declared.elem.ElemChildren.{ElemChildren}
+use Rattle.csl_tree.specs.declared.elem.ElemChild.{ElemChild}
+use Rattle.csl_tree.specs.declared.elem.ElemChild.TheOpen.{ElemChild-F, Text, Elem, Markup, Link, Transparent}
+use Rattle.csl_tree.specs.declared.elem.ElemChild.TheViews.{out-ElemChild}
 
 -- a text in front of what follows
 abbrev pub text_before : List ℕ → Formatting → List Token → List Token
@@ -47,11 +51,46 @@ abbrev pub boxed : Option Display → Option Meta → List Token → List Token
 boxed d m [] = []
 boxed d m (t ∷ ts) = around d m (t ∷ ts)
 
+-- the content of a markup
+abbrev pub markup_content : List ℕ → List Token
+markup_content [] = []
+markup_content (b ∷ bs) = solid (markup (b ∷ bs)) ∷ []
+
+-- the content of a link
+abbrev pub link_content : List ℕ → Formatting → List ℕ → List Token
+link_content [] f url = []
+link_content (b ∷ bs) f url = solid (link (b ∷ bs) f url) ∷ []
+
+-- the content of one child
+abbrev pub layer_content : ElemChild-F ElemChild elem.Elem ElemChildren → List Token
+layer_content (Text t) = text_content (string_bytes t.text) t.formatting
+layer_content (Elem e) = boxed (elem.out-Elem e).display (optional_meta (elem.out-Elem e).meta) (tokens (elem.out-Elem e).children)
+layer_content (Markup s) = markup_content (string_bytes s)
+layer_content (Link t url) = link_content (string_bytes t.text) t.formatting (string_bytes url)
+layer_content (Transparent n f) = solid (transparent n f) ∷ []
+
+abbrev pub child_content : ElemChild → List Token
+child_content k = layer_content (out-ElemChild k)
+
 -- a content between two others, unless there is none
 abbrev pub affixed : List Token → List Token → List Token → List Token
 affixed prefix suffix [] = []
 affixed prefix suffix (t ∷ ts) = prefix ++> ((t ∷ ts) ++> suffix)
 
+-- a content as the calls leave it: leaves that are not empty, and elements around contents that are not nothing
+pub data IsContent : List Token → Type 0 where
+  nothing : IsContent []
+  text_then : (b : ℕ) (bs : List ℕ) (f : Formatting) (rest : List Token) → IsContent rest → IsContent (text (b ∷ bs) f ∷ rest)
+  markup_then : (b : ℕ) (bs : List ℕ) (rest : List Token) → IsContent rest → IsContent (solid (markup (b ∷ bs)) ∷ rest)
+  link_then : (b : ℕ) (bs : List ℕ) (f : Formatting) (url : List ℕ) (rest : List Token) → IsContent rest → IsContent (solid (link (b ∷ bs) f url) ∷ rest)
+  transparent_then : (n : ℕ) (f : Formatting) (rest : List Token) → IsContent rest → IsContent (solid (transparent n f) ∷ rest)
+  element_then : (d : Option Display) (m : Option Meta) (t : Token) (inside rest : List Token)
+      → IsContent (t ∷ inside) → IsContent rest → IsContent (solid (opened d m) ∷ (t ∷ (inside ++ solid (closed d) ∷ rest)))
+
 -- the children show what they did, and then a further content
 abbrev pub Appends : ElemChildren → ElemChildren → List Token → Type 0
 Appends old new more = tokens new ≡ tokens old ++> more
+
+-- the children show what they did
+abbrev pub Stays : ElemChildren → ElemChildren → Type 0
+Stays old new = tokens new ≡ tokens old

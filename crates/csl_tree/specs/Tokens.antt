@@ -1,8 +1,8 @@
 -- An output tree as a list of tokens: each text, and around each element where it opens and where it closes.
 -- It forgets how the texts are stored, and nothing else.
-use Rattle.std.specs.Prelude.{ℕ, Bool, true, false, List, [], ◌∷◌, ◌++◌, Option, Some, None, ◌==◌, string_bytes, length, map, Vec}
-use Rattle.std.specs.List.{flat_map, list_any, list_all}
-use Rattle.std.specs.Char.{is_not_whitespace}
+use Rattle.std.specs.Prelude.{ℕ, Bool, true, false, not, List, [], ◌∷◌, ◌++◌, Option, Some, None, ◌==◌, string_bytes, length, map, Vec}
+use Rattle.std.specs.List.{flat_map, list_any, list_all, last_or}
+use Rattle.std.specs.Char.{is_whitespace, is_not_whitespace}
 use Rattle.std.specs.Str.{chars}
 use Rattle.std.specs.declared.alloc.Global.{Global}
 use Rattle.lit_model.specs.declared.person.Person.{Person}
@@ -108,6 +108,26 @@ token_text (solid (closed d)) = []
 
 abbrev pub leaf_text : List Token → List ℕ
 leaf_text ts = flat_map token_text ts
+
+abbrev pub has_text : List Token → Bool
+has_text ts = not (length (leaf_text ts) == 0)
+
+-- the last character of a text
+abbrev pub last_char : List ℕ → Option ℕ
+last_char bs = last_or None (chars bs)
+
+abbrev pub is_white_space : Option ℕ → Bool
+is_white_space None = false
+is_white_space (Some c) = is_whitespace c
+
+-- the leaf text has a last character, and that is white space
+abbrev pub ends_in_white_space : List Token → Bool
+ends_in_white_space ts = is_white_space (last_char (leaf_text ts))
+
+-- there is anything, be it empty
+abbrev pub has_children : List Token → Bool
+has_children [] = false
+has_children (t ∷ ts) = true
 
 -- nothing stands in an empty text, markup or link, or in an element of such; a transparent is not empty
 abbrev pub is_empty_token : Token → Bool

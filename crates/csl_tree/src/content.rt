@@ -1,10 +1,11 @@
 //! Contents: children that are written one after another, where texts of equal formatting that
 //! meet become one text.
 
-ghost use Rattle.std.specs.Prelude.{◌≡◌, [], ◌∷◌, ◌++◌, OnOk, IfOk};
+ghost use Rattle.std.specs.Prelude.{◌≡◌, ◌≤◌, ◌+◌, [], ◌∷◌, ◌++◌, OnOk, OnErr, IfOk, vec_len};
+ghost use Rattle.std.specs.Vec.{vec_capacity};
 ghost use Rattle.std.specs.Bool.{OnTrue, OnFalse};
 ghost use Rattle.std.specs.List.{flat_map};
-ghost use Rattle.csl_tree.specs.Content.{◌++>◌, text_content, lent_text, boxed, affixed, Appends};
+ghost use Rattle.csl_tree.specs.Content.{◌++>◌, text_content, lent_text, boxed, affixed, child_content, Appends, Stays};
 ghost use Rattle.csl_tree.specs.Tokens.{tokens, child_tokens, text, optional_meta};
 
 use crate::elem::{Elem, ElemChild, ElemChildren, ElemMeta};
@@ -17,7 +18,7 @@ impl ElemChildren {
     /// Appends a text, which joins a last text of equal formatting. An empty text writes nothing.
     ///
     /// # Errors
-    /// [`Memory`]: there was no memory left. What the children are then is left open.
+    /// [`Memory`]: there was no memory left. The children stay as they were.
     pub fn push_text(
         &mut self,
         alloc: Global,
@@ -25,6 +26,7 @@ impl ElemChildren {
         formatting: Formatting,
     ) -> Result<(), Memory>
         ensures ok { OnOk result (Appends self.old self.new (text_content more.now formatting)) }
+        ensures err { OnErr result (Stays self.old self.new) }
     {
         if more.is_empty() {
             return Ok(());
@@ -36,7 +38,7 @@ impl ElemChildren {
     /// Appends an element around some children, unless there are none.
     ///
     /// # Errors
-    /// [`Memory`]: there was no memory left. What the children are then is left open.
+    /// [`Memory`]: there was no memory left. The children stay as they were.
     pub fn push_box(
         &mut self,
         children: ElemChildren,
@@ -45,6 +47,7 @@ impl ElemChildren {
     ) -> Result<(), Memory>
         ensures ok { OnOk result
             (Appends self.old self.new (boxed display (optional_meta meta) (tokens children))) }
+        ensures err { OnErr result (Stays self.old self.new) }
     {
         if children.0.is_empty() {
             return Ok(());
@@ -60,18 +63,79 @@ impl ElemChildren {
     /// Appends some children, the first of which may join the last that is there.
     ///
     /// # Errors
-    /// [`Memory`]: there was no memory left. What the children are then is left open.
+    /// [`Memory`]: there was no memory left. The children stay as they were.
     pub fn append(&mut self, alloc: Global, children: ElemChildren) -> Result<(), Memory>
         ensures ok { OnOk result (Appends self.old self.new (tokens children)) }
+        ensures err { OnErr result (Stays self.old self.new) }
     {
         let ElemChildren(mut rest) = children;
         if rest.is_empty() {
             return Ok(());
         }
+        self.0.reserve(rest.len())?;
         let first = rest.remove(0);
         push_child_to(&mut self.0, alloc, first)?;
         self.0.append(&mut rest)?;
         Ok(())
+    }
+}
+
+impl ElemChildren {
+    /// Appends a child, which joins a last text if it is a text of equal formatting. A text, a
+    /// markup or a link of empty text writes nothing, nor does an element without children.
+    ///
+    /// # Errors
+    /// [`Memory`]: there was no memory left. The children stay as they were.
+    pub fn push_child(&mut self, alloc: Global, child: ElemChild) -> Result<(), Memory>
+        ensures ok { OnOk result (Appends self.old self.new (child_content child)) }
+        ensures err { OnErr result (Stays self.old self.new) }
+    {
+        if child.shows_nothing() {
+            return Ok(());
+        }
+        push_child_to(&mut self.0, alloc, child)?;
+        Ok(())
+    }
+
+    /// Appends some children between two others, unless there are none.
+    ///
+    /// # Errors
+    /// [`Memory`]: there was no memory left. The children stay as they were.
+    pub fn push_between(
+        &mut self,
+        alloc: Global,
+        before: ElemChildren,
+        middle: ElemChildren,
+        after: ElemChildren,
+    ) -> Result<(), Memory>
+        ensures ok { OnOk result (Appends self.old self.new
+            (affixed (tokens before) (tokens after) (tokens middle))) }
+        ensures err { OnErr result (Stays self.old self.new) }
+    {
+        if middle.0.is_empty() {
+            return Ok(());
+        }
+        let mut all = before;
+        all.append(alloc, middle)?;
+        all.append(alloc, after)?;
+        self.append(alloc, all)?;
+        Ok(())
+    }
+}
+
+impl ElemChild {
+    /// Whether it is a text, a markup or a link of empty text, or an element without children.
+    fn shows_nothing(&self) -> bool
+        ensures nothing { OnTrue result (child_content self.now ≡ []) }
+        ensures something { OnFalse result (child_content self.now ≡ child_tokens self.now) }
+    {
+        match self {
+            ElemChild::Text(text) => text.text.is_empty(),
+            ElemChild::Elem(elem) => elem.children.0.is_empty(),
+            ElemChild::Markup(markup) => markup.is_empty(),
+            ElemChild::Link { text, .. } => text.text.is_empty(),
+            ElemChild::Transparent { .. } => false,
+        }
     }
 }
 
@@ -84,6 +148,7 @@ impl ElemChildren {
         formatting: Formatting,
     ) -> Result<(), Memory>
         ensures ok { OnOk result (Appends self.old self.new (lent_text more.entry formatting)) }
+        ensures err { OnErr result (Stays self.old self.new) }
     {
         match more {
             None => Ok(()),
@@ -97,7 +162,7 @@ impl ElemChildren {
     /// Appends some children between two texts, unless there are none.
     ///
     /// # Errors
-    /// [`Memory`]: there was no memory left. What the children are then is left open.
+    /// [`Memory`]: there was no memory left. The children stay as they were.
     pub fn push_affixed(
         &mut self,
         alloc: Global,
@@ -109,13 +174,16 @@ impl ElemChildren {
         ensures ok { OnOk result (Appends self.old self.new
             (affixed (lent_text prefix.entry formatting) (lent_text suffix.entry formatting)
             (tokens children))) }
+        ensures err { OnErr result (Stays self.old self.new) }
     {
         if children.0.is_empty() {
             return Ok(());
         }
-        self.push_optional(alloc, prefix, formatting)?;
-        self.append(alloc, children)?;
-        self.push_optional(alloc, suffix, formatting)?;
+        let mut all = ElemChildren::new(alloc);
+        all.push_optional(alloc, prefix, formatting)?;
+        all.append(alloc, children)?;
+        all.push_optional(alloc, suffix, formatting)?;
+        self.append(alloc, all)?;
         Ok(())
     }
 }
@@ -129,6 +197,7 @@ fn join_last(last: &mut ElemChild, more: &str, formatting: Formatting) -> Result
     ensures apart { IfOk result (λ did. OnFalse did
         (child_tokens last.old ++> text more.now formatting ∷ []
         ≡ child_tokens last.old ++ text more.now formatting ∷ [])) }
+    ensures err { OnErr result (child_tokens last.new ≡ child_tokens last.old) }
 {
     match last {
         ElemChild::Text(text) => {
@@ -155,6 +224,10 @@ pub(crate) fn push_text_to(
 ) -> Result<(), Memory>
     ensures ok { OnOk result (flat_map child_tokens children.new.items
         ≡ flat_map child_tokens children.old.items ++> text more.now formatting ∷ []) }
+    ensures err { OnErr result
+        (flat_map child_tokens children.new.items ≡ flat_map child_tokens children.old.items) }
+    ensures room { vec_capacity children.old ≤ vec_capacity children.new }
+    ensures len { vec_len children.new ≤ vec_len children.old + 1 }
 {
     let len = children.len();
     if len > 0 {
@@ -176,6 +249,10 @@ fn push_child_to(
 ) -> Result<(), Memory>
     ensures ok { OnOk result (flat_map child_tokens children.new.items
         ≡ flat_map child_tokens children.old.items ++> child_tokens child) }
+    ensures err { OnErr result
+        (flat_map child_tokens children.new.items ≡ flat_map child_tokens children.old.items) }
+    ensures room { vec_capacity children.old ≤ vec_capacity children.new }
+    ensures len { vec_len children.new ≤ vec_len children.old + 1 }
 {
     match child {
         ElemChild::Text(text) => {

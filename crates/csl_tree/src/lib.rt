@@ -8,6 +8,7 @@ pub mod content;
 mod copies;
 mod css;
 pub mod elem;
+mod ends;
 pub mod formatting;
 mod named;
 mod places;

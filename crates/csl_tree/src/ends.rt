@@ -1,0 +1,81 @@
+//! Whether contents have children and text, and what their text ends in.
+
+ghost use Rattle.std.specs.Prelude.{◌≡◌};
+ghost use Rattle.csl_tree.specs.Tokens.{tokens, elem_tokens, child_tokens, leaf_text, has_text, last_char, ends_in_white_space, has_children};
+
+use crate::elem::{Elem, ElemChild, ElemChildren};
+
+/// The last character of a text.
+fn last_char(text: &str) -> Option<char>
+    ensures { result ≡ last_char text.now }
+{
+    text.chars().last()
+}
+
+impl ElemChildren {
+    /// Whether there are children, be they empty.
+    pub fn has_children(&self) -> bool
+        ensures { result ≡ has_children (tokens self.now) }
+    {
+        !self.0.is_empty()
+    }
+
+    /// Whether the text of the leaves is not empty.
+    pub fn has_text(&self) -> bool
+        ensures { result ≡ has_text (tokens self.now) }
+    {
+        self.str_len() > 0
+    }
+
+    /// Whether the text of the leaves ends in white space.
+    pub fn ends_in_white_space(&self) -> bool
+        ensures { result ≡ ends_in_white_space (tokens self.now) }
+    {
+        match self.last_char() {
+            Some(c) => c.is_whitespace(),
+            None => false,
+        }
+    }
+
+    /// The last character of the text of the leaves.
+    #[cycle(ends)]
+    fn last_char(&self) -> Option<char>
+        ensures { result ≡ last_char (leaf_text (tokens self.now)) }
+    {
+        let mut i = self.0.len();
+        while i > 0 {
+            i -= 1;
+            let last = self.0[i].last_char();
+            if last.is_some() {
+                return last;
+            }
+        }
+        None
+    }
+}
+
+impl Elem {
+    /// The last character of the text of the leaves.
+    #[cycle(ends)]
+    fn last_char(&self) -> Option<char>
+        ensures { result ≡ last_char (leaf_text (elem_tokens self.now)) }
+    {
+        self.children.last_char()
+    }
+}
+
+impl ElemChild {
+    /// The last character of the text of the leaves.
+    #[cycle(ends)]
+    fn last_char(&self) -> Option<char>
+        ensures { result ≡ last_char (leaf_text (child_tokens self.now)) }
+    {
+        match self {
+            ElemChild::Text(text) => last_char(text.text.as_str()),
+            ElemChild::Elem(elem) => elem.last_char(),
+            ElemChild::Markup(markup) => last_char(markup.as_str()),
+            ElemChild::Link { text, .. } => last_char(text.text.as_str()),
+            ElemChild::Transparent { .. } => None,
+        }
+    }
+}
