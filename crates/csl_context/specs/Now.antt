@@ -1,0 +1,195 @@
+-- What a context holds, and what each call makes of it.
+use Rattle.std.specs.Prelude.{◌≡◌, ℕ, ◌+◌, Bool, true, false, not, List, [], ◌∷◌, length, Option, Some, None}
+use Rattle.std.specs.Bool.{OnFalse}
+use Rattle.std.specs.Option.{option_or}
+use Rattle.csl_style.specs.declared.formatting.Formatting as partial
+use Rattle.csl_style.specs.declared.style.settings.Scope.{Scope}
+use Rattle.csl_style.specs.declared.taxonomy.Variable.{Variable}
+use Rattle.csl_style.specs.NameOptions.{SetOptions, options_over}
+use Rattle.csl_style.specs.Scopes.{base_options}
+use Rattle.csl_style.specs.Style.{StyleParts}
+use Rattle.csl_tree.specs.declared.formatting.Formatting.{Formatting}
+use Rattle.csl_tree.specs.Formatting.{over, default_formatting}
+use Rattle.csl_tree.specs.Tokens.{Token}
+use Rattle.csl_tree.specs.Content.{◌++>◌}
+use Rattle.csl_entry.specs.declared.cite.Sorting.{Sorting}
+use Rattle.csl_entry.specs.declared.cite.SpecialForm.{SpecialForm}
+use Rattle.csl_entry.specs.Answers.{Answers}
+use Rattle.csl_entry.specs.Cite.{CiteState}
+use Rattle.csl_entry.specs.NameProperties.{NameProperties}
+use Rattle.csl_entry.specs.Instance.{Instance}
+use Rattle.csl_context.specs.State.{State, Inherited, looked}
+use Rattle.csl_context.specs.World.{World}
+use Rattle.csl_context.specs.declared.mark.Mark.{Mark}
+use Rattle.csl_context.specs.declared.error.RenderError.{RenderError}
+use Rattle.csl_context.specs.declared.error.RenderError.TheVariants.{Memory, Failed}
+
+-- What never changes; the innermost open part and those around it, from the inside out; what is inherited, with what lies under
+-- each inherited value, from the inside out; the state; whether the context has failed.
+pub record Now (T : Type 0) : Type 0 where
+  pub style : StyleParts
+  pub scope : Scope
+  pub entry : T
+  pub cite : CiteState
+  pub sorting : Option Sorting
+  pub special : Option SpecialForm
+  pub inner : List Token
+  pub outer : List (List Token)
+  pub inherited : Inherited
+  pub formats : List Formatting
+  pub delimiters : List (Option (List ℕ))
+  pub options : List SetOptions
+  pub state : State
+  pub failed : Bool
+
+abbrev pub instance_in : {T : Type 0} → (T → Answers) → Now T → Instance
+instance_in answers now = record {
+  answers = answers now.entry;
+  cite = now.cite;
+  sorting = now.sorting;
+  special = now.special;
+}
+
+abbrev pub world : {T : Type 0} → (T → Answers) → Now T → World
+world answers now = record { style = now.style; scope = now.scope; instance = instance_in answers now }
+
+-- ---- how a context begins
+
+abbrev pub no_state : State
+no_state = record { suppressed = []; suppressing = false; first_date_seen = false; first_names = None }
+
+abbrev pub base_inherited : StyleParts → Scope → Inherited
+base_inherited style scope = record {
+  formatting = default_formatting;
+  delimiter = None;
+  options = base_options scope style.settings;
+  in_quotes = false;
+  stripping = false;
+}
+
+-- nothing is written yet
+abbrev pub begun : {T : Type 0} → StyleParts → Scope → T → CiteState → Option Sorting → Option SpecialForm → State → Now T
+begun style scope entry cite sorting special state = record {
+  style = style;
+  scope = scope;
+  entry = entry;
+  cite = cite;
+  sorting = sorting;
+  special = special;
+  inner = [];
+  outer = [];
+  inherited = base_inherited style scope;
+  formats = [];
+  delimiters = [];
+  options = [];
+  state = state;
+  failed = false;
+}
+
+-- ---- how a call ends
+
+-- A call failed: for want of memory, which fails the context, or since the context had failed, which changes nothing.
+abbrev pub FailsAs : {T : Type 0} → RenderError → Now T → Now T → Type 0
+FailsAs Memory old new = (old.failed ≡ false) × (new.failed ≡ true)
+FailsAs Failed old new = (old.failed ≡ true) × (new ≡ old)
+
+-- A call on a context that had not failed left it as said.
+pub record Leaves {T : Type 0} (wanted : Now T → Now T) (old new : Now T) : Type 0 where
+  pub sound : old.failed ≡ false
+  pub left : new ≡ wanted old
+
+-- The mark is that of the innermost open part, or the context has failed.
+abbrev pub IsInnermost : {T : Type 0} → Mark → Now T → Type 0
+IsInnermost mark now = OnFalse now.failed (length now.outer ≡ mark.depth + 1)
+
+-- ---- what is written
+
+abbrev pub same : {T : Type 0} → Now T → Now T
+same now = now
+
+-- the context after a content
+abbrev pub with_content : {T : Type 0} → (Inherited → List Token) → Now T → Now T
+with_content c now = record now { inner = now.inner ++> c now.inherited }
+
+-- the context with one more open part
+abbrev pub with_part : {T : Type 0} → Now T → Now T
+with_part now = record now { inner = []; outer = now.inner ∷ now.outer }
+
+abbrev pub closed_into : {T : Type 0} → List Token → Now T → List (List Token) → Now T
+closed_into content now [] = now
+closed_into content now (part ∷ parts) = record now { inner = part ++> content; outer = parts }
+
+-- the context whose innermost part is closed, and what is made of it stands in the part around it
+abbrev pub closed_by : {T : Type 0} → (Inherited → List Token → List Token) → Now T → Now T
+closed_by f now = closed_into (f now.inherited now.inner) now now.outer
+
+-- the context whose innermost part is closed and dropped
+abbrev pub dropped : Inherited → List Token → List Token
+dropped inh c = []
+
+-- the context on the other side of a quote
+abbrev pub turned : {T : Type 0} → Now T → Now T
+turned now = record now { inherited = record now.inherited { in_quotes = not now.inherited.in_quotes } }
+
+-- ---- what is inherited
+
+-- a node's formatting over the one before
+abbrev pub with_format : {T : Type 0} → partial.Formatting → Now T → Now T
+with_format f now = record now {
+  inherited = record now.inherited { formatting = over f now.inherited.formatting };
+  formats = now.inherited.formatting ∷ now.formats;
+}
+
+abbrev pub unformatted : {T : Type 0} → Now T → List Formatting → Now T
+unformatted now [] = now
+unformatted now (f ∷ fs) = record now { inherited = record now.inherited { formatting = f }; formats = fs }
+
+abbrev pub without_format : {T : Type 0} → Now T → Now T
+without_format now = unformatted now now.formats
+
+-- a delimiter, or none, in the place of the one before
+abbrev pub with_delimiter : {T : Type 0} → Option (List ℕ) → Now T → Now T
+with_delimiter d now = record now {
+  inherited = record now.inherited { delimiter = d };
+  delimiters = now.inherited.delimiter ∷ now.delimiters;
+}
+
+abbrev pub undelimited : {T : Type 0} → Now T → List (Option (List ℕ)) → Now T
+undelimited now [] = now
+undelimited now (d ∷ ds) = record now { inherited = record now.inherited { delimiter = d }; delimiters = ds }
+
+abbrev pub without_delimiter : {T : Type 0} → Now T → Now T
+without_delimiter now = undelimited now now.delimiters
+
+-- a node's options of names over those before
+abbrev pub with_options : {T : Type 0} → SetOptions → Now T → Now T
+with_options o now = record now {
+  inherited = record now.inherited { options = options_over o now.inherited.options };
+  options = now.inherited.options ∷ now.options;
+}
+
+abbrev pub unset : {T : Type 0} → Now T → List SetOptions → Now T
+unset now [] = now
+unset now (o ∷ os) = record now { inherited = record now.inherited { options = o }; options = os }
+
+abbrev pub without_options : {T : Type 0} → Now T → Now T
+without_options now = unset now now.options
+
+abbrev pub with_stripping : {T : Type 0} → Bool → Now T → Now T
+with_stripping on now = record now { inherited = record now.inherited { stripping = on } }
+
+-- ---- the state
+
+-- the context after a look for printing
+abbrev pub after_look : {T : Type 0} → Variable → Now T → Now T
+after_look v now = record now { state = looked v now.state }
+
+abbrev pub with_switch : {T : Type 0} → Bool → Now T → Now T
+with_switch on now = record now { state = record now.state { suppressing = on } }
+
+abbrev pub with_first_date : {T : Type 0} → Now T → Now T
+with_first_date now = record now { state = record now.state { first_date_seen = true } }
+
+-- the first names count, and no later ones
+abbrev pub with_first_names : {T : Type 0} → NameProperties → Now T → Now T
+with_first_names p now = record now { state = record now.state { first_names = option_or now.state.first_names (Some p) } }

@@ -1,0 +1,63 @@
+-- Quotes around a content, and a comma or period behind them (CSL 1.0.2, Quotes; Locale: punctuation-in-quote).
+use Rattle.std.specs.Prelude.{ℕ, Bool, true, false, ◌||◌, ◌==◌, List, [], ◌∷◌, Option, Some, None, is_some, option_map, if◌then◌else◌}
+use Rattle.lit_model.specs.Characters.{comma_char, dot_char}
+use Rattle.csl_style.specs.declared.term.OtherTerm.{OtherTerm}
+use Rattle.csl_style.specs.declared.term.OtherTerm.TheVariants.{OpenQuote, CloseQuote, OpenInnerQuote, CloseInnerQuote}
+use Rattle.csl_style.specs.declared.term.Term.TheVariants.{Other}
+use Rattle.csl_style.specs.declared.term.TermForm.TheVariants.{Long}
+use Rattle.csl_style.specs.Dressing.{AffixTexts}
+use Rattle.csl_style.specs.Scopes.{is_punctuation_in_quote}
+use Rattle.csl_style.specs.Style.{StyleParts}
+use Rattle.csl_tree.specs.Tokens.{Token}
+use Rattle.csl_tree.specs.Content.{◌++>◌, affixed}
+use Rattle.csl_context.specs.State.{Inherited}
+use Rattle.csl_context.specs.Texts.{text_in, text_in_if, affixed_in}
+use Rattle.csl_context.specs.World.{term_in}
+
+-- inside of an odd number of quotes stand the inner ones
+abbrev pub opening : Bool → OtherTerm
+opening false = OpenQuote
+opening true = OpenInnerQuote
+
+abbrev pub closing : Bool → OtherTerm
+closing false = CloseQuote
+closing true = CloseInnerQuote
+
+abbrev pub quote : StyleParts → OtherTerm → Option (List ℕ)
+quote style term = term_in style (Other term) Long false
+
+-- the comma or period that a suffix begins with
+abbrev pub is_movable : ℕ → Bool
+is_movable b = (b == comma_char) || (b == dot_char)
+
+abbrev pub front : List ℕ → Option (List ℕ)
+front [] = None
+front (b ∷ bs) = if is_movable b then Some (b ∷ []) else None
+
+-- the suffix without it
+abbrev pub behind_front : List ℕ → List ℕ
+behind_front [] = []
+behind_front (b ∷ bs) = if is_movable b then bs else b ∷ bs
+
+-- what goes from the suffix before the closing quote, where the first locale wants it there
+abbrev pub moved_front : StyleParts → Option (List ℕ) → Option (List ℕ)
+moved_front style None = None
+moved_front style (Some suffix) = if is_punctuation_in_quote style.locales then front suffix else None
+
+-- something did, around this content: nothing is moved into the quotes of nothing
+abbrev pub has_moved : StyleParts → Option (List ℕ) → List Token → Bool
+has_moved style suffix [] = false
+has_moved style suffix (t ∷ ts) = is_some (moved_front style suffix)
+
+-- Quoted: the content in quotes, with the front of the suffix that stands behind it, where that is moved
+abbrev pub quoted_in : StyleParts → Inherited → Option (List ℕ) → List Token → List Token
+quoted_in style inh suffix c =
+    affixed (text_in_if inh (quote style (opening inh.in_quotes)))
+    (text_in_if inh (moved_front style suffix) ++> text_in_if inh (quote style (closing inh.in_quotes))) c
+
+-- the affixes of a content into whose quotes the front of the suffix was moved, or was not
+abbrev pub left_of : Bool → AffixTexts → AffixTexts
+left_of moved a = record { prefix = a.prefix; suffix = if moved then option_map behind_front a.suffix else a.suffix }
+
+abbrev pub affixed_after : Bool → Inherited → AffixTexts → List Token → List Token
+affixed_after moved inh a c = affixed_in inh (left_of moved a) c

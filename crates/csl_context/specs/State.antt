@@ -1,0 +1,40 @@
+-- What a node leaves for those after it, and what it inherits from those around it (CSL 1.0.2, Formatting, Delimiter, Inheritable
+-- Name Options, Quotes, Strip-periods; Names: substitute; Date: the first date of a cite).
+use Rattle.std.specs.Prelude.{ℕ, Bool, List, Option, if◌then◌else◌}
+use Rattle.std.specs.BTreeSet.{insert_key}
+use Rattle.std.specs.BTreeMap.{is_at}
+use Rattle.std.specs.List.{list_any}
+use Rattle.std.specs.declared.cmp.Ordering.{Ordering}
+use Rattle.csl_style.specs.declared.taxonomy.Variable.{Variable}
+use Rattle.csl_style.specs.contracts.taxonomy.VariableOrd.TheImpl.{cmp-value}
+use Rattle.csl_style.specs.NameOptions.{SetOptions}
+use Rattle.csl_tree.specs.declared.formatting.Formatting.{Formatting}
+use Rattle.csl_entry.specs.NameProperties.{NameProperties}
+
+-- The variables that answer nothing any more; whether a look for printing adds its own to them; whether a date was printed; the
+-- names that were printed first.
+pub record State : Type 0 where
+  pub suppressed : List Variable
+  pub suppressing : Bool
+  pub first_date_seen : Bool
+  pub first_names : Option NameProperties
+
+-- the place of a variable among all of them
+abbrev pub variable_cmp : Variable → Variable → Ordering
+variable_cmp = cmp-value.it
+
+abbrev pub is_suppressed : State → Variable → Bool
+is_suppressed s v = list_any (is_at (variable_cmp v)) s.suppressed
+
+-- the state after a look for printing: while the switch is on, the variable is suppressed from then on
+abbrev pub looked : Variable → State → State
+looked v s = record s { suppressed = if s.suppressing then insert_key variable_cmp s.suppressed v else s.suppressed }
+
+-- The formatting of what is written here; the delimiter between children, if any; the options of names that are set; whether
+-- quotes stand around it, an odd number of them; whether its texts lose their periods.
+pub record Inherited : Type 0 where
+  pub formatting : Formatting
+  pub delimiter : Option (List ℕ)
+  pub options : SetOptions
+  pub in_quotes : Bool
+  pub stripping : Bool

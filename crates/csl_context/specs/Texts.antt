@@ -1,0 +1,72 @@
+-- The content of a text in what it inherits (CSL 1.0.2, Formatting, Strip-periods, Affixes).
+use Rattle.std.specs.Prelude.{ℕ, Bool, true, false, not, ◌==◌, List, [], ◌∷◌, Option, Some, None, filter, encode_utf8_all, if◌then◌else◌}
+use Rattle.std.specs.Str.{chars}
+use Rattle.lit_model.specs.Characters.{dot_char}
+use Rattle.lit_model.specs.Text.{Chunk}
+use Rattle.lit_model.specs.declared.text.ChunkKind.TheVariants.{Normal, Verbatim, Math}
+use Rattle.lit_model.specs.declared.text.ChunkKind.{ChunkKind}
+use Rattle.csl_style.specs.Dressing.{AffixTexts}
+use Rattle.csl_tree.specs.declared.formatting.Formatting.{Formatting}
+use Rattle.csl_tree.specs.Tokens.{Token, solid, markup, link, transparent}
+use Rattle.csl_tree.specs.Content.{◌++>◌, text_content, affixed}
+use Rattle.csl_context.specs.State.{Inherited}
+
+abbrev pub is_no_period : ℕ → Bool
+is_no_period c = not (c == dot_char)
+
+-- a text without its periods
+unfoldable pub without_periods : List ℕ → List ℕ
+without_periods bs = encode_utf8_all (filter is_no_period (chars bs))
+
+-- a text as it is written, where periods are stripped or not
+abbrev pub stripped : Bool → List ℕ → List ℕ
+stripped stripping bs = if stripping then without_periods bs else bs
+
+-- a text in a formatting, where periods are stripped or not
+abbrev pub text_of : Bool → Formatting → List ℕ → List Token
+text_of stripping f bs = text_content (stripped stripping bs) f
+
+abbrev pub text_of_if : Bool → Formatting → Option (List ℕ) → List Token
+text_of_if stripping f None = []
+text_of_if stripping f (Some bs) = text_of stripping f bs
+
+-- a text in what it inherits
+abbrev pub text_in : Inherited → List ℕ → List Token
+text_in inh bs = text_of inh.stripping inh.formatting bs
+
+abbrev pub text_in_if : Inherited → Option (List ℕ) → List Token
+text_in_if inh text = text_of_if inh.stripping inh.formatting text
+
+abbrev pub markup_content : List ℕ → List Token
+markup_content [] = []
+markup_content (b ∷ bs) = solid (markup (b ∷ bs)) ∷ []
+
+-- a piece of a text: one that is verbatim keeps its periods, mathematics becomes markup
+abbrev pub chunk_in_kind : Inherited → ChunkKind → List ℕ → List Token
+chunk_in_kind inh Normal bs = text_in inh bs
+chunk_in_kind inh Verbatim bs = text_content bs inh.formatting
+chunk_in_kind inh Math bs = markup_content bs
+
+abbrev pub chunk_in : Inherited → Chunk → List Token
+chunk_in inh c = chunk_in_kind inh c.kind c.value
+
+-- a text in pieces
+abbrev pub chunks_in : Inherited → List Chunk → List Token
+chunks_in inh [] = []
+chunks_in inh (c ∷ cs) = chunk_in inh c ++> chunks_in inh cs
+
+-- a link, whose text keeps its periods
+abbrev pub link_in : Inherited → List ℕ → List ℕ → List Token
+link_in inh [] url = []
+link_in inh (b ∷ bs) url = solid (link (b ∷ bs) inh.formatting url) ∷ []
+
+-- the place of a cite that the caller writes
+abbrev pub transparent_in : Inherited → ℕ → List Token
+transparent_in inh index = solid (transparent index inh.formatting) ∷ []
+
+-- Affixed: a content between two texts
+abbrev pub between_in : Inherited → Option (List ℕ) → Option (List ℕ) → List Token → List Token
+between_in inh prefix suffix c = affixed (text_in_if inh prefix) (text_in_if inh suffix) c
+
+abbrev pub affixed_in : Inherited → AffixTexts → List Token → List Token
+affixed_in inh a c = between_in inh a.prefix a.suffix c

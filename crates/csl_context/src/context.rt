@@ -1,0 +1,319 @@
+//! A context: what rendering reads and writes, and how it begins and ends.
+
+ghost use Rattle.std.specs.Prelude.{◌≡◌, ◌↔◌, [], false, true, IfOk, OnOk, IfErr, option_map};
+ghost use Rattle.std.specs.Bool.{OnFalse};
+ghost use Rattle.csl_style.specs.NameOptions.{inherited_options};
+ghost use Rattle.csl_tree.specs.Tokens.{tokens};
+ghost use Rattle.csl_entry.specs.Cite.{cite_state};
+ghost use Rattle.csl_entry.specs.NameProperties.{name_properties};
+ghost use Rattle.csl_context.specs.Now.{begun, no_state};
+ghost use Rattle.csl_context.specs.Left.{state_left};
+
+use crate::error::RenderError;
+use csl_entry::{InstanceContext, NameDisambiguationProperties, Sorting, SpecialForm};
+use csl_style::{InheritedNameOptions, Scope, Style, Variable};
+use csl_tree::{ElemChildren, Formatting};
+use lit_model::Memory;
+use std::alloc::Global;
+use std::collections::BTreeSet;
+use std::marker::Model;
+
+/// What is being written of a cite.
+#[derive(Drop)]
+pub struct Context<'s, T> {
+    pub(crate) style: &'s Style,
+    pub(crate) scope: Scope,
+    pub(crate) instance: InstanceContext<'s, T>,
+    pub(crate) writing: WritingContext<'s>,
+}
+
+/// What a context holds beside its style and its cite: the open parts, what nodes inherit, and the
+/// state.
+#[derive(Drop)]
+pub struct WritingContext<'s> {
+    pub(crate) alloc: Global,
+    pub(crate) inner: ElemChildren,
+    pub(crate) outer: Vec<ElemChildren>,
+    pub(crate) formatting: Formatting,
+    pub(crate) formats: Vec<Formatting>,
+    pub(crate) delimiter: Option<&'s str>,
+    pub(crate) delimiters: Vec<Option<&'s str>>,
+    pub(crate) options: InheritedNameOptions<'s>,
+    pub(crate) outer_options: Vec<InheritedNameOptions<'s>>,
+    pub(crate) in_quotes: bool,
+    pub(crate) stripping: bool,
+    pub(crate) state: LeftState,
+    pub(crate) failed: bool,
+}
+
+impl<'s, T> Model for Context<'s, T> {
+    ghost use Rattle.std.specs.Prelude.{map, reverse, option_map};
+    ghost use Rattle.std.specs.Coded.{codes};
+    ghost use Rattle.csl_style.specs.contracts.element.CslMacro as of_macro;
+    ghost use Rattle.csl_style.specs.contracts.element.Layout as of_layout;
+    ghost use Rattle.csl_style.specs.NameOptions.{inherited_options};
+    ghost use Rattle.csl_tree.specs.Tokens.{tokens};
+    ghost use Rattle.csl_entry.specs.Cite.{cite_state};
+    ghost use Rattle.csl_context.specs.Left.{state_left};
+    ghost use Rattle.csl_context.specs.Now.{Now};
+
+    ghost Value = { Now T };
+
+    ghost coded = { Prim.hlevel (codes, of_macro.the_row.coded, of_layout.the_row.coded) };
+
+    ghost view = { λ c. record {
+      style = c.style.now;
+      scope = c.scope;
+      entry = c.instance.entry.now;
+      cite = cite_state c.instance.cite_props.now;
+      sorting = c.instance.sorting;
+      special = c.instance.kind;
+      inner = tokens c.writing.inner;
+      outer = reverse (map tokens c.writing.outer.items);
+      inherited = record {
+        formatting = c.writing.formatting;
+        delimiter = option_map (λ t. t.now) c.writing.delimiter;
+        options = inherited_options c.writing.options;
+        in_quotes = c.writing.in_quotes;
+        stripping = c.writing.stripping;
+      };
+      formats = reverse c.writing.formats.items;
+      delimiters = reverse (map (option_map (λ t. t.now)) c.writing.delimiters.items);
+      options = reverse (map inherited_options c.writing.outer_options.items);
+      state = state_left c.writing.state;
+      failed = c.writing.failed;
+    } };
+}
+
+/// What a rendering leaves for the next one, beside its content.
+#[derive(Drop)]
+pub struct LeftState {
+    /// The variables that answer nothing any more.
+    pub suppressed: BTreeSet<Variable>,
+    /// Whether a look for printing adds its variable to them.
+    pub suppressing: bool,
+    /// Whether a date was printed.
+    pub first_date_seen: bool,
+    /// The forms of the names that were printed first.
+    pub first_names: Option<NameDisambiguationProperties>,
+}
+
+/// What a rendering made.
+#[derive(Drop)]
+pub struct Rendered {
+    pub content: ElemChildren,
+    pub state: LeftState,
+}
+
+/// A copy of the properties, where there are some.
+fn copy_names(
+    alloc: Global,
+    names: &Option<NameDisambiguationProperties>,
+) -> Result<Option<NameDisambiguationProperties>, Memory>
+    ensures { IfOk result (λ copy. option_map name_properties copy
+        ≡ option_map name_properties names.now) }
+{
+    match names {
+        None => Ok(None),
+        Some(names) => {
+            let copy = names.clone(alloc)?;
+            Ok(Some(copy))
+        }
+    }
+}
+
+impl LeftState {
+    /// Nothing is suppressed, and no date and no names were printed.
+    pub fn new(alloc: Global) -> LeftState
+        ensures { state_left result ≡ no_state }
+    {
+        LeftState {
+            suppressed: BTreeSet::new(alloc),
+            suppressing: false,
+            first_date_seen: false,
+            first_names: None,
+        }
+    }
+
+    /// An equal value.
+    ///
+    /// # Errors
+    /// [`Memory`]: there was no memory left.
+    pub fn clone(&self, alloc: Global) -> Result<LeftState, Memory>
+        ensures { IfOk result (λ copy. state_left copy ≡ state_left self.now) }
+    {
+        let suppressed = self.suppressed.clone()?;
+        let first_names = copy_names(alloc, &self.first_names)?;
+        Ok(LeftState {
+            suppressed,
+            suppressing: self.suppressing,
+            first_date_seen: self.first_date_seen,
+            first_names,
+        })
+    }
+}
+
+/// A context with the root open, in which the state stands.
+fn begin<'s, T>(
+    alloc: Global,
+    style: &'s Style,
+    instance: InstanceContext<'s, T>,
+    scope: Scope,
+    state: LeftState,
+) -> Context<'s, T>
+    ensures { result ≡ begun style.now scope instance.entry.entry.now
+        (cite_state instance.entry.cite_props.now) instance.entry.sorting instance.entry.kind
+        (state_left state) }
+{
+    Context {
+        style,
+        scope,
+        instance,
+        writing: WritingContext {
+            alloc,
+            inner: ElemChildren::new(alloc),
+            outer: Vec::new(alloc),
+            formatting: Formatting::default(),
+            formats: Vec::new(alloc),
+            delimiter: None,
+            delimiters: Vec::new(alloc),
+            options: style.base_name_options(scope),
+            outer_options: Vec::new(alloc),
+            in_quotes: false,
+            stripping: false,
+            state,
+            failed: false,
+        },
+    }
+}
+
+impl<'s, T> Context<'s, T> {
+    /// A context with the root open, in which nothing is written or suppressed.
+    ///
+    /// # Errors
+    /// [`Memory`]: there was no memory left.
+    pub fn new(
+        alloc: Global,
+        style: &'s Style,
+        instance: InstanceContext<'s, T>,
+        scope: Scope,
+    ) -> Result<Context<'s, T>, Memory>
+        ensures { IfOk result (λ c. c ≡ begun style.now scope instance.entry.entry.now
+            (cite_state instance.entry.cite_props.now) instance.entry.sorting instance.entry.kind
+            no_state) }
+    {
+        Ok(begin(alloc, style, instance, scope, LeftState::new(alloc)))
+    }
+
+    /// A context with the root open, which begins with what another rendering left.
+    ///
+    /// # Errors
+    /// [`Memory`]: there was no memory left.
+    pub fn resume(
+        alloc: Global,
+        style: &'s Style,
+        instance: InstanceContext<'s, T>,
+        scope: Scope,
+        start: &LeftState,
+    ) -> Result<Context<'s, T>, Memory>
+        ensures { IfOk result (λ c. c ≡ begun style.now scope instance.entry.entry.now
+            (cite_state instance.entry.cite_props.now) instance.entry.sorting instance.entry.kind
+            (state_left start.now)) }
+    {
+        let state = start.clone(alloc)?;
+        Ok(begin(alloc, style, instance, scope, state))
+    }
+
+    /// What was written, once only the root is open.
+    ///
+    /// # Errors
+    /// [`RenderError::Memory`]: there was no memory left. It never comes from a context that had
+    /// failed.
+    /// [`RenderError::Failed`]: the context had failed.
+    pub fn finish(self) -> Result<Rendered, RenderError>
+        requires closed { OnFalse self.failed (self.outer ≡ []) }
+        ensures sound { OnOk result (self.entry.failed ≡ false) }
+        ensures content { IfOk result (λ r. tokens r.content ≡ self.entry.inner) }
+        ensures state { IfOk result (λ r. state_left r.state ≡ self.entry.state) }
+        ensures err { IfErr result (λ e. (e ≡ RenderError.Failed) ↔ (self.entry.failed ≡ true)) }
+    {
+        if self.writing.failed {
+            return Err(RenderError::Failed);
+        }
+        Ok(Rendered {
+            content: self.writing.inner,
+            state: self.writing.state,
+        })
+    }
+
+    /// Marks the context as failed.
+    pub fn fail(&mut self)
+        ensures { self.new ≡ record self.old { failed = true } }
+    {
+        self.writing.failed = true;
+    }
+
+    /// Whether the context has failed.
+    pub fn has_failed(&self) -> bool
+        ensures { result ≡ self.now.failed }
+    {
+        self.writing.failed
+    }
+
+    /// The allocator that the context was made with.
+    pub fn alloc(&self) -> Global {
+        self.writing.alloc
+    }
+
+    /// The style.
+    pub fn style(&self) -> &'s Style
+        ensures { result.now ≡ self.now.style }
+    {
+        self.style
+    }
+
+    /// The layout of the style that is meant.
+    pub fn scope(&self) -> Scope
+        ensures { result ≡ self.now.scope }
+    {
+        self.scope
+    }
+
+    /// The cite with its entry.
+    pub fn instance(&self) -> InstanceContext<'s, T>
+        ensures entry { result.entry.now ≡ self.now.entry }
+        ensures cite { cite_state result.cite_props.now ≡ self.now.cite }
+        ensures sorting { result.sorting ≡ self.now.sorting }
+        ensures special { result.kind ≡ self.now.special }
+    {
+        self.instance
+    }
+
+    /// What the sort key is made from, where the cite is rendered to be sorted.
+    pub fn sorting(&self) -> Option<Sorting>
+        ensures { result ≡ self.now.sorting }
+    {
+        self.instance.sorting
+    }
+
+    /// The part of the cite that is to be shown, where it is not the whole.
+    pub fn special_form(&self) -> Option<SpecialForm>
+        ensures { result ≡ self.now.special }
+    {
+        self.instance.kind
+    }
+
+    /// The delimiter that nodes inherit.
+    pub fn delimiter(&self) -> Option<&'s str>
+        ensures { option_map (λ t. t.now) result ≡ self.now.inherited.delimiter }
+    {
+        self.writing.delimiter
+    }
+
+    /// The options of names that nodes inherit: each one that is set somewhere.
+    pub fn name_options(&self) -> InheritedNameOptions<'s>
+        ensures { inherited_options result ≡ self.now.inherited.options }
+    {
+        self.writing.options
+    }
+}

@@ -1,0 +1,162 @@
+//! What the nodes of a context inherit.
+
+ghost use Rattle.std.specs.Prelude.{◌≡◌, ◌<◌, ◌||◌, length, false, true, option_map, OnOk, IfErr};
+ghost use Rattle.std.specs.Bool.{OnFalse};
+ghost use Rattle.csl_style.specs.NameOptions.{own_options};
+ghost use Rattle.csl_context.specs.Now.{FailsAs, Leaves, with_format, without_format, with_delimiter, without_delimiter, with_options, without_options, with_stripping};
+
+use crate::context::Context;
+use crate::error::RenderError;
+use csl_style::{InheritableNameOptions, formatting};
+use std::mem;
+
+impl<'s, T> Context<'s, T> {
+    /// Puts a node's formatting over the inherited one, until it is popped.
+    ///
+    /// # Errors
+    /// [`RenderError::Memory`]: there was no memory left. The context has failed.
+    /// [`RenderError::Failed`]: the context had failed.
+    pub fn push_format(&mut self, format: formatting::Formatting) -> Result<(), RenderError>
+        ensures ok { OnOk result (Leaves (with_format format) self.old self.new) }
+        ensures err { IfErr result (λ e. FailsAs e self.old self.new) }
+    {
+        if self.writing.failed {
+            return Err(RenderError::Failed);
+        }
+        let under = self.writing.formatting;
+        match self.writing.formats.push(under) {
+            Ok(()) => {
+                self.writing.formatting = under.apply(format);
+                Ok(())
+            }
+            Err(_) => {
+                self.writing.failed = true;
+                Err(RenderError::Memory)
+            }
+        }
+    }
+
+    /// Takes the last formatting off. A context that has failed stays as it is.
+    pub fn pop_format(&mut self)
+        requires pushed { OnFalse self.old.failed (0 < length self.old.formats) }
+        ensures popped { self.old.failed ≡ false → self.new ≡ without_format self.old }
+        ensures unchanged { self.old.failed ≡ true → self.new ≡ self.old }
+    {
+        if self.writing.failed {
+            return;
+        }
+        match self.writing.formats.pop() {
+            None => unreachable!(),
+            Some(format) => {
+                self.writing.formatting = format;
+            }
+        }
+    }
+
+    /// Puts a delimiter, or none, in the place of the inherited one, until it is popped.
+    ///
+    /// # Errors
+    /// [`RenderError::Memory`]: there was no memory left. The context has failed.
+    /// [`RenderError::Failed`]: the context had failed.
+    pub fn push_delimiter(&mut self, delimiter: Option<&'s str>) -> Result<(), RenderError>
+        ensures ok { OnOk result
+            (Leaves (with_delimiter (option_map (λ t. t.now) delimiter.entry)) self.old self.new) }
+        ensures err { IfErr result (λ e. FailsAs e self.old self.new) }
+    {
+        if self.writing.failed {
+            return Err(RenderError::Failed);
+        }
+        let under = self.writing.delimiter;
+        match self.writing.delimiters.push(under) {
+            Ok(()) => {
+                self.writing.delimiter = delimiter;
+                Ok(())
+            }
+            Err(_) => {
+                self.writing.failed = true;
+                Err(RenderError::Memory)
+            }
+        }
+    }
+
+    /// Takes the last delimiter off. A context that has failed stays as it is.
+    pub fn pop_delimiter(&mut self)
+        requires pushed { OnFalse self.old.failed (0 < length self.old.delimiters) }
+        ensures popped { self.old.failed ≡ false → self.new ≡ without_delimiter self.old }
+        ensures unchanged { self.old.failed ≡ true → self.new ≡ self.old }
+    {
+        if self.writing.failed {
+            return;
+        }
+        match self.writing.delimiters.pop() {
+            None => unreachable!(),
+            Some(delimiter) => {
+                self.writing.delimiter = delimiter;
+            }
+        }
+    }
+
+    /// Puts a node's options of names over the inherited ones, until they are popped (CSL 1.0.2,
+    /// Inheritable Name Options).
+    ///
+    /// # Errors
+    /// [`RenderError::Memory`]: there was no memory left. The context has failed.
+    /// [`RenderError::Failed`]: the context had failed.
+    pub fn push_name_options(
+        &mut self,
+        options: &'s InheritableNameOptions,
+    ) -> Result<(), RenderError>
+        ensures ok { OnOk result (Leaves (with_options (own_options options.now)) self.old self.new) }
+        ensures err { IfErr result (λ e. FailsAs e self.old self.new) }
+    {
+        if self.writing.failed {
+            return Err(RenderError::Failed);
+        }
+        let under = self.writing.options;
+        match self.writing.outer_options.push(under) {
+            Ok(()) => {
+                self.writing.options = options.apply(under);
+                Ok(())
+            }
+            Err(_) => {
+                self.writing.failed = true;
+                Err(RenderError::Memory)
+            }
+        }
+    }
+
+    /// Takes the last options of names off. A context that has failed stays as it is.
+    pub fn pop_name_options(&mut self)
+        requires pushed { OnFalse self.old.failed (0 < length self.old.options) }
+        ensures popped { self.old.failed ≡ false → self.new ≡ without_options self.old }
+        ensures unchanged { self.old.failed ≡ true → self.new ≡ self.old }
+    {
+        if self.writing.failed {
+            return;
+        }
+        match self.writing.outer_options.pop() {
+            None => unreachable!(),
+            Some(options) => {
+                self.writing.options = options;
+            }
+        }
+    }
+
+    /// Has texts lose their periods from now on, where `strip` is true (CSL 1.0.2, Strip-periods).
+    /// It answers whether they did before.
+    pub fn may_strip_periods(&mut self, strip: bool) -> bool
+        ensures value { result ≡ self.old.inherited.stripping }
+        ensures after { self.new ≡ with_stripping (strip || self.old.inherited.stripping) self.old }
+    {
+        let old = self.writing.stripping;
+        self.writing.stripping = strip || old;
+        old
+    }
+
+    /// Has texts lose their periods, or keep them, as before.
+    pub fn stop_stripping_periods(&mut self, old: bool)
+        ensures { self.new ≡ with_stripping old self.old }
+    {
+        self.writing.stripping = old;
+    }
+}

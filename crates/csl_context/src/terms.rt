@@ -1,0 +1,53 @@
+//! What the style and the citation of a context say (CSL 1.0.2, Terms, Ordinals, Localized Date
+//! Formats; Choose: disambiguate).
+
+ghost use Rattle.std.specs.Prelude.{◌≡◌, option_map};
+ghost use Rattle.csl_style.specs.Date.{date_in_form};
+ghost use Rattle.csl_context.specs.World.{term_in, gender_in, is_choose};
+
+use crate::context::Context;
+use csl_entry::DisambiguateState;
+use csl_style::{Date, DateForm, LocaleOrdinals, Term, TermForm};
+use lit_model::GrammarGender;
+
+impl<'s, T> Context<'s, T> {
+    /// The text of a term, in the form that is asked for or one that stands in for it.
+    pub fn term(&self, term: Term, form: TermForm, plural: bool) -> Option<&'s str>
+        ensures { option_map (λ text. text.now) result ≡ term_in self.now.style term form plural }
+    {
+        self.style.term(term, form, plural)
+    }
+
+    /// The gender of what a term names.
+    pub fn gender(&self, term: Term) -> Option<GrammarGender>
+        ensures { result ≡ gender_in self.now.style term }
+    {
+        self.style.gender(term)
+    }
+
+    /// The ordinals of the style.
+    pub fn ordinal_lookup(&self) -> LocaleOrdinals<'s>
+        ensures { result.locales.now ≡ self.now.style.locales }
+    {
+        self.style.ordinals()
+    }
+
+    /// The first localized date of a form.
+    pub fn localized_date(&self, form: DateForm) -> Option<&'s Date>
+        ensures { option_map (λ date. date.now) result ≡ date_in_form self.now.style.locales form }
+    {
+        self.style.localized_date(form)
+    }
+
+    /// Whether the branches of the style that ask for `disambiguate` are to be taken.
+    pub fn should_disambiguate(&self) -> bool
+        ensures { result ≡ is_choose self.now.cite.disambiguation }
+    {
+        match &self.instance.cite_props.speculative.disambiguation {
+            DisambiguateState::Choose => true,
+            DisambiguateState::None => false,
+            DisambiguateState::NameDisambiguation(_) => false,
+            DisambiguateState::YearSuffix(_) => false,
+        }
+    }
+}

@@ -1,0 +1,248 @@
+//! What is written into the open parts of a context.
+
+ghost use Rattle.std.specs.Prelude.{◌≡◌, ◌+◌, length, false, true, IfOk, OnOk, IfErr};
+ghost use Rattle.lit_model.specs.Text.{chunk_of, chunks};
+ghost use Rattle.csl_tree.specs.Content.{boxed, text_content};
+ghost use Rattle.csl_tree.specs.Tokens.{optional_meta};
+ghost use Rattle.csl_context.specs.Texts.{text_in, markup_content, chunk_in, chunks_in};
+ghost use Rattle.csl_context.specs.Now.{FailsAs, Leaves, IsInnermost, same, with_content, with_part, closed_by, dropped};
+
+use crate::context::Context;
+use crate::error::RenderError;
+use crate::mark::Mark;
+use crate::texts::{Pen, write_markup};
+use csl_style::Display;
+use csl_tree::{ElemChildren, ElemMeta};
+use lit_model::{ChunkKind, ChunkedString, StringChunk};
+use std::mem;
+
+impl<'s, T> Context<'s, T> {
+    /// Writes nothing. It tells a context that has failed.
+    ///
+    /// # Errors
+    /// [`RenderError::Failed`]: the context had failed.
+    pub fn nothing(&mut self) -> Result<(), RenderError>
+        ensures ok { OnOk result (Leaves same self.old self.new) }
+        ensures err { IfErr result (λ e. FailsAs e self.old self.new) }
+    {
+        if self.writing.failed {
+            return Err(RenderError::Failed);
+        }
+        Ok(())
+    }
+
+    /// How texts are written here.
+    pub(crate) fn pen(&self) -> Pen
+        ensures formatting { result.formatting ≡ self.now.inherited.formatting }
+        ensures stripping { result.stripping ≡ self.now.inherited.stripping }
+    {
+        Pen {
+            alloc: self.writing.alloc,
+            formatting: self.writing.formatting,
+            stripping: self.writing.stripping,
+        }
+    }
+
+    /// Writes a text in the inherited formatting (CSL 1.0.2, Formatting, Strip-periods).
+    ///
+    /// # Errors
+    /// [`RenderError::Memory`]: there was no memory left. The context has failed.
+    /// [`RenderError::Failed`]: the context had failed.
+    pub fn push_str(&mut self, text: &str) -> Result<(), RenderError>
+        ensures ok { OnOk result
+            (Leaves (with_content (λ inh. text_in inh text.now)) self.old self.new) }
+        ensures err { IfErr result (λ e. FailsAs e self.old self.new) }
+    {
+        if self.writing.failed {
+            return Err(RenderError::Failed);
+        }
+        let pen = self.pen();
+        match pen.write(&mut self.writing.inner, text) {
+            Ok(()) => Ok(()),
+            Err(_) => {
+                self.writing.failed = true;
+                Err(RenderError::Memory)
+            }
+        }
+    }
+
+    /// Writes a text in the inherited formatting, which keeps its periods.
+    fn push_verbatim(&mut self, text: &str) -> Result<(), RenderError>
+        ensures ok { OnOk result
+            (Leaves (with_content (λ inh. text_content text.now inh.formatting)) self.old self.new) }
+        ensures err { IfErr result (λ e. FailsAs e self.old self.new) }
+    {
+        if self.writing.failed {
+            return Err(RenderError::Failed);
+        }
+        let pen = self.pen();
+        match self
+            .writing
+            .inner
+            .push_text(pen.alloc, text, pen.formatting)
+        {
+            Ok(()) => Ok(()),
+            Err(_) => {
+                self.writing.failed = true;
+                Err(RenderError::Memory)
+            }
+        }
+    }
+
+    /// Writes a markup, unless it is empty.
+    fn push_markup(&mut self, text: &str) -> Result<(), RenderError>
+        ensures ok { OnOk result
+            (Leaves (with_content (λ _. markup_content text.now)) self.old self.new) }
+        ensures err { IfErr result (λ e. FailsAs e self.old self.new) }
+    {
+        if self.writing.failed {
+            return Err(RenderError::Failed);
+        }
+        let alloc = self.writing.alloc;
+        match write_markup(&mut self.writing.inner, alloc, text) {
+            Ok(()) => Ok(()),
+            Err(_) => {
+                self.writing.failed = true;
+                Err(RenderError::Memory)
+            }
+        }
+    }
+
+    /// Writes a piece of a text. Mathematics becomes markup.
+    fn push_chunk(&mut self, chunk: &StringChunk) -> Result<(), RenderError>
+        ensures ok { OnOk result
+            (Leaves (with_content (λ inh. chunk_in inh (chunk_of chunk.now))) self.old self.new) }
+        ensures err { IfErr result (λ e. FailsAs e self.old self.new) }
+    {
+        match chunk.kind {
+            ChunkKind::Normal => self.push_str(chunk.value.as_str()),
+            ChunkKind::Verbatim => self.push_verbatim(chunk.value.as_str()),
+            ChunkKind::Math => self.push_markup(chunk.value.as_str()),
+        }
+    }
+
+    /// Writes the pieces of a text: normal ones as [`Context::push_str`] does, verbatim ones with
+    /// their periods, mathematics as markup.
+    ///
+    /// # Errors
+    /// [`RenderError::Memory`]: there was no memory left. The context has failed.
+    /// [`RenderError::Failed`]: the context had failed.
+    pub fn push_chunked(&mut self, text: &ChunkedString) -> Result<(), RenderError>
+        ensures ok { OnOk result
+            (Leaves (with_content (λ inh. chunks_in inh (chunks text.now))) self.old self.new) }
+        ensures err { IfErr result (λ e. FailsAs e self.old self.new) }
+    {
+        if self.writing.failed {
+            return Err(RenderError::Failed);
+        }
+        for chunk in &text.0 {
+            self.push_chunk(chunk)?;
+        }
+        Ok(())
+    }
+
+    /// Opens an element.
+    ///
+    /// # Errors
+    /// [`RenderError::Memory`]: there was no memory left. The context has failed.
+    /// [`RenderError::Failed`]: the context had failed.
+    pub fn push_elem(&mut self) -> Result<Mark, RenderError>
+        ensures ok { OnOk result (Leaves with_part self.old self.new) }
+        ensures mark { IfOk result (λ mark. length self.new.outer ≡ mark.depth + 1) }
+        ensures err { IfErr result (λ e. FailsAs e self.old self.new) }
+    {
+        if self.writing.failed {
+            return Err(RenderError::Failed);
+        }
+        let depth = self.writing.outer.len();
+        let opened = ElemChildren::new(self.writing.alloc);
+        let part = mem::replace(&mut self.writing.inner, opened);
+        match self.writing.outer.push(part) {
+            Ok(()) => Ok(Mark { depth }),
+            Err(_) => {
+                self.writing.failed = true;
+                Err(RenderError::Memory)
+            }
+        }
+    }
+
+    /// Closes an element (CSL 1.0.2, Display). It is dropped where nothing was written in it.
+    ///
+    /// # Errors
+    /// [`RenderError::Memory`]: there was no memory left. The context has failed.
+    /// [`RenderError::Failed`]: the context had failed.
+    pub fn commit_elem(
+        &mut self,
+        mark: Mark,
+        display: Option<Display>,
+        meta: Option<ElemMeta>,
+    ) -> Result<(), RenderError>
+        requires innermost { IsInnermost mark self.old }
+        ensures ok { OnOk result (Leaves
+            (closed_by (λ _ c. boxed display (optional_meta meta) c)) self.old self.new) }
+        ensures err { IfErr result (λ e. FailsAs e self.old self.new) }
+    {
+        if self.writing.failed {
+            return Err(RenderError::Failed);
+        }
+        match self.writing.outer.pop() {
+            None => unreachable!(),
+            Some(part) => {
+                let content = mem::replace(&mut self.writing.inner, part);
+                match self.writing.inner.push_box(content, display, meta) {
+                    Ok(()) => Ok(()),
+                    Err(_) => {
+                        self.writing.failed = true;
+                        Err(RenderError::Memory)
+                    }
+                }
+            }
+        }
+    }
+
+    /// Closes a part and drops what was written in it.
+    pub fn discard_elem(&mut self, mark: Mark)
+        requires innermost { IsInnermost mark self.old }
+        ensures closed { self.old.failed ≡ false → self.new ≡ closed_by dropped self.old }
+        ensures unchanged { self.old.failed ≡ true → self.new ≡ self.old }
+    {
+        if self.writing.failed {
+            return;
+        }
+        match self.writing.outer.pop() {
+            None => unreachable!(),
+            Some(part) => {
+                self.writing.inner = part;
+            }
+        }
+    }
+
+    /// Closes a part, and leaves what was written in it in the part around it.
+    ///
+    /// # Errors
+    /// [`RenderError::Memory`]: there was no memory left. The context has failed.
+    /// [`RenderError::Failed`]: the context had failed.
+    pub fn splice(&mut self, mark: Mark) -> Result<(), RenderError>
+        requires innermost { IsInnermost mark self.old }
+        ensures ok { OnOk result (Leaves (closed_by (λ _ c. c)) self.old self.new) }
+        ensures err { IfErr result (λ e. FailsAs e self.old self.new) }
+    {
+        if self.writing.failed {
+            return Err(RenderError::Failed);
+        }
+        match self.writing.outer.pop() {
+            None => unreachable!(),
+            Some(part) => {
+                let content = mem::replace(&mut self.writing.inner, part);
+                let alloc = self.writing.alloc;
+                match self.writing.inner.append(alloc, content) {
+                    Ok(()) => Ok(()),
+                    Err(_) => {
+                        self.writing.failed = true;
+                        Err(RenderError::Memory)
+                    }
+                }
+            }
+        }
+    }
+}
