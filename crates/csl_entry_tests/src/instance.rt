@@ -114,7 +114,7 @@ fn samples(alloc: Global) -> Result<Vec<Sample>, Fail> {
 }
 
 /// The third cite that was handed in, of citation number 4; where it has a locator, to a page.
-fn cited<'s>(
+pub fn cited<'s>(
     first_note_number: Option<NoteNumber>,
     page: Option<LocatorPayload<'s>>,
     disambiguation: DisambiguateState,

@@ -20,6 +20,8 @@ mod language;
 #[cfg(test)]
 mod letters;
 #[cfg(test)]
+mod looks;
+#[cfg(test)]
 mod name_form;
 #[cfg(test)]
 mod name_properties;

@@ -1,0 +1,268 @@
+use crate::asked::{assert_answer, borrowed, number_said, only};
+use crate::described::described;
+use crate::instance::cited;
+use csl_entry::{
+    CiteProperties, DisambiguateState, EntryLike, InstanceContext, LocatorPayload,
+    NumberOrPageVariableResult, NumberVariableResult, same_date, same_number, same_pages,
+    same_people, same_text,
+};
+use csl_style::{
+    DateVariable, NameVariable, NumberOrPageVariable, NumberVariable, PageVariable,
+    StandardVariable,
+};
+use lit_model::{Entry, LongShortForm, MaybeTyped};
+use std::alloc::Global;
+use std::test::Fail;
+
+/// What is looked for in a cite.
+#[derive(Clone, Copy)]
+enum Sought {
+    /// A number, or pages.
+    Number(NumberOrPageVariable),
+    /// The names, each with a space behind it.
+    Names(NameVariable),
+    /// The year of a date.
+    Year(DateVariable),
+}
+
+/// The number; behind `p` the pages; behind `'` a text that is neither; behind `@` the index of
+/// what the caller writes; and `none` where there is no answer.
+fn number_or_page(
+    alloc: Global,
+    cite: InstanceContext<'_, Entry>,
+    variable: NumberOrPageVariable,
+) -> Result<String, Fail> {
+    match cite.resolve_number_or_page_variable(alloc, variable)? {
+        Some(NumberOrPageVariableResult::Number(NumberVariableResult::Regular(number))) => {
+            number_said(alloc, &Some(number))
+        }
+        Some(NumberOrPageVariableResult::Number(NumberVariableResult::Transparent(index))) => {
+            Ok(format!(in alloc; "@{index}")?)
+        }
+        Some(NumberOrPageVariableResult::Page(MaybeTyped::Typed(pages))) => {
+            Ok(format!(in alloc; "p{pages}")?)
+        }
+        Some(NumberOrPageVariableResult::Page(MaybeTyped::String(text))) => {
+            Ok(format!(in alloc; "'{}", text.as_str())?)
+        }
+        None => number_said(alloc, &None),
+    }
+}
+
+fn names(
+    alloc: Global,
+    cite: InstanceContext<'_, Entry>,
+    variable: NameVariable,
+) -> Result<String, Fail> {
+    let mut names = String::new(alloc);
+    for person in &cite.resolve_name_variable(alloc, variable)? {
+        names.push_str(person.as_ref().name.as_str())?;
+        names.push(' ')?;
+    }
+    Ok(names)
+}
+
+fn year(
+    alloc: Global,
+    cite: InstanceContext<'_, Entry>,
+    variable: DateVariable,
+) -> Result<String, Fail> {
+    let date = cite.resolve_date_variable(alloc, variable)?;
+    match borrowed(&date) {
+        Some(date) => Ok(format!(in alloc; "{}", date.year())?),
+        None => Ok(String::from_str(alloc, "none")?),
+    }
+}
+
+/// What a cite of the entry answers.
+fn found_in<'s>(
+    alloc: Global,
+    entries: &'s [Entry],
+    cite_props: &'s CiteProperties<'s>,
+    sought: Sought,
+) -> Result<String, Fail> {
+    let cite = InstanceContext {
+        entry: only(entries)?,
+        cite_props,
+        sorting: None,
+        kind: None,
+    };
+    match sought {
+        Sought::Number(variable) => number_or_page(alloc, cite, variable),
+        Sought::Names(variable) => names(alloc, cite, variable),
+        Sought::Year(variable) => year(alloc, cite, variable),
+    }
+}
+
+/// What a cite answers whose locator the caller writes.
+fn found(alloc: Global, description: &str, sought: Sought) -> Result<String, Fail> {
+    let entries = described(alloc, description)?;
+    let props = cited(
+        None,
+        Some(LocatorPayload::Transparent),
+        DisambiguateState::None,
+    )?;
+    found_in(alloc, &entries, &props, sought)
+}
+
+const BOOK: &str = "book; authors Ann, Ben; date 2014; volume 3; pages 7-9; title Nature";
+
+const PAMPHLET: &str = "book; volume 'third; pages 'passim";
+
+#[test]
+fn what_a_cite_answers(rt: HostRuntime) -> Result<(), Fail> {
+    let volume = Sought::Number(NumberOrPageVariable::Number(NumberVariable::Volume));
+    let locator = Sought::Number(NumberOrPageVariable::Number(NumberVariable::Locator));
+    let page = Sought::Number(NumberOrPageVariable::Page(PageVariable::Page));
+    let cited = Sought::Number(NumberOrPageVariable::Number(NumberVariable::CitationNumber));
+    for (description, sought, wanted) in [
+        (BOOK, volume, "3"),
+        (PAMPHLET, volume, "'third"),
+        ("book", volume, "none"),
+        (BOOK, locator, "@2"),
+        (BOOK, cited, "5"),
+        (BOOK, page, "p7-9"),
+        (PAMPHLET, page, "'passim"),
+        ("book", page, "none"),
+        (BOOK, Sought::Names(NameVariable::Author), "Ann Ben "),
+        (BOOK, Sought::Names(NameVariable::Editor), ""),
+        (BOOK, Sought::Year(DateVariable::Issued), "2014"),
+        (BOOK, Sought::Year(DateVariable::Accessed), "none"),
+    ] {
+        let found = found(rt.alloc(), description, sought)?;
+        assert_answer(&rt, found.as_str(), wanted, description);
+    }
+    Ok(())
+}
+
+/// An answer that two entries are compared by.
+#[derive(Clone, Copy)]
+enum Compared {
+    Authors,
+    Title,
+    Volume,
+    Pages,
+    Issued,
+}
+
+fn same_authors(alloc: Global, left: &Entry, right: &Entry) -> Result<bool, Fail> {
+    let authors = left.resolve_name_variable(alloc, NameVariable::Author)?;
+    let others = right.resolve_name_variable(alloc, NameVariable::Author)?;
+    Ok(same_people(&authors, &others))
+}
+
+fn same_title(alloc: Global, left: &Entry, right: &Entry) -> Result<bool, Fail> {
+    let form = LongShortForm::Long;
+    let title = left.resolve_standard_variable(alloc, form, StandardVariable::Title)?;
+    let other = right.resolve_standard_variable(alloc, form, StandardVariable::Title)?;
+    Ok(same_text(&title, &other))
+}
+
+fn same_volume(alloc: Global, left: &Entry, right: &Entry) -> Result<bool, Fail> {
+    let volume = left.resolve_number_variable(alloc, NumberVariable::Volume)?;
+    let other = right.resolve_number_variable(alloc, NumberVariable::Volume)?;
+    Ok(same_number(&volume, &other))
+}
+
+fn same_page_range(alloc: Global, left: &Entry, right: &Entry) -> Result<bool, Fail> {
+    let pages = left.resolve_page_variable(alloc, PageVariable::Page)?;
+    let others = right.resolve_page_variable(alloc, PageVariable::Page)?;
+    Ok(same_pages(&pages, &others))
+}
+
+fn same_issued(alloc: Global, left: &Entry, right: &Entry) -> Result<bool, Fail> {
+    let date = left.resolve_date_variable(alloc, DateVariable::Issued)?;
+    let other = right.resolve_date_variable(alloc, DateVariable::Issued)?;
+    Ok(same_date(&date, &other))
+}
+
+fn same_in(
+    alloc: Global,
+    left: &[Entry],
+    right: &[Entry],
+    compared: Compared,
+) -> Result<bool, Fail> {
+    let (left, right) = (only(left)?, only(right)?);
+    match compared {
+        Compared::Authors => same_authors(alloc, left, right),
+        Compared::Title => same_title(alloc, left, right),
+        Compared::Volume => same_volume(alloc, left, right),
+        Compared::Pages => same_page_range(alloc, left, right),
+        Compared::Issued => same_issued(alloc, left, right),
+    }
+}
+
+fn same(alloc: Global, left: &str, right: &str, compared: Compared) -> Result<bool, Fail> {
+    let left = described(alloc, left)?;
+    let right = described(alloc, right)?;
+    same_in(alloc, &left, &right, compared)
+}
+
+#[test]
+fn answers_that_show_the_same(rt: HostRuntime) -> Result<(), Fail> {
+    for (left, right, compared, wanted) in [
+        (
+            "book; authors Ann, Ben/B",
+            "web; authors Ann, Ben/B",
+            Compared::Authors,
+            true,
+        ),
+        (
+            "book; authors Ann, Ben",
+            "book; authors Ben, Ann",
+            Compared::Authors,
+            false,
+        ),
+        (
+            "book; authors Ann, Ben/B",
+            "book; authors Ann, Ben",
+            Compared::Authors,
+            false,
+        ),
+        (
+            "book; authors Ann",
+            "book; authors Ann, Ben",
+            Compared::Authors,
+            false,
+        ),
+        ("book", "book; authors", Compared::Authors, true),
+        (
+            "book; title A+$b",
+            "book; title A+$b|A",
+            Compared::Title,
+            true,
+        ),
+        (
+            "book; title A+$b",
+            "book; title A+b",
+            Compared::Title,
+            false,
+        ),
+        ("book; title A", "book", Compared::Title, false),
+        ("book", "book", Compared::Title, true),
+        ("book; volume 3", "book; volume 3", Compared::Volume, true),
+        ("book; volume 3", "book; volume '3", Compared::Volume, false),
+        ("book; volume 3", "book", Compared::Volume, false),
+        ("book; pages 7-9", "book; pages 7-9", Compared::Pages, true),
+        ("book; pages 7-9", "book; pages 7,9", Compared::Pages, false),
+        ("book; pages 7", "book; pages '7", Compared::Pages, false),
+        (
+            "book; date 2014",
+            "book; date 2014; title A",
+            Compared::Issued,
+            true,
+        ),
+        (
+            "book; date 2014",
+            "book; date 2015",
+            Compared::Issued,
+            false,
+        ),
+        ("book; date 2014", "book", Compared::Issued, false),
+        ("book", "book", Compared::Issued, true),
+    ] {
+        let same = same(rt.alloc(), left, right, compared)?;
+        assert_eq!(rt; same, wanted, "{left} and {right}");
+    }
+    Ok(())
+}
