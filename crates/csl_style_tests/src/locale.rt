@@ -6,7 +6,7 @@ use crate::asserted::{assert_same, assert_text};
 use crate::made::{EMPTY, LocaleRows, SILENT, StyleRows, locales, style};
 use csl_style::{
     DateForm, DateParts, LocaleOrdinals, Locator, NumberVariable, OrdinalMatch, OrdinalSlot,
-    OtherTerm, Term, TermForm,
+    OtherTerm, Style, Term, TermForm,
 };
 use lit_model::{GrammarGender, NumberForm, Numeric, Ordinals};
 use std::alloc::Global;
@@ -170,20 +170,31 @@ const TERMS: StyleRows<'static> = StyleRows {
     ..EMPTY
 };
 
-fn assert_terms(rt: &impl Abort, alloc: Global) -> Result<(), Fail> {
-    let style = style(alloc, TERMS)?;
-    for (term, form, plural, wanted) in [
-        (AND, TermForm::Short, false, Some("and")),
-        (AND, TermForm::Long, true, Some("and")),
-        (VOLUME, TermForm::Long, false, Some("volume")),
-        (VOLUME, TermForm::Symbol, false, Some("vol.")),
-        (VOLUME, TermForm::VerbShort, false, Some("volume")),
-        (PAGE, TermForm::VerbShort, true, Some("pages")),
-        (PAGE, TermForm::Verb, false, Some("page")),
-        (PAGE, TermForm::Long, false, None),
-    ] {
-        assert_text(rt, style.term(term, form, plural), wanted);
+/// A term, its form, whether there are several, and the text.
+static TEXTS: [(Term, TermForm, bool, Option<&str>); 8] = [
+    (AND, TermForm::Short, false, Some("and")),
+    (AND, TermForm::Long, true, Some("and")),
+    (VOLUME, TermForm::Long, false, Some("volume")),
+    (VOLUME, TermForm::Symbol, false, Some("vol.")),
+    (VOLUME, TermForm::VerbShort, false, Some("volume")),
+    (PAGE, TermForm::VerbShort, true, Some("pages")),
+    (PAGE, TermForm::Verb, false, Some("page")),
+    (PAGE, TermForm::Long, false, None),
+];
+
+fn assert_terms(
+    rt: &impl Abort,
+    style: &Style,
+    rows: &[(Term, TermForm, bool, Option<&'static str>)],
+) {
+    for (term, form, plural, wanted) in rows {
+        assert_text(rt, style.term(*term, *form, *plural), *wanted);
     }
+}
+
+fn assert_texts(rt: &impl Abort, alloc: Global) -> Result<(), Fail> {
+    let style = style(alloc, TERMS)?;
+    assert_terms(rt, &style, &TEXTS);
     Ok(())
 }
 
@@ -227,7 +238,7 @@ fn assert_gender_and_date(
 
 #[test]
 fn terms_genders_and_dates_by_locale(rt: HostRuntime) -> Result<(), Fail> {
-    assert_terms(&rt, rt.alloc())?;
+    assert_texts(&rt, rt.alloc())?;
     let numeric = Some(DateParts::YearMonth);
     for (rows, term, form, gender, parts) in [
         (

@@ -322,16 +322,6 @@ pub(crate) const EMPTY: StyleRows<'static> = StyleRows {
 
 /// The style of these rows.
 pub(crate) fn style(alloc: Global, rows: StyleRows<'_>) -> Result<Style, StyleError> {
-    style_of(alloc, StyleSettings::default(), rows)
-}
-
-/// The style of these settings and rows.
-pub(crate) fn style_of(
-    alloc: Global,
-    mut settings: StyleSettings,
-    rows: StyleRows<'_>,
-) -> Result<Style, StyleError> {
-    settings.page_range_format = rows.format;
     let macros = macros(alloc, rows.macros)?;
     let locales = locales(alloc, rows.locales)?;
     let citation = layout(alloc, rows.citation)?;
@@ -339,5 +329,7 @@ pub(crate) fn style_of(
         Some(line) => Some(layout(alloc, line)?),
         None => None,
     };
+    let mut settings = StyleSettings::default();
+    settings.page_range_format = rows.format;
     Style::new(alloc, settings, macros, citation, bibliography, locales)
 }

@@ -1,8 +1,10 @@
 //! What a style sets for a scope, and by its first locale.
 
 use crate::asserted::{assert_same, assert_text};
-use crate::made::{EMPTY, LocaleRows, SILENT, StyleRows, copy_text, style, style_of};
-use csl_style::{InheritableNameOptions, NameForm, Scope, StyleSettings};
+use crate::made::{EMPTY, LocaleRows, SILENT, StyleRows, copy_text, style};
+use csl_style::{
+    Formatting, InheritableNameOptions, Layout, NameForm, Scope, Style, StyleError, StyleSettings,
+};
 use std::alloc::{AllocError, Global};
 use std::process::Abort;
 use std::test::Fail;
@@ -26,19 +28,39 @@ fn options(alloc: Global, level: Level<'_>) -> Result<InheritableNameOptions, Al
     Ok(options)
 }
 
-/// The form and the delimiter that names of a scope inherit, where these are set for the style,
-/// for its citation and for its bibliography.
+/// A style with these set for all of it, for its citation and for its bibliography.
+fn style_of(alloc: Global, levels: [Level<'_>; 3]) -> Result<Style, StyleError> {
+    let [all, citation, bibliography] = levels;
+    let all = options(alloc, all)?;
+    let citation = options(alloc, citation)?;
+    let bibliography = options(alloc, bibliography)?;
+    let mut settings = StyleSettings::default();
+    settings.names = all;
+    settings.citation_names = citation;
+    settings.bibliography_names = bibliography;
+    let layout = Layout {
+        elements: Vec::new(alloc),
+        delimiter: None,
+        formatting: Formatting::default(),
+    };
+    Style::new(
+        alloc,
+        settings,
+        Vec::new(alloc),
+        layout,
+        None,
+        Vec::new(alloc),
+    )
+}
+
+/// The form and the delimiter that names of a scope inherit.
 fn assert_inherited(
     rt: &impl Abort,
     alloc: Global,
-    (scope, [all, citation, bibliography]): (Scope, [Level<'_>; 3]),
+    (scope, levels): (Scope, [Level<'_>; 3]),
     (form, delimiter): (Option<NameForm>, Option<&str>),
 ) -> Result<(), Fail> {
-    let mut settings = StyleSettings::default();
-    settings.names = options(alloc, all)?;
-    settings.citation_names = options(alloc, citation)?;
-    settings.bibliography_names = options(alloc, bibliography)?;
-    let style = style_of(alloc, settings, EMPTY)?;
+    let style = style_of(alloc, levels)?;
     let base = style.base_name_options(scope);
     assert_same(rt, &base.form, &form);
     assert_text(rt, base.delimiter, delimiter);

@@ -128,21 +128,28 @@ fn text_in_part<'s>(style: &'s Style, part: Part<'_>) -> Option<&'s str> {
     }
 }
 
+/// The texts in the parts of the style of parts.
+static TEXTS: [(Part<'static>, Option<&str>); 7] = [
+    (Part::Citation, Some("cite")),
+    (Part::Bibliography, Some("entry")),
+    (Part::Layout(Scope::Citation), Some("cite")),
+    (Part::Layout(Scope::Bibliography), Some("entry")),
+    // The first macro of a name.
+    (Part::Macro("a"), Some("first")),
+    (Part::Macro("b"), Some("other")),
+    (Part::Macro("c"), None),
+];
+
+fn assert_texts(rt: &impl Abort, style: &Style, rows: &[(Part<'static>, Option<&'static str>)]) {
+    for (part, wanted) in rows {
+        assert_text(rt, text_in_part(style, *part), *wanted);
+    }
+}
+
 /// The style of parts hands out what it was made of.
 fn assert_parts(rt: &impl Abort, alloc: Global) -> Result<(), StyleError> {
     let style = style(alloc, PARTS)?;
-    for (part, wanted) in [
-        (Part::Citation, Some("cite")),
-        (Part::Bibliography, Some("entry")),
-        (Part::Layout(Scope::Citation), Some("cite")),
-        (Part::Layout(Scope::Bibliography), Some("entry")),
-        // The first macro of a name.
-        (Part::Macro("a"), Some("first")),
-        (Part::Macro("b"), Some("other")),
-        (Part::Macro("c"), None),
-    ] {
-        assert_text(rt, text_in_part(&style, part), wanted);
-    }
+    assert_texts(rt, &style, &TEXTS);
     style.acyclic();
     let format = style.settings().page_range_format;
     assert_same(rt, &format, &Some(PageRangeFormat::MinimalTwo));

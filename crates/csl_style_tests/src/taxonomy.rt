@@ -9,6 +9,7 @@ use csl_style::{
     StandardVariable, Variable,
 };
 use std::cmp::Ordering;
+use std::process::Abort;
 
 /// Whether the two variables are equal: they are where they are one.
 fn same_variable(a: &Variable, b: &Variable) -> bool
@@ -87,11 +88,15 @@ static KINDS: [(&str, Option<Kind>); 51] = [
     ("legal-case", None),
 ];
 
+fn assert_kinds(rt: &impl Abort, rows: &[(&'static str, Option<Kind>)]) {
+    for (name, kind) in rows {
+        assert_same(rt, &(*name, Kind::from_name(*name)), &(*name, *kind));
+    }
+}
+
 #[test]
 fn kinds_by_their_names(rt: HostRuntime) {
-    for (name, kind) in KINDS {
-        assert_same(&rt, &(name, Kind::from_name(name)), &(name, kind));
-    }
+    assert_kinds(&rt, &KINDS);
 }
 
 #[test]
