@@ -25,126 +25,120 @@ fn assert_letters(
     Ok(())
 }
 
-/// Asserts the label of three letters.
-pub fn assert_label(
+/// A description, and the label of three letters: three of one creator, the first of each of two or
+/// three, and those of a text or of the key where there is none.
+static LABELS: [(&str, &str); 33] = [
+    // One creator gives three letters.
+    ("book; date 2014; authors Kwan", "Kwa14"),
+    ("book; date 2015; authors Ungard-Sargon", "Ung15"),
+    ("book; date 1961; authors Gross", "Gro61"),
+    // More give a letter each, or a plus.
+    ("book; date 2014; authors Kwan, Gross", "KG14"),
+    (
+        "book; date 1987; authors Ferrante, Ottenstein, Warren",
+        "FOW87",
+    ),
+    (
+        "book; date 1987; authors Ferrante, Ottenstein, Warren, Kwan",
+        "Fer+87",
+    ),
+    // A text stands in for creators.
+    // Of the key the letters alone count.
+    ("book; key x1-yz2w", "xyz"),
+    ("book; key x1-yz2w; title Na+ture", "Nat"),
+    ("book; key x1-yz2w; title Na+ture; organization +Who", "Who"),
+    // A list of authors that is there and empty names no creator.
+    (
+        "book; key x1-yz2w; title Na+ture; organization +Who; authors",
+        "Who",
+    ),
+    // Years are two digits.
+    ("book; date 2005; authors Kwan", "Kwa05"),
+    ("book; date 2000; authors Kwan", "Kwa00"),
+    // The year before the year 1.
+    ("book; date 0; authors Kwan", "Kwa01"),
+    ("book; date -1; authors Kwan", "Kwa02"),
+    ("book; date -99; authors Kwan", "Kwa100"),
+    // Without a date the visit counts.
+    (
+        "book; date 2014; authors Kwan; url https://aeon.co/essays 2021",
+        "Kwa14",
+    ),
+    (
+        "book; authors Kwan; url https://aeon.co/essays 2021",
+        "Kwa21",
+    ),
+    ("book; authors Kwan; url https://aeon.co/essays", "Kwa"),
+    // A letter may be several characters.
+    ("book; date 1900; authors e\u{301}tude", "e\u{301}tu00"),
+    ("book; date 1900; authors e\u{301}tude, Bo", "e\u{301}B00"),
+    // An untitled chapter takes the label of its book.
+    (
+        "chapter; authors Gross; in book; date 2014; authors Kwan",
+        "Kwa14",
+    ),
+    (
+        "chapter; authors Gross; title +One; in book; date 2014; authors Kwan",
+        "Gro14",
+    ),
+    // Authors come before editors.
+    ("book; translator Tom; director Dan; editors Ann, Ben", "AB"),
+    (
+        "book; translator Tom; director Dan; editors Ann, Ben; authors Cid",
+        "Cid",
+    ),
+    // A list of authors counts though it is empty.
+    (
+        "book; translator Tom; director Dan; editors Ann; authors",
+        "key",
+    ),
+    // A book is by its compilers or translators.
+    ("book; translator Tom; director Dan", "Tom"),
+    ("book; translator Tom; director Dan; compiler Cora", "Cor"),
+    // A video is by its directors or executive producers.
+    (
+        "video; executive-producer Eve; executive-producer Eli; director Dan",
+        "Dan",
+    ),
+    // A writer alone makes an episode, and no other video.
+    ("video; executive-producer Eve; writer Wes", "Eve"),
+    // An episode is by its directors and writers.
+    (
+        "video; issue 3; volume 1; writer Wes; in video; executive-producer Sue",
+        "Wes",
+    ),
+    (
+        "video; issue 3; volume 1; writer Wes; director Dan; in video; executive-producer Sue",
+        "DW",
+    ),
+    // It is else by those of its series.
+    (
+        "video; issue 3; volume 1; executive-producer Own; in video; executive-producer Sue",
+        "Sue",
+    ),
+    // Without an issue it is a video like any other.
+    (
+        "video; volume 1; executive-producer Own; in video; executive-producer Sue",
+        "Own",
+    ),
+];
+
+/// Asserts the labels of three letters.
+fn assert_all(
     rt: &impl Abort,
     alloc: Global,
-    description: &str,
-    wanted: &str,
+    rows: &[(&'static str, &'static str)],
 ) -> Result<(), Fail> {
-    assert_letters(rt, alloc, 3, description, wanted)
-}
-
-#[test]
-fn one_creator_gives_three_letters(rt: HostRuntime) -> Result<(), Fail> {
-    for (description, wanted) in [
-        ("book; date 2014; authors Kwan", "Kwa14"),
-        ("book; date 2015; authors Ungard-Sargon", "Ung15"),
-        ("book; date 1961; authors Gross", "Gro61"),
-    ] {
-        assert_label(&rt, rt.alloc(), description, wanted)?;
+    for (description, wanted) in rows {
+        assert_letters(rt, alloc, 3, *description, *wanted)?;
     }
     Ok(())
 }
 
 #[test]
-fn more_creators_give_a_letter_each_or_a_plus(rt: HostRuntime) -> Result<(), Fail> {
-    for (description, wanted) in [
-        ("book; date 2014; authors Kwan, Gross", "KG14"),
-        (
-            "book; date 1987; authors Ferrante, Ottenstein, Warren",
-            "FOW87",
-        ),
-        (
-            "book; date 1987; authors Ferrante, Ottenstein, Warren, Kwan",
-            "Fer+87",
-        ),
-    ] {
-        assert_label(&rt, rt.alloc(), description, wanted)?;
-    }
-    Ok(())
-}
-
-#[test]
-fn a_text_stands_in_for_creators(rt: HostRuntime) -> Result<(), Fail> {
-    for (description, wanted) in [
-        // Of the key the letters alone count.
-        ("book; key x1-yz2w", "xyz"),
-        ("book; key x1-yz2w; title Na+ture", "Nat"),
-        ("book; key x1-yz2w; title Na+ture; organization +Who", "Who"),
-        // A list of authors that is there and empty names no creator.
-        (
-            "book; key x1-yz2w; title Na+ture; organization +Who; authors",
-            "Who",
-        ),
-    ] {
-        assert_label(&rt, rt.alloc(), description, wanted)?;
-    }
-    Ok(())
-}
-
-#[test]
-fn years_are_two_digits(rt: HostRuntime) -> Result<(), Fail> {
-    for (description, wanted) in [
-        ("book; date 2005; authors Kwan", "Kwa05"),
-        ("book; date 2000; authors Kwan", "Kwa00"),
-        // The year before the year 1.
-        ("book; date 0; authors Kwan", "Kwa01"),
-        ("book; date -1; authors Kwan", "Kwa02"),
-        ("book; date -99; authors Kwan", "Kwa100"),
-    ] {
-        assert_label(&rt, rt.alloc(), description, wanted)?;
-    }
-    Ok(())
-}
-
-#[test]
-fn without_a_date_the_visit_counts(rt: HostRuntime) -> Result<(), Fail> {
-    for (description, wanted) in [
-        (
-            "book; date 2014; authors Kwan; url https://aeon.co/essays 2021",
-            "Kwa14",
-        ),
-        (
-            "book; authors Kwan; url https://aeon.co/essays 2021",
-            "Kwa21",
-        ),
-        ("book; authors Kwan; url https://aeon.co/essays", "Kwa"),
-    ] {
-        assert_label(&rt, rt.alloc(), description, wanted)?;
-    }
-    Ok(())
-}
-
-#[test]
-fn a_letter_may_be_several_characters(rt: HostRuntime) -> Result<(), Fail> {
-    let alloc = rt.alloc();
-    assert_letters(
-        &rt,
-        alloc,
-        3,
-        "book; date 1900; authors e\u{301}tude",
-        "e\u{301}tu00",
-    )?;
-    assert_letters(
-        &rt,
-        alloc,
-        3,
-        "book; date 1900; authors e\u{301}tude, Bo",
-        "e\u{301}B00",
-    )?;
-    assert_letters(&rt, alloc, 1, "book; date 2014; authors Kwan", "K14")
-}
-
-#[test]
-fn an_untitled_chapter_takes_the_label_of_its_book(rt: HostRuntime) -> Result<(), Fail> {
-    let whole = "chapter; authors Gross; in book; date 2014; authors Kwan";
-    assert_label(&rt, rt.alloc(), whole, "Kwa14")?;
-    let own = "chapter; authors Gross; title +One; in book; date 2014; authors Kwan";
-    assert_label(&rt, rt.alloc(), own, "Gro14")
-}
-
-#[test]
-fn labels_have_three_letters_by_default(rt: HostRuntime) {
+fn labels_by_creators_and_years(rt: HostRuntime) -> Result<(), Fail> {
+    assert_all(&rt, rt.alloc(), &LABELS)?;
+    assert_letters(&rt, rt.alloc(), 1, "book; date 2014; authors Kwan", "K14")?;
     assert_eq!(rt; Alphanumerical::default(), Alphanumerical { letters: 3 });
+    Ok(())
 }

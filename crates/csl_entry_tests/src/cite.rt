@@ -9,47 +9,26 @@ use std::alloc::Global;
 use std::test::Fail;
 
 #[test]
-fn locators_are_equal_by_kind_and_text(rt: HostRuntime) {
+fn what_belongs_to_a_cite_is_told_apart(rt: HostRuntime) {
+    let five = LocatorPayload::Str("5");
     let page = SpecificLocator(Locator::Page, LocatorPayload::Str("5"));
-    for (other, wanted) in [
-        (
-            SpecificLocator(Locator::Page, LocatorPayload::Str("5")),
-            true,
-        ),
-        (
-            SpecificLocator(Locator::Line, LocatorPayload::Str("5")),
-            false,
-        ),
-        (
-            SpecificLocator(Locator::Page, LocatorPayload::Str("6")),
-            false,
-        ),
-        (
-            SpecificLocator(Locator::Page, LocatorPayload::Transparent),
-            false,
-        ),
+    for (kind, payload, wanted) in [
+        (Locator::Page, five, true),
+        (Locator::Line, five, false),
+        (Locator::Page, LocatorPayload::Str("6"), false),
+        (Locator::Page, LocatorPayload::Transparent, false),
     ] {
+        let other = SpecificLocator(kind, payload);
         assert_eq!(rt; page == other, wanted, "{other:?}");
     }
-}
-
-#[test]
-fn states_of_a_cite_are_told_apart(rt: HostRuntime) {
     assert_ne!(rt; IbidState::Ibid, IbidState::IbidWithLocator);
     assert_ne!(rt; IbidState::Different, IbidState::Ibid);
     assert_ne!(rt; Sorting::Variable, Sorting::Macro);
-}
-
-#[test]
-fn forms_of_a_cite_are_told_apart(rt: HostRuntime) {
     let title = SpecialForm::VarOnly(Variable::Standard(StandardVariable::Title));
     let note = SpecialForm::VarOnly(Variable::Standard(StandardVariable::Note));
+    let other_title = SpecialForm::VarOnly(Variable::Standard(StandardVariable::Title));
     for (form, other, wanted) in [
-        (
-            title,
-            SpecialForm::VarOnly(Variable::Standard(StandardVariable::Title)),
-            true,
-        ),
+        (title, other_title, true),
         (title, note, false),
         (
             SpecialForm::OnlyFirstDate,

@@ -167,44 +167,26 @@ fn number(
 }
 
 #[test]
-fn numbers_of_the_citation(rt: HostRuntime) -> Result<(), Fail> {
-    for (note, variable, wanted) in [
-        (NoteNumber::new(6), NumberVariable::CitationNumber, "5"),
-        (
-            NoteNumber::new(6),
-            NumberVariable::FirstReferenceNoteNumber,
-            "6",
-        ),
-        (NoteNumber::new(6), NumberVariable::Locator, "none"),
-        (None, NumberVariable::FirstReferenceNoteNumber, "none"),
+fn numbers_of_the_citation_and_of_the_entry(rt: HostRuntime) -> Result<(), Fail> {
+    let six = NoteNumber::new(6);
+    let locator = NumberVariable::Locator;
+    for (note, page, variable, wanted) in [
+        (six, None, NumberVariable::CitationNumber, "5"),
+        (six, None, NumberVariable::FirstReferenceNoteNumber, "6"),
+        (six, None, locator, "none"),
+        (None, None, NumberVariable::FirstReferenceNoteNumber, "none"),
         // All else is asked of the entry.
-        (None, NumberVariable::Volume, "20"),
+        (None, None, NumberVariable::Volume, "20"),
+        (None, Some(LocatorPayload::Str(" 12")), locator, "12"),
+        (None, Some(LocatorPayload::Str("12 b")), locator, "'12 b"),
+        (None, Some(LocatorPayload::Str("x")), locator, "'x"),
+        (None, Some(LocatorPayload::Str("")), locator, "'"),
+        // The caller writes it.
+        (None, Some(LocatorPayload::Transparent), locator, "@2"),
     ] {
-        let number = number(rt.alloc(), note, None, variable)?;
+        let number = number(rt.alloc(), note, page, variable)?;
         assert_answer(&rt, number.as_str(), wanted, "a number variable");
     }
-    Ok(())
-}
-
-#[test]
-fn locators_that_are_texts(rt: HostRuntime) -> Result<(), Fail> {
-    for (page, wanted) in [
-        (LocatorPayload::Str(" 12"), "12"),
-        (LocatorPayload::Str("12 b"), "'12 b"),
-        (LocatorPayload::Str("x"), "'x"),
-        (LocatorPayload::Str(""), "'"),
-    ] {
-        let number = number(rt.alloc(), None, Some(page), NumberVariable::Locator)?;
-        assert_answer(&rt, number.as_str(), wanted, "a locator");
-    }
-    Ok(())
-}
-
-#[test]
-fn a_locator_that_the_caller_writes(rt: HostRuntime) -> Result<(), Fail> {
-    let page = Some(LocatorPayload::Transparent);
-    let number = number(rt.alloc(), None, page, NumberVariable::Locator)?;
-    assert_answer(&rt, number.as_str(), "@2", "a locator");
     Ok(())
 }
 
@@ -270,29 +252,6 @@ fn text(
     text_in(alloc, &samples, &props, form, variable)
 }
 
-#[test]
-fn a_year_suffix(rt: HostRuntime) -> Result<(), Fail> {
-    for (told, form, wanted) in [
-        (Told::BySuffix(0), LongShortForm::Long, "a"),
-        (Told::BySuffix(0), LongShortForm::Short, "a"),
-        (Told::ByNames, LongShortForm::Long, "none"),
-        (Told::ByChoice, LongShortForm::Long, "none"),
-        (Told::ByNothing, LongShortForm::Long, "none"),
-    ] {
-        let suffix = text(rt.alloc(), told, form, StandardVariable::YearSuffix)?;
-        assert_answer(&rt, suffix.as_str(), wanted, "a year suffix");
-    }
-    Ok(())
-}
-
-#[test]
-fn texts_are_asked_of_the_entry(rt: HostRuntime) -> Result<(), Fail> {
-    let form = LongShortForm::Long;
-    let title = text(rt.alloc(), Told::BySuffix(0), form, StandardVariable::Title)?;
-    assert_answer(&rt, title.as_str(), "`Nature", "the title");
-    Ok(())
-}
-
 /// The pages that the cite answers.
 fn pages_in<'s>(
     alloc: Global,
@@ -313,7 +272,21 @@ fn pages(alloc: Global) -> Result<String, Fail> {
 }
 
 #[test]
-fn pages_are_asked_of_the_entry(rt: HostRuntime) -> Result<(), Fail> {
+fn texts_of_the_citation_and_of_the_entry(rt: HostRuntime) -> Result<(), Fail> {
+    let suffix = StandardVariable::YearSuffix;
+    let (long, short) = (LongShortForm::Long, LongShortForm::Short);
+    for (told, form, variable, wanted) in [
+        (Told::BySuffix(0), long, suffix, "a"),
+        (Told::BySuffix(0), short, suffix, "a"),
+        (Told::ByNames, long, suffix, "none"),
+        (Told::ByChoice, long, suffix, "none"),
+        (Told::ByNothing, long, suffix, "none"),
+        // All else is asked of the entry.
+        (Told::BySuffix(0), long, StandardVariable::Title, "`Nature"),
+    ] {
+        let text = text(rt.alloc(), told, form, variable)?;
+        assert_answer(&rt, text.as_str(), wanted, "a text variable");
+    }
     let pages = pages(rt.alloc())?;
     assert_answer(&rt, pages.as_str(), "7", "the pages");
     Ok(())

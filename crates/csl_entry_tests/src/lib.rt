@@ -8,8 +8,6 @@ mod citation_label;
 #[cfg(test)]
 mod cite;
 #[cfg(test)]
-mod creators;
-#[cfg(test)]
 mod described;
 #[cfg(test)]
 mod entry;

@@ -27,7 +27,7 @@ fn forms_stand_in_order(rt: HostRuntime) {
 }
 
 #[test]
-fn long_forms_are_the_last_two(rt: HostRuntime) {
+fn long_forms_are_the_last_two_and_each_has_a_fuller_form(rt: HostRuntime) {
     for (form, wanted) in [
         (DisambiguatedNameForm::Count, false),
         (DisambiguatedNameForm::ShortInitialized, false),
@@ -37,10 +37,6 @@ fn long_forms_are_the_last_two(rt: HostRuntime) {
     ] {
         assert_eq!(rt; form.is_long(), wanted, "{form:?}");
     }
-}
-
-#[test]
-fn a_fuller_form(rt: HostRuntime) {
     let short = DisambiguatedNameForm::ShortInitialized;
     let full = DisambiguatedNameForm::ShortFull;
     let long = DisambiguatedNameForm::LongInitialized;

@@ -50,14 +50,6 @@ fn parts(alloc: Global, last: DisambiguatedNameForm) -> Result<String, Memory> {
     Ok(parts)
 }
 
-#[test]
-fn the_readers_answer_the_parts(rt: HostRuntime) -> Result<(), Memory> {
-    let parts = parts(rt.alloc(), DisambiguatedNameForm::LongFull)?;
-    let wanted = "ShortFull [Author, Editor] [Some(ShortFull), None] [Some(LongFull)]";
-    assert_answer(&rt, parts.as_str(), wanted, "the parts");
-    Ok(())
-}
-
 /// Whether a copy of the author's equals those of that variable with that last form.
 fn copy_equals(
     alloc: Global,
@@ -71,7 +63,10 @@ fn copy_equals(
 }
 
 #[test]
-fn equal_by_value(rt: HostRuntime) -> Result<(), Memory> {
+fn parts_are_answered_and_equal_by_value(rt: HostRuntime) -> Result<(), Memory> {
+    let parts = parts(rt.alloc(), DisambiguatedNameForm::LongFull)?;
+    let wanted = "ShortFull [Author, Editor] [Some(ShortFull), None] [Some(LongFull)]";
+    assert_answer(&rt, parts.as_str(), wanted, "the parts");
     for (variable, last, wanted) in [
         (NameVariable::Author, None, true),
         (NameVariable::Chair, None, false),

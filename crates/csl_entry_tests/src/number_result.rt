@@ -6,6 +6,7 @@ use lit_model::{MaybeTyped, Numeric, PageRanges};
 use std::alloc::Global;
 use std::borrow::Cow;
 use std::cmp::Ordering;
+use std::process::Abort;
 use std::test::Fail;
 
 /// Whether the two are equal: they are where both are one number, one text or of one index.
@@ -65,35 +66,37 @@ fn compared(alloc: Global, a: Answer, b: Answer) -> Result<(Ordering, Ordering, 
     }
 }
 
-#[test]
-fn answers_in_order(rt: HostRuntime) -> Result<(), Fail> {
-    for (first, second) in [
-        // A number stands before a text, and what the caller writes stands last.
-        (Answer::Spelled("2000"), Answer::Text("1")),
-        (Answer::Spelled("2000"), Answer::Index(0)),
-        (Answer::Text("zero"), Answer::Index(0)),
-        // What the caller writes goes by its index, and numbers go by value.
-        (Answer::Index(2), Answer::Index(10)),
-        (Answer::Spelled("9"), Answer::Spelled("10")),
-        (Answer::One(-1), Answer::One(0)),
-        (Answer::One(-2), Answer::One(-1)),
-        // Texts go by bytes.
-        (Answer::Text("10"), Answer::Text("9")),
-        (Answer::Text("Z"), Answer::Text("a")),
-        // Lists go number by number, and one number goes as a list of one.
-        (Answer::Spelled("1, 2"), Answer::Spelled("1-3")),
-        (Answer::Spelled("1, 2"), Answer::Spelled("1-2, 0")),
-        (Answer::One(1), Answer::Spelled("1 & 2")),
-        (Answer::Spelled("1 & 2"), Answer::One(2)),
-        // Prefixes count after the numbers, and suffixes after the prefixes.
-        (Answer::One(1), Answer::Spelled("b1")),
-        (Answer::Spelled("a1"), Answer::Spelled("b1")),
-        (Answer::Spelled("b1"), Answer::Spelled("a2")),
-        (Answer::One(1), Answer::Spelled("1b")),
-        (Answer::Spelled("1a"), Answer::Spelled("1b")),
-        (Answer::Spelled("1b"), Answer::Spelled("a1a")),
-    ] {
-        let compared = compared(rt.alloc(), first, second)?;
+/// Of each pair the first stands before the second.
+static IN_ORDER: [(Answer, Answer); 19] = [
+    // A number stands before a text, and what the caller writes stands last.
+    (Answer::Spelled("2000"), Answer::Text("1")),
+    (Answer::Spelled("2000"), Answer::Index(0)),
+    (Answer::Text("zero"), Answer::Index(0)),
+    // What the caller writes goes by its index, and numbers go by value.
+    (Answer::Index(2), Answer::Index(10)),
+    (Answer::Spelled("9"), Answer::Spelled("10")),
+    (Answer::One(-1), Answer::One(0)),
+    (Answer::One(-2), Answer::One(-1)),
+    // Texts go by bytes.
+    (Answer::Text("10"), Answer::Text("9")),
+    (Answer::Text("Z"), Answer::Text("a")),
+    // Lists go number by number, and one number goes as a list of one.
+    (Answer::Spelled("1, 2"), Answer::Spelled("1-3")),
+    (Answer::Spelled("1, 2"), Answer::Spelled("1-2, 0")),
+    (Answer::One(1), Answer::Spelled("1 & 2")),
+    (Answer::Spelled("1 & 2"), Answer::One(2)),
+    // Prefixes count after the numbers, and suffixes after the prefixes.
+    (Answer::One(1), Answer::Spelled("b1")),
+    (Answer::Spelled("a1"), Answer::Spelled("b1")),
+    (Answer::Spelled("b1"), Answer::Spelled("a2")),
+    (Answer::One(1), Answer::Spelled("1b")),
+    (Answer::Spelled("1a"), Answer::Spelled("1b")),
+    (Answer::Spelled("1b"), Answer::Spelled("a1a")),
+];
+
+fn assert_in_order(rt: &impl Abort, alloc: Global, rows: &[(Answer, Answer)]) -> Result<(), Fail> {
+    for (first, second) in rows {
+        let compared = compared(alloc, *first, *second)?;
         let wanted = (Ordering::Less, Ordering::Greater, false);
         assert_eq!(rt; compared, wanted, "{first:?} and {second:?}");
     }
@@ -101,22 +104,18 @@ fn answers_in_order(rt: HostRuntime) -> Result<(), Fail> {
 }
 
 #[test]
-fn answers_at_one_place(rt: HostRuntime) -> Result<(), Fail> {
-    for (first, second) in [
-        (Answer::Index(2), Answer::Index(2)),
-        (Answer::One(-1), Answer::One(-1)),
+fn answers_in_order_and_at_one_place(rt: HostRuntime) -> Result<(), Fail> {
+    assert_in_order(&rt, rt.alloc(), &IN_ORDER)?;
+    for (first, second, are_equal) in [
+        (Answer::Index(2), Answer::Index(2), true),
+        (Answer::One(-1), Answer::One(-1), true),
+        // Separators do not count.
+        (Answer::Spelled("1-2"), Answer::Spelled("1, 2"), false),
     ] {
         let compared = compared(rt.alloc(), first, second)?;
-        let wanted = (Ordering::Equal, Ordering::Equal, true);
+        let wanted = (Ordering::Equal, Ordering::Equal, are_equal);
         assert_eq!(rt; compared, wanted, "{first:?} and {second:?}");
     }
-    Ok(())
-}
-
-#[test]
-fn separators_do_not_count(rt: HostRuntime) -> Result<(), Fail> {
-    let compared = compared(rt.alloc(), Answer::Spelled("1-2"), Answer::Spelled("1, 2"))?;
-    assert_eq!(rt; compared, (Ordering::Equal, Ordering::Equal, false));
     Ok(())
 }
 
@@ -126,22 +125,6 @@ fn equals_borrowed(alloc: Global, number: i32, answer: Answer) -> Result<bool, F
     let borrowed = NumberVariableResult::from_regular(MaybeTyped::Typed(Cow::Borrowed(&number)));
     let answer = made(alloc, answer)?;
     Ok(same(&borrowed, &answer))
-}
-
-#[test]
-fn equal_answers_are_of_one_kind(rt: HostRuntime) -> Result<(), Fail> {
-    for (answer, wanted) in [
-        (Answer::One(7), true),
-        (Answer::Text("7"), false),
-        (Answer::Index(7), false),
-    ] {
-        assert_eq!(rt;
-            equals_borrowed(rt.alloc(), 7, answer)?,
-            wanted,
-            "{answer:?}"
-        );
-    }
-    Ok(())
 }
 
 /// Whether a copy of that number, borrowed, equals it, and whether the copy borrows.
@@ -156,29 +139,11 @@ fn copy_of_borrowed(alloc: Global, number: i32) -> Result<(bool, bool), Fail> {
     Ok((same(&copy, &borrowed), borrows))
 }
 
-#[test]
-fn a_copy_of_a_borrowed_number_borrows(rt: HostRuntime) -> Result<(), Fail> {
-    assert_eq!(rt; copy_of_borrowed(rt.alloc(), 7)?, (true, true));
-    Ok(())
-}
-
 /// Whether a copy equals the answer.
 fn equals_copy(alloc: Global, answer: Answer) -> Result<bool, Fail> {
     let answer = made(alloc, answer)?;
     let copy = answer.clone(alloc)?;
     Ok(same(&copy, &answer))
-}
-
-#[test]
-fn copies_are_equal(rt: HostRuntime) -> Result<(), Fail> {
-    for answer in [
-        Answer::Spelled("a1-2b"),
-        Answer::Text("second"),
-        Answer::Index(3),
-    ] {
-        assert_eq!(rt; equals_copy(rt.alloc(), answer)?, true, "{answer:?}");
-    }
-    Ok(())
 }
 
 /// The number 7, and page 7.
@@ -211,7 +176,24 @@ fn kinds_compared(alloc: Global) -> Result<(bool, bool, bool), Fail> {
 }
 
 #[test]
-fn pages_are_no_number(rt: HostRuntime) -> Result<(), Fail> {
+fn equal_answers_are_of_one_kind_and_copies_are_equal(rt: HostRuntime) -> Result<(), Fail> {
+    for (answer, wanted) in [
+        (Answer::One(7), true),
+        (Answer::Text("7"), false),
+        (Answer::Index(7), false),
+    ] {
+        let equals = equals_borrowed(rt.alloc(), 7, answer)?;
+        assert_eq!(rt; equals, wanted, "{answer:?}");
+    }
+    assert_eq!(rt; copy_of_borrowed(rt.alloc(), 7)?, (true, true));
+    for answer in [
+        Answer::Spelled("a1-2b"),
+        Answer::Text("second"),
+        Answer::Index(3),
+    ] {
+        assert_eq!(rt; equals_copy(rt.alloc(), answer)?, true, "{answer:?}");
+    }
+    // Pages are no number.
     assert_eq!(rt; kinds_compared(rt.alloc())?, (false, true, true));
     Ok(())
 }

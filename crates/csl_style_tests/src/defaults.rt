@@ -2,9 +2,9 @@
 
 use crate::asserted::assert_same;
 use csl_style::{
-    ChooseMatch, DateParts, DelimiterBehavior, DemoteNonDroppingParticle, FontStyle, FontVariant,
-    FontWeight, LabelPluralize, LongShortForm, NameForm, PageRangeFormat, TermForm, TextDecoration,
-    VerticalAlign,
+    ChooseMatch, DateParts, DelimiterBehavior, DemoteNonDroppingParticle, EtAl, FontStyle,
+    FontVariant, FontWeight, LabelPluralize, LongShortForm, Name, NameForm, OtherTerm,
+    PageRangeFormat, StyleSettings, TermForm, TextDecoration, VariablelessLabel, VerticalAlign,
 };
 
 #[test]
@@ -31,4 +31,22 @@ fn options_have_their_defaults(rt: HostRuntime) {
         &DemoteNonDroppingParticle::default(),
         &DemoteNonDroppingParticle::DisplayAndSort,
     );
+}
+
+#[test]
+fn names_and_settings_of_which_nothing_is_said(rt: HostRuntime) {
+    let name = Name::new(rt.alloc());
+    assert_same(&rt, &name.options.form, &None);
+    assert_same(&rt, &name.parts.len(), &0);
+    assert_same(&rt, &EtAl::default().term, &OtherTerm::EtAl);
+    assert_same(&rt, &VariablelessLabel::default().form, &TermForm::Long);
+    let settings = StyleSettings::default();
+    assert_same(&rt, &settings.page_range_format, &None);
+    assert_same(
+        &rt,
+        &settings.demote_non_dropping_particle,
+        &DemoteNonDroppingParticle::DisplayAndSort,
+    );
+    assert_same(&rt, &settings.initialize_with_hyphen, &true);
+    assert_same(&rt, &settings.names.et_al_min, &None);
 }

@@ -14,10 +14,10 @@ fn matches_in_order(
 ) -> Result<Vec<ChooseMatch>, AllocError> {
     let mut else_if = Vec::new(alloc);
     for match_ in others {
-        else_if.push(branch(*match_, Vec::new(alloc)))?;
+        else_if.push(branch(*match_, None, Vec::new(alloc)))?;
     }
     let choose = Choose {
-        if_: branch(first, Vec::new(alloc)),
+        if_: branch(first, None, Vec::new(alloc)),
         else_if,
         otherwise: None,
     };

@@ -5,8 +5,6 @@
 #[cfg(test)]
 mod asserted;
 #[cfg(test)]
-mod cycles;
-#[cfg(test)]
 mod defaults;
 #[cfg(test)]
 mod element;

@@ -3,13 +3,14 @@
 ghost use Rattle.std.specs.Prelude.{◌≡◌, ◌↔◌, IsTrue};
 
 use crate::asserted::{assert_same, assert_text};
-use crate::made::{EMPTY, LocaleRows, SILENT, StyleRows, copy_text, locales, style};
+use crate::made::{EMPTY, LocaleRows, SILENT, StyleRows, locales, style};
 use csl_style::{
-    DateForm, DateParts, Locale, LocaleOrdinals, Locator, NumberVariable, OrdinalMatch,
-    OrdinalSlot, OtherTerm, StyleError, Term, TermForm,
+    DateForm, DateParts, LocaleOrdinals, Locator, NumberVariable, OrdinalMatch, OrdinalSlot,
+    OtherTerm, Style, Term, TermForm,
 };
 use lit_model::{GrammarGender, NumberForm, Numeric, Ordinals};
-use std::alloc::{AllocError, Global};
+use std::alloc::Global;
+use std::process::Abort;
 use std::test::Fail;
 
 const AND: Term = Term::Other(OtherTerm::And);
@@ -42,36 +43,80 @@ fn slots_are_equal_where_they_are_one(rt: HostRuntime) {
 }
 
 /// The locales of one language whose ordinals are those of English. The first has none.
-fn english(alloc: Global) -> Result<Vec<Locale>, AllocError> {
-    let rows = [
-        SILENT,
-        LocaleRows {
-            ordinals: &[
-                (OrdinalSlot::Default, None, None, "th"),
-                (OrdinalSlot::Two(1), None, None, "st"),
-                (OrdinalSlot::Two(2), None, None, "nd"),
-                (OrdinalSlot::Two(3), None, None, "rd"),
-                (OrdinalSlot::Two(11), None, None, "th"),
-                (OrdinalSlot::Two(12), None, None, "th"),
-                (OrdinalSlot::Two(13), None, None, "th"),
-            ],
-            ..SILENT
-        },
-    ];
-    locales(alloc, &rows)
-}
+const ENGLISH: [LocaleRows<'static>; 2] = [
+    SILENT,
+    LocaleRows {
+        ordinals: &[
+            (OrdinalSlot::Default, None, None, "th"),
+            (OrdinalSlot::Two(1), None, None, "st"),
+            (OrdinalSlot::Two(2), None, None, "nd"),
+            (OrdinalSlot::Two(3), None, None, "rd"),
+            (OrdinalSlot::Two(11), None, None, "th"),
+            (OrdinalSlot::Two(12), None, None, "th"),
+            (OrdinalSlot::Two(13), None, None, "th"),
+        ],
+        ..SILENT
+    },
+];
 
 /// What a number is written as in English in a form.
-fn number_in_english(alloc: Global, number: i32, form: NumberForm) -> Result<String, Fail> {
+fn assert_english(
+    rt: &impl Abort,
+    alloc: Global,
+    (number, form): (i32, NumberForm),
+    wanted: &str,
+) -> Result<(), Fail> {
+    let locales = locales(alloc, &ENGLISH)?;
     let mut text = String::new(alloc);
-    let locales = english(alloc)?;
     let ordinals = LocaleOrdinals { locales: &locales };
     Numeric::new(number).with_form(&mut text, form, None, &ordinals)?;
-    Ok(text)
+    assert_text(rt, Some(text.as_str()), Some(wanted));
+    Ok(())
+}
+
+const WHOLE: Option<OrdinalMatch> = Some(OrdinalMatch::WholeNumber);
+
+const LAST_TWO: Option<OrdinalMatch> = Some(OrdinalMatch::LastTwoDigits);
+
+/// The locales of one language whose ordinals go by gender and by digits. The second has none.
+const BY_GENDER_AND_DIGITS: [LocaleRows<'static>; 2] = [
+    LocaleRows {
+        ordinals: &[
+            (OrdinalSlot::Default, None, None, "e"),
+            (OrdinalSlot::Two(1), None, MASCULINE, "er"),
+            (OrdinalSlot::Two(1), None, FEMININE, "re"),
+            (OrdinalSlot::Two(1), None, FEMININE, "last"),
+            (OrdinalSlot::Two(1), WHOLE, None, "st"),
+            (OrdinalSlot::Two(8), LAST_TWO, None, "o"),
+            (OrdinalSlot::Long(2), None, FEMININE, "seconde"),
+            (OrdinalSlot::Long(2), None, None, "deuxieme"),
+        ],
+        ..SILENT
+    },
+    SILENT,
+];
+
+/// The suffix of a number in these locales, or its word.
+fn assert_ordinal(
+    rt: &impl Abort,
+    alloc: Global,
+    rows: &[LocaleRows<'_>],
+    (is_word, number, gender): (bool, i32, Option<GrammarGender>),
+    wanted: Option<&str>,
+) -> Result<(), Fail> {
+    let locales = locales(alloc, rows)?;
+    let ordinals = LocaleOrdinals { locales: &locales };
+    let answer = if is_word {
+        ordinals.long(number, gender)
+    } else {
+        ordinals.lookup(number, gender)
+    };
+    assert_text(rt, answer, wanted);
+    Ok(())
 }
 
 #[test]
-fn english_ordinals(rt: HostRuntime) -> Result<(), Fail> {
+fn ordinals_by_gender_and_digits(rt: HostRuntime) -> Result<(), Fail> {
     for (number, wanted) in [
         (21, "21st"),
         (112, "112th"),
@@ -82,94 +127,30 @@ fn english_ordinals(rt: HostRuntime) -> Result<(), Fail> {
         (i32::MIN, "-2147483648th"),
     ] {
         for form in [NumberForm::Ordinal, NumberForm::LongOrdinal] {
-            let answer = number_in_english(rt.alloc(), number, form)?;
-            assert_text(&rt, Some(answer.as_str()), Some(wanted));
+            assert_english(&rt, rt.alloc(), (number, form), wanted)?;
         }
     }
-    Ok(())
-}
-
-/// The locales of one language whose ordinals go by gender and by digits. The second has none.
-fn by_gender_and_digits(alloc: Global) -> Result<Vec<Locale>, AllocError> {
-    let whole = Some(OrdinalMatch::WholeNumber);
-    let last_two = Some(OrdinalMatch::LastTwoDigits);
-    let rows = [
-        LocaleRows {
-            ordinals: &[
-                (OrdinalSlot::Default, None, None, "e"),
-                (OrdinalSlot::Two(1), None, MASCULINE, "er"),
-                (OrdinalSlot::Two(1), None, FEMININE, "re"),
-                (OrdinalSlot::Two(1), None, FEMININE, "last"),
-                (OrdinalSlot::Two(1), whole, None, "st"),
-                (OrdinalSlot::Two(8), last_two, None, "o"),
-                (OrdinalSlot::Long(2), None, FEMININE, "seconde"),
-                (OrdinalSlot::Long(2), None, None, "deuxieme"),
-            ],
-            ..SILENT
-        },
-        SILENT,
-    ];
-    locales(alloc, &rows)
-}
-
-/// Whether the suffix of a number is asked for, or the word.
-#[derive(Clone, Copy)]
-enum Ordinal {
-    Suffix,
-    Word,
-}
-
-/// The ordinal of a number in these locales.
-fn ordinal_in(
-    alloc: Global,
-    locales: Vec<Locale>,
-    ordinal: Ordinal,
-    number: i32,
-    gender: Option<GrammarGender>,
-) -> Result<Option<String>, AllocError> {
-    let ordinals = LocaleOrdinals { locales: &locales };
-    let text = match ordinal {
-        Ordinal::Suffix => ordinals.lookup(number, gender),
-        Ordinal::Word => ordinals.long(number, gender),
-    };
-    copy_text(alloc, text)
-}
-
-#[test]
-fn ordinals_by_gender_and_digits(rt: HostRuntime) -> Result<(), Fail> {
-    for (ordinal, number, gender, wanted) in [
-        (Ordinal::Suffix, 1, FEMININE, Some("re")),
-        (Ordinal::Suffix, 21, MASCULINE, Some("er")),
-        (Ordinal::Suffix, 1, None, Some("st")),
-        (Ordinal::Suffix, 21, None, Some("e")),
-        (Ordinal::Suffix, 108, FEMININE, Some("o")),
-        (Ordinal::Suffix, 118, None, Some("e")),
-        (Ordinal::Word, 2, FEMININE, Some("seconde")),
-        (Ordinal::Word, 2, MASCULINE, Some("deuxieme")),
-        (Ordinal::Word, -2, None, None),
-        (Ordinal::Word, 3, None, None),
+    for (is_word, number, gender, wanted) in [
+        (false, 1, FEMININE, Some("re")),
+        (false, 21, MASCULINE, Some("er")),
+        (false, 1, None, Some("st")),
+        (false, 21, None, Some("e")),
+        (false, 108, FEMININE, Some("o")),
+        (false, 118, None, Some("e")),
+        (true, 2, FEMININE, Some("seconde")),
+        (true, 2, MASCULINE, Some("deuxieme")),
+        (true, -2, None, None),
+        (true, 3, None, None),
     ] {
-        let locales = by_gender_and_digits(rt.alloc())?;
-        let answer = ordinal_in(rt.alloc(), locales, ordinal, number, gender)?;
-        assert_text(&rt, answer.as_deref(), wanted);
+        let rows = &BY_GENDER_AND_DIGITS;
+        assert_ordinal(&rt, rt.alloc(), rows, (is_word, number, gender), wanted)?;
     }
-    let answer = ordinal_in(rt.alloc(), Vec::new(rt.alloc()), Ordinal::Suffix, 3, None)?;
-    assert_text(&rt, answer.as_deref(), None);
-    Ok(())
+    assert_ordinal(&rt, rt.alloc(), &[], (false, 3, None), None)
 }
 
-fn with_locales<'s>(locales: &'s [LocaleRows<'s>]) -> StyleRows<'s> {
-    StyleRows { locales, ..EMPTY }
-}
-
-/// The text of a term in two locales.
-fn text_of_term(
-    alloc: Global,
-    term: Term,
-    form: TermForm,
-    plural: bool,
-) -> Result<Option<String>, StyleError> {
-    let rows = [
+/// Terms in two locales.
+const TERMS: StyleRows<'static> = StyleRows {
+    locales: &[
         LocaleRows {
             terms: &[
                 (AND, TermForm::Long, "and", None, None),
@@ -185,87 +166,99 @@ fn text_of_term(
             ],
             ..SILENT
         },
-    ];
-    let style = style(alloc, with_locales(&rows))?;
-    Ok(copy_text(alloc, style.term(term, form, plural))?)
+    ],
+    ..EMPTY
+};
+
+/// A term, its form, whether there are several, and the text.
+static TEXTS: [(Term, TermForm, bool, Option<&str>); 8] = [
+    (AND, TermForm::Short, false, Some("and")),
+    (AND, TermForm::Long, true, Some("and")),
+    (VOLUME, TermForm::Long, false, Some("volume")),
+    (VOLUME, TermForm::Symbol, false, Some("vol.")),
+    (VOLUME, TermForm::VerbShort, false, Some("volume")),
+    (PAGE, TermForm::VerbShort, true, Some("pages")),
+    (PAGE, TermForm::Verb, false, Some("page")),
+    (PAGE, TermForm::Long, false, None),
+];
+
+fn assert_terms(
+    rt: &impl Abort,
+    style: &Style,
+    rows: &[(Term, TermForm, bool, Option<&'static str>)],
+) {
+    for (term, form, plural, wanted) in rows {
+        assert_text(rt, style.term(*term, *form, *plural), *wanted);
+    }
 }
 
-#[test]
-fn terms_by_form_and_then_by_locale(rt: HostRuntime) -> Result<(), Fail> {
-    for (term, form, plural, wanted) in [
-        (AND, TermForm::Short, false, Some("and")),
-        (AND, TermForm::Long, true, Some("and")),
-        (VOLUME, TermForm::Long, false, Some("volume")),
-        (VOLUME, TermForm::Symbol, false, Some("vol.")),
-        (VOLUME, TermForm::VerbShort, false, Some("volume")),
-        (PAGE, TermForm::VerbShort, true, Some("pages")),
-        (PAGE, TermForm::Verb, false, Some("page")),
-        (PAGE, TermForm::Long, false, None),
-    ] {
-        let answer = text_of_term(rt.alloc(), term, form, plural)?;
-        assert_text(&rt, answer.as_deref(), wanted);
-    }
+fn assert_texts(rt: &impl Abort, alloc: Global) -> Result<(), Fail> {
+    let style = style(alloc, TERMS)?;
+    assert_terms(rt, &style, &TEXTS);
     Ok(())
 }
 
-/// The gender of a term in two locales.
-fn gender_of_term(alloc: Global, term: Term) -> Result<Option<GrammarGender>, StyleError> {
-    let rows = [
+/// A term with a gender and localized dates, in two locales.
+const GENDERS_AND_DATES: StyleRows<'static> = StyleRows {
+    locales: &[
         LocaleRows {
             terms: &[
                 (VOLUME, TermForm::Short, "vol.", None, FEMININE),
                 (VOLUME, TermForm::Long, "volume", None, None),
             ],
-            ..SILENT
-        },
-        LocaleRows {
-            terms: &[(VOLUME, TermForm::Long, "volume", None, MASCULINE)],
-            ..SILENT
-        },
-    ];
-    let style = style(alloc, with_locales(&rows))?;
-    Ok(style.gender(term))
-}
-
-#[test]
-fn gender_of_the_long_form(rt: HostRuntime) -> Result<(), Fail> {
-    for (term, wanted) in [(VOLUME, MASCULINE), (AND, None)] {
-        assert_same(&rt, &gender_of_term(rt.alloc(), term)?, &wanted);
-    }
-    Ok(())
-}
-
-/// The parts of the first localized date of a form, if there is one.
-fn parts_of_date(
-    alloc: Global,
-    rows: &[LocaleRows<'_>],
-    form: DateForm,
-) -> Result<Option<Option<DateParts>>, StyleError> {
-    let style = style(alloc, with_locales(rows))?;
-    match style.localized_date(form) {
-        Some(date) => Ok(Some(date.parts)),
-        None => Ok(None),
-    }
-}
-
-#[test]
-fn the_first_date_of_a_form(rt: HostRuntime) -> Result<(), Fail> {
-    let rows = [
-        LocaleRows {
             dates: &[(DateForm::Text, DateParts::Year)],
             ..SILENT
         },
         LocaleRows {
+            terms: &[(VOLUME, TermForm::Long, "volume", None, MASCULINE)],
             dates: &[
                 (DateForm::Numeric, DateParts::YearMonth),
                 (DateForm::Numeric, DateParts::Year),
             ],
             ..SILENT
         },
-    ];
-    let answer = parts_of_date(rt.alloc(), &rows, DateForm::Numeric)?;
-    assert_same(&rt, &answer, &Some(Some(DateParts::YearMonth)));
-    let answer = parts_of_date(rt.alloc(), &[], DateForm::Text)?;
-    assert_same(&rt, &answer, &None);
+    ],
+    ..EMPTY
+};
+
+/// The gender of the long form of a term, and the parts of the first localized date of a form.
+fn assert_gender_and_date(
+    rt: &impl Abort,
+    alloc: Global,
+    (rows, term, form): (StyleRows<'_>, Term, DateForm),
+    (gender, parts): (Option<GrammarGender>, Option<DateParts>),
+) -> Result<(), Fail> {
+    let style = style(alloc, rows)?;
+    assert_same(rt, &style.gender(term), &gender);
+    let answer = style.localized_date(form);
+    assert_same(rt, &answer.is_some(), &parts.is_some());
+    assert_same(rt, &answer.and_then(|date| date.parts), &parts);
+    Ok(())
+}
+
+#[test]
+fn terms_genders_and_dates_by_locale(rt: HostRuntime) -> Result<(), Fail> {
+    assert_texts(&rt, rt.alloc())?;
+    let numeric = Some(DateParts::YearMonth);
+    for (rows, term, form, gender, parts) in [
+        (
+            GENDERS_AND_DATES,
+            VOLUME,
+            DateForm::Numeric,
+            MASCULINE,
+            numeric,
+        ),
+        (
+            GENDERS_AND_DATES,
+            AND,
+            DateForm::Text,
+            None,
+            Some(DateParts::Year),
+        ),
+        (EMPTY, AND, DateForm::Text, None, None),
+    ] {
+        let asked = (rows, term, form);
+        assert_gender_and_date(&rt, rt.alloc(), asked, (gender, parts))?;
+    }
     Ok(())
 }

@@ -3,10 +3,10 @@
 use csl_style::{
     Affixes, Choose, ChooseBranch, ChooseMatch, CslMacro, Date, DateForm, DateParts, Formatting,
     Group, InheritableNameOptions, Layout, LayoutRenderingElement, Locale, NameVariable, Names,
-    NamesChild, OrdinalMatch, OrdinalSlot, OrdinalTerm, PageRangeFormat, Style, StyleError,
-    StyleSettings, Substitute, Term, TermEntry, TermForm, Text, TextTarget,
+    NamesChild, OrdinalMatch, OrdinalSlot, OrdinalTerm, PageRangeFormat, StandardVariable, Style,
+    StyleError, StyleSettings, Substitute, Term, TermEntry, TermForm, Text, TextTarget, Variable,
 };
-use lit_model::GrammarGender;
+use lit_model::{GrammarGender, LongShortForm};
 use std::alloc::{AllocError, Global};
 
 /// A term: its name, its form, the text for one, that for several, and its gender.
@@ -33,6 +33,7 @@ pub(crate) struct LocaleRows<'s> {
     pub(crate) ordinals: &'s [OrdinalRow<'s>],
     pub(crate) dates: &'s [(DateForm, DateParts)],
     pub(crate) punctuation_in_quote: bool,
+    pub(crate) limit_day_ordinals_to_day_1: bool,
 }
 
 /// A locale that says nothing.
@@ -41,6 +42,7 @@ pub(crate) const SILENT: LocaleRows<'static> = LocaleRows {
     ordinals: &[],
     dates: &[],
     punctuation_in_quote: false,
+    limit_day_ordinals_to_day_1: false,
 };
 
 /// A localized date without parts.
@@ -109,7 +111,7 @@ fn locale(alloc: Global, rows: LocaleRows<'_>) -> Result<Locale, AllocError> {
         ordinals,
         dates: dates(alloc, rows.dates)?,
         punctuation_in_quote: rows.punctuation_in_quote,
-        limit_day_ordinals_to_day_1: false,
+        limit_day_ordinals_to_day_1: rows.limit_day_ordinals_to_day_1,
     })
 }
 
@@ -122,15 +124,15 @@ pub(crate) fn locales(alloc: Global, rows: &[LocaleRows<'_>]) -> Result<Vec<Loca
     Ok(locales)
 }
 
-/// What may stand around the nodes of a macro.
+/// What may stand around nodes. A branch of a choose may ask whether the cite is to be told apart.
 #[derive(Clone, Copy)]
 enum Around {
     /// The `if` branch of a choose.
-    If,
+    If(Option<bool>),
     /// The `else-if` branch of a choose whose other branch is empty.
-    ElseIf,
+    ElseIf(Option<bool>),
     /// The `else` of a choose whose branch is empty.
-    Else,
+    Else(Option<bool>),
     Group,
     /// The substitute of names of authors.
     Substitute,
@@ -138,24 +140,27 @@ enum Around {
 
 /// What a word says stands around, if it does.
 fn read_around(word: &str) -> Option<Around> {
-    for (name, around) in [
-        ("if", Around::If),
-        ("else-if", Around::ElseIf),
-        ("else", Around::Else),
-        ("group", Around::Group),
-        ("substitute", Around::Substitute),
-    ] {
-        if name == word {
-            return Some(around);
-        }
+    match word {
+        "if" => Some(Around::If(None)),
+        "else-if" => Some(Around::ElseIf(None)),
+        "else" => Some(Around::Else(None)),
+        "told-if" => Some(Around::If(Some(true))),
+        "told-else-if" => Some(Around::ElseIf(Some(true))),
+        "told-else" => Some(Around::Else(Some(true))),
+        "group" => Some(Around::Group),
+        "substitute" => Some(Around::Substitute),
+        _ => None,
     }
-    None
 }
 
-/// A branch without tests.
-pub(crate) fn branch(match_: ChooseMatch, children: Vec<LayoutRenderingElement>) -> ChooseBranch {
+/// A branch that asks this alone.
+pub(crate) fn branch(
+    match_: ChooseMatch,
+    disambiguate: Option<bool>,
+    children: Vec<LayoutRenderingElement>,
+) -> ChooseBranch {
     ChooseBranch {
-        disambiguate: None,
+        disambiguate,
         is_numeric: None,
         is_uncertain_date: None,
         locator: None,
@@ -191,18 +196,18 @@ fn node_around(
     children: Vec<LayoutRenderingElement>,
 ) -> Result<LayoutRenderingElement, AllocError> {
     match around {
-        Around::If => Ok(LayoutRenderingElement::Choose(Choose {
-            if_: branch(ChooseMatch::All, children),
+        Around::If(told) => Ok(LayoutRenderingElement::Choose(Choose {
+            if_: branch(ChooseMatch::All, told, children),
             else_if: Vec::new(alloc),
             otherwise: None,
         })),
-        Around::ElseIf => Ok(LayoutRenderingElement::Choose(Choose {
-            if_: branch(ChooseMatch::All, Vec::new(alloc)),
-            else_if: vec![in alloc; branch(ChooseMatch::All, children)]?,
+        Around::ElseIf(told) => Ok(LayoutRenderingElement::Choose(Choose {
+            if_: branch(ChooseMatch::All, told, Vec::new(alloc)),
+            else_if: vec![in alloc; branch(ChooseMatch::All, told, children)]?,
             otherwise: None,
         })),
-        Around::Else => Ok(LayoutRenderingElement::Choose(Choose {
-            if_: branch(ChooseMatch::All, Vec::new(alloc)),
+        Around::Else(told) => Ok(LayoutRenderingElement::Choose(Choose {
+            if_: branch(ChooseMatch::All, told, Vec::new(alloc)),
             else_if: Vec::new(alloc),
             otherwise: Some(children),
         })),
@@ -217,18 +222,33 @@ fn node_around(
     }
 }
 
-/// A text node: one that prints the word behind a `'`, or one that calls the macro of the word.
-fn text(alloc: Global, word: &str) -> Result<LayoutRenderingElement, AllocError> {
-    let target = match word.strip_prefix('\'') {
-        Some(val) => TextTarget::Value {
-            val: String::from_str(alloc, val)?,
-        },
-        None => TextTarget::Macro {
-            name: String::from_str(alloc, word)?,
-        },
+/// What a text of a word prints: the word behind a `'`, the variable of `@title` or
+/// `@year-suffix`, or else what the macro of the word does.
+fn target(alloc: Global, word: &str) -> Result<TextTarget, AllocError> {
+    let variable = match word {
+        "@title" => StandardVariable::Title,
+        "@year-suffix" => StandardVariable::YearSuffix,
+        _ => {
+            return match word.strip_prefix('\'') {
+                Some(val) => Ok(TextTarget::Value {
+                    val: String::from_str(alloc, val)?,
+                }),
+                None => Ok(TextTarget::Macro {
+                    name: String::from_str(alloc, word)?,
+                }),
+            };
+        }
     };
+    Ok(TextTarget::Variable {
+        var: Variable::Standard(variable),
+        form: LongShortForm::Long,
+    })
+}
+
+/// A text node of a word.
+fn text(alloc: Global, word: &str) -> Result<LayoutRenderingElement, AllocError> {
     Ok(LayoutRenderingElement::Text(Text {
-        target,
+        target: target(alloc, word)?,
         formatting: Formatting::default(),
         affixes: Affixes::default(),
         display: None,
@@ -238,9 +258,10 @@ fn text(alloc: Global, word: &str) -> Result<LayoutRenderingElement, AllocError>
 }
 
 /// The nodes that the words name: what stands around, from the outside in, and then the texts.
-fn nodes<'w>(alloc: Global, words: &[&'w str]) -> Result<Vec<LayoutRenderingElement>, AllocError> {
+fn nodes(alloc: Global, words: &str) -> Result<Vec<LayoutRenderingElement>, AllocError> {
+    let words: Vec<&str> = words.split_whitespace().collect(alloc)?;
     let mut nodes = Vec::new(alloc);
-    for word in words {
+    for word in &words {
         if read_around(*word).is_none() {
             nodes.push(text(alloc, *word)?)?;
         }
@@ -254,31 +275,24 @@ fn nodes<'w>(alloc: Global, words: &[&'w str]) -> Result<Vec<LayoutRenderingElem
     Ok(nodes)
 }
 
-/// A macro of a line: its name, and the words of its nodes.
-fn csl_macro(alloc: Global, line: &str) -> Result<CslMacro, AllocError> {
-    let (name, words) = line.split_once(' ').unwrap_or((line, ""));
-    let words: Vec<&str> = words.split_whitespace().collect(alloc)?;
-    let name = String::from_str(alloc, name)?;
-    Ok(CslMacro {
-        name,
-        children: nodes(alloc, &words)?,
-    })
-}
-
-/// The macros of these lines, in order.
+/// The macros of these lines, in order: the name of each, and the words of its nodes.
 fn macros(alloc: Global, lines: &[&str]) -> Result<Vec<CslMacro>, AllocError> {
     let mut macros = Vec::new(alloc);
     for line in lines {
-        macros.push(csl_macro(alloc, *line)?)?;
+        let (name, words) = line.split_once(' ').unwrap_or((*line, ""));
+        let name = String::from_str(alloc, name)?;
+        let children = nodes(alloc, words)?;
+        macros.push(CslMacro { name, children })?;
     }
     Ok(macros)
 }
 
-/// A layout that prints a word, if there is one.
-fn layout(alloc: Global, word: Option<&str>) -> Result<Layout, AllocError> {
+/// A layout of a line: rows of words with `; ` between them.
+fn layout(alloc: Global, line: &str) -> Result<Layout, AllocError> {
     let mut elements = Vec::new(alloc);
-    if let Some(word) = word {
-        elements.push(text(alloc, word)?)?;
+    for words in line.split("; ") {
+        let mut nodes = nodes(alloc, words)?;
+        elements.append(&mut nodes)?;
     }
     Ok(Layout {
         elements,
@@ -287,12 +301,12 @@ fn layout(alloc: Global, word: Option<&str>) -> Result<Layout, AllocError> {
     })
 }
 
-/// What a style says: its page format, a line for each macro, a word for each layout, its locales.
+/// What a style says: its page format, a line for each macro and each layout, its locales.
 #[derive(Clone, Copy)]
 pub(crate) struct StyleRows<'s> {
     pub(crate) format: Option<PageRangeFormat>,
     pub(crate) macros: &'s [&'s str],
-    pub(crate) citation: Option<&'s str>,
+    pub(crate) citation: &'s str,
     pub(crate) bibliography: Option<&'s str>,
     pub(crate) locales: &'s [LocaleRows<'s>],
 }
@@ -301,7 +315,7 @@ pub(crate) struct StyleRows<'s> {
 pub(crate) const EMPTY: StyleRows<'static> = StyleRows {
     format: None,
     macros: &[],
-    citation: None,
+    citation: "",
     bibliography: None,
     locales: &[],
 };
@@ -312,7 +326,7 @@ pub(crate) fn style(alloc: Global, rows: StyleRows<'_>) -> Result<Style, StyleEr
     let locales = locales(alloc, rows.locales)?;
     let citation = layout(alloc, rows.citation)?;
     let bibliography = match rows.bibliography {
-        Some(word) => Some(layout(alloc, Some(word))?),
+        Some(line) => Some(layout(alloc, line)?),
         None => None,
     };
     let mut settings = StyleSettings::default();

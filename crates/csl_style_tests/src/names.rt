@@ -81,36 +81,25 @@ fn limits(min: u32, first: u32, use_last: bool) -> NameOptions<'static> {
 
 #[test]
 fn long_lists_lose_names(rt: HostRuntime) {
-    for (min, first, idx, len, subsequent, wanted) in [
-        (3, 1, 0, 3, false, false),
-        (3, 1, 1, 3, false, true),
-        (3, 1, 2, 3, false, true),
-        (3, 1, 1, 2, false, false),
-        (3, 1, usize::MAX, usize::MAX, true, true),
-        (0, 0, 0, 0, false, true),
+    for (min, first, use_last, idx, len, subsequent, wanted) in [
+        (3, 1, false, 0, 3, false, false),
+        (3, 1, false, 1, 3, false, true),
+        (3, 1, false, 2, 3, false, true),
+        (3, 1, false, 1, 2, false, false),
+        (3, 1, false, usize::MAX, usize::MAX, true, true),
+        (0, 0, false, 0, 0, false, true),
+        // The last name is kept where another is left out.
+        (3, 1, true, 1, 3, false, true),
+        (3, 1, true, 2, 3, false, false),
+        (3, 2, true, 2, 3, false, true),
+        (3, 2, true, 3, 4, false, false),
     ] {
-        let answer = limits(min, first, false).is_suppressed(idx, len, subsequent);
+        let answer = limits(min, first, use_last).is_suppressed(idx, len, subsequent);
         assert_same(&rt, &answer, &wanted);
     }
     let options = InheritedNameOptions::default().name_options();
     assert_same(&rt, &options.is_suppressed(7, 9, false), &false);
-}
-
-#[test]
-fn the_last_name_is_kept_where_another_is_left_out(rt: HostRuntime) {
-    for (first, idx, len, wanted) in [
-        (1, 1, 3, true),
-        (1, 2, 3, false),
-        (2, 2, 3, true),
-        (2, 3, 4, false),
-    ] {
-        let answer = limits(3, first, true).is_suppressed(idx, len, false);
-        assert_same(&rt, &answer, &wanted);
-    }
-}
-
-#[test]
-fn later_cites_have_limits_of_their_own(rt: HostRuntime) {
+    // Later cites have limits of their own.
     for (later_min, len, subsequent, wanted) in [
         (None, 3, false, false),
         (None, 3, true, true),

@@ -1,5 +1,7 @@
 //! The parts of names: those of a node, and of one that stands in for another.
 
+use crate::asserted::{assert_same, assert_text};
+use crate::made::copy_text;
 use csl_style::{
     Affixes, Display, EtAl, FontStyle, Formatting, InheritableNameOptions, Name, NameForm,
     NamePart, NamePartName, NameVariable, Names, NamesChild, NamesParts, OtherTerm, Substitute,
@@ -50,13 +52,6 @@ const SILENT: Own<'static> = Own {
     display: None,
 };
 
-fn text_if(alloc: Global, text: Option<&str>) -> Result<Option<String>, AllocError> {
-    match text {
-        Some(text) => Ok(Some(String::from_str(alloc, text)?)),
-        None => Ok(None),
-    }
-}
-
 fn slanted(font_style: Option<FontStyle>) -> Formatting {
     Formatting {
         font_style,
@@ -93,10 +88,10 @@ fn names(alloc: Global, own: Own<'_>, rows: &[Child]) -> Result<Names, AllocErro
     }
     let mut options = InheritableNameOptions::default();
     options.form = own.form;
-    let prefix = text_if(alloc, own.prefix)?;
-    let suffix = text_if(alloc, own.suffix)?;
+    let prefix = copy_text(alloc, own.prefix)?;
+    let suffix = copy_text(alloc, own.suffix)?;
     Ok(Names {
-        delimiter: text_if(alloc, own.delimiter)?,
+        delimiter: copy_text(alloc, own.delimiter)?,
         variable: vec![in alloc; own.variable]?,
         children,
         options,
@@ -130,140 +125,76 @@ fn find_parts(alloc: Global, rows: &[Child]) -> Result<Found, AllocError> {
     ))
 }
 
-fn assert_found(rt: &impl Abort, alloc: Global, rows: &[Child], wanted: Found) -> Result<(), Fail> {
-    assert_eq!(rt; find_parts(alloc, rows)?, wanted);
-    Ok(())
-}
-
 #[test]
 fn of_each_sort_the_first_child_counts(rt: HostRuntime) -> Result<(), Fail> {
-    let long = Child::Name(NameForm::Long);
-    let count = Child::Name(NameForm::Count);
-    let et_al = Child::EtAl(OtherTerm::EtAl);
-    let and_others = Child::EtAl(OtherTerm::AndOthers);
-    let short_label = Child::Label(TermForm::Short);
-    let verb_label = Child::Label(TermForm::Verb);
+    let (long, count) = (NameForm::Long, NameForm::Count);
+    let (et_al, and_others) = (OtherTerm::EtAl, OtherTerm::AndOthers);
+    let (short, verb) = (TermForm::Short, TermForm::Verb);
+    let first_two = [
+        Child::Name(count),
+        Child::EtAl(et_al),
+        Child::Name(long),
+        Child::EtAl(and_others),
+    ];
+    let before = [Child::Label(short), Child::Name(long), Child::Label(verb)];
+    let behind = [Child::Name(long), Child::Label(verb), Child::Label(short)];
+    let no_name = [Child::EtAl(and_others), Child::Label(short)];
     let rows: [(&[Child], Found); 6] = [
         (&[], (None, None, None, false, true)),
+        (&first_two, (Some(count), Some(et_al), None, false, false)),
         (
-            &[count, et_al, long, and_others],
-            (
-                Some(NameForm::Count),
-                Some(OtherTerm::EtAl),
-                None,
-                false,
-                false,
-            ),
+            &before,
+            (Some(long), None, Some((short, false)), false, false),
         ),
         (
-            &[short_label, long, verb_label],
-            (
-                Some(NameForm::Long),
-                None,
-                Some((TermForm::Short, false)),
-                false,
-                false,
-            ),
+            &behind,
+            (Some(long), None, Some((verb, true)), false, false),
         ),
         (
-            &[long, verb_label, short_label],
-            (
-                Some(NameForm::Long),
-                None,
-                Some((TermForm::Verb, true)),
-                false,
-                false,
-            ),
-        ),
-        (
-            &[and_others, short_label],
-            (
-                None,
-                Some(OtherTerm::AndOthers),
-                Some((TermForm::Short, false)),
-                false,
-                false,
-            ),
+            &no_name,
+            (None, Some(and_others), Some((short, false)), false, false),
         ),
         (&[Child::Substitute], (None, None, None, true, false)),
     ];
     for (children, wanted) in rows {
-        assert_found(&rt, rt.alloc(), children, wanted)?;
+        let found = find_parts(rt.alloc(), children)?;
+        assert_same(&rt, &found, &wanted);
     }
     Ok(())
 }
 
-/// A copy of what parts say of themselves, and of the form of their name.
-fn told(
-    alloc: Global,
-    parts: NamesParts<'_>,
-) -> Result<
-    (
-        Option<NameVariable>,
-        [Option<NameForm>; 2],
-        [Option<String>; 3],
-    ),
-    AllocError,
-> {
+/// What parts of editors say of themselves: forms, texts, and how they are shown.
+type Told<'s> = (
+    [Option<NameForm>; 2],
+    [Option<&'s str>; 3],
+    (Option<FontStyle>, Option<Display>),
+);
+
+fn assert_told(rt: &impl Abort, parts: NamesParts<'_>, (forms, texts, shown): Told<'_>) {
+    assert_same(rt, &parts.variables.first(), &Some(&NameVariable::Editor));
     let name = match parts.name() {
         Some(name) => name.options.form,
         None => None,
     };
-    let delimiter = text_if(alloc, parts.delimiter)?;
-    let prefix = text_if(alloc, parts.prefix)?;
-    let suffix = text_if(alloc, parts.suffix)?;
-    Ok((
-        parts.variables.first().copied(),
-        [parts.options.form, name],
-        [delimiter, prefix, suffix],
-    ))
+    assert_same(rt, &[parts.options.form, name], &forms);
+    let [delimiter, prefix, suffix] = texts;
+    assert_text(rt, parts.delimiter, delimiter);
+    assert_text(rt, parts.prefix, prefix);
+    assert_text(rt, parts.suffix, suffix);
+    let answer = (parts.formatting.font_style, parts.display);
+    assert_same(rt, &answer, &shown);
 }
 
-/// The formatting and the place on the page of editors that stand in for authors.
-fn look(
-    alloc: Global,
-    original: Own<'_>,
-    own: Own<'_>,
-) -> Result<(Option<FontStyle>, Option<Display>), AllocError> {
-    let original = names(alloc, original, &[])?;
-    let own = names(alloc, own, &[])?;
-    let parts = own.parts_in_place_of(original.parts());
-    Ok((parts.formatting.font_style, parts.display))
-}
-
-/// The variable, the forms and the texts of editors that stand in for authors.
-fn in_place(
-    alloc: Global,
-    original: Own<'_>,
-    own: Own<'_>,
-) -> Result<
-    (
-        Option<NameVariable>,
-        [Option<NameForm>; 2],
-        [Option<String>; 3],
-    ),
-    AllocError,
-> {
-    let original = names(alloc, original, &[Child::Name(NameForm::Count)])?;
-    let own = names(alloc, own, &[])?;
-    told(alloc, own.parts_in_place_of(original.parts()))
-}
-
+/// What editors say that stand in for authors with the name of a count.
 fn assert_in_place(
     rt: &impl Abort,
     alloc: Global,
     own: Own<'_>,
-    forms: [Option<NameForm>; 2],
-    texts: [Option<&str>; 3],
-    shown: (Option<FontStyle>, Option<Display>),
+    wanted: Told<'_>,
 ) -> Result<(), Fail> {
-    let (variable, told_forms, told_texts) = in_place(alloc, AUTHORS, own)?;
-    let [delimiter, prefix, suffix] = &told_texts;
-    let told_texts = [delimiter.as_deref(), prefix.as_deref(), suffix.as_deref()];
-    assert_eq!(rt; variable, Some(NameVariable::Editor));
-    assert_eq!(rt; told_forms, forms);
-    assert_eq!(rt; told_texts, texts);
-    assert_eq!(rt; look(alloc, AUTHORS, own)?, shown);
+    let original = names(alloc, AUTHORS, &[Child::Name(NameForm::Count)])?;
+    let own = names(alloc, own, &[])?;
+    assert_told(rt, own.parts_in_place_of(original.parts()), wanted);
     Ok(())
 }
 
@@ -277,38 +208,37 @@ const AUTHORS: Own<'static> = Own {
     display: Some(Display::Block),
 };
 
+const SILENT_EDITORS: Own<'static> = Own {
+    variable: NameVariable::Editor,
+    ..SILENT
+};
+
+const EDITORS: Own<'static> = Own {
+    variable: NameVariable::Editor,
+    form: Some(NameForm::Long),
+    delimiter: Some(", "),
+    font_style: Some(FontStyle::Normal),
+    prefix: Some("["),
+    suffix: None,
+    display: Some(Display::Indent),
+};
+
 #[test]
 fn a_shorthand_has_its_own_before_those_of_the_original(rt: HostRuntime) -> Result<(), Fail> {
-    let silent = Own {
-        variable: NameVariable::Editor,
-        ..SILENT
-    };
-    let all = Own {
-        variable: NameVariable::Editor,
-        form: Some(NameForm::Long),
-        delimiter: Some(", "),
-        font_style: Some(FontStyle::Normal),
-        prefix: Some("["),
-        suffix: None,
-        display: Some(Display::Indent),
-    };
-    let original = Some(NameForm::Count);
-    assert_in_place(
-        &rt,
-        rt.alloc(),
-        silent,
-        [Some(NameForm::Short), original],
+    let count = Some(NameForm::Count);
+    let of_original = (
+        [Some(NameForm::Short), count],
         [Some("; "), Some("("), Some(")")],
         (Some(FontStyle::Italic), None),
-    )?;
-    assert_in_place(
-        &rt,
-        rt.alloc(),
-        all,
-        [Some(NameForm::Long), original],
+    );
+    let of_all = (
+        [Some(NameForm::Long), count],
         [Some(", "), Some("["), Some(")")],
         (Some(FontStyle::Normal), Some(Display::Indent)),
-    )?;
+    );
+    for (own, wanted) in [(SILENT_EDITORS, of_original), (EDITORS, of_all)] {
+        assert_in_place(&rt, rt.alloc(), own, wanted)?;
+    }
     Ok(())
 }
 
@@ -334,9 +264,10 @@ fn part_style(
 
 #[test]
 fn of_a_name_part_the_first_counts(rt: HostRuntime) -> Result<(), Fail> {
-    let family = (NamePartName::Family, FontStyle::Italic);
-    let given = (NamePartName::Given, FontStyle::Normal);
-    let later = (NamePartName::Given, FontStyle::Italic);
+    let (italic, normal) = (FontStyle::Italic, FontStyle::Normal);
+    let family = (NamePartName::Family, italic);
+    let given = (NamePartName::Given, normal);
+    let later = (NamePartName::Given, italic);
     let rows: [(
         &[(NamePartName, FontStyle)],
         NamePartName,
@@ -344,27 +275,12 @@ fn of_a_name_part_the_first_counts(rt: HostRuntime) -> Result<(), Fail> {
     ); 4] = [
         (&[], NamePartName::Given, None),
         (&[family], NamePartName::Given, None),
-        (
-            &[family, given, later],
-            NamePartName::Given,
-            Some(FontStyle::Normal),
-        ),
-        (
-            &[given, family, later],
-            NamePartName::Family,
-            Some(FontStyle::Italic),
-        ),
+        (&[family, given, later], NamePartName::Given, Some(normal)),
+        (&[given, family, later], NamePartName::Family, Some(italic)),
     ];
     for (parts, name, wanted) in rows {
-        assert_eq!(rt; part_style(rt.alloc(), parts, name)?, wanted);
+        let answer = part_style(rt.alloc(), parts, name)?;
+        assert_same(&rt, &answer, &wanted);
     }
     Ok(())
-}
-
-#[test]
-fn names_of_which_nothing_is_said(rt: HostRuntime) {
-    let name = Name::new(rt.alloc());
-    assert_eq!(rt; (name.options.form, name.parts.len()), (None, 0));
-    assert_eq!(rt; EtAl::default().term, OtherTerm::EtAl);
-    assert_eq!(rt; VariablelessLabel::default().form, TermForm::Long);
 }

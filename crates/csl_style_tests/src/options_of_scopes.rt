@@ -1,8 +1,9 @@
 //! What a style sets for a scope, and by its first locale.
 
+use crate::asserted::{assert_same, assert_text};
+use crate::made::{EMPTY, LocaleRows, SILENT, StyleRows, copy_text, style};
 use csl_style::{
-    Formatting, InheritableNameOptions, Layout, Locale, NameForm, Scope, Style, StyleError,
-    StyleSettings,
+    Formatting, InheritableNameOptions, Layout, NameForm, Scope, Style, StyleError, StyleSettings,
 };
 use std::alloc::{AllocError, Global};
 use std::process::Abort;
@@ -23,56 +24,46 @@ const UNSET: Level<'static> = Level {
 fn options(alloc: Global, level: Level<'_>) -> Result<InheritableNameOptions, AllocError> {
     let mut options = InheritableNameOptions::default();
     options.form = level.form;
-    options.delimiter = match level.delimiter {
-        Some(delimiter) => Some(String::from_str(alloc, delimiter)?),
-        None => None,
-    };
+    options.delimiter = copy_text(alloc, level.delimiter)?;
     Ok(options)
 }
 
-fn style(
-    alloc: Global,
-    settings: StyleSettings,
-    locales: Vec<Locale>,
-) -> Result<Style, StyleError> {
-    let citation = Layout {
+/// A style with these set for all of it, for its citation and for its bibliography.
+fn style_of(alloc: Global, levels: [Level<'_>; 3]) -> Result<Style, StyleError> {
+    let [all, citation, bibliography] = levels;
+    let all = options(alloc, all)?;
+    let citation = options(alloc, citation)?;
+    let bibliography = options(alloc, bibliography)?;
+    let mut settings = StyleSettings::default();
+    settings.names = all;
+    settings.citation_names = citation;
+    settings.bibliography_names = bibliography;
+    let layout = Layout {
         elements: Vec::new(alloc),
         delimiter: None,
         formatting: Formatting::default(),
     };
-    Style::new(alloc, settings, Vec::new(alloc), citation, None, locales)
+    Style::new(
+        alloc,
+        settings,
+        Vec::new(alloc),
+        layout,
+        None,
+        Vec::new(alloc),
+    )
 }
 
-/// The form and the delimiter that names of a scope inherit, where these are set for the style,
-/// for its citation and for its bibliography.
-fn inherited(
-    alloc: Global,
-    scope: Scope,
-    levels: [Level<'_>; 3],
-) -> Result<(Option<NameForm>, Option<String>), StyleError> {
-    let [all, citation, bibliography] = levels;
-    let mut settings = StyleSettings::default();
-    settings.names = options(alloc, all)?;
-    settings.citation_names = options(alloc, citation)?;
-    settings.bibliography_names = options(alloc, bibliography)?;
-    let style = style(alloc, settings, Vec::new(alloc))?;
-    let base = style.base_name_options(scope);
-    let delimiter = match base.delimiter {
-        Some(delimiter) => Some(String::from_str(alloc, delimiter)?),
-        None => None,
-    };
-    Ok((base.form, delimiter))
-}
-
+/// The form and the delimiter that names of a scope inherit.
 fn assert_inherited(
     rt: &impl Abort,
     alloc: Global,
-    scope: Scope,
-    levels: [Level<'_>; 3],
-    wanted: (Option<NameForm>, Option<&str>),
+    (scope, levels): (Scope, [Level<'_>; 3]),
+    (form, delimiter): (Option<NameForm>, Option<&str>),
 ) -> Result<(), Fail> {
-    let (form, delimiter) = inherited(alloc, scope, levels)?;
-    assert_eq!(rt; (form, delimiter.as_deref()), wanted);
+    let style = style_of(alloc, levels)?;
+    let base = style.base_name_options(scope);
+    assert_same(rt, &base.form, &form);
+    assert_text(rt, base.delimiter, delimiter);
     Ok(())
 }
 
@@ -90,89 +81,63 @@ fn a_scope_comes_before_the_style(rt: HostRuntime) -> Result<(), Fail> {
         form: Some(NameForm::Long),
         delimiter: None,
     };
+    let of_all = (Some(NameForm::Short), Some("; "));
+    let of_own = (Some(NameForm::Count), Some(""));
+    let of_both = (Some(NameForm::Long), Some("; "));
     let rows = [
         (Scope::Citation, [UNSET, UNSET, UNSET], (None, None)),
-        (
-            Scope::Citation,
-            [all, UNSET, UNSET],
-            (Some(NameForm::Short), Some("; ")),
-        ),
-        (
-            Scope::Citation,
-            [all, own, UNSET],
-            (Some(NameForm::Count), Some("")),
-        ),
-        (
-            Scope::Citation,
-            [all, UNSET, own],
-            (Some(NameForm::Short), Some("; ")),
-        ),
-        (
-            Scope::Bibliography,
-            [all, own, UNSET],
-            (Some(NameForm::Short), Some("; ")),
-        ),
-        (
-            Scope::Bibliography,
-            [all, UNSET, own],
-            (Some(NameForm::Count), Some("")),
-        ),
-        (
-            Scope::Bibliography,
-            [all, own, form_alone],
-            (Some(NameForm::Long), Some("; ")),
-        ),
+        (Scope::Citation, [all, UNSET, UNSET], of_all),
+        (Scope::Citation, [all, own, UNSET], of_own),
+        (Scope::Citation, [all, UNSET, own], of_all),
+        (Scope::Bibliography, [all, own, UNSET], of_all),
+        (Scope::Bibliography, [all, UNSET, own], of_own),
+        (Scope::Bibliography, [all, own, form_alone], of_both),
         (Scope::Bibliography, [UNSET, own, UNSET], (None, None)),
     ];
     for (scope, levels, wanted) in rows {
-        assert_inherited(&rt, rt.alloc(), scope, levels, wanted)?;
+        assert_inherited(&rt, rt.alloc(), (scope, levels), wanted)?;
     }
     Ok(())
 }
 
-/// Locales of no words, each with what it says on quotes and on days.
-fn locales(alloc: Global, rows: &[(bool, bool)]) -> Result<Vec<Locale>, AllocError> {
-    let mut locales = Vec::new(alloc);
-    for (punctuation_in_quote, limit_day_ordinals_to_day_1) in rows {
-        locales.push(Locale {
-            terms: Vec::new(alloc),
-            ordinals: Vec::new(alloc),
-            dates: Vec::new(alloc),
-            punctuation_in_quote: *punctuation_in_quote,
-            limit_day_ordinals_to_day_1: *limit_day_ordinals_to_day_1,
-        })?;
-    }
-    Ok(locales)
-}
+/// A locale that says yes on punctuation in quotes.
+const QUOTES: LocaleRows<'static> = LocaleRows {
+    punctuation_in_quote: true,
+    ..SILENT
+};
 
-/// Whether punctuation goes into quotes, and whether only the first day is an ordinal, where each
-/// locale says these two.
-fn by_locales(alloc: Global, rows: &[(bool, bool)]) -> Result<(bool, bool), StyleError> {
-    let locales = locales(alloc, rows)?;
-    let style = style(alloc, StyleSettings::default(), locales)?;
-    Ok((
-        style.is_punctuation_in_quote(),
-        style.are_day_ordinals_limited(),
-    ))
-}
+/// A locale that says yes on days.
+const DAYS: LocaleRows<'static> = LocaleRows {
+    limit_day_ordinals_to_day_1: true,
+    ..SILENT
+};
 
+const BOTH: LocaleRows<'static> = LocaleRows {
+    punctuation_in_quote: true,
+    limit_day_ordinals_to_day_1: true,
+    ..SILENT
+};
+
+/// Whether punctuation goes into quotes, and whether only the first day is an ordinal.
 fn assert_by_locales(
     rt: &impl Abort,
     alloc: Global,
-    rows: &[(bool, bool)],
+    locales: &[LocaleRows<'_>],
     wanted: (bool, bool),
 ) -> Result<(), Fail> {
-    assert_eq!(rt; by_locales(alloc, rows)?, wanted);
+    let style = style(alloc, StyleRows { locales, ..EMPTY })?;
+    let quotes = style.is_punctuation_in_quote();
+    assert_same(rt, &(quotes, style.are_day_ordinals_limited()), &wanted);
     Ok(())
 }
 
 #[test]
 fn the_first_locale_says(rt: HostRuntime) -> Result<(), Fail> {
-    let rows: [(&[(bool, bool)], (bool, bool)); 4] = [
+    let rows: [(&[LocaleRows<'_>], (bool, bool)); 4] = [
         (&[], (false, false)),
-        (&[(true, false)], (true, false)),
-        (&[(false, true), (true, false)], (false, true)),
-        (&[(false, false), (true, true)], (false, false)),
+        (&[QUOTES], (true, false)),
+        (&[DAYS, QUOTES], (false, true)),
+        (&[SILENT, BOTH], (false, false)),
     ];
     for (locales, wanted) in rows {
         assert_by_locales(&rt, rt.alloc(), locales, wanted)?;

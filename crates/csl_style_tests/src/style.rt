@@ -1,13 +1,13 @@
 //! Styles: which are refused, and what they hand out.
 
 use crate::asserted::{assert_same, assert_text};
-use crate::made::{EMPTY, LocaleRows, SILENT, StyleRows, copy_text, style};
+use crate::made::{EMPTY, LocaleRows, SILENT, StyleRows, style};
 use csl_style::{
-    CslMacro, DateForm, DemoteNonDroppingParticle, Layout, LayoutRenderingElement, OrdinalSlot,
-    OtherTerm, PageRangeFormat, Scope, StyleError, StyleSettings, Term, TermForm, TextTarget,
+    CslMacro, DateForm, Layout, LayoutRenderingElement, OrdinalSlot, OtherTerm, PageRangeFormat,
+    Scope, Style, StyleError, Term, TermForm, TextTarget,
 };
 use lit_model::{GrammarGender, Memory};
-use std::alloc::{AllocError, Global};
+use std::alloc::Global;
 use std::process::Abort;
 use std::test::Fail;
 
@@ -29,61 +29,45 @@ fn refusal(
     }
 }
 
-/// The style is refused with the text that is wanted, if any, and stands where none is.
-pub(crate) fn assert_refusal(
-    rt: &impl Abort,
-    alloc: Global,
-    format: Option<PageRangeFormat>,
-    macros: &[&str],
-    wanted: Option<&str>,
-) -> Result<(), Memory> {
-    let answer = refusal(alloc, format, macros)?;
-    assert_text(rt, answer.as_deref(), wanted);
-    Ok(())
-}
-
 const S_RETURNS: Option<&str> = Some("the macro 's' leads back to itself");
 
 const A_RETURNS: Option<&str> = Some("the macro 'a' leads back to itself");
 
-#[test]
-fn cycles_of_macros_are_refused(rt: HostRuntime) -> Result<(), Fail> {
-    for (macros, wanted) in [
-        // A macro that calls itself is named.
-        (["v 'word", "u absent", "s v s"], S_RETURNS),
-        // A macro that only leads to a cycle is not named.
-        (["x a", "a b", "b a"], A_RETURNS),
-        // A hidden macro makes no cycle.
-        (["a b", "b 'word", "b a"], None),
-    ] {
-        assert_refusal(&rt, rt.alloc(), None, &macros, wanted)?;
-    }
-    Ok(())
-}
+const ONE_RETURNS: Option<&str> = Some("the macro '1' leads back to itself");
+
+const TWO_RETURNS: Option<&str> = Some("the macro '2' leads back to itself");
+
+const CHICAGO: Option<&str> = Some("Chicago page formats are not supported");
+
+/// A page format, the lines of the macros, and the refusal.
+static REFUSALS: [(Option<PageRangeFormat>, &[&str], Option<&str>); 11] = [
+    // A macro that calls itself is named.
+    (None, &["v 'word", "u absent", "s v s"], S_RETURNS),
+    // A macro that only leads to a cycle is not named.
+    (None, &["x a", "a b", "b a"], A_RETURNS),
+    (None, &["0 1", "1 2", "2 1"], ONE_RETURNS),
+    (None, &["0", "1", "2 0 2"], TWO_RETURNS),
+    // A hidden macro makes no cycle, and two ways to a macro are none.
+    (None, &["a b", "b 'word", "b a"], None),
+    (None, &["0 1 2", "1 2", "2"], None),
+    // Calls are found in groups, in each branch and in a substitute.
+    (None, &["a b", "b else else-if group a"], A_RETURNS),
+    (
+        Some(PageRangeFormat::Chicago16),
+        &["a if substitute a"],
+        A_RETURNS,
+    ),
+    // The formats of pages count after that.
+    (Some(PageRangeFormat::Chicago15), &[], CHICAGO),
+    (Some(PageRangeFormat::Chicago16), &[], CHICAGO),
+    (Some(PageRangeFormat::Minimal), &[], None),
+];
 
 #[test]
-fn calls_are_found_in_groups_and_in_each_branch(rt: HostRuntime) -> Result<(), Fail> {
-    let macros = ["a b", "b else else-if group a"];
-    assert_refusal(&rt, rt.alloc(), None, &macros, A_RETURNS)?;
-    Ok(())
-}
-
-#[test]
-fn a_substitute_in_a_branch_returns_before_the_pages_count(rt: HostRuntime) -> Result<(), Fail> {
-    let format = Some(PageRangeFormat::Chicago16);
-    assert_refusal(&rt, rt.alloc(), format, &["a if substitute a"], A_RETURNS)?;
-    Ok(())
-}
-
-#[test]
-fn chicago_pages_are_refused(rt: HostRuntime) -> Result<(), Fail> {
-    let text = Some("Chicago page formats are not supported");
-    for (format, wanted) in [
-        (PageRangeFormat::Chicago15, text),
-        (PageRangeFormat::Chicago16, text),
-        (PageRangeFormat::Minimal, None),
-    ] {
-        assert_refusal(&rt, rt.alloc(), Some(format), &[], wanted)?;
+fn cycles_of_macros_and_chicago_pages_are_refused(rt: HostRuntime) -> Result<(), Fail> {
+    for (format, macros, wanted) in REFUSALS {
+        let answer = refusal(rt.alloc(), format, macros)?;
+        assert_text(&rt, answer.as_deref(), wanted);
     }
     Ok(())
 }
@@ -92,7 +76,7 @@ fn chicago_pages_are_refused(rt: HostRuntime) -> Result<(), Fail> {
 const PARTS: StyleRows<'static> = StyleRows {
     format: Some(PageRangeFormat::MinimalTwo),
     macros: &["a 'first", "a 'second", "b 'other"],
-    citation: Some("'cite"),
+    citation: "'cite",
     bibliography: Some("'entry"),
     locales: &[LocaleRows {
         punctuation_in_quote: true,
@@ -134,39 +118,38 @@ enum Part<'s> {
     Macro(&'s str),
 }
 
-/// The text in a part of the style of parts.
-fn text_in_part(alloc: Global, part: Part<'_>) -> Result<Option<String>, StyleError> {
-    let style = style(alloc, PARTS)?;
-    let value = match part {
+/// The text in a part of the style.
+fn text_in_part<'s>(style: &'s Style, part: Part<'_>) -> Option<&'s str> {
+    match part {
         Part::Citation => value_in_layout(Some(style.citation())),
         Part::Bibliography => value_in_layout(style.bibliography()),
         Part::Layout(scope) => value_in_layout(style.layout(scope)),
         Part::Macro(name) => value_in_macro(style.get_macro(name)),
-    };
-    Ok(copy_text(alloc, value)?)
-}
-
-#[test]
-fn a_style_hands_out_the_nodes_that_it_was_made_of(rt: HostRuntime) -> Result<(), Fail> {
-    for (part, wanted) in [
-        (Part::Citation, Some("cite")),
-        (Part::Bibliography, Some("entry")),
-        (Part::Layout(Scope::Citation), Some("cite")),
-        (Part::Layout(Scope::Bibliography), Some("entry")),
-        // The first macro of a name.
-        (Part::Macro("a"), Some("first")),
-        (Part::Macro("b"), Some("other")),
-        (Part::Macro("c"), None),
-    ] {
-        let answer = text_in_part(rt.alloc(), part)?;
-        assert_text(&rt, answer.as_deref(), wanted);
     }
-    Ok(())
 }
 
-/// What the style of parts answers besides.
+/// The texts in the parts of the style of parts.
+static TEXTS: [(Part<'static>, Option<&str>); 7] = [
+    (Part::Citation, Some("cite")),
+    (Part::Bibliography, Some("entry")),
+    (Part::Layout(Scope::Citation), Some("cite")),
+    (Part::Layout(Scope::Bibliography), Some("entry")),
+    // The first macro of a name.
+    (Part::Macro("a"), Some("first")),
+    (Part::Macro("b"), Some("other")),
+    (Part::Macro("c"), None),
+];
+
+fn assert_texts(rt: &impl Abort, style: &Style, rows: &[(Part<'static>, Option<&'static str>)]) {
+    for (part, wanted) in rows {
+        assert_text(rt, text_in_part(style, *part), *wanted);
+    }
+}
+
+/// The style of parts hands out what it was made of.
 fn assert_parts(rt: &impl Abort, alloc: Global) -> Result<(), StyleError> {
     let style = style(alloc, PARTS)?;
+    assert_texts(rt, &style, &TEXTS);
     style.acyclic();
     let format = style.settings().page_range_format;
     assert_same(rt, &format, &Some(PageRangeFormat::MinimalTwo));
@@ -179,25 +162,6 @@ fn assert_parts(rt: &impl Abort, alloc: Global) -> Result<(), StyleError> {
     };
     assert_same(rt, &quotes, &Some(true));
     Ok(())
-}
-
-#[test]
-fn a_style_hands_out_what_it_was_made_of(rt: HostRuntime) -> Result<(), Fail> {
-    assert_parts(&rt, rt.alloc())?;
-    Ok(())
-}
-
-#[test]
-fn settings_by_default(rt: HostRuntime) {
-    let settings = StyleSettings::default();
-    assert_same(&rt, &settings.page_range_format, &None);
-    assert_same(
-        &rt,
-        &settings.demote_non_dropping_particle,
-        &DemoteNonDroppingParticle::DisplayAndSort,
-    );
-    assert_same(&rt, &settings.initialize_with_hyphen, &true);
-    assert_same(&rt, &settings.names.et_al_min, &None);
 }
 
 const AND: Term = Term::Other(OtherTerm::And);
@@ -228,7 +192,8 @@ fn assert_locale_is_asked(rt: &impl Abort, alloc: Global) -> Result<(), StyleErr
 }
 
 #[test]
-fn a_style_asks_its_locales(rt: HostRuntime) -> Result<(), Fail> {
+fn a_style_hands_out_what_it_was_made_of_and_asks_its_locales(rt: HostRuntime) -> Result<(), Fail> {
+    assert_parts(&rt, rt.alloc())?;
     assert_locale_is_asked(&rt, rt.alloc())?;
     Ok(())
 }

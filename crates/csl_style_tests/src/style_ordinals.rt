@@ -1,54 +1,24 @@
 //! The ordinals of a style, as a value.
 
-use csl_style::{
-    Formatting, Layout, Locale, OrdinalSlot, OrdinalTerm, Style, StyleError, StyleSettings,
-};
-use std::alloc::{AllocError, Global};
+use crate::asserted::assert_text;
+use crate::made::{EMPTY, LocaleRows, SILENT, StyleRows, style};
+use csl_style::{OrdinalSlot, Style};
+use std::alloc::Global;
 use std::process::Abort;
 use std::test::Fail;
 
-fn locales(alloc: Global, rows: &[(OrdinalSlot, &str)]) -> Result<Vec<Locale>, AllocError> {
-    let mut ordinals = Vec::new(alloc);
-    for (slot, text) in rows {
-        ordinals.push(OrdinalTerm {
-            slot: *slot,
-            matching: None,
-            gender: None,
-            text: String::from_str(alloc, *text)?,
-        })?;
-    }
-    let locale = Locale {
-        terms: Vec::new(alloc),
-        ordinals,
-        dates: Vec::new(alloc),
-        punctuation_in_quote: false,
-        limit_day_ordinals_to_day_1: false,
-    };
-    Ok(vec![in alloc; locale]?)
-}
-
 /// A style whose third number has a suffix and a word.
-fn style(alloc: Global) -> Result<Style, StyleError> {
-    let rows = [
-        (OrdinalSlot::Default, "th"),
-        (OrdinalSlot::Two(3), "rd"),
-        (OrdinalSlot::Long(3), "third"),
-    ];
-    let locales = locales(alloc, &rows)?;
-    let citation = Layout {
-        elements: Vec::new(alloc),
-        delimiter: None,
-        formatting: Formatting::default(),
-    };
-    Style::new(
-        alloc,
-        StyleSettings::default(),
-        Vec::new(alloc),
-        citation,
-        None,
-        locales,
-    )
-}
+const ROWS: StyleRows<'static> = StyleRows {
+    locales: &[LocaleRows {
+        ordinals: &[
+            (OrdinalSlot::Default, None, None, "th"),
+            (OrdinalSlot::Two(3), None, None, "rd"),
+            (OrdinalSlot::Long(3), None, None, "third"),
+        ],
+        ..SILENT
+    }],
+    ..EMPTY
+};
 
 /// The suffix and the word of a number, which outlive the ordinals.
 fn both(style: &Style, number: i32) -> (Option<&str>, Option<&str>) {
@@ -62,8 +32,10 @@ fn assert_both(
     number: i32,
     wanted: (Option<&str>, Option<&str>),
 ) -> Result<(), Fail> {
-    let style = style(alloc)?;
-    assert_eq!(rt; both(&style, number), wanted);
+    let style = style(alloc, ROWS)?;
+    let (suffix, word) = both(&style, number);
+    assert_text(rt, suffix, wanted.0);
+    assert_text(rt, word, wanted.1);
     Ok(())
 }
 

@@ -3,7 +3,7 @@
 ghost use Rattle.std.specs.Prelude.{◌≡◌, ◌↔◌, IsTrue};
 
 use crate::asserted::assert_same;
-use csl_style::{Locator, NumberVariable, OtherTerm, Term, TermForm};
+use csl_style::{Locator, NumberVariable, OtherTerm, Term};
 use lit_model::Season;
 
 /// Whether the two terms are equal: they are where they are one.
@@ -40,9 +40,4 @@ fn terms_are_equal_where_they_are_one(rt: HostRuntime) {
     ] {
         assert_same(&rt, &same_term(&a, &b), &wanted);
     }
-}
-
-#[test]
-fn the_long_form_is_the_default(rt: HostRuntime) {
-    assert_same(&rt, &TermForm::default(), &TermForm::Long);
 }

@@ -13,27 +13,27 @@ fn alone(alloc: Global, child: ElemChild) -> Result<ElemChildren, Memory> {
     Ok(ElemChildren(vec![in alloc; child]?))
 }
 
-/// Copies of a tree of one child: of the children, of the child, and of the element or the text
-/// that it is.
-fn copies(alloc: Global, source: &str) -> Result<Vec<ElemChildren>, Fail> {
-    let tree = read(alloc, source)?;
-    let mut all = vec![in alloc; tree.clone(alloc)?]?;
-    if let Some(child) = tree.0.first() {
-        all.push(alone(alloc, child.clone(alloc)?)?)?;
-        match child {
-            ElemChild::Elem(elem) => all.push(alone(alloc, ElemChild::from(elem.clone(alloc)?))?)?,
-            ElemChild::Text(text) => all.push(alone(alloc, ElemChild::from(text.clone(alloc)?))?)?,
-            _ => {}
+/// The copy of a tree of one child: of the child alone, or of the element or the text that it is.
+fn copy_of_first(
+    alloc: Global,
+    tree: &ElemChildren,
+    is_inner: bool,
+) -> Result<ElemChildren, Memory> {
+    match tree.0.first() {
+        Some(ElemChild::Elem(elem)) if is_inner => {
+            alone(alloc, ElemChild::from(elem.clone(alloc)?))
         }
+        Some(ElemChild::Text(text)) if is_inner => {
+            alone(alloc, ElemChild::from(text.clone(alloc)?))
+        }
+        Some(child) => alone(alloc, child.clone(alloc)?),
+        None => Ok(ElemChildren::new(alloc)),
     }
-    Ok(all)
 }
 
-fn assert_copies(rt: &impl Abort, alloc: Global, source: &str, wanted: usize) -> Result<(), Fail> {
-    let mut all = copies(alloc, source)?;
-    assert_eq!(rt; all.len(), wanted, "copies of {source}");
-    for _ in 0..wanted {
-        let copy = all.pop().ok_or("a copy")?;
+fn assert_copies(rt: &impl Abort, alloc: Global, source: &str) -> Result<(), Fail> {
+    for is_inner in [false, true] {
+        let copy = copy_of_first(alloc, &read(alloc, source)?, is_inner)?;
         assert_tree(rt, alloc, copy, source, source)?;
     }
     Ok(())
@@ -42,14 +42,6 @@ fn assert_copies(rt: &impl Abort, alloc: Global, source: &str, wanted: usize) ->
 fn assert_children_copy(rt: &impl Abort, alloc: Global, source: &str) -> Result<(), Fail> {
     let copy = read(alloc, source)?.clone(alloc)?;
     assert_tree(rt, alloc, copy, source, source)
-}
-
-#[test]
-fn copies_are_equal(rt: HostRuntime) -> Result<(), Fail> {
-    for source in [MIXED, "é"] {
-        assert_copies(&rt, rt.alloc(), source, 3)?;
-    }
-    assert_children_copy(&rt, rt.alloc(), "@/x|https://x.y/?a=1&b=2 $$m$ #7 ~")
 }
 
 /// A meta by its place in a table.
@@ -69,7 +61,12 @@ fn is_copied(alloc: Global, row: usize) -> Result<bool, Memory> {
 }
 
 #[test]
-fn copies_of_metas(rt: HostRuntime) -> Result<(), Fail> {
+fn copies_are_equal(rt: HostRuntime) -> Result<(), Fail> {
+    for source in [MIXED, "é"] {
+        assert_copies(&rt, rt.alloc(), source)?;
+        assert_children_copy(&rt, rt.alloc(), source)?;
+    }
+    assert_children_copy(&rt, rt.alloc(), "@/x|https://x.y/?a=1&b=2 $$m$ #7 ~")?;
     for row in 0..4 {
         assert!(rt; is_copied(rt.alloc(), row)?, "in row {row}");
     }

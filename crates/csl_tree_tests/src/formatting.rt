@@ -40,12 +40,6 @@ const ITALIC: Formatting = Formatting {
     vertical_align: VerticalAlign::None,
 };
 
-#[test]
-fn formattings_are_equal_by_value(rt: HostRuntime) {
-    assert!(rt; same_formatting(BARE, BARE));
-    assert!(rt; !same_formatting(BARE, ITALIC));
-}
-
 fn are_same(
     alloc: Global,
     text: &str,
@@ -59,7 +53,9 @@ fn are_same(
 }
 
 #[test]
-fn texts_are_equal_by_value(rt: HostRuntime) -> Result<(), Fail> {
+fn texts_and_formattings_are_equal_by_value(rt: HostRuntime) -> Result<(), Fail> {
+    assert!(rt; same_formatting(BARE, BARE));
+    assert!(rt; !same_formatting(BARE, ITALIC));
     for (other, of_other, same) in [("a", BARE, true), ("b", BARE, false), ("a", ITALIC, false)] {
         let is_same = are_same(rt.alloc(), "a", BARE, other, of_other)?;
         assert_eq!(rt; is_same, same, "{other} in {of_other:?}");
@@ -68,13 +64,9 @@ fn texts_are_equal_by_value(rt: HostRuntime) -> Result<(), Fail> {
 }
 
 #[test]
-fn defaults_say_nothing(rt: HostRuntime) {
+fn defaults_say_nothing_and_own_attributes_go_over_the_base(rt: HostRuntime) {
     assert_eq!(rt; Formatting::default(), BARE);
     assert_eq!(rt; BARE.apply(formatting::Formatting::default()), BARE);
-}
-
-#[test]
-fn own_attributes_go_over_the_base(rt: HostRuntime) {
     let own = formatting::Formatting {
         font_style: Some(FontStyle::Normal),
         font_weight: Some(FontWeight::Bold),

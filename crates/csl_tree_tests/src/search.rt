@@ -52,8 +52,7 @@ fn answer(alloc: Global, tree: &ElemChildren, asked: Asked) -> Result<ElemChildr
 fn assert_found(
     rt: &impl Abort,
     alloc: Global,
-    source: &str,
-    asked: Asked,
+    (source, asked): (&str, Asked),
     wanted: &str,
 ) -> Result<(), Fail> {
     let answer = answer(alloc, &read(alloc, source)?, asked)?;
@@ -61,37 +60,23 @@ fn assert_found(
 }
 
 #[test]
-fn find_names_goes_down_first(rt: HostRuntime) -> Result<(), Fail> {
-    for (source, wanted) in [(TWO_NAMES, "( x ):x"), ("a", "")] {
-        assert_found(&rt, rt.alloc(), source, Asked::Names, wanted)?;
-    }
-    Ok(())
-}
-
-#[test]
-fn find_meta_compares_by_value(rt: HostRuntime) -> Result<(), Fail> {
-    for (meta, wanted) in [("y", "( y ):y"), ("z", ""), ("date", "")] {
-        assert_found(&rt, rt.alloc(), TWO_NAMES, Asked::Meta(meta), wanted)?;
-    }
-    Ok(())
-}
-
-#[test]
-fn find_elem_by_asks_in_preorder(rt: HostRuntime) -> Result<(), Fail> {
-    for (asked, wanted) in [
-        (Asked::Any, "( ( x ):x )"),
-        (Asked::Noted, "( x ):x"),
-        (Asked::Nothing, ""),
+fn searches_go_down_first(rt: HostRuntime) -> Result<(), Fail> {
+    for (source, asked, wanted) in [
+        (TWO_NAMES, Asked::Names, "( x ):x"),
+        ("a", Asked::Names, ""),
+        // Metas are compared by value.
+        (TWO_NAMES, Asked::Meta("y"), "( y ):y"),
+        (TWO_NAMES, Asked::Meta("z"), ""),
+        (TWO_NAMES, Asked::Meta("date"), ""),
+        (TWO_NAMES, Asked::Any, "( ( x ):x )"),
+        (TWO_NAMES, Asked::Noted, "( x ):x"),
+        (TWO_NAMES, Asked::Nothing, ""),
+        // The last text is that of the last child.
+        ("a @b|", Asked::LastText, ""),
+        ("a ( b )", Asked::LastText, "b"),
+        ("", Asked::LastText, ""),
     ] {
-        assert_found(&rt, rt.alloc(), TWO_NAMES, asked, wanted)?;
-    }
-    Ok(())
-}
-
-#[test]
-fn last_text_is_that_of_the_last_child(rt: HostRuntime) -> Result<(), Fail> {
-    for (source, wanted) in [("a @b|", ""), ("a ( b )", "b"), ("", "")] {
-        assert_found(&rt, rt.alloc(), source, Asked::LastText, wanted)?;
+        assert_found(&rt, rt.alloc(), (source, asked), wanted)?;
     }
     Ok(())
 }
@@ -106,17 +91,6 @@ fn removal(alloc: Global, source: &str) -> Result<Vec<ElemChildren>, Fail> {
     Ok(vec![in alloc; tree, taken]?)
 }
 
-#[test]
-fn remove_any_meta_leaves_the_rest(rt: HostRuntime) -> Result<(), Fail> {
-    for (source, taken, left) in [
-        ("( a ( b ):date )", "( b ):date", "( a )"),
-        ("( a )", "", "( a )"),
-    ] {
-        assert_removal(&rt, rt.alloc(), source, taken, left)?;
-    }
-    Ok(())
-}
-
 fn assert_removal(
     rt: &impl Abort,
     alloc: Global,
@@ -127,4 +101,15 @@ fn assert_removal(
     let mut both = removal(alloc, source)?;
     assert_tree(rt, alloc, both.pop().ok_or("taken")?, taken, source)?;
     assert_tree(rt, alloc, both.pop().ok_or("left")?, left, source)
+}
+
+#[test]
+fn remove_any_meta_leaves_the_rest(rt: HostRuntime) -> Result<(), Fail> {
+    for (source, taken, left) in [
+        ("( a ( b ):date )", "( b ):date", "( a )"),
+        ("( a )", "", "( a )"),
+    ] {
+        assert_removal(&rt, rt.alloc(), source, taken, left)?;
+    }
+    Ok(())
 }

@@ -23,54 +23,6 @@ fn elem_round(alloc: Global, source: &str) -> Result<ElemChildren, Fail> {
     }
 }
 
-#[test]
-fn plain_element_takes_two_rounds(rt: HostRuntime) -> Result<(), Fail> {
-    for (source, once) in [("( a b )", "a b"), ("a b", "ab"), ("ab", "ab")] {
-        assert_round(&rt, rt.alloc(), source, once)?;
-    }
-    Ok(())
-}
-
-#[test]
-fn texts_join_in_a_round(rt: HostRuntime) -> Result<(), Fail> {
-    for (source, once) in [
-        // A text of a plain element joins none before it, and one behind it joins it.
-        ("a ( b ) c", "a bc"),
-        // Texts of equal formatting join.
-        ("a _ b /c /_ d", "ab /c d"),
-        // Texts meet where a plain element was empty.
-        ("a ( ) b", "ab"),
-    ] {
-        assert_round(&rt, rt.alloc(), source, once)?;
-    }
-    Ok(())
-}
-
-#[test]
-fn other_children_stay(rt: HostRuntime) -> Result<(), Fail> {
-    for source in ["_ /_ ( ):date $_", "a @link|https://example.org #3 $x^2 b"] {
-        assert_round(&rt, rt.alloc(), source, source)?;
-    }
-    Ok(())
-}
-
-#[test]
-fn element_has_a_round_inside(rt: HostRuntime) -> Result<(), Fail> {
-    for (source, once) in [
-        ("( a ( ( b ) ) c )block", "( a ( b ) c )block"),
-        ("( a ( b ) c )block", "( a bc )block"),
-        ("( a bc )block", "( abc )block"),
-    ] {
-        assert_elem_round(&rt, rt.alloc(), source, once)?;
-    }
-    assert_round(
-        &rt,
-        rt.alloc(),
-        "( ( a ( ( b ) ) c )block ):date",
-        "( ( a ( b ) c )block ):date",
-    )
-}
-
 fn assert_elem_round(rt: &impl Abort, alloc: Global, source: &str, once: &str) -> Result<(), Fail> {
     let simplified = elem_round(alloc, source)?;
     assert_tree(rt, alloc, simplified, once, source)
@@ -82,9 +34,41 @@ fn assert_normal(rt: &impl Abort, alloc: Global, source: &str, normal: &str) -> 
 }
 
 #[test]
-fn rounds_end_in_one_text(rt: HostRuntime) -> Result<(), Fail> {
+fn rounds_join_texts_and_end_in_one(rt: HostRuntime) -> Result<(), Fail> {
+    let alloc = rt.alloc();
+    for (source, once) in [
+        // A plain element takes two rounds.
+        ("( a b )", "a b"),
+        ("a b", "ab"),
+        ("ab", "ab"),
+        // A text of a plain element joins none before it, and one behind it joins it.
+        ("a ( b ) c", "a bc"),
+        // Texts of equal formatting join.
+        ("a _ b /c /_ d", "ab /c d"),
+        // Texts meet where a plain element was empty.
+        ("a ( ) b", "ab"),
+        // Other children stay.
+        ("_ /_ ( ):date $_", "_ /_ ( ):date $_"),
+        (
+            "a @link|https://example.org #3 $x^2 b",
+            "a @link|https://example.org #3 $x^2 b",
+        ),
+        (
+            "( ( a ( ( b ) ) c )block ):date",
+            "( ( a ( b ) c )block ):date",
+        ),
+    ] {
+        assert_round(&rt, alloc, source, once)?;
+    }
+    for (source, once) in [
+        ("( a ( ( b ) ) c )block", "( a ( b ) c )block"),
+        ("( a ( b ) c )block", "( a bc )block"),
+        ("( a bc )block", "( abc )block"),
+    ] {
+        assert_elem_round(&rt, alloc, source, once)?;
+    }
     for (source, normal) in [("( a b )", "ab"), ("( ( ( a ) ) )", "a")] {
-        assert_normal(&rt, rt.alloc(), source, normal)?;
+        assert_normal(&rt, alloc, source, normal)?;
     }
     Ok(())
 }

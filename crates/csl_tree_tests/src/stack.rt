@@ -42,15 +42,6 @@ fn assert_items(rt: &impl Abort, items: &[u8], wanted: &[u8]) {
     assert_eq!(rt; items, wanted);
 }
 
-#[test]
-fn drained_at_two(rt: HostRuntime) -> Result<(), Fail> {
-    let (len, taken, left) = drain(rt.alloc())?;
-    assert_eq!(rt; len, 4);
-    assert_items(&rt, taken.as_slice(), &[3, 4]);
-    assert_items(&rt, left.as_slice(), &[1, 2]);
-    Ok(())
-}
-
 /// What two calls of `pop` take of a default item and 7, the last item that is left, and all.
 fn pop_twice(alloc: Global) -> Result<(Option<u8>, Option<u8>, u8, Vec<u8>), Fail> {
     let mut stack: NonEmptyStack<u8> = NonEmptyStack::with_default(alloc)?;
@@ -58,16 +49,6 @@ fn pop_twice(alloc: Global) -> Result<(Option<u8>, Option<u8>, u8, Vec<u8>), Fai
     let first = stack.pop();
     let second = stack.pop();
     Ok((first, second, *stack.last(), items(alloc, &stack)?))
-}
-
-#[test]
-fn the_last_item_stays(rt: HostRuntime) -> Result<(), Fail> {
-    let (first, second, last, left) = pop_twice(rt.alloc())?;
-    assert_eq!(rt; first, Some(7));
-    assert_eq!(rt; second, None);
-    assert_eq!(rt; last, 0);
-    assert_items(&rt, left.as_slice(), &[0]);
-    Ok(())
 }
 
 /// The stack 1, 2, 3, 4 with its last, its first and its last odd item written, and whether an
@@ -84,15 +65,19 @@ fn write_items(alloc: Global) -> Result<(Vec<u8>, bool), Fail> {
 }
 
 #[test]
-fn references_write_one_item(rt: HostRuntime) -> Result<(), Fail> {
+fn a_stack_keeps_its_last_item(rt: HostRuntime) -> Result<(), Fail> {
+    let (len, taken, left) = drain(rt.alloc())?;
+    assert_eq!(rt; len, 4);
+    assert_items(&rt, taken.as_slice(), &[3, 4]);
+    assert_items(&rt, left.as_slice(), &[1, 2]);
+    let (first, second, last, kept) = pop_twice(rt.alloc())?;
+    assert_eq!(rt; first, Some(7));
+    assert_eq!(rt; second, None);
+    assert_eq!(rt; last, 0);
+    assert_items(&rt, kept.as_slice(), &[0]);
     let (items, has_other) = write_items(rt.alloc())?;
     assert_items(&rt, items.as_slice(), &[10, 2, 30, 40]);
     assert_eq!(rt; has_other, false);
-    Ok(())
-}
-
-#[test]
-fn one_item_is_given_back(rt: HostRuntime) -> Result<(), Fail> {
     assert_eq!(rt; NonEmptyStack::new(rt.alloc(), 5u8)?.finish(), 5);
     Ok(())
 }

@@ -9,87 +9,78 @@ use std::process::Abort;
 use std::test::Fail;
 
 /// What is written of the children, and of the first child, and of the element that it is.
-fn written(alloc: Global, source: &str, format: BufWriteFormat) -> Result<Vec<String>, Fail> {
+fn assert_written(
+    rt: &impl Abort,
+    alloc: Global,
+    (source, format): (&str, BufWriteFormat),
+    wanted: &str,
+) -> Result<(), Fail> {
     let tree = read(alloc, source)?;
-    let mut all = Vec::new(alloc);
     let mut wrote = String::new(alloc);
     tree.write_buf(&mut wrote, format)?;
-    all.push(wrote)?;
+    assert_text(rt, wrote.as_str(), wanted, source);
     if let Some(child) = tree.0.first() {
-        let mut wrote = String::new(alloc);
+        wrote.clear();
         child.write_buf(&mut wrote, format)?;
-        all.push(wrote)?;
+        assert_text(rt, wrote.as_str(), wanted, source);
         if let ElemChild::Elem(elem) = child {
-            let mut wrote = String::new(alloc);
+            wrote.clear();
             elem.write_buf(&mut wrote, format)?;
-            all.push(wrote)?;
+            assert_text(rt, wrote.as_str(), wanted, source);
         }
     }
-    Ok(all)
-}
-
-/// What `{}`, `{:#}` and `to_string` make of the same.
-fn displayed(alloc: Global, source: &str) -> Result<Vec<String>, Fail> {
-    let tree = read(alloc, source)?;
-    let mut all = Vec::new(alloc);
-    all.push(format!(in alloc; "{tree}")?)?;
-    all.push(format!(in alloc; "{tree:#}")?)?;
-    all.push(tree.to_string(alloc)?)?;
-    if let Some(child) = tree.0.first() {
-        all.push(format!(in alloc; "{child}")?)?;
-        all.push(format!(in alloc; "{child:#}")?)?;
-        all.push(child.to_string(alloc)?)?;
-        if let ElemChild::Elem(elem) = child {
-            all.push(format!(in alloc; "{elem}")?)?;
-            all.push(format!(in alloc; "{elem:#}")?)?;
-            all.push(elem.to_string(alloc)?)?;
-        }
-    }
-    Ok(all)
-}
-
-fn assert_all(rt: &impl Abort, texts: Vec<String>, wanted: &str, asked: &str) {
-    for text in &texts {
-        assert_text(rt, text.as_str(), wanted, asked);
-    }
-}
-
-fn assert_html(rt: &impl Abort, alloc: Global, source: &str, html: &str) -> Result<(), Fail> {
-    assert_all(
-        rt,
-        written(alloc, source, BufWriteFormat::Html)?,
-        html,
-        source,
-    );
     Ok(())
 }
 
-fn assert_plain(rt: &impl Abort, alloc: Global, source: &str, plain: &str) -> Result<(), Fail> {
-    assert_all(
-        rt,
-        written(alloc, source, BufWriteFormat::Plain)?,
-        plain,
-        source,
-    );
-    assert_all(rt, displayed(alloc, source)?, plain, source);
+/// What `{}` and `{:#}` make of a value.
+fn assert_formatted<T: fmt::Display>(
+    rt: &impl Abort,
+    alloc: Global,
+    value: &T,
+    wanted: &str,
+) -> Result<(), Fail> {
+    let mut text = format!(in alloc; "{value}")?;
+    assert_text(rt, text.as_str(), wanted, "{}");
+    text.clear();
+    write!(text, "{value:#}")?;
+    assert_text(rt, text.as_str(), wanted, "{:#}");
+    Ok(())
+}
+
+/// What `{}`, `{:#}` and `to_string` make of the same.
+fn assert_displayed(
+    rt: &impl Abort,
+    alloc: Global,
+    source: &str,
+    wanted: &str,
+) -> Result<(), Fail> {
+    let tree = read(alloc, source)?;
+    assert_formatted(rt, alloc, &tree, wanted)?;
+    let text = tree.to_string(alloc)?;
+    assert_text(rt, text.as_str(), wanted, source);
+    if let Some(child) = tree.0.first() {
+        assert_formatted(rt, alloc, child, wanted)?;
+        let text = child.to_string(alloc)?;
+        assert_text(rt, text.as_str(), wanted, source);
+        if let ElemChild::Elem(elem) = child {
+            assert_formatted(rt, alloc, elem, wanted)?;
+            let text = elem.to_string(alloc)?;
+            assert_text(rt, text.as_str(), wanted, source);
+        }
+    }
     Ok(())
 }
 
 /// The HTML of the text `x` in a formatting.
-fn html_of(alloc: Global, formatting: Formatting) -> Result<String, Fail> {
-    let child = ElemChild::from(formatting.add_text(String::from_str(alloc, "x")?));
-    let mut wrote = String::new(alloc);
-    child.write_buf(&mut wrote, BufWriteFormat::Html)?;
-    Ok(wrote)
-}
-
 fn assert_span(
     rt: &impl Abort,
     alloc: Global,
     formatting: Formatting,
     html: &str,
 ) -> Result<(), Fail> {
-    let wrote = html_of(alloc, formatting)?;
+    let child = ElemChild::from(formatting.add_text(String::from_str(alloc, "x")?));
+    let mut wrote = String::new(alloc);
+    child.write_buf(&mut wrote, BufWriteFormat::Html)?;
     assert_text(rt, wrote.as_str(), html, "x");
     Ok(())
 }
@@ -133,7 +124,7 @@ fn declarations_in_order(rt: HostRuntime) -> Result<(), Fail> {
 }
 
 #[test]
-fn displays(rt: HostRuntime) -> Result<(), Fail> {
+fn displays_and_line_breaks_of_a_block(rt: HostRuntime) -> Result<(), Fail> {
     for (source, html) in [
         ("( A )", "A"),
         ("( A )block", "<div>A</div>"),
@@ -148,19 +139,15 @@ fn displays(rt: HostRuntime) -> Result<(), Fail> {
             "<div><a href=\"https://x.y/?a=1&b=2\"><span style=\"font-style: italic;\">x</span></a>$m$ </div>",
         ),
     ] {
-        assert_html(&rt, rt.alloc(), source, html)?;
+        assert_written(&rt, rt.alloc(), (source, BufWriteFormat::Html), html)?;
     }
-    Ok(())
-}
-
-#[test]
-fn a_block_has_line_breaks(rt: HostRuntime) -> Result<(), Fail> {
     for (source, plain) in [
         ("( A )block", "\nA\n"),
         ("( A )indent", "A"),
         (MIXED, "\nx$m$ \n"),
     ] {
-        assert_plain(&rt, rt.alloc(), source, plain)?;
+        assert_written(&rt, rt.alloc(), (source, BufWriteFormat::Plain), plain)?;
+        assert_displayed(&rt, rt.alloc(), source, plain)?;
     }
     Ok(())
 }

@@ -2,21 +2,22 @@
 
 use lit_model::{Date, Season};
 
-#[test]
-fn months_end_at_eleven_and_days_at_thirty(rt: HostRuntime) {
-    let last = Date::new(2014, Some(11), Some(30), None, false);
-    assert_eq!(rt;
-        last.map(|date| (date.year(), date.month())),
-        Some((2014, Some(11)))
-    );
-    for (month, day) in [(Some(12), None), (None, Some(31))] {
-        assert_eq!(rt; Date::new(2014, month, day, None, false), None);
-    }
+/// The year, the month, the day and the season of a date, and whether it is approximate.
+fn parts(date: &Date) -> (i32, Option<u8>, Option<u8>, Option<Season>, bool) {
+    let (month, day, season) = (date.month(), date.day(), date.season());
+    (date.year(), month, day, season, date.approximate())
 }
 
 #[test]
-fn a_season_may_stand_alone(rt: HostRuntime) {
-    let spring = Date::new(0, None, None, Some(Season::Spring), true);
-    let parts = spring.map(|date| (date.season(), date.approximate(), date.day()));
-    assert_eq!(rt; parts, Some((Some(Season::Spring), true, None)));
+fn months_end_at_eleven_and_days_at_thirty_and_a_season_may_stand_alone(rt: HostRuntime) {
+    for (given, is_date) in [
+        ((2014, Some(11), Some(30), None, false), true),
+        ((2014, Some(12), None, None, false), false),
+        ((2014, None, Some(31), None, false), false),
+        ((0, None, None, Some(Season::Spring), true), true),
+    ] {
+        let (year, month, day, season, approximate) = given;
+        let date = Date::new(year, month, day, season, approximate);
+        assert_eq!(rt; date.as_ref().map(parts), is_date.then_some(given));
+    }
 }

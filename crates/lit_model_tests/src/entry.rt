@@ -3,7 +3,7 @@
 ghost use Rattle.std.specs.Prelude.{◌≡◌, ◌↔◌, IsTrue};
 ghost use Rattle.lit_model.specs.Work.{spelled, works};
 
-use crate::samples::title;
+use crate::samples::{Shown, Work, entries};
 use lit_model::{Entry, EntryType, Memory};
 use std::alloc::Global;
 use std::process::Abort;
@@ -17,126 +17,57 @@ fn same_entry(a: &Entry, b: &Entry) -> bool
     *a == *b
 }
 
-/// An entry to be compared.
-#[derive(Clone, Copy, Debug)]
-enum Work {
-    /// A book with this title.
-    Book(&'static str),
-    /// A newspaper with the title A.
-    Newspaper,
-    /// A under B and C.
-    Beside,
-    /// A under B, which is under C.
-    Above,
+/// A book with this title, over which stand as many of those before it.
+const fn book(title: &'static str, parents: usize) -> Work {
+    ("key", EntryType::Book, Shown::Title(title), parents)
 }
 
-fn book_under(alloc: Global, text: &str, parents: Vec<Entry>) -> Result<Entry, Memory> {
-    let mut entry = Entry::new(alloc, "key", EntryType::Book)?;
-    entry.title = Some(title(alloc, text)?);
-    entry.parents = parents;
-    Ok(entry)
-}
-
-fn book(alloc: Global, text: &str) -> Result<Entry, Memory> {
-    book_under(alloc, text, Vec::new(alloc))
-}
-
-fn newspaper(alloc: Global) -> Result<Entry, Memory> {
-    let mut newspaper = book(alloc, "A")?;
-    newspaper.entry_type = EntryType::Newspaper;
-    Ok(newspaper)
-}
-
-fn one(alloc: Global, entry: Entry) -> Result<Vec<Entry>, Memory> {
-    let mut entries = Vec::new(alloc);
-    entries.push(entry)?;
-    Ok(entries)
-}
-
-fn beside(alloc: Global) -> Result<Entry, Memory> {
-    let mut parents = one(alloc, book(alloc, "B")?)?;
-    parents.push(book(alloc, "C")?)?;
-    book_under(alloc, "A", parents)
-}
-
-fn above(alloc: Global) -> Result<Entry, Memory> {
-    let c = one(alloc, book(alloc, "C")?)?;
-    let b = one(alloc, book_under(alloc, "B", c)?)?;
-    book_under(alloc, "A", b)
-}
-
-fn entry(alloc: Global, work: Work) -> Result<Entry, Memory> {
-    match work {
-        Work::Book(title) => book(alloc, title),
-        Work::Newspaper => newspaper(alloc),
-        Work::Beside => beside(alloc),
-        Work::Above => above(alloc),
-    }
-}
-
-fn two(alloc: Global, (first, second): (Work, Work)) -> Result<Vec<Entry>, Memory> {
-    let mut entries = one(alloc, entry(alloc, first)?)?;
-    entries.push(entry(alloc, second)?)?;
-    Ok(entries)
-}
-
-fn with_copy(alloc: Global, work: Work) -> Result<Vec<Entry>, Memory> {
-    let entry = entry(alloc, work)?;
-    let mut entries = one(alloc, entry.clone(alloc)?)?;
-    entries.push(entry)?;
-    Ok(entries)
-}
-
-/// Whether the two entries of a list are equal.
-fn are_same(entries: &[Entry]) -> Option<bool> {
+/// Whether the two entries of a list are equal, and the number of the second's parents.
+fn are_same(entries: &[Entry]) -> Option<(bool, usize)> {
     match entries {
-        [a, b] => Some(same_entry(a, b)),
+        [a, b] => Some((same_entry(a, b), b.parents().len())),
         _ => None,
     }
 }
 
+/// Of two works, whether they are equal; of one, whether its copy is.
 fn assert_same(
     rt: &impl Abort,
     alloc: Global,
-    works: (Work, Work),
-    wanted: bool,
+    works: &[Work],
+    wanted: (bool, usize),
 ) -> Result<(), Memory> {
-    let entries = two(alloc, works)?;
+    let mut entries = entries(alloc, works)?;
+    if let [entry] = entries.as_slice() {
+        let copy = entry.clone(alloc)?;
+        entries.push(copy)?;
+    }
     assert_eq!(rt; are_same(entries.as_slice()), Some(wanted), "of {works:?}");
     Ok(())
 }
 
 #[test]
-fn entries_of_equal_fields_are_equal(rt: HostRuntime) -> Result<(), Memory> {
-    assert_same(&rt, rt.alloc(), (Work::Book("A"), Work::Book("A")), true)
+fn entries_are_equal_by_their_titles_types_and_parents(rt: HostRuntime) -> Result<(), Memory> {
+    let alloc = rt.alloc();
+    let a = book("A", 0);
+    let newspaper = ("key", EntryType::Newspaper, Shown::Title("A"), 0);
+    let (b, c) = (book("B", 0), book("C", 0));
+    let (b_under_one, a_under_one, a_under_two) = (book("B", 1), book("A", 1), book("A", 2));
+    assert_same(&rt, alloc, &[a, a], (true, 0))?;
+    assert_same(&rt, alloc, &[a, b], (false, 0))?;
+    assert_same(&rt, alloc, &[a, newspaper], (false, 0))?;
+    let beside_and_above = [b, c, a_under_two, c, b_under_one, a_under_one];
+    assert_same(&rt, alloc, &beside_and_above, (false, 1))?;
+    assert_same(&rt, alloc, &[b, c, a_under_two, a], (false, 0))
 }
 
 #[test]
-fn entries_differ_by_their_titles_types_and_parents(rt: HostRuntime) -> Result<(), Memory> {
-    for works in [
-        (Work::Book("A"), Work::Book("B")),
-        (Work::Book("A"), Work::Newspaper),
-        (Work::Beside, Work::Above),
-        (Work::Beside, Work::Book("A")),
-    ] {
-        assert_same(&rt, rt.alloc(), works, false)?;
-    }
-    Ok(())
-}
-
-fn is_same_as_copy(alloc: Global, work: Work) -> Result<Option<bool>, Memory> {
-    let entries = with_copy(alloc, work)?;
-    Ok(are_same(entries.as_slice()))
-}
-
-#[test]
-fn entries_are_copied_with_their_parents(rt: HostRuntime) -> Result<(), Memory> {
-    for work in [Work::Book("A"), Work::Above] {
-        assert_eq!(rt;
-            is_same_as_copy(rt.alloc(), work)?,
-            Some(true),
-            "of {work:?}"
-        );
-    }
-    Ok(())
+fn copied_entries_are_equal(rt: HostRuntime) -> Result<(), Memory> {
+    let alloc = rt.alloc();
+    assert_same(&rt, alloc, &[book("A", 0)], (true, 0))?;
+    let above = [book("C", 0), book("B", 1), book("A", 1)];
+    assert_same(&rt, alloc, &above, (true, 1))?;
+    let parent = ("book", EntryType::Book, Shown::Nothing, 0);
+    let chapter = ("chapter", EntryType::Chapter, Shown::Title("Lemmas"), 1);
+    assert_same(&rt, alloc, &[parent, chapter], (true, 1))
 }

@@ -4,15 +4,13 @@
 #[cfg(test)]
 mod chunks;
 #[cfg(test)]
-mod copies;
-#[cfg(test)]
 mod date;
+#[cfg(test)]
+mod defaults;
 #[cfg(test)]
 mod entry;
 #[cfg(test)]
-mod first_names;
-#[cfg(test)]
-mod initials;
+mod given_names;
 #[cfg(test)]
 mod maybe_typed;
 #[cfg(test)]

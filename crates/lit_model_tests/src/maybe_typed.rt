@@ -23,58 +23,62 @@ fn same_pages(a: &MaybeTyped<PageRanges>, b: &MaybeTyped<PageRanges>) -> bool
     *a == *b
 }
 
+/// What a number or pages are compared with.
+#[derive(Clone, Copy)]
+enum Other {
+    Copy,
+    /// The text `7`.
+    Seven,
+}
+
 /// The text `7`.
 fn seven<T>(alloc: Global) -> Result<MaybeTyped<T>, Memory> {
     Ok(MaybeTyped::String(String::from_str(alloc, "7")?))
 }
 
-fn is_number_copied(alloc: Global) -> Result<bool, Memory> {
-    let number = MaybeTyped::Typed(Numeric::new(7));
-    let copy = number.clone(alloc)?;
-    Ok(same_number(&number, &copy))
+fn is_number(alloc: Global, number: i32, other: Other) -> Result<bool, Memory> {
+    let number = MaybeTyped::Typed(Numeric::new(number));
+    let other = match other {
+        Other::Copy => number.clone(alloc)?,
+        Other::Seven => seven(alloc)?,
+    };
+    Ok(same_number(&number, &other))
 }
 
-fn is_number_its_text(alloc: Global) -> Result<bool, Memory> {
-    let text = seven(alloc)?;
-    Ok(same_number(&MaybeTyped::Typed(Numeric::new(7)), &text))
+/// The pages that a text gives, or the text where it gives none.
+fn pages(alloc: Global, text: &str) -> Result<MaybeTyped<PageRanges>, NumericError> {
+    Ok(match PageRanges::parse(alloc, text) {
+        Ok(pages) => MaybeTyped::Typed(pages),
+        Err(_) => MaybeTyped::String(String::from_str(alloc, text)?),
+    })
 }
 
-#[test]
-fn numbers_are_copied_and_no_texts(rt: HostRuntime) -> Result<(), Memory> {
-    assert_whether(&rt, is_number_copied(rt.alloc())?, true, "a copied number");
-    assert_whether(
-        &rt,
-        is_number_its_text(rt.alloc())?,
-        false,
-        "a number and a text",
-    );
-    Ok(())
-}
-
-fn page_seven(alloc: Global) -> Result<MaybeTyped<PageRanges>, NumericError> {
-    Ok(MaybeTyped::Typed(PageRanges::parse(alloc, "7")?))
-}
-
-fn are_pages_copied(alloc: Global) -> Result<bool, NumericError> {
-    let pages = page_seven(alloc)?;
-    let copy = pages.clone(alloc)?;
-    Ok(same_pages(&pages, &copy))
-}
-
-fn are_pages_their_text(alloc: Global) -> Result<bool, NumericError> {
-    let pages = page_seven(alloc)?;
-    let text = seven(alloc)?;
-    Ok(same_pages(&pages, &text))
+fn are_pages(alloc: Global, text: &str, other: Other) -> Result<bool, NumericError> {
+    let pages = pages(alloc, text)?;
+    let other = match other {
+        Other::Copy => pages.clone(alloc)?,
+        Other::Seven => seven(alloc)?,
+    };
+    Ok(same_pages(&pages, &other))
 }
 
 #[test]
-fn pages_are_copied_and_no_texts(rt: HostRuntime) -> Result<(), NumericError> {
-    assert_whether(&rt, are_pages_copied(rt.alloc())?, true, "copied pages");
-    assert_whether(
-        &rt,
-        are_pages_their_text(rt.alloc())?,
-        false,
-        "pages and a text",
-    );
+fn numbers_and_pages_are_copied_and_no_texts(rt: HostRuntime) -> Result<(), NumericError> {
+    let alloc = rt.alloc();
+    for (number, other, wanted) in [
+        (7, Other::Copy, true),
+        (4, Other::Copy, true),
+        (7, Other::Seven, false),
+    ] {
+        let is_number = is_number(alloc, number, other)?;
+        assert_whether(&rt, is_number, wanted, "a number");
+    }
+    for (text, other, wanted) in [
+        ("7", Other::Copy, true),
+        ("iv", Other::Copy, true),
+        ("7", Other::Seven, false),
+    ] {
+        assert_whether(&rt, are_pages(alloc, text, other)?, wanted, text);
+    }
     Ok(())
 }

@@ -9,7 +9,7 @@ use lit_model::{
     GrammarGender, NumberForm, Numeric, NumericDelimiter, NumericError, NumericValue, Ordinals,
 };
 use std::alloc::Global;
-use std::fmt;
+use std::fmt::Write;
 use std::process::Abort;
 use std::test::Fail;
 
@@ -88,44 +88,39 @@ fn assert_read(
     Ok(())
 }
 
-#[test]
-fn reads_one_number(rt: HostRuntime) -> Result<(), NumericError> {
-    assert_read(&rt, rt.alloc(), " 2nd ", (Some(2), false), ("none", "nd"))
-}
-
-/// Whether what is read is this number, and whether a form may rewrite it.
-fn read_as(alloc: Global, text: &str, number: i32) -> Result<(bool, bool), NumericError> {
-    let read = Numeric::parse(alloc, text)?;
-    Ok((same(&read, &Numeric::new(number)), read.will_transform()))
-}
-
-#[test]
-fn reads_the_largest_number(rt: HostRuntime) -> Result<(), NumericError> {
-    let read = read_as(rt.alloc(), "2147483647", 2_147_483_647)?;
-    assert_eq!(rt; read, (true, true));
-    Ok(())
-}
-
-/// Whether these numbers are read, the one number, and whether a term is in the plural.
-fn read_as_several(
+/// Whether these numbers are read, and a term beside them is in the plural.
+fn is_read_as_several(
     alloc: Global,
     text: &str,
     numbers: &[(i32, Option<NumericDelimiter>)],
-) -> Result<(bool, Option<i32>, bool), NumericError> {
+) -> Result<bool, NumericError> {
     let read = Numeric::parse(alloc, text)?;
     let wanted = NumericValue::Set(numbers.to_vec(alloc)?);
-    Ok((read.value == wanted, read.value(), read.is_plural(false)))
+    Ok(read.value == wanted && read.is_plural(false))
+}
+
+/// Whether a copy is equal to what is read from a text.
+fn is_copied(alloc: Global, text: &str) -> Result<bool, NumericError> {
+    let read = Numeric::parse(alloc, text)?;
+    let copy = read.clone(alloc)?;
+    Ok(same(&copy, &read))
 }
 
 #[test]
-fn reads_several_numbers(rt: HostRuntime) -> Result<(), NumericError> {
-    let numbers = [
+fn reads_numbers(rt: HostRuntime) -> Result<(), NumericError> {
+    let alloc = rt.alloc();
+    assert_read(&rt, alloc, " 2nd ", (Some(2), false), ("none", "nd"))?;
+    let largest = (Some(2_147_483_647), true);
+    assert_read(&rt, alloc, "2147483647", largest, ("none", "none"))?;
+    assert_read(&rt, alloc, "4-6, 9", (None, true), ("none", "none"))?;
+    let several = [
         (4, Some(NumericDelimiter::Hyphen)),
         (6, Some(NumericDelimiter::Comma)),
         (9, None),
     ];
-    let read = read_as_several(rt.alloc(), "4-6, 9", &numbers)?;
-    assert_eq!(rt; read, (true, None, true));
+    let is_read = is_read_as_several(alloc, "4-6, 9", &several)?;
+    assert_whether(&rt, is_read, true, "4-6, 9");
+    assert_whether(&rt, is_copied(alloc, "n4 & 7a")?, true, "n4 & 7a");
     Ok(())
 }
 
@@ -149,136 +144,96 @@ fn refuses_what_is_no_number(rt: HostRuntime) {
 #[test]
 fn counts_are_plural_above_one(rt: HostRuntime) {
     for (number, is_number_of, wanted) in [(2, true, true), (2, false, false), (1, true, false)] {
-        assert_eq!(rt;
-            Numeric::new(number).is_plural(is_number_of),
-            wanted,
-            "of {number}"
-        );
+        let is_plural = Numeric::new(number).is_plural(is_number_of);
+        let of = if is_number_of { "a count" } else { "a number" };
+        assert_whether(&rt, is_plural, wanted, of);
     }
 }
 
-fn is_same_as_copy(alloc: Global, text: &str) -> Result<bool, NumericError> {
-    let read = Numeric::parse(alloc, text)?;
-    let copy = read.clone(alloc)?;
-    Ok(same(&copy, &read))
+/// A number to be written.
+#[derive(Clone, Copy)]
+enum Number {
+    Of(i32),
+    Read(&'static str),
 }
 
-#[test]
-fn copies_are_equal(rt: HostRuntime) -> Result<(), NumericError> {
-    assert_whether(
-        &rt,
-        is_same_as_copy(rt.alloc(), "n4 & 7a")?,
-        true,
-        "n4 & 7a",
-    );
-    Ok(())
+/// How a number is written.
+#[derive(Clone, Copy, Debug)]
+enum Way {
+    Shown,
+    Value,
+    /// With four digits, as dates are compared.
+    Sorted,
+    Form(NumberForm),
 }
 
-/// How what is read from a text is shown, and how it is written for sorting.
-fn assert_written(
+fn made(alloc: Global, number: Number) -> Result<Numeric, NumericError> {
+    match number {
+        Number::Of(value) => Ok(Numeric::new(value)),
+        Number::Read(text) => Numeric::parse(alloc, text),
+    }
+}
+
+fn written<O: Ordinals>(
+    alloc: Global,
+    number: &Numeric,
+    (way, ordinals): (Way, &O),
+) -> Result<String, Fail> {
+    let mut written = String::new(alloc);
+    match way {
+        Way::Shown => write!(written, "{number}")?,
+        Way::Value => number.fmt_value(&mut written, false)?,
+        Way::Sorted => number.fmt_value(&mut written, true)?,
+        Way::Form(form) => number.with_form(&mut written, form, None, ordinals)?,
+    }
+    Ok(written)
+}
+
+fn assert_written<O: Ordinals>(
     rt: &impl Abort,
     alloc: Global,
-    text: &str,
-    (shown, sorted): (&str, &str),
+    given: Number,
+    (way, ordinals): (Way, &O),
+    wanted: &str,
 ) -> Result<(), Fail> {
-    let number = Numeric::parse(alloc, text)?;
-    let display = format!(in alloc; "{number}")?;
-    assert_text(rt, display.as_str(), shown, text);
-    let mut value = String::new(alloc);
-    number.fmt_value(&mut value, true)?;
-    assert_text(rt, value.as_str(), sorted, text);
+    let number = made(alloc, given)?;
+    let written = written(alloc, &number, (way, ordinals))?;
+    assert_text(rt, written.as_str(), wanted, wanted);
     Ok(())
 }
 
 #[test]
 fn writes_numbers(rt: HostRuntime) -> Result<(), Fail> {
-    let wanted = ("n4-6, 9 & 12a", "0004-0006, 0009 & 0012");
-    assert_written(&rt, rt.alloc(), "n4-6 ,9& 12a", wanted)
-}
-
-#[test]
-fn writes_negative_numbers(rt: HostRuntime) -> Result<(), fmt::Error> {
-    let mut negative = String::new(rt.alloc());
-    for (number, is_sorted) in [(-3, true), (-12345, false)] {
-        Numeric::new(number).fmt_value(&mut negative, is_sorted)?;
-    }
-    assert_text(&rt, negative.as_str(), "-003-12345", "-3 and -12345");
-    Ok(())
-}
-
-fn assert_form<O: Ordinals>(
-    rt: &impl Abort,
-    alloc: Global,
-    number: &Numeric,
-    (form, ordinals): (NumberForm, &O),
-    wanted: &str,
-) -> Result<(), fmt::Error> {
-    let mut written = String::new(alloc);
-    number.with_form(&mut written, form, None, ordinals)?;
-    assert_text(rt, written.as_str(), wanted, "a form");
-    Ok(())
-}
-
-#[test]
-fn writes_roman_numerals(rt: HostRuntime) -> Result<(), fmt::Error> {
-    for (number, wanted) in [
-        (1994, "mcmxciv"),
-        (3999, "mmmcmxcix"),
-        (4, "iv"),
-        (4000, "4000"),
-        (0, "0"),
-        (-3, "-3"),
+    for (number, way, wanted) in [
+        (Number::Read("n4-6 ,9& 12a"), Way::Shown, "n4-6, 9 & 12a"),
+        (
+            Number::Read("n4-6 ,9& 12a"),
+            Way::Sorted,
+            "0004-0006, 0009 & 0012",
+        ),
+        (Number::Of(-3), Way::Sorted, "-003"),
+        (Number::Of(-12345), Way::Value, "-12345"),
+        (Number::Of(1994), Way::Form(NumberForm::Roman), "mcmxciv"),
+        (Number::Of(3999), Way::Form(NumberForm::Roman), "mmmcmxcix"),
+        (Number::Of(4), Way::Form(NumberForm::Roman), "iv"),
+        (Number::Of(4000), Way::Form(NumberForm::Roman), "4000"),
+        (Number::Of(0), Way::Form(NumberForm::Roman), "0"),
+        (Number::Of(-3), Way::Form(NumberForm::Roman), "-3"),
+        (Number::Read("2a"), Way::Form(NumberForm::Roman), "2a"),
+        (
+            Number::Read("2,32"),
+            Way::Form(NumberForm::Ordinal),
+            "2nd, 32nd",
+        ),
+        (
+            Number::Read("2,32"),
+            Way::Form(NumberForm::Numeric),
+            "2, 32",
+        ),
+        (Number::Of(-3), Way::Form(NumberForm::LongOrdinal), "-3nd"),
     ] {
-        let form = (NumberForm::Roman, &Suffix);
-        assert_form(&rt, rt.alloc(), &Numeric::new(number), form, wanted)?;
+        assert_written(&rt, rt.alloc(), number, (way, &Suffix), wanted)?;
     }
-    Ok(())
-}
-
-fn assert_parsed_form<O: Ordinals>(
-    rt: &impl Abort,
-    alloc: Global,
-    text: &str,
-    form: (NumberForm, &O),
-    wanted: &str,
-) -> Result<(), Fail> {
-    let number = Numeric::parse(alloc, text)?;
-    assert_form(rt, alloc, &number, form, wanted)?;
-    Ok(())
-}
-
-#[test]
-fn writes_ordinals(rt: HostRuntime) -> Result<(), Fail> {
-    let alloc = rt.alloc();
-    assert_parsed_form(
-        &rt,
-        alloc,
-        "2,32",
-        (NumberForm::Ordinal, &Suffix),
-        "2nd, 32nd",
-    )?;
-    assert_parsed_form(
-        &rt,
-        alloc,
-        "2,32",
-        (NumberForm::LongOrdinal, &Word),
-        "second, 32",
-    )?;
-    assert_parsed_form(&rt, alloc, "2,32", (NumberForm::Numeric, &Suffix), "2, 32")
-}
-
-#[test]
-fn writes_an_ordinal_where_there_is_no_word(rt: HostRuntime) -> Result<(), fmt::Error> {
-    let form = (NumberForm::LongOrdinal, &Suffix);
-    assert_form(&rt, rt.alloc(), &Numeric::new(-3), form, "-3nd")
-}
-
-#[test]
-fn keeps_a_number_with_a_suffix(rt: HostRuntime) -> Result<(), Fail> {
-    assert_parsed_form(&rt, rt.alloc(), "2a", (NumberForm::Roman, &Suffix), "2a")
-}
-
-#[test]
-fn a_form_is_numeric_by_default(rt: HostRuntime) {
-    assert_eq!(rt; NumberForm::default(), NumberForm::Numeric);
+    let long = (Way::Form(NumberForm::LongOrdinal), &Word);
+    assert_written(&rt, rt.alloc(), Number::Read("2,32"), long, "second, 32")
 }

@@ -35,56 +35,10 @@ fn are_range_and_page_read(alloc: Global) -> Result<bool, NumericError> {
     Ok(pages.ranges == expected)
 }
 
-#[test]
-fn reads_a_range_and_a_page(rt: HostRuntime) -> Result<(), NumericError> {
-    assert_whether(
-        &rt,
-        are_range_and_page_read(rt.alloc())?,
-        true,
-        "321-328, 7",
-    );
-    Ok(())
-}
-
-/// The number of the first page, and whether a term beside the pages is in the plural.
-fn first_and_plural(alloc: Global, text: &str) -> Result<(Option<i32>, bool), NumericError> {
-    let pages = PageRanges::parse(alloc, text)?;
-    Ok((
-        pages.first().and_then(|page| page.value()),
-        pages.is_plural(),
-    ))
-}
-
-#[test]
-fn a_range_begins_with_its_first_page(rt: HostRuntime) -> Result<(), NumericError> {
-    assert_eq!(rt;
-        first_and_plural(rt.alloc(), "321-328, 7")?,
-        (Some(321), true)
-    );
-    Ok(())
-}
-
-#[test]
-fn one_page_is_not_plural(rt: HostRuntime) -> Result<(), NumericError> {
-    assert_eq!(rt; first_and_plural(rt.alloc(), "7")?.1, false);
-    Ok(())
-}
-
 fn is_same_as_copy(alloc: Global, text: &str) -> Result<bool, NumericError> {
     let pages = PageRanges::parse(alloc, text)?;
     let copy = pages.clone(alloc)?;
     Ok(same(&copy, &pages))
-}
-
-#[test]
-fn copies_are_equal(rt: HostRuntime) -> Result<(), NumericError> {
-    assert_whether(
-        &rt,
-        is_same_as_copy(rt.alloc(), "321-328, 7")?,
-        true,
-        "321-328, 7",
-    );
-    Ok(())
 }
 
 fn are_read_alike(alloc: Global, text: &str, other: &str) -> Result<bool, NumericError> {
@@ -94,13 +48,16 @@ fn are_read_alike(alloc: Global, text: &str, other: &str) -> Result<bool, Numeri
 }
 
 #[test]
-fn marks_may_be_dashes_with_space(rt: HostRuntime) -> Result<(), NumericError> {
-    assert_whether(
-        &rt,
-        are_read_alike(rt.alloc(), " A1 – A3 ", "A1-A3")?,
-        true,
-        "A1-A3",
-    );
+fn reads_pages(rt: HostRuntime) -> Result<(), NumericError> {
+    let alloc = rt.alloc();
+    let spaced = " A1 – A3 ";
+    for (is_read, text) in [
+        (are_range_and_page_read(alloc)?, "321-328, 7"),
+        (is_same_as_copy(alloc, "321-328, 7")?, "a copy"),
+        (are_read_alike(alloc, spaced, "A1-A3")?, spaced),
+    ] {
+        assert_whether(&rt, is_read, true, text);
+    }
     Ok(())
 }
 
@@ -112,30 +69,47 @@ fn refuses_what_is_no_page(rt: HostRuntime) {
     }
 }
 
-/// The number of the page that stands after a comma.
-fn first_after_comma(alloc: Global) -> Result<Option<i32>, NumericError> {
+/// What a text gives, or a comma before page 9.
+fn pages(alloc: Global, text: &str) -> Result<PageRanges, NumericError> {
+    if text != ", 9" {
+        return PageRanges::parse(alloc, text);
+    }
     let ranges = vec![in alloc;
         PageRangesPart::Comma,
         PageRangesPart::SinglePage(Numeric::new(9)),
     ]?;
-    let pages = PageRanges { ranges };
-    Ok(pages.first().and_then(|page| page.value()))
+    Ok(PageRanges { ranges })
 }
 
-#[test]
-fn first_skips_separators(rt: HostRuntime) -> Result<(), NumericError> {
-    assert_eq!(rt; first_after_comma(rt.alloc())?, Some(9));
-    Ok(())
-}
-
-fn assert_shown(rt: &impl Abort, alloc: Global, text: &str, wanted: &str) -> Result<(), Fail> {
-    let pages = PageRanges::parse(alloc, text)?;
+/// The number of the first page, whether a term beside the pages is in the plural, and how they
+/// are shown.
+fn assert_pages(
+    rt: &impl Abort,
+    alloc: Global,
+    text: &str,
+    (first, is_plural, wanted): (i32, bool, &str),
+) -> Result<(), Fail> {
+    let pages = pages(alloc, text)?;
+    let number = pages.first().and_then(|page| page.value());
+    assert_eq!(rt;
+        (number, pages.is_plural()),
+        (Some(first), is_plural),
+        "of {text}"
+    );
     let shown = format!(in alloc; "{pages}")?;
     assert_text(rt, shown.as_str(), wanted, text);
     Ok(())
 }
 
 #[test]
-fn writes_pages(rt: HostRuntime) -> Result<(), Fail> {
-    assert_shown(&rt, rt.alloc(), "321–328 ,7& A9", "321-328, 7 & A9")
+fn pages_have_a_first_and_are_written(rt: HostRuntime) -> Result<(), Fail> {
+    for (text, first, is_plural, shown) in [
+        ("321-328, 7", 321, true, "321-328, 7"),
+        ("7", 7, false, "7"),
+        (", 9", 9, true, ", 9"),
+        ("321–328 ,7& A9", 321, true, "321-328, 7 & A9"),
+    ] {
+        assert_pages(&rt, rt.alloc(), text, (first, is_plural, shown))?;
+    }
+    Ok(())
 }

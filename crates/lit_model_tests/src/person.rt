@@ -37,48 +37,51 @@ fn same_group(a: &PersonsWithRoles, b: &PersonsWithRoles) -> bool
     *a == *b
 }
 
-fn assert_particle(
-    rt: &impl Abort,
-    alloc: Global,
-    name: &str,
-    (particle, rest): (Option<&str>, &str),
-) -> Result<(), Memory> {
-    let person = person(alloc, name, None)?;
-    assert_eq!(rt; person.name_particle(), particle, "of {name}");
-    assert_text(rt, person.name_without_particle(), rest, name);
-    Ok(())
+/// What is asked of a person's name; there is no particle where the answer is `none`.
+#[derive(Clone, Copy)]
+enum Asked {
+    Particle,
+    WithoutParticle,
+    WithoutArticle,
 }
 
-#[test]
-fn particles(rt: HostRuntime) -> Result<(), Memory> {
-    for (name, particle, rest) in [
-        ("van der Berg", Some("van der"), "Berg"),
-        ("van Gogh", Some("van"), "Gogh"),
-        ("della", None, "della"),
-        ("Berg van", None, "Berg van"),
-        ("van  Gogh", Some("van"), " Gogh"),
-        ("van ", Some("van"), ""),
-        ("\u{e9}cole de Paris", Some("\u{e9}cole de"), "Paris"),
-        ("", None, ""),
-    ] {
-        assert_particle(&rt, rt.alloc(), name, (particle, rest))?;
+fn part(person: &Person, asked: Asked) -> &str {
+    match asked {
+        Asked::Particle => match person.name_particle() {
+            Some(particle) => particle,
+            None => "none",
+        },
+        Asked::WithoutParticle => person.name_without_particle(),
+        Asked::WithoutArticle => person.name_without_article(),
     }
-    Ok(())
 }
 
-fn assert_without_article(
+fn assert_part(
     rt: &impl Abort,
     alloc: Global,
-    name: &str,
-    rest: &str,
+    (asked, name): (Asked, &str),
+    wanted: &str,
 ) -> Result<(), Memory> {
     let person = person(alloc, name, None)?;
-    assert_text(rt, person.name_without_article(), rest, name);
+    assert_text(rt, part(&person, asked), wanted, name);
     Ok(())
 }
 
 #[test]
-fn articles(rt: HostRuntime) -> Result<(), Memory> {
+fn particles_and_articles(rt: HostRuntime) -> Result<(), Memory> {
+    for (name, particle, rest) in [
+        ("van der Berg", "van der", "Berg"),
+        ("van Gogh", "van", "Gogh"),
+        ("della", "none", "della"),
+        ("Berg van", "none", "Berg van"),
+        ("van  Gogh", "van", " Gogh"),
+        ("van ", "van", ""),
+        ("\u{e9}cole de Paris", "\u{e9}cole de", "Paris"),
+        ("", "none", ""),
+    ] {
+        assert_part(&rt, rt.alloc(), (Asked::Particle, name), particle)?;
+        assert_part(&rt, rt.alloc(), (Asked::WithoutParticle, name), rest)?;
+    }
     for (name, rest) in [
         ("The Times", "Times"),
         ("The ", "The "),
@@ -88,56 +91,42 @@ fn articles(rt: HostRuntime) -> Result<(), Memory> {
         ("Anarchy", "Anarchy"),
         ("THE TIMES", "THE TIMES"),
     ] {
-        assert_without_article(&rt, rt.alloc(), name, rest)?;
+        assert_part(&rt, rt.alloc(), (Asked::WithoutArticle, name), rest)?;
     }
     Ok(())
 }
 
-fn is_cjk(alloc: Global, name: &str, given: &str) -> Result<bool, Memory> {
-    let person = person(alloc, name, Some(given))?;
-    Ok(person.is_cjk())
+/// Whether a person's name is Chinese, Japanese or Korean, and whether it is an institution's.
+fn is_cjk_or_institutional(
+    alloc: Global,
+    name: &str,
+    given: Option<&str>,
+) -> Result<(bool, bool), Memory> {
+    let person = person(alloc, name, given)?;
+    Ok((person.is_cjk(), person.is_institutional()))
 }
 
 #[test]
-fn scripts(rt: HostRuntime) -> Result<(), Memory> {
-    for (name, given, wanted) in [
-        ("\u{5c71}\u{7530}", "\u{592a}\u{90ce}", true),
-        ("\u{3084}\u{307e}\u{3060}", "", true),
-        ("\u{ae40}", "\u{bbfc} 2", true),
-        ("\u{30de}\u{30fc}\u{30af}", "\u{4e00}\u{90ce}", false),
-        ("\u{5c71}", "Taro", false),
-        ("12", "", false),
-        ("Gogh", "Vincent", false),
+fn scripts_and_institutions(rt: HostRuntime) -> Result<(), Memory> {
+    for (name, given, is_cjk, is_institutional) in [
+        ("\u{5c71}\u{7530}", Some("\u{592a}\u{90ce}"), true, false),
+        ("\u{3084}\u{307e}\u{3060}", Some(""), true, false),
+        ("\u{ae40}", Some("\u{bbfc} 2"), true, false),
+        (
+            "\u{30de}\u{30fc}\u{30af}",
+            Some("\u{4e00}\u{90ce}"),
+            false,
+            false,
+        ),
+        ("\u{5c71}", Some("Taro"), false, false),
+        ("12", Some(""), false, false),
+        ("Gogh", Some("Vincent"), false, false),
+        ("The Times", None, false, true),
+        ("The Times", Some(""), false, false),
     ] {
-        assert_whether(&rt, is_cjk(rt.alloc(), name, given)?, wanted, name);
+        let answer = is_cjk_or_institutional(rt.alloc(), name, given)?;
+        assert_eq!(rt; answer, (is_cjk, is_institutional), "of {name}");
     }
-    Ok(())
-}
-
-fn is_institutional(alloc: Global, given: Option<&str>) -> Result<bool, Memory> {
-    let times = person(alloc, "The Times", given)?;
-    Ok(times.is_institutional())
-}
-
-#[test]
-fn a_single_name_is_institutional(rt: HostRuntime) -> Result<(), Memory> {
-    assert_whether(
-        &rt,
-        is_institutional(rt.alloc(), None)?,
-        true,
-        "no given name",
-    );
-    Ok(())
-}
-
-#[test]
-fn an_empty_given_name_is_one(rt: HostRuntime) -> Result<(), Memory> {
-    assert_whether(
-        &rt,
-        is_institutional(rt.alloc(), Some(""))?,
-        false,
-        "an empty given name",
-    );
     Ok(())
 }
 
@@ -156,40 +145,15 @@ fn group(alloc: Global) -> Result<PersonsWithRoles, Memory> {
     Ok(PersonsWithRoles { names, role })
 }
 
-/// Whether a copy is equal to the group, which then loses its names or does not.
-fn is_group_its_copy(alloc: Global, loses_names: bool) -> Result<bool, Memory> {
+/// Whether a copy is equal to the group, which then loses its names or does not, and whether the
+/// copy's role is that of a writer.
+fn is_group_its_copy(alloc: Global, loses_names: bool) -> Result<(bool, bool), Memory> {
     let mut group = group(alloc)?;
     let copy = group.clone(alloc)?;
     if loses_names {
         group.names = Vec::new(alloc);
     }
-    Ok(same_group(&copy, &group))
-}
-
-#[test]
-fn groups_are_equal_by_their_names(rt: HostRuntime) -> Result<(), Memory> {
-    for (loses_names, wanted) in [(false, true), (true, false)] {
-        let is_same = is_group_its_copy(rt.alloc(), loses_names)?;
-        assert_whether(&rt, is_same, wanted, "a group and its copy");
-    }
-    Ok(())
-}
-
-/// Whether the role of a copied group is that of a writer.
-fn is_copied_role_writer(alloc: Global) -> Result<bool, Memory> {
-    let copy = group(alloc)?.clone(alloc)?;
-    Ok(copy.role == PersonRole::Writer)
-}
-
-#[test]
-fn groups_are_copied_with_their_role(rt: HostRuntime) -> Result<(), Memory> {
-    assert_whether(
-        &rt,
-        is_copied_role_writer(rt.alloc())?,
-        false,
-        "the role of a copy",
-    );
-    Ok(())
+    Ok((same_group(&copy, &group), copy.role == PersonRole::Writer))
 }
 
 /// Whether a person is equal to a copy, which then loses the given name or does not.
@@ -202,39 +166,25 @@ fn is_person_its_copy(alloc: Global, loses_given_name: bool) -> Result<bool, Mem
     Ok(same_person(&gogh, &copy))
 }
 
-#[test]
-fn persons_are_equal_by_their_texts(rt: HostRuntime) -> Result<(), Memory> {
-    for (loses_given_name, wanted) in [(false, true), (true, false)] {
-        let is_same = is_person_its_copy(rt.alloc(), loses_given_name)?;
-        assert_whether(&rt, is_same, wanted, "a person and a copy");
-    }
-    Ok(())
-}
-
-fn is_role_its_copy(alloc: Global) -> Result<bool, Memory> {
+/// Whether a muse is equal to a copy, and to a writer.
+fn is_muse_copy_or_writer(alloc: Global) -> Result<(bool, bool), Memory> {
     let role = muse(alloc)?;
     let copy = role.clone(alloc)?;
-    Ok(same_role(&role, &copy))
-}
-
-fn is_muse_writer(alloc: Global) -> Result<bool, Memory> {
-    let role = muse(alloc)?;
-    Ok(same_role(&role, &PersonRole::Writer))
+    Ok((
+        same_role(&role, &copy),
+        same_role(&role, &PersonRole::Writer),
+    ))
 }
 
 #[test]
-fn roles_are_equal_by_their_texts(rt: HostRuntime) -> Result<(), Memory> {
-    assert_whether(
-        &rt,
-        is_role_its_copy(rt.alloc())?,
-        true,
-        "a role and its copy",
-    );
-    assert_whether(
-        &rt,
-        is_muse_writer(rt.alloc())?,
-        false,
-        "a muse and a writer",
-    );
+fn persons_groups_and_roles_are_equal_by_their_texts(rt: HostRuntime) -> Result<(), Memory> {
+    for (loses, wanted) in [(false, true), (true, false)] {
+        let group = is_group_its_copy(rt.alloc(), loses)?;
+        assert_eq!(rt; group, (wanted, false), "of a group and its copy");
+        let person = is_person_its_copy(rt.alloc(), loses)?;
+        assert_whether(&rt, person, wanted, "a person and a copy");
+    }
+    let muse = is_muse_copy_or_writer(rt.alloc())?;
+    assert_eq!(rt; muse, (true, false), "of a muse");
     Ok(())
 }

@@ -1,6 +1,8 @@
 //! What the tests are made of, and how an answer is compared.
 
-use lit_model::{ChunkKind, ChunkedString, FormatString, Memory, Person, StringChunk};
+use lit_model::{
+    ChunkKind, ChunkedString, Date, Entry, EntryType, FormatString, Memory, Person, StringChunk,
+};
 use std::alloc::Global;
 use std::process::Abort;
 
@@ -20,22 +22,71 @@ pub fn person(alloc: Global, name: &str, given: Option<&str>) -> Result<Person, 
     })
 }
 
-/// A text in one chunk.
-pub fn text(alloc: Global, value: &str, kind: ChunkKind) -> Result<ChunkedString, Memory> {
-    let mut chunks = Vec::new(alloc);
-    chunks.push(StringChunk {
+/// A part of a text.
+pub fn chunk(alloc: Global, value: &str, kind: ChunkKind) -> Result<StringChunk, Memory> {
+    Ok(StringChunk {
         value: String::from_str(alloc, value)?,
         kind,
-    })?;
+    })
+}
+
+/// A text in one chunk, or in none where it is empty.
+pub fn text(alloc: Global, value: &str, kind: ChunkKind) -> Result<ChunkedString, Memory> {
+    let mut chunks = Vec::new(alloc);
+    if !value.is_empty() {
+        chunks.push(chunk(alloc, value, kind)?)?;
+    }
     Ok(ChunkedString(chunks))
 }
 
-/// A text in one chunk, with no short form.
-pub fn title(alloc: Global, value: &str) -> Result<FormatString, Memory> {
-    Ok(FormatString {
-        value: text(alloc, value, ChunkKind::Normal)?,
-        short: None,
-    })
+/// What a work shows beside its key and its type.
+#[derive(Clone, Copy, Debug)]
+pub enum Shown {
+    Nothing,
+    Title(&'static str),
+    Year(i32),
+}
+
+/// A work: its key, its type, what it shows, and how many of those before it are its parents.
+pub type Work = (&'static str, EntryType, Shown, usize);
+
+fn title_of(alloc: Global, shown: Shown) -> Result<Option<FormatString>, Memory> {
+    let Shown::Title(title) = shown else {
+        return Ok(None);
+    };
+    let value = text(alloc, title, ChunkKind::Normal)?;
+    Ok(Some(FormatString { value, short: None }))
+}
+
+fn date_of(shown: Shown) -> Option<Date> {
+    match shown {
+        Shown::Year(year) => Date::new(year, None, None, None, false),
+        _ => None,
+    }
+}
+
+fn entry(
+    alloc: Global,
+    (key, kind, shown): (&str, EntryType, Shown),
+    parents: Vec<Entry>,
+) -> Result<Entry, Memory> {
+    let title = title_of(alloc, shown)?;
+    let mut entry = Entry::new(alloc, key, kind)?;
+    entry.title = title;
+    entry.date = date_of(shown);
+    entry.parents = parents;
+    Ok(entry)
+}
+
+/// The works that are no other's parents, each with its own above it.
+pub fn entries(alloc: Global, works: &[Work]) -> Result<Vec<Entry>, Memory> {
+    let mut entries = Vec::new(alloc);
+    for (key, kind, shown, parents) in works {
+        let first = entries.len().saturating_sub(*parents);
+        let parents = entries.split_off(first)?;
+        entries.push(entry(alloc, (key, *kind, *shown), parents)?)?;
+    }
+    Ok(entries)
 }
 
 /// The answer is this text.

@@ -1,33 +1,10 @@
 //! What is selected of a work and its parents.
 
-use crate::samples::person;
+use crate::samples::{Shown, Work, assert_text, entries, person};
 use lit_model::select::{audio_video, chapter, event, part, volume_title};
-use lit_model::{
-    Bind, ChunkedString, Clause, Date, Entry, EntryType, Field, FormatString, Memory, Person,
-    PersonRole, PersonsWithRoles,
-};
+use lit_model::{Bind, Clause, Entry, EntryType, Field, Memory, PersonRole, PersonsWithRoles};
 use std::alloc::Global;
 use std::process::Abort;
-
-/// A work to be asked.
-#[derive(Clone, Copy, Debug)]
-enum Work {
-    /// A work of the first type with the key `child`, under one of the second with the key
-    /// `parent`.
-    Child(EntryType, EntryType),
-    /// An article in a journal, which stands in a series, which stands in a reference work.
-    Article,
-    /// A chapter without a title, in a scene without one, in a video.
-    Chapter,
-    /// The same with an empty title.
-    TitledChapter,
-    /// A chapter with no parent.
-    Alone,
-    /// A book under a book and two originals.
-    Translation,
-    /// The same with a date.
-    DatedTranslation,
-}
 
 /// What a work is asked for.
 #[derive(Clone, Copy, Debug)]
@@ -45,76 +22,47 @@ enum Asked {
     Dated,
 }
 
-fn lone(alloc: Global, key: &str, kind: EntryType) -> Result<Entry, Memory> {
-    Entry::new(alloc, key, kind)
-}
+/// An article in a journal, which stands in a series, which stands in a reference work.
+static ARTICLE: [Work; 5] = [
+    ("reference", EntryType::Reference, Shown::Year(2001), 0),
+    ("series", EntryType::Book, Shown::Nothing, 1),
+    ("journal", EntryType::Periodical, Shown::Nothing, 1),
+    ("blog", EntryType::Blog, Shown::Year(2002), 0),
+    ("article", EntryType::Article, Shown::Nothing, 2),
+];
 
-fn entry(alloc: Global, key: &str, kind: EntryType, parents: Vec<Entry>) -> Result<Entry, Memory> {
-    let mut entry = Entry::new(alloc, key, kind)?;
-    entry.parents = parents;
-    Ok(entry)
-}
+/// A chapter without a title, in a scene without one, in a video.
+static CHAPTER: [Work; 3] = [
+    ("video", EntryType::Video, Shown::Nothing, 0),
+    ("scene", EntryType::Scene, Shown::Nothing, 1),
+    ("chapter", EntryType::Chapter, Shown::Nothing, 1),
+];
 
-fn under(alloc: Global, key: &str, kind: EntryType, parent: Entry) -> Result<Entry, Memory> {
-    let mut parents = Vec::new(alloc);
-    parents.push(parent)?;
-    entry(alloc, key, kind, parents)
-}
+/// The same with an empty title.
+static TITLED_CHAPTER: [Work; 3] = [
+    ("video", EntryType::Video, Shown::Nothing, 0),
+    ("scene", EntryType::Scene, Shown::Nothing, 1),
+    ("chapter", EntryType::Chapter, Shown::Title(""), 1),
+];
 
-fn with_date(alloc: Global, key: &str, kind: EntryType, year: i32) -> Result<Entry, Memory> {
-    let mut entry = lone(alloc, key, kind)?;
-    entry.date = Date::new(year, None, None, None, false);
-    Ok(entry)
-}
+/// A chapter with no parent.
+static ALONE: [Work; 1] = [("alone", EntryType::Chapter, Shown::Nothing, 0)];
 
-fn series(alloc: Global) -> Result<Entry, Memory> {
-    let reference = with_date(alloc, "reference", EntryType::Reference, 2001)?;
-    under(alloc, "series", EntryType::Book, reference)
-}
+/// A book under a book and two originals.
+static TRANSLATION: [Work; 4] = [
+    ("book", EntryType::Book, Shown::Nothing, 0),
+    ("original", EntryType::Original, Shown::Nothing, 0),
+    ("another", EntryType::Original, Shown::Nothing, 0),
+    ("work", EntryType::Book, Shown::Nothing, 3),
+];
 
-fn article(alloc: Global) -> Result<Entry, Memory> {
-    let mut parents = Vec::new(alloc);
-    parents.push(under(alloc, "journal", EntryType::Periodical, series(alloc)?)?)?;
-    parents.push(with_date(alloc, "blog", EntryType::Blog, 2002)?)?;
-    entry(alloc, "article", EntryType::Article, parents)
-}
-
-fn chapter_of_a_video(alloc: Global, title: Option<FormatString>) -> Result<Entry, Memory> {
-    let video = lone(alloc, "video", EntryType::Video)?;
-    let scene = under(alloc, "scene", EntryType::Scene, video)?;
-    let mut chapter = under(alloc, "chapter", EntryType::Chapter, scene)?;
-    chapter.title = title;
-    Ok(chapter)
-}
-
-fn empty_title(alloc: Global) -> Option<FormatString> {
-    let value = ChunkedString(Vec::new(alloc));
-    Some(FormatString { value, short: None })
-}
-
-fn translation(alloc: Global, date: Option<Date>) -> Result<Entry, Memory> {
-    let mut parents = Vec::new(alloc);
-    parents.push(lone(alloc, "book", EntryType::Book)?)?;
-    parents.push(lone(alloc, "original", EntryType::Original)?)?;
-    parents.push(lone(alloc, "another", EntryType::Original)?)?;
-    let mut work = entry(alloc, "work", EntryType::Book, parents)?;
-    work.date = date;
-    Ok(work)
-}
-
-fn entry_of(alloc: Global, work: Work) -> Result<Entry, Memory> {
-    match work {
-        Work::Child(child, parent) => {
-            under(alloc, "child", child, lone(alloc, "parent", parent)?)
-        }
-        Work::Article => article(alloc),
-        Work::Chapter => chapter_of_a_video(alloc, None),
-        Work::TitledChapter => chapter_of_a_video(alloc, empty_title(alloc)),
-        Work::Alone => lone(alloc, "alone", EntryType::Chapter),
-        Work::Translation => translation(alloc, None),
-        Work::DatedTranslation => translation(alloc, Date::new(2014, None, None, None, false)),
-    }
-}
+/// The same with a date.
+static DATED_TRANSLATION: [Work; 4] = [
+    ("book", EntryType::Book, Shown::Nothing, 0),
+    ("original", EntryType::Original, Shown::Nothing, 0),
+    ("another", EntryType::Original, Shown::Nothing, 0),
+    ("work", EntryType::Book, Shown::Year(2014), 3),
+];
 
 static DATED: [Clause<'static>; 1] = [Clause {
     own: &[EntryType::Book],
@@ -161,43 +109,52 @@ fn key_of(entry: Option<&Entry>) -> &str {
 fn assert_found(
     rt: &impl Abort,
     alloc: Global,
-    (work, asked): (Work, Asked),
+    (works, asked): (&[Work], Asked),
     wanted: &str,
 ) -> Result<(), Memory> {
-    let entry = entry_of(alloc, work)?;
-    let (found, is_some) = answer(&entry, asked);
+    let entries = entries(alloc, works)?;
+    let Some(entry) = entries.as_slice().first() else {
+        return Ok(());
+    };
+    let (found, is_some) = answer(entry, asked);
     let wanted = (wanted, wanted != "none");
-    assert_eq!(rt; (key_of(found), is_some), wanted, "{asked:?} of {work:?}");
+    assert_eq!(rt; (key_of(found), is_some), wanted, "{asked:?} of {works:?}");
     Ok(())
-}
-
-/// The year of `date_any`, and whether `url_any` answers an address.
-fn date_and_url(alloc: Global, work: Work) -> Result<(Option<i32>, bool), Memory> {
-    let entry = entry_of(alloc, work)?;
-    Ok((
-        entry.date_any().map(|date| date.year()),
-        entry.url_any().is_some(),
-    ))
 }
 
 #[test]
-fn selections_of_a_family(rt: HostRuntime) -> Result<(), Memory> {
-    // The date of the parent's parent's parent comes before that of the second parent.
-    assert_eq!(rt;
-        date_and_url(rt.alloc(), Work::Article)?,
-        (Some(2001), false)
-    );
-    for (asked, wanted) in [
-        (Asked::Container, "journal"),
-        (Asked::Collection, "series"),
-        (Asked::Full, "article"),
-        (Asked::Original, "none"),
-        (Asked::Part, "article"),
-        (Asked::Chapter, "none"),
+fn selections_of_families(rt: HostRuntime) -> Result<(), Memory> {
+    for (works, asked, wanted) in [
+        (ARTICLE.as_slice(), Asked::Container, "journal"),
+        (&ARTICLE, Asked::Collection, "series"),
+        (&ARTICLE, Asked::Full, "article"),
+        (&ARTICLE, Asked::Original, "none"),
+        (&ARTICLE, Asked::Part, "article"),
+        (&ARTICLE, Asked::Chapter, "none"),
+        (&CHAPTER, Asked::Full, "video"),
+        (&TITLED_CHAPTER, Asked::Full, "chapter"),
+        (&ALONE, Asked::Full, "alone"),
+        (&TRANSLATION, Asked::Original, "original"),
+        (&TRANSLATION, Asked::Dated, "none"),
+        (&DATED_TRANSLATION, Asked::Dated, "book"),
     ] {
-        assert_found(&rt, rt.alloc(), (Work::Article, asked), wanted)?;
+        assert_found(&rt, rt.alloc(), (works, asked), wanted)?;
     }
     Ok(())
+}
+
+/// What is found of a work of the first type under one of the second.
+fn assert_bound(
+    rt: &impl Abort,
+    alloc: Global,
+    (asked, child, parent): (Asked, EntryType, EntryType),
+    wanted: &str,
+) -> Result<(), Memory> {
+    let works = [
+        ("parent", parent, Shown::Nothing, 0),
+        ("child", child, Shown::Nothing, 1),
+    ];
+    assert_found(rt, alloc, (&works, asked), wanted)
 }
 
 #[test]
@@ -213,107 +170,107 @@ fn containers(rt: HostRuntime) -> Result<(), Memory> {
         (EntryType::Book, EntryType::Anthology, "none", "parent"),
         (EntryType::Report, EntryType::Report, "none", "none"),
     ] {
-        let work = Work::Child(child, parent);
-        assert_found(&rt, rt.alloc(), (work, Asked::Container), container)?;
-        assert_found(&rt, rt.alloc(), (work, Asked::Collection), collection)?;
-    }
-    Ok(())
-}
-
-/// What is found for a work of the first type under one of the second.
-fn assert_all_found(
-    rt: &impl Abort,
-    alloc: Global,
-    asked: Asked,
-    rows: &[(EntryType, EntryType, &str)],
-) -> Result<(), Memory> {
-    for (child, parent, wanted) in rows {
-        assert_found(rt, alloc, (Work::Child(*child, *parent), asked), wanted)?;
+        let alloc = rt.alloc();
+        assert_bound(&rt, alloc, (Asked::Container, child, parent), container)?;
+        assert_bound(&rt, alloc, (Asked::Collection, child, parent), collection)?;
     }
     Ok(())
 }
 
 #[test]
-fn events(rt: HostRuntime) -> Result<(), Memory> {
-    let rows = [
-        (EntryType::Performance, EntryType::Exhibition, "parent"),
-        (EntryType::Article, EntryType::Conference, "parent"),
-        (EntryType::Article, EntryType::Book, "none"),
-    ];
-    assert_all_found(&rt, rt.alloc(), Asked::Event, &rows)
-}
-
-#[test]
-fn chapters(rt: HostRuntime) -> Result<(), Memory> {
-    let rows = [
-        (EntryType::Anthos, EntryType::Anthology, "child"),
-        (EntryType::Article, EntryType::Proceedings, "child"),
-        (EntryType::Chapter, EntryType::Proceedings, "none"),
-        (EntryType::Chapter, EntryType::Book, "child"),
-    ];
-    assert_all_found(&rt, rt.alloc(), Asked::Chapter, &rows)
-}
-
-#[test]
-fn parts(rt: HostRuntime) -> Result<(), Memory> {
-    let rows = [
-        (EntryType::Case, EntryType::Legislation, "child"),
-        (EntryType::Case, EntryType::Report, "none"),
-    ];
-    assert_all_found(&rt, rt.alloc(), Asked::Part, &rows)
-}
-
-#[test]
-fn volume_titles(rt: HostRuntime) -> Result<(), Memory> {
-    let rows = [
-        (EntryType::Article, EntryType::Proceedings, "parent"),
-        (EntryType::Entry, EntryType::Misc, "parent"),
-        (EntryType::Chapter, EntryType::Book, "none"),
-    ];
-    assert_all_found(&rt, rt.alloc(), Asked::VolumeTitle, &rows)
-}
-
-#[test]
-fn recordings(rt: HostRuntime) -> Result<(), Memory> {
-    let rows = [
-        (EntryType::Scene, EntryType::Video, "parent"),
-        (EntryType::Audio, EntryType::Book, "child"),
-        (EntryType::Book, EntryType::Book, "none"),
-    ];
-    assert_all_found(&rt, rt.alloc(), Asked::AudioVideo, &rows)
-}
-
-#[test]
-fn a_part_without_a_title_leads_to_its_whole(rt: HostRuntime) -> Result<(), Memory> {
-    for (work, wanted) in [
-        (Work::Chapter, "video"),
-        (Work::TitledChapter, "chapter"),
-        (Work::Alone, "alone"),
+fn what_clauses_bind(rt: HostRuntime) -> Result<(), Memory> {
+    for (asked, child, parent, wanted) in [
+        (
+            Asked::Event,
+            EntryType::Performance,
+            EntryType::Exhibition,
+            "parent",
+        ),
+        (
+            Asked::Event,
+            EntryType::Article,
+            EntryType::Conference,
+            "parent",
+        ),
+        (Asked::Event, EntryType::Article, EntryType::Book, "none"),
+        (
+            Asked::Chapter,
+            EntryType::Anthos,
+            EntryType::Anthology,
+            "child",
+        ),
+        (
+            Asked::Chapter,
+            EntryType::Article,
+            EntryType::Proceedings,
+            "child",
+        ),
+        (
+            Asked::Chapter,
+            EntryType::Chapter,
+            EntryType::Proceedings,
+            "none",
+        ),
+        (Asked::Chapter, EntryType::Chapter, EntryType::Book, "child"),
+        (
+            Asked::Part,
+            EntryType::Case,
+            EntryType::Legislation,
+            "child",
+        ),
+        (Asked::Part, EntryType::Case, EntryType::Report, "none"),
+        (
+            Asked::VolumeTitle,
+            EntryType::Article,
+            EntryType::Proceedings,
+            "parent",
+        ),
+        (
+            Asked::VolumeTitle,
+            EntryType::Entry,
+            EntryType::Misc,
+            "parent",
+        ),
+        (
+            Asked::VolumeTitle,
+            EntryType::Chapter,
+            EntryType::Book,
+            "none",
+        ),
+        (
+            Asked::AudioVideo,
+            EntryType::Scene,
+            EntryType::Video,
+            "parent",
+        ),
+        (
+            Asked::AudioVideo,
+            EntryType::Audio,
+            EntryType::Book,
+            "child",
+        ),
+        (Asked::AudioVideo, EntryType::Book, EntryType::Book, "none"),
     ] {
-        assert_found(&rt, rt.alloc(), (work, Asked::Full), wanted)?;
+        assert_bound(&rt, rt.alloc(), (asked, child, parent), wanted)?;
     }
     Ok(())
 }
 
-#[test]
-fn a_clause_binds_the_first_parent_that_fits(rt: HostRuntime) -> Result<(), Memory> {
-    assert_found(
-        &rt,
-        rt.alloc(),
-        (Work::Translation, Asked::Original),
-        "original",
-    )
+/// The year of `date_any`, whether `url_any` answers an address, and how many works there are.
+fn date_and_url(alloc: Global, works: &[Work]) -> Result<(Option<i32>, bool, usize), Memory> {
+    let entries = entries(alloc, works)?;
+    let first = entries.as_slice().first();
+    let date = first.and_then(|entry| entry.date_any());
+    let url = first.and_then(|entry| entry.url_any());
+    Ok((date.map(|date| date.year()), url.is_some(), entries.len()))
 }
 
 #[test]
-fn a_clause_asks_for_fields(rt: HostRuntime) -> Result<(), Memory> {
-    assert_found(&rt, rt.alloc(), (Work::Translation, Asked::Dated), "none")?;
-    assert_found(
-        &rt,
-        rt.alloc(),
-        (Work::DatedTranslation, Asked::Dated),
-        "book",
-    )
+fn the_first_date_of_a_family(rt: HostRuntime) -> Result<(), Memory> {
+    // The date of the parent's parent's parent comes before that of the second parent.
+    let answer = date_and_url(rt.alloc(), &ARTICLE)?;
+    assert_eq!(rt; answer, (Some(2001), false, 1));
+    Ok(())
 }
 
 fn group(alloc: Global, name: &str, role: PersonRole) -> Result<PersonsWithRoles, Memory> {
@@ -331,23 +288,25 @@ fn crew(alloc: Global) -> Result<Vec<PersonsWithRoles>, Memory> {
 }
 
 fn film(alloc: Global) -> Result<Entry, Memory> {
-    let mut film = lone(alloc, "film", EntryType::Video)?;
-    film.affiliated = Some(crew(alloc)?);
+    let crew = crew(alloc)?;
+    let mut film = Entry::new(alloc, "film", EntryType::Video)?;
+    film.affiliated = Some(crew);
     Ok(film)
 }
 
-/// The names of two persons.
-fn names<'a>(persons: &[&'a Person]) -> Option<(&'a str, &'a str)> {
-    match persons {
-        [a, b] => Some((a.name.as_str(), b.name.as_str())),
-        _ => None,
-    }
+/// The film's directors are Ann and Cid.
+fn assert_directors(rt: &impl Abort, alloc: Global, film: &Entry) -> Result<(), Memory> {
+    let directors = film.affiliated_with_role(alloc, &PersonRole::Director)?;
+    let names = match directors.as_slice() {
+        [a, b] => (a.name.as_str(), b.name.as_str()),
+        _ => ("none", "none"),
+    };
+    assert_text(rt, names.0, "Ann", "the first");
+    assert_text(rt, names.1, "Cid", "the second");
+    Ok(())
 }
 
 #[test]
 fn persons_of_a_role(rt: HostRuntime) -> Result<(), Memory> {
-    let film = film(rt.alloc())?;
-    let directors = film.affiliated_with_role(rt.alloc(), &PersonRole::Director)?;
-    assert_eq!(rt; names(directors.as_slice()), Some(("Ann", "Cid")));
-    Ok(())
+    assert_directors(&rt, rt.alloc(), &film(rt.alloc())?)
 }

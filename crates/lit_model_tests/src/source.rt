@@ -6,14 +6,15 @@ ghost use Rattle.lit_model.specs.Date.{date_parts};
 ghost use Rattle.url.specs.Canonical.{IsCanonical};
 ghost use Rattle.url.specs.Parts.{serialize};
 
-use crate::samples::assert_whether;
+use crate::samples::{assert_text, assert_whether, text};
 use lit_model::{
-    ChunkedString, Date, FormatString, LanguageIdentifier, Memory, Publisher, QualifiedUrl,
+    ChunkKind, Date, FormatString, LanguageIdentifier, Memory, Publisher, QualifiedUrl,
     SerialNumber,
 };
 use std::alloc::Global;
 use std::collections::BTreeMap;
 use std::net::{IpAddr, Ipv4Addr};
+use std::process::Abort;
 use url::{Host, Url};
 
 /// Whether the two publishers are equal: they are where their texts are.
@@ -62,36 +63,26 @@ fn doi(alloc: Global) -> Result<SerialNumber, Memory> {
     Ok(SerialNumber(numbers))
 }
 
-#[test]
-fn numbers_are_found(rt: HostRuntime) -> Result<(), Memory> {
-    let serial = doi(rt.alloc())?;
-    let found = (serial.doi(), serial.isbn());
-    assert_eq!(rt; found, (Some("10.1007/BF02731494"), None));
-    Ok(())
-}
-
-fn are_numbers_copied(alloc: Global) -> Result<bool, Memory> {
+fn assert_numbers(rt: &impl Abort, alloc: Global) -> Result<(), Memory> {
     let serial = doi(alloc)?;
-    let copy = serial.clone(alloc)?;
-    Ok(same_serials(&copy, &serial))
-}
-
-fn is_no_number_one(alloc: Global) -> Result<bool, Memory> {
-    let serial = doi(alloc)?;
-    let none = SerialNumber(BTreeMap::new(alloc));
-    Ok(same_serials(&none, &serial))
-}
-
-#[test]
-fn numbers_are_copied_and_not_none(rt: HostRuntime) -> Result<(), Memory> {
-    assert_whether(&rt, are_numbers_copied(rt.alloc())?, true, "copied numbers");
-    assert_whether(
-        &rt,
-        is_no_number_one(rt.alloc())?,
-        false,
-        "no numbers and one",
+    assert_text(
+        rt,
+        serial.doi().unwrap_or("none"),
+        "10.1007/BF02731494",
+        "a DOI",
     );
+    assert_text(rt, serial.isbn().unwrap_or("none"), "none", "no ISBN");
     Ok(())
+}
+
+/// Whether numbers are equal to a copy, or else to none.
+fn are_numbers_their_copy(alloc: Global, loses_numbers: bool) -> Result<bool, Memory> {
+    let serial = doi(alloc)?;
+    let mut copy = serial.clone(alloc)?;
+    if loses_numbers {
+        copy = SerialNumber(BTreeMap::new(alloc));
+    }
+    Ok(same_serials(&copy, &serial))
 }
 
 fn address(alloc: Global, text: &str) -> Result<Url, Memory> {
@@ -111,44 +102,26 @@ fn is_address_its_copy(alloc: Global, loses_date: bool) -> Result<bool, Memory> 
     Ok(same_url(&copy, &url))
 }
 
-#[test]
-fn addresses_are_copied(rt: HostRuntime) -> Result<(), Memory> {
-    for (loses_date, wanted) in [(false, true), (true, false)] {
-        let is_same = is_address_its_copy(rt.alloc(), loses_date)?;
-        assert_whether(&rt, is_same, wanted, "an address and a copy");
-    }
-    Ok(())
-}
-
-/// A publisher of no name, at a place with an empty text.
-fn press(alloc: Global) -> Publisher {
-    let place = FormatString {
-        value: ChunkedString(Vec::new(alloc)),
-        short: None,
+/// A publisher of this name, or else of none and at a place with an empty text.
+fn press(alloc: Global, name: &str) -> Result<Publisher, Memory> {
+    let value = text(alloc, name, ChunkKind::Normal)?;
+    let form = Some(FormatString { value, short: None });
+    let (name, location) = if name.is_empty() {
+        (None, form)
+    } else {
+        (form, None)
     };
-    Publisher {
-        name: None,
-        location: Some(place),
-    }
+    Ok(Publisher { name, location })
 }
 
 /// Whether a publisher is equal to a copy, which then loses its place or does not.
-fn is_publisher_its_copy(alloc: Global, loses_place: bool) -> Result<bool, Memory> {
-    let press = press(alloc);
+fn is_publisher_its_copy(alloc: Global, name: &str, loses_place: bool) -> Result<bool, Memory> {
+    let press = press(alloc, name)?;
     let mut copy = press.clone(alloc)?;
     if loses_place {
         copy.location = None;
     }
     Ok(same_publisher(&copy, &press))
-}
-
-#[test]
-fn publishers_are_equal_by_their_texts(rt: HostRuntime) -> Result<(), Memory> {
-    for (loses_place, wanted) in [(false, true), (true, false)] {
-        let is_same = is_publisher_its_copy(rt.alloc(), loses_place)?;
-        assert_whether(&rt, is_same, wanted, "a publisher and a copy");
-    }
-    Ok(())
 }
 
 fn english(alloc: Global) -> Result<LanguageIdentifier, Memory> {
@@ -168,15 +141,6 @@ fn is_language_its_copy(alloc: Global, loses_region: bool) -> Result<bool, Memor
         copy.region = None;
     }
     Ok(same_language(&copy, &english))
-}
-
-#[test]
-fn languages_are_equal_by_their_texts(rt: HostRuntime) -> Result<(), Memory> {
-    for (loses_region, wanted) in [(false, true), (true, false)] {
-        let is_same = is_language_its_copy(rt.alloc(), loses_region)?;
-        assert_whether(&rt, is_same, wanted, "a language and a copy");
-    }
-    Ok(())
 }
 
 /// An address as the parser gives it, whose host is a domain.
@@ -205,6 +169,25 @@ fn hosts_and_equality(alloc: Global) -> Result<(bool, bool, bool), Memory> {
     let is_domain = matches!(domain.value.host(), Some(Host::Domain(_)));
     let is_ip = matches!(ip.value.host(), Some(Host::Ipv4(_)));
     Ok((is_domain, is_ip, same_url(&domain, &ip)))
+}
+
+#[test]
+fn sources_are_equal_by_their_texts(rt: HostRuntime) -> Result<(), Memory> {
+    let alloc = rt.alloc();
+    assert_numbers(&rt, alloc)?;
+    for (loses, wanted) in [(false, true), (true, false)] {
+        let numbers = are_numbers_their_copy(alloc, loses)?;
+        assert_whether(&rt, numbers, wanted, "numbers and a copy");
+        let address = is_address_its_copy(alloc, loses)?;
+        assert_whether(&rt, address, wanted, "an address and a copy");
+        let press = is_publisher_its_copy(alloc, "", loses)?;
+        assert_whether(&rt, press, wanted, "a publisher and a copy");
+        let language = is_language_its_copy(alloc, loses)?;
+        assert_whether(&rt, language, wanted, "a language and a copy");
+    }
+    let named = is_publisher_its_copy(alloc, "Anchor Books", false)?;
+    assert_whether(&rt, named, true, "Anchor Books and a copy");
+    Ok(())
 }
 
 #[test]

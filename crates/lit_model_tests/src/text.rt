@@ -3,7 +3,7 @@
 ghost use Rattle.std.specs.Prelude.{◌≡◌, ◌↔◌, IsTrue};
 ghost use Rattle.lit_model.specs.Text.{chunk_of, chunks, forms_of};
 
-use crate::samples::{assert_whether, text};
+use crate::samples::{assert_whether, chunk, text};
 use lit_model::{ChunkKind, ChunkedString, FormatString, LongShortForm, Memory, StringChunk};
 use std::alloc::Global;
 
@@ -67,21 +67,9 @@ fn is_title_its_copy(alloc: Global, loses_short: bool) -> Result<bool, Memory> {
     Ok(same_forms(&copy, &title))
 }
 
-#[test]
-fn titles_are_equal_by_both_forms(rt: HostRuntime) -> Result<(), Memory> {
-    for (loses_short, wanted) in [(false, true), (true, false)] {
-        let is_same = is_title_its_copy(rt.alloc(), loses_short)?;
-        assert_whether(&rt, is_same, wanted, "a title and a copy");
-    }
-    Ok(())
-}
-
 /// Whether a chunk is equal to a copy, which is then given this kind.
 fn is_chunk_its_copy(alloc: Global, kind: ChunkKind) -> Result<bool, Memory> {
-    let word = StringChunk {
-        value: String::from_str(alloc, "pH")?,
-        kind: ChunkKind::Verbatim,
-    };
+    let word = chunk(alloc, "pH", ChunkKind::Verbatim)?;
     let mut copy = word.clone(alloc)?;
     if kind != ChunkKind::Verbatim {
         copy.kind = kind;
@@ -90,16 +78,27 @@ fn is_chunk_its_copy(alloc: Global, kind: ChunkKind) -> Result<bool, Memory> {
 }
 
 #[test]
-fn chunks_are_equal_by_text_and_kind(rt: HostRuntime) -> Result<(), Memory> {
-    for (kind, wanted) in [(ChunkKind::Verbatim, true), (ChunkKind::Normal, false)] {
-        let is_same = is_chunk_its_copy(rt.alloc(), kind)?;
-        assert_whether(&rt, is_same, wanted, "a chunk and a copy");
+fn titles_and_chunks_are_equal_by_their_parts(rt: HostRuntime) -> Result<(), Memory> {
+    let alloc = rt.alloc();
+    for (is_same, wanted, of) in [
+        (is_title_its_copy(alloc, false)?, true, "a title"),
+        (
+            is_title_its_copy(alloc, true)?,
+            false,
+            "a title that loses its short form",
+        ),
+        (
+            is_chunk_its_copy(alloc, ChunkKind::Verbatim)?,
+            true,
+            "a chunk",
+        ),
+        (
+            is_chunk_its_copy(alloc, ChunkKind::Normal)?,
+            false,
+            "a chunk of another kind",
+        ),
+    ] {
+        assert_whether(&rt, is_same, wanted, of);
     }
     Ok(())
-}
-
-#[test]
-fn a_text_is_long_and_its_chunks_normal_by_default(rt: HostRuntime) {
-    let defaults = (LongShortForm::default(), ChunkKind::default());
-    assert_eq!(rt; defaults, (LongShortForm::Long, ChunkKind::Normal));
 }

@@ -55,145 +55,107 @@ static NAMES: [&str; 45] = [
 ];
 
 /// The names of all kinds that the entry is of, each with a space behind it.
-fn kinds(alloc: Global, description: &str) -> Result<String, Fail> {
+fn kinds(alloc: Global, description: &str, all: &[&'static str]) -> Result<String, Fail> {
     let works = described(alloc, description)?;
     let entry = only(&works)?;
     let mut kinds = String::new(alloc);
-    for name in NAMES {
-        let kind = Kind::from_name(name).ok_or("the name of a kind")?;
+    for name in all {
+        let kind = Kind::from_name(*name).ok_or("the name of a kind")?;
         if entry.matches_entry_type(kind) {
-            kinds.push_str(name)?;
+            kinds.push_str(*name)?;
             kinds.push(' ')?;
         }
     }
     Ok(kinds)
 }
 
-/// Asserts that the entry is of these kinds and of no other.
+/// Asserts that each entry is of these kinds and of no other.
 fn assert_kinds(
     rt: &impl Abort,
     alloc: Global,
-    description: &str,
-    wanted: &str,
+    rows: &[(&'static str, &'static str)],
 ) -> Result<(), Fail> {
-    let kinds = kinds(alloc, description)?;
-    assert_answer(rt, kinds.as_str(), wanted, description);
-    Ok(())
-}
-
-#[test]
-fn articles_by_what_they_stand_in(rt: HostRuntime) -> Result<(), Fail> {
-    for (description, wanted) in [
-        ("article", "article "),
-        ("article; in periodical", "article-journal "),
-        ("article; in newspaper", "article-newspaper "),
-        ("article; in proceedings", "paper-conference "),
-        ("article; in blog", "post-weblog "),
-        ("article; in report", "report "),
-        ("article; in thesis", "thesis "),
-        ("article; in reference", "article entry-encyclopedia "),
-        // An article of a blog that can be read on the web is a post, and neither a page nor an
-        // article.
-        (
-            "article; url https://aeon.co/; in blog; in web",
-            "post-weblog ",
-        ),
-    ] {
-        assert_kinds(&rt, rt.alloc(), description, wanted)?;
+    for (description, wanted) in rows {
+        let kinds = kinds(alloc, *description, &NAMES)?;
+        assert_answer(rt, kinds.as_str(), *wanted, *description);
     }
     Ok(())
 }
 
-#[test]
-fn kinds_of_written_works(rt: HostRuntime) -> Result<(), Fail> {
-    for (description, wanted) in [
-        ("report", "report "),
-        ("thesis; in report", "report thesis "),
-        ("manuscript", "manuscript "),
-        ("patent", "patent "),
-        ("chapter; in book", "chapter "),
-        ("chapter; in anthology", "chapter "),
-        ("chapter; in periodical", ""),
-        ("anthos; in anthology", "chapter "),
-        ("anthos; in book", ""),
-        ("entry", "entry "),
-        ("entry; in reference", "entry-encyclopedia "),
-    ] {
-        assert_kinds(&rt, rt.alloc(), description, wanted)?;
-    }
-    Ok(())
-}
+/// A description, and the kinds that the entry is of, each with a space behind it.
+static KINDS: [(&str, &str); 52] = [
+    // Articles, by what they stand in.
+    ("article", "article "),
+    ("article; in periodical", "article-journal "),
+    ("article; in newspaper", "article-newspaper "),
+    ("article; in proceedings", "paper-conference "),
+    ("article; in blog", "post-weblog "),
+    ("article; in report", "report "),
+    ("article; in thesis", "thesis "),
+    ("article; in reference", "article entry-encyclopedia "),
+    // An article of a blog that can be read on the web is a post, and neither a page nor an
+    // article.
+    (
+        "article; url https://aeon.co/; in blog; in web",
+        "post-weblog ",
+    ),
+    // Written works.
+    ("report", "report "),
+    ("thesis; in report", "report thesis "),
+    ("manuscript", "manuscript "),
+    ("patent", "patent "),
+    ("chapter; in book", "chapter "),
+    ("chapter; in anthology", "chapter "),
+    ("chapter; in periodical", ""),
+    ("anthos; in anthology", "chapter "),
+    ("anthos; in book", ""),
+    ("entry", "entry "),
+    ("entry; in reference", "entry-encyclopedia "),
+    // Books and periodicals.
+    ("book", "book "),
+    ("book; in periodical", "periodical "),
+    ("periodical", ""),
+    ("proceedings; in periodical", "book "),
+    ("anthology", "collection "),
+    // The works that it is directly in count each.
+    ("artwork; in article; in blog", "figure "),
+    (
+        "article; in proceedings; also periodical",
+        "article-journal paper-conference ",
+    ),
+    // Other works.
+    ("exhibition", "event "),
+    ("case", "legal_case "),
+    ("repository", "software "),
+    ("misc", "document "),
+    ("performance", ""),
+    ("audio", "song "),
+    ("audio; in book", "musical_score "),
+    ("audio; in audio", "broadcast "),
+    ("video", "motion_picture "),
+    ("video; in book", "broadcast "),
+    ("artwork", "graphic "),
+    ("artwork; in article", "figure "),
+    ("artwork; in book", "graphic "),
+    ("legislation", "bill "),
+    ("legislation; publisher", "legislation "),
+    // Posts, sites and pages.
+    ("post", "post "),
+    ("post; in thread", "post "),
+    ("case; in thread", "legal_case post "),
+    ("post; in blog", "post post-weblog "),
+    ("web", "webpage "),
+    ("blog", "webpage "),
+    ("thread", "webpage "),
+    ("report; in web", "report webpage "),
+    // An address makes a page of what has no type.
+    ("misc; url https://aeon.co/", "document webpage "),
+    ("report; url https://aeon.co/", "report "),
+];
 
 #[test]
-fn books_and_periodicals(rt: HostRuntime) -> Result<(), Fail> {
-    for (description, wanted) in [
-        ("book", "book "),
-        ("book; in periodical", "periodical "),
-        ("periodical", ""),
-        ("proceedings; in periodical", "book "),
-        ("anthology", "collection "),
-    ] {
-        assert_kinds(&rt, rt.alloc(), description, wanted)?;
-    }
-    Ok(())
-}
-
-#[test]
-fn the_works_it_is_directly_in_count_each(rt: HostRuntime) -> Result<(), Fail> {
-    for (description, wanted) in [
-        ("artwork; in article; in blog", "figure "),
-        (
-            "article; in proceedings; also periodical",
-            "article-journal paper-conference ",
-        ),
-    ] {
-        assert_kinds(&rt, rt.alloc(), description, wanted)?;
-    }
-    Ok(())
-}
-
-#[test]
-fn kinds_of_other_works(rt: HostRuntime) -> Result<(), Fail> {
-    for (description, wanted) in [
-        ("exhibition", "event "),
-        ("case", "legal_case "),
-        ("repository", "software "),
-        ("misc", "document "),
-        ("performance", ""),
-        ("audio", "song "),
-        ("audio; in book", "musical_score "),
-        ("audio; in audio", "broadcast "),
-        ("video", "motion_picture "),
-        ("video; in book", "broadcast "),
-        ("artwork", "graphic "),
-        ("artwork; in article", "figure "),
-        ("artwork; in book", "graphic "),
-        ("legislation", "bill "),
-        ("legislation; publisher", "legislation "),
-    ] {
-        assert_kinds(&rt, rt.alloc(), description, wanted)?;
-    }
-    Ok(())
-}
-
-#[test]
-fn posts_sites_and_pages(rt: HostRuntime) -> Result<(), Fail> {
-    for (description, wanted) in [
-        ("post", "post "),
-        ("post; in thread", "post "),
-        ("case; in thread", "legal_case post "),
-        ("post; in blog", "post post-weblog "),
-        ("web", "webpage "),
-        ("blog", "webpage "),
-        ("thread", "webpage "),
-        ("report; in web", "report webpage "),
-        // An address makes a page of what has no type.
-        ("misc; url https://aeon.co/", "document webpage "),
-        ("report; url https://aeon.co/", "report "),
-    ] {
-        assert_kinds(&rt, rt.alloc(), description, wanted)?;
-    }
-    Ok(())
+fn kinds_of_works(rt: HostRuntime) -> Result<(), Fail> {
+    assert_kinds(&rt, rt.alloc(), &KINDS)
 }
 
 /// What kind of recording and what kind of law the entry is.

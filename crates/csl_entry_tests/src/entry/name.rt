@@ -50,33 +50,6 @@ const CHAPTER_OF_NO_EDITORS: &str = "chapter; authors Ann, Ben; editors; \
 /// A translation.
 const TRANSLATION: &str = "book; in original; authors Homer";
 
-#[test]
-fn authors_and_editors(rt: HostRuntime) -> Result<(), Fail> {
-    for (description, variable, wanted) in [
-        (CHAPTER, NameVariable::Author, "Ann Ben "),
-        (CHAPTER, NameVariable::ContainerAuthor, "Max "),
-        (CHAPTER, NameVariable::CollectionEditor, "Sam "),
-        (CHAPTER, NameVariable::Editor, "Eve Eli "),
-        (EDITED_CHAPTER, NameVariable::Editor, "Own "),
-        // Nobody where no work is found.
-        ("book; authors Ann", NameVariable::ContainerAuthor, ""),
-        ("book; authors Ann", NameVariable::OriginalAuthor, ""),
-        ("book; authors Ann", NameVariable::CollectionEditor, ""),
-        ("book; authors Ann", NameVariable::Director, ""),
-        (TRANSLATION, NameVariable::OriginalAuthor, "Homer "),
-        (TRANSLATION, NameVariable::Author, ""),
-    ] {
-        assert_names(&rt, rt.alloc(), description, variable, wanted)?;
-    }
-    Ok(())
-}
-
-#[test]
-fn an_empty_list_of_editors_counts(rt: HostRuntime) -> Result<(), Fail> {
-    let chapter = CHAPTER_OF_NO_EDITORS;
-    assert_names(&rt, rt.alloc(), chapter, NameVariable::Editor, "")
-}
-
 const PAPER: &str = "article; in proceedings; director Dan; organizer Olga";
 
 const TALK: &str = "performance; in conference; director Dan; organizer Olga";
@@ -89,45 +62,6 @@ const VIDEO: &str = "video; director Dan; founder Flo";
 
 const EPISODE: &str = "video; director Dan; founder Flo; in video; director Pat; founder Fay";
 
-#[test]
-fn chairs_of_proceedings_and_conferences(rt: HostRuntime) -> Result<(), Fail> {
-    for (description, variable, wanted) in [
-        (PAPER, NameVariable::Chair, "Dan "),
-        (PAPER, NameVariable::Curator, ""),
-        (TALK, NameVariable::Chair, "Dan "),
-        (PART_OF_A_BOOK, NameVariable::Chair, ""),
-    ] {
-        assert_names(&rt, rt.alloc(), description, variable, wanted)?;
-    }
-    Ok(())
-}
-
-#[test]
-fn curators_of_exhibitions(rt: HostRuntime) -> Result<(), Fail> {
-    for (variable, wanted) in [
-        (NameVariable::Curator, "Olga "),
-        (NameVariable::Organizer, ""),
-        (NameVariable::Chair, ""),
-    ] {
-        assert_names(&rt, rt.alloc(), ARTWORK, variable, wanted)?;
-    }
-    Ok(())
-}
-
-#[test]
-fn directors_and_founders_of_a_recording(rt: HostRuntime) -> Result<(), Fail> {
-    for (description, variable, wanted) in [
-        (VIDEO, NameVariable::Director, "Dan "),
-        (VIDEO, NameVariable::SeriesCreator, "Flo "),
-        // Those of the series come before the episode's own.
-        (EPISODE, NameVariable::Director, "Pat "),
-        (EPISODE, NameVariable::SeriesCreator, "Fay "),
-    ] {
-        assert_names(&rt, rt.alloc(), description, variable, wanted)?;
-    }
-    Ok(())
-}
-
 /// A book with persons of five roles, of which the translators stand in two groups.
 const BOOK: &str = "book; translator Tom; compiler Cora; illustrator Ida; collaborator Col; \
     organizer Oz; translator Tess";
@@ -136,31 +70,72 @@ const BOOK: &str = "book; translator Tom; compiler Cora; illustrator Ida; collab
 const PLAY: &str = "performance; composer Cy; narrator Nan; producer Pru; \
     executive-producer Ex; cast-member Mel; writer Wes";
 
-#[test]
-fn persons_of_a_role(rt: HostRuntime) -> Result<(), Fail> {
-    for (description, variable, wanted) in [
-        (BOOK, NameVariable::Translator, "Tom Tess "),
-        (BOOK, NameVariable::Compiler, "Cora "),
-        (BOOK, NameVariable::Illustrator, "Ida "),
-        (BOOK, NameVariable::Contributor, "Col "),
-        (BOOK, NameVariable::Organizer, "Oz "),
-        (PLAY, NameVariable::Composer, "Cy "),
-        (PLAY, NameVariable::Narrator, "Nan "),
-        (PLAY, NameVariable::Producer, "Pru "),
-        (PLAY, NameVariable::ExecutiveProducer, "Ex "),
-        (PLAY, NameVariable::Performer, "Mel "),
-        (PLAY, NameVariable::ScriptWriter, "Wes "),
-        // Nobody by the other variables.
-        (PLAY, NameVariable::EditorialDirector, ""),
-        (PLAY, NameVariable::Guest, ""),
-        (PLAY, NameVariable::Host, ""),
-        (PLAY, NameVariable::Interviewer, ""),
-        (PLAY, NameVariable::Recipient, ""),
-        (PLAY, NameVariable::ReviewedAuthor, ""),
-    ] {
-        assert_names(&rt, rt.alloc(), description, variable, wanted)?;
+/// A description, a variable, and the names, each with a space behind it.
+static NAMES: [(&str, NameVariable, &str); 40] = [
+    (CHAPTER, NameVariable::Author, "Ann Ben "),
+    (CHAPTER, NameVariable::ContainerAuthor, "Max "),
+    (CHAPTER, NameVariable::CollectionEditor, "Sam "),
+    (CHAPTER, NameVariable::Editor, "Eve Eli "),
+    (EDITED_CHAPTER, NameVariable::Editor, "Own "),
+    // Nobody where no work is found.
+    ("book; authors Ann", NameVariable::ContainerAuthor, ""),
+    ("book; authors Ann", NameVariable::OriginalAuthor, ""),
+    ("book; authors Ann", NameVariable::CollectionEditor, ""),
+    ("book; authors Ann", NameVariable::Director, ""),
+    (TRANSLATION, NameVariable::OriginalAuthor, "Homer "),
+    (TRANSLATION, NameVariable::Author, ""),
+    // A list of editors counts though it is empty.
+    (CHAPTER_OF_NO_EDITORS, NameVariable::Editor, ""),
+    // Chairs of proceedings and conferences.
+    (PAPER, NameVariable::Chair, "Dan "),
+    (PAPER, NameVariable::Curator, ""),
+    (TALK, NameVariable::Chair, "Dan "),
+    (PART_OF_A_BOOK, NameVariable::Chair, ""),
+    // Curators of exhibitions.
+    (ARTWORK, NameVariable::Curator, "Olga "),
+    (ARTWORK, NameVariable::Organizer, ""),
+    (ARTWORK, NameVariable::Chair, ""),
+    // Those of a recording.
+    (VIDEO, NameVariable::Director, "Dan "),
+    (VIDEO, NameVariable::SeriesCreator, "Flo "),
+    // Those of the series come before the episode's own.
+    (EPISODE, NameVariable::Director, "Pat "),
+    (EPISODE, NameVariable::SeriesCreator, "Fay "),
+    // Persons of a role.
+    (BOOK, NameVariable::Translator, "Tom Tess "),
+    (BOOK, NameVariable::Compiler, "Cora "),
+    (BOOK, NameVariable::Illustrator, "Ida "),
+    (BOOK, NameVariable::Contributor, "Col "),
+    (BOOK, NameVariable::Organizer, "Oz "),
+    (PLAY, NameVariable::Composer, "Cy "),
+    (PLAY, NameVariable::Narrator, "Nan "),
+    (PLAY, NameVariable::Producer, "Pru "),
+    (PLAY, NameVariable::ExecutiveProducer, "Ex "),
+    (PLAY, NameVariable::Performer, "Mel "),
+    (PLAY, NameVariable::ScriptWriter, "Wes "),
+    // Nobody by the other variables.
+    (PLAY, NameVariable::EditorialDirector, ""),
+    (PLAY, NameVariable::Guest, ""),
+    (PLAY, NameVariable::Host, ""),
+    (PLAY, NameVariable::Interviewer, ""),
+    (PLAY, NameVariable::Recipient, ""),
+    (PLAY, NameVariable::ReviewedAuthor, ""),
+];
+
+fn assert_all(
+    rt: &impl Abort,
+    alloc: Global,
+    rows: &[(&'static str, NameVariable, &'static str)],
+) -> Result<(), Fail> {
+    for (description, variable, wanted) in rows {
+        assert_names(rt, alloc, *description, *variable, *wanted)?;
     }
     Ok(())
+}
+
+#[test]
+fn names_of_an_entry_and_its_parents(rt: HostRuntime) -> Result<(), Fail> {
+    assert_all(&rt, rt.alloc(), &NAMES)
 }
 
 #[test]

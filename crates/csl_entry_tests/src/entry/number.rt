@@ -40,91 +40,69 @@ const ARTICLE: &str = "article; pages 454-477; in periodical; issue 3; volume 20
 /// A law, volume 8 of 12 of a code, on 300 pages.
 const LAW: &str = "case; volume 8; volumes 12; total 300; in legislation";
 
-#[test]
-fn numbers_of_an_entry_and_its_parents(rt: HostRuntime) -> Result<(), Fail> {
-    for (description, variable, wanted) in [
-        (CHAPTER, NumberVariable::ChapterNumber, "4"),
-        (CHAPTER, NumberVariable::Number, "4"),
-        (CHAPTER, NumberVariable::CollectionNumber, "7"),
-        (CHAPTER, NumberVariable::Edition, "3"),
-        (CHAPTER, NumberVariable::Volume, "2"),
-        (CHAPTER, NumberVariable::PartNumber, "none"),
-        (ARTICLE, NumberVariable::Volume, "20"),
-        (ARTICLE, NumberVariable::Issue, "3"),
-        (ARTICLE, NumberVariable::PageFirst, "454"),
-        (ARTICLE, NumberVariable::ChapterNumber, "none"),
-        (LAW, NumberVariable::PartNumber, "8"),
-        (LAW, NumberVariable::NumberOfVolumes, "12"),
-        (LAW, NumberVariable::NumberOfPages, "300"),
-    ] {
-        assert_number(&rt, rt.alloc(), description, variable, wanted)?;
-    }
-    Ok(())
-}
-
-#[test]
-fn numbers_of_an_article_in_proceedings(rt: HostRuntime) -> Result<(), Fail> {
-    for (variable, wanted) in [
-        (NumberVariable::ChapterNumber, "5"),
-        (NumberVariable::Volume, "5"),
-        (NumberVariable::CollectionNumber, "none"),
-        (NumberVariable::Number, "none"),
-    ] {
-        assert_number(&rt, rt.alloc(), PAPER, variable, wanted)?;
-    }
-    Ok(())
-}
-
 /// A report with a serial number of its own, in a series with a printing.
 const REPORT: &str = "report; serial serial 123; in book; serial printing 2";
 
 /// A book with a version, in that series.
 const BOOK: &str = "book; serial version 1.2; in book; serial printing 2";
 
-#[test]
-fn serial_numbers(rt: HostRuntime) -> Result<(), Fail> {
-    for (description, variable, wanted) in [
-        (REPORT, NumberVariable::Number, "123"),
-        // Its own serial number has no printing, so the one of the series is not looked for.
-        (REPORT, NumberVariable::PrintingNumber, "none"),
-        (BOOK, NumberVariable::Version, "none"),
-        (
-            "book; in book; serial printing 2",
-            NumberVariable::PrintingNumber,
-            "2",
-        ),
-    ] {
-        assert_number(&rt, rt.alloc(), description, variable, wanted)?;
-    }
-    Ok(())
-}
-
 /// A repository of which nothing that is a text is a number, in that series.
 const REPOSITORY: &str = "repository; serial version 1.2 beta; edition 'second; pages 'passim; \
     in book; serial printing 2";
 
-#[test]
-fn texts_that_are_no_numbers(rt: HostRuntime) -> Result<(), Fail> {
-    for (variable, wanted) in [
-        (NumberVariable::Version, "'1.2 beta"),
-        (NumberVariable::Edition, "'second"),
-        (NumberVariable::PageFirst, "none"),
-    ] {
-        assert_number(&rt, rt.alloc(), REPOSITORY, variable, wanted)?;
+/// A description, a variable, and the number as it is said.
+static NUMBERS: [(&str, NumberVariable, &str); 29] = [
+    (CHAPTER, NumberVariable::ChapterNumber, "4"),
+    (CHAPTER, NumberVariable::Number, "4"),
+    (CHAPTER, NumberVariable::CollectionNumber, "7"),
+    (CHAPTER, NumberVariable::Edition, "3"),
+    (CHAPTER, NumberVariable::Volume, "2"),
+    (CHAPTER, NumberVariable::PartNumber, "none"),
+    (ARTICLE, NumberVariable::Volume, "20"),
+    (ARTICLE, NumberVariable::Issue, "3"),
+    (ARTICLE, NumberVariable::PageFirst, "454"),
+    (ARTICLE, NumberVariable::ChapterNumber, "none"),
+    (LAW, NumberVariable::PartNumber, "8"),
+    (LAW, NumberVariable::NumberOfVolumes, "12"),
+    (LAW, NumberVariable::NumberOfPages, "300"),
+    (PAPER, NumberVariable::ChapterNumber, "5"),
+    (PAPER, NumberVariable::Volume, "5"),
+    (PAPER, NumberVariable::CollectionNumber, "none"),
+    (PAPER, NumberVariable::Number, "none"),
+    // Serial numbers.
+    (REPORT, NumberVariable::Number, "123"),
+    // Its own serial number has no printing, so the one of the series is not looked for.
+    (REPORT, NumberVariable::PrintingNumber, "none"),
+    (BOOK, NumberVariable::Version, "none"),
+    (
+        "book; in book; serial printing 2",
+        NumberVariable::PrintingNumber,
+        "2",
+    ),
+    // Texts that are no numbers.
+    (REPOSITORY, NumberVariable::Version, "'1.2 beta"),
+    (REPOSITORY, NumberVariable::Edition, "'second"),
+    (REPOSITORY, NumberVariable::PageFirst, "none"),
+    // What the citation knows.
+    (ARTICLE, NumberVariable::CitationNumber, "none"),
+    (ARTICLE, NumberVariable::FirstReferenceNoteNumber, "none"),
+    (ARTICLE, NumberVariable::Locator, "none"),
+    (ARTICLE, NumberVariable::Section, "none"),
+    (ARTICLE, NumberVariable::SupplementNumber, "none"),
+];
+
+fn assert_all(
+    rt: &impl Abort,
+    alloc: Global,
+    rows: &[(&'static str, NumberVariable, &'static str)],
+) -> Result<(), Fail> {
+    for (description, variable, wanted) in rows {
+        assert_number(rt, alloc, *description, *variable, *wanted)?;
     }
     Ok(())
 }
 
 #[test]
-fn an_entry_answers_nothing_that_the_citation_knows(rt: HostRuntime) -> Result<(), Fail> {
-    for variable in [
-        NumberVariable::CitationNumber,
-        NumberVariable::FirstReferenceNoteNumber,
-        NumberVariable::Locator,
-        NumberVariable::Section,
-        NumberVariable::SupplementNumber,
-    ] {
-        assert_number(&rt, rt.alloc(), ARTICLE, variable, "none")?;
-    }
-    Ok(())
+fn numbers_of_an_entry_and_its_parents(rt: HostRuntime) -> Result<(), Fail> {
+    assert_all(&rt, rt.alloc(), &NUMBERS)
 }

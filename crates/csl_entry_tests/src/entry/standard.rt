@@ -26,28 +26,12 @@ fn text(
 fn assert_text(
     rt: &impl Abort,
     alloc: Global,
-    description: &str,
-    form: LongShortForm,
-    variable: StandardVariable,
+    (description, form, variable): (&str, LongShortForm, StandardVariable),
     wanted: &str,
 ) -> Result<(), Fail> {
     let text = text(alloc, description, form, variable)?;
     let asked = format!(in alloc; "{form:?} {variable:?} of {description}")?;
     assert_answer(rt, text.as_str(), wanted, asked.as_str());
-    Ok(())
-}
-
-/// Asserts that this is the text in both forms.
-fn assert_both(
-    rt: &impl Abort,
-    alloc: Global,
-    description: &str,
-    variable: StandardVariable,
-    wanted: &str,
-) -> Result<(), Fail> {
-    for form in [LongShortForm::Long, LongShortForm::Short] {
-        assert_text(rt, alloc, description, form, variable, wanted)?;
-    }
     Ok(())
 }
 
@@ -62,51 +46,6 @@ const ARTICLE: &str = "article; key quantized-vortex; \
 /// A chapter of an anthology that stands in a series.
 const CHAPTER: &str = "chapter; title The Signal-Man; in anthology; title Ghost Stories; \
     in book; title Everyman's Library";
-
-#[test]
-fn titles_in_the_form_that_is_asked_for(rt: HostRuntime) -> Result<(), Fail> {
-    let whole = "Structure of a Quantized Vortex in Boson Systems";
-    let long = LongShortForm::Long;
-    let short = LongShortForm::Short;
-    for (description, form, variable, wanted) in [
-        (ARTICLE, long, StandardVariable::Title, whole),
-        (ARTICLE, short, StandardVariable::Title, "Quantized Vortex"),
-        (
-            ARTICLE,
-            long,
-            StandardVariable::TitleShort,
-            "Quantized Vortex",
-        ),
-        (
-            ARTICLE,
-            long,
-            StandardVariable::ContainerTitle,
-            "Il Nuovo Cimento",
-        ),
-        (
-            ARTICLE,
-            short,
-            StandardVariable::ContainerTitle,
-            "Nuovo Cim.",
-        ),
-        (
-            ARTICLE,
-            long,
-            StandardVariable::ContainerTitleShort,
-            "Nuovo Cim.",
-        ),
-        // Without a short form the whole title stands for it.
-        (
-            CHAPTER,
-            short,
-            StandardVariable::TitleShort,
-            "The Signal-Man",
-        ),
-    ] {
-        assert_text(&rt, rt.alloc(), description, form, variable, wanted)?;
-    }
-    Ok(())
-}
 
 /// A paper in the proceedings of a conference.
 const PAPER: &str = "article; title Program Slicing; \
@@ -141,116 +80,6 @@ const FILM: &str = "video; title Tour of a Ray Tracer; archive-location Shelf 4;
 const REPOSITORY: &str = "repository; title Ray Tracer; abstract Rays in one week.; \
     note Needs a large screen; archive Vault 2; organization Rendering Group; call-number RT";
 
-#[test]
-fn long_texts(rt: HostRuntime) -> Result<(), Fail> {
-    for (description, variable, wanted) in [
-        (CHAPTER, StandardVariable::ContainerTitle, "Ghost Stories"),
-        (
-            CHAPTER,
-            StandardVariable::CollectionTitle,
-            "Everyman's Library",
-        ),
-        (PAPER, StandardVariable::Event, "POPL 1984"),
-        (PAPER, StandardVariable::EventTitle, "POPL 1984"),
-        (PAPER, StandardVariable::EventPlace, "Salt Lake City"),
-        (PAPER, StandardVariable::VolumeTitle, "POPL Proceedings"),
-        (PAPER, StandardVariable::ContainerTitle, "POPL Proceedings"),
-        (
-            PAPER_OF_PROCEEDINGS,
-            StandardVariable::CollectionTitle,
-            "POPL 1984",
-        ),
-        (POST, StandardVariable::ContainerTitle, "Aeon"),
-        (POST, StandardVariable::CollectionTitle, "Aeon Media"),
-        (POST, StandardVariable::Genre, "essay"),
-        (POST, StandardVariable::Language, "en-AU"),
-        (
-            TRANSLATION,
-            StandardVariable::OriginalTitle,
-            "Die Verwandlung",
-        ),
-        (
-            TRANSLATION,
-            StandardVariable::OriginalPublisher,
-            "Kurt Wolff",
-        ),
-        (
-            TRANSLATION,
-            StandardVariable::OriginalPublisherPlace,
-            "Leipzig",
-        ),
-        (TRANSLATION, StandardVariable::Publisher, "Vanguard"),
-        (TRANSLATION, StandardVariable::PublisherPlace, "New York"),
-        (
-            UNPUBLISHED_TRANSLATION,
-            StandardVariable::Publisher,
-            "Kurt Wolff",
-        ),
-        (
-            UNPUBLISHED_TRANSLATION,
-            StandardVariable::PublisherPlace,
-            "Leipzig",
-        ),
-        // The title stands in for the authors, and there is no date.
-        (ARTICLE, StandardVariable::CitationLabel, "Str"),
-    ] {
-        assert_text(
-            &rt,
-            rt.alloc(),
-            description,
-            LongShortForm::Long,
-            variable,
-            wanted,
-        )?;
-    }
-    Ok(())
-}
-
-#[test]
-fn texts_of_the_entry_alone(rt: HostRuntime) -> Result<(), Fail> {
-    for (form, variable, wanted) in [
-        (
-            LongShortForm::Long,
-            StandardVariable::ArchiveLocation,
-            "Shelf 4",
-        ),
-        (
-            LongShortForm::Long,
-            StandardVariable::Authority,
-            "Film Society",
-        ),
-        (LongShortForm::Long, StandardVariable::CallNumber, "RT 27"),
-        (LongShortForm::Short, StandardVariable::Dimensions, "12 min"),
-        (LongShortForm::Long, StandardVariable::Note, "none"),
-        (LongShortForm::Short, StandardVariable::Note, "none"),
-    ] {
-        assert_text(&rt, rt.alloc(), FILM, form, variable, wanted)?;
-    }
-    Ok(())
-}
-
-#[test]
-fn texts_that_parents_share(rt: HostRuntime) -> Result<(), Fail> {
-    for (description, variable, wanted) in [
-        (FILM, StandardVariable::Abstract, "Rays in one week."),
-        (FILM, StandardVariable::Annote, "Needs a large screen"),
-        (FILM, StandardVariable::Archive, "Vault 2"),
-        (FILM, StandardVariable::Source, "Ray Tracer"),
-        // The repository itself has the note, and is no entry's parent here.
-        (REPOSITORY, StandardVariable::Note, "Needs a large screen"),
-    ] {
-        assert_text(
-            &rt,
-            rt.alloc(),
-            description,
-            LongShortForm::Long,
-            variable,
-            wanted,
-        )?;
-    }
-    Ok(())
-}
-
 /// A book with one number under each scheme.
 const NUMBERED: &str = "book; title Crazy Rich Asians; serial doi 10.1007/BF02731494; \
     serial isbn 978-0-385-53697-4; serial issn 0029-6341; serial pmcid PMC2717145; \
@@ -262,80 +91,220 @@ const CHAPTER_OF_NUMBERED: &str = "chapter; title Prologue; \
     serial isbn 978-0-385-53697-4; serial issn 0029-6341; serial pmcid PMC2717145; \
     serial pmid 19255231";
 
-#[test]
-fn texts_of_one_form(rt: HostRuntime) -> Result<(), Fail> {
-    for (description, variable, wanted) in [
-        (BOOK, StandardVariable::CitationLabel, "Kwa14"),
-        (ARTICLE, StandardVariable::CitationKey, "`quantized-vortex"),
-        (POST, StandardVariable::URL, "`https://aeon.co/essays"),
-        (NUMBERED, StandardVariable::DOI, "`10.1007/BF02731494"),
-        (NUMBERED, StandardVariable::ISBN, "`978-0-385-53697-4"),
-        (NUMBERED, StandardVariable::ISSN, "`0029-6341"),
-        (NUMBERED, StandardVariable::PMCID, "`PMC2717145"),
-        (NUMBERED, StandardVariable::PMID, "`19255231"),
-        // One piece of each kind; that of an empty text is empty.
-        (
-            "book; language Il Nuovo Cimento",
-            StandardVariable::Language,
-            "Il Nuovo Cimento",
-        ),
-        ("book; key ", StandardVariable::CitationKey, "`"),
-        ("book; title $", StandardVariable::Title, "$"),
-    ] {
-        assert_both(&rt, rt.alloc(), description, variable, wanted)?;
+const LONG: LongShortForm = LongShortForm::Long;
+
+const SHORT: LongShortForm = LongShortForm::Short;
+
+const WHOLE: &str = "Structure of a Quantized Vortex in Boson Systems";
+
+/// A description, a form, a variable, and the text as it is said.
+static TEXTS: [(&str, LongShortForm, StandardVariable, &str); 38] = [
+    // Titles, in the form that is asked for.
+    (ARTICLE, LONG, StandardVariable::Title, WHOLE),
+    (ARTICLE, SHORT, StandardVariable::Title, "Quantized Vortex"),
+    (
+        ARTICLE,
+        LONG,
+        StandardVariable::TitleShort,
+        "Quantized Vortex",
+    ),
+    (
+        ARTICLE,
+        LONG,
+        StandardVariable::ContainerTitle,
+        "Il Nuovo Cimento",
+    ),
+    (
+        ARTICLE,
+        SHORT,
+        StandardVariable::ContainerTitle,
+        "Nuovo Cim.",
+    ),
+    (
+        ARTICLE,
+        LONG,
+        StandardVariable::ContainerTitleShort,
+        "Nuovo Cim.",
+    ),
+    // Without a short form the whole title stands for it.
+    (
+        CHAPTER,
+        SHORT,
+        StandardVariable::TitleShort,
+        "The Signal-Man",
+    ),
+    // Of parents.
+    (
+        CHAPTER,
+        LONG,
+        StandardVariable::ContainerTitle,
+        "Ghost Stories",
+    ),
+    (
+        CHAPTER,
+        LONG,
+        StandardVariable::CollectionTitle,
+        "Everyman's Library",
+    ),
+    (PAPER, LONG, StandardVariable::Event, "POPL 1984"),
+    (PAPER, LONG, StandardVariable::EventTitle, "POPL 1984"),
+    (PAPER, LONG, StandardVariable::EventPlace, "Salt Lake City"),
+    (
+        PAPER,
+        LONG,
+        StandardVariable::VolumeTitle,
+        "POPL Proceedings",
+    ),
+    (
+        PAPER,
+        LONG,
+        StandardVariable::ContainerTitle,
+        "POPL Proceedings",
+    ),
+    (
+        PAPER_OF_PROCEEDINGS,
+        LONG,
+        StandardVariable::CollectionTitle,
+        "POPL 1984",
+    ),
+    (POST, LONG, StandardVariable::ContainerTitle, "Aeon"),
+    (POST, LONG, StandardVariable::CollectionTitle, "Aeon Media"),
+    (POST, LONG, StandardVariable::Genre, "essay"),
+    (POST, LONG, StandardVariable::Language, "en-AU"),
+    (
+        TRANSLATION,
+        LONG,
+        StandardVariable::OriginalTitle,
+        "Die Verwandlung",
+    ),
+    (
+        TRANSLATION,
+        LONG,
+        StandardVariable::OriginalPublisher,
+        "Kurt Wolff",
+    ),
+    (
+        TRANSLATION,
+        LONG,
+        StandardVariable::OriginalPublisherPlace,
+        "Leipzig",
+    ),
+    (TRANSLATION, LONG, StandardVariable::Publisher, "Vanguard"),
+    (
+        TRANSLATION,
+        LONG,
+        StandardVariable::PublisherPlace,
+        "New York",
+    ),
+    (
+        UNPUBLISHED_TRANSLATION,
+        LONG,
+        StandardVariable::Publisher,
+        "Kurt Wolff",
+    ),
+    (
+        UNPUBLISHED_TRANSLATION,
+        LONG,
+        StandardVariable::PublisherPlace,
+        "Leipzig",
+    ),
+    // The title stands in for the authors, and there is no date.
+    (ARTICLE, LONG, StandardVariable::CitationLabel, "Str"),
+    // Of the entry alone.
+    (FILM, LONG, StandardVariable::ArchiveLocation, "Shelf 4"),
+    (FILM, LONG, StandardVariable::Authority, "Film Society"),
+    (FILM, LONG, StandardVariable::CallNumber, "RT 27"),
+    (FILM, SHORT, StandardVariable::Dimensions, "12 min"),
+    (FILM, LONG, StandardVariable::Note, "none"),
+    (FILM, SHORT, StandardVariable::Note, "none"),
+    // What parents share.
+    (FILM, LONG, StandardVariable::Abstract, "Rays in one week."),
+    (FILM, LONG, StandardVariable::Annote, "Needs a large screen"),
+    (FILM, LONG, StandardVariable::Archive, "Vault 2"),
+    (FILM, LONG, StandardVariable::Source, "Ray Tracer"),
+    // The repository itself has the note, and is no entry's parent here.
+    (
+        REPOSITORY,
+        LONG,
+        StandardVariable::Note,
+        "Needs a large screen",
+    ),
+];
+
+/// A description, a variable, and the text in both forms.
+static TEXTS_OF_ONE_FORM: [(&str, StandardVariable, &str); 34] = [
+    (BOOK, StandardVariable::CitationLabel, "Kwa14"),
+    (ARTICLE, StandardVariable::CitationKey, "`quantized-vortex"),
+    (POST, StandardVariable::URL, "`https://aeon.co/essays"),
+    (NUMBERED, StandardVariable::DOI, "`10.1007/BF02731494"),
+    (NUMBERED, StandardVariable::ISBN, "`978-0-385-53697-4"),
+    (NUMBERED, StandardVariable::ISSN, "`0029-6341"),
+    (NUMBERED, StandardVariable::PMCID, "`PMC2717145"),
+    (NUMBERED, StandardVariable::PMID, "`19255231"),
+    // One piece of each kind; that of an empty text is empty.
+    (
+        "book; language Il Nuovo Cimento",
+        StandardVariable::Language,
+        "Il Nuovo Cimento",
+    ),
+    ("book; key ", StandardVariable::CitationKey, "`"),
+    ("book; title $", StandardVariable::Title, "$"),
+    // No work answers.
+    (ARTICLE, StandardVariable::CollectionTitle, "none"),
+    (ARTICLE, StandardVariable::VolumeTitle, "none"),
+    (CHAPTER, StandardVariable::VolumeTitle, "none"),
+    // Events of parents of parents do not count.
+    (PAPER_OF_PROCEEDINGS, StandardVariable::Event, "none"),
+    // Numbers are the entry's own.
+    (CHAPTER_OF_NUMBERED, StandardVariable::DOI, "none"),
+    (CHAPTER_OF_NUMBERED, StandardVariable::ISBN, "none"),
+    (CHAPTER_OF_NUMBERED, StandardVariable::ISSN, "none"),
+    (CHAPTER_OF_NUMBERED, StandardVariable::PMCID, "none"),
+    (CHAPTER_OF_NUMBERED, StandardVariable::PMID, "none"),
+    // Variables without an answer.
+    (FILM, StandardVariable::ArchiveCollection, "none"),
+    (FILM, StandardVariable::ArchivePlace, "none"),
+    (FILM, StandardVariable::Division, "none"),
+    (FILM, StandardVariable::Jurisdiction, "none"),
+    (FILM, StandardVariable::Keyword, "none"),
+    (FILM, StandardVariable::License, "none"),
+    (FILM, StandardVariable::Medium, "none"),
+    (FILM, StandardVariable::PartTitle, "none"),
+    (FILM, StandardVariable::References, "none"),
+    (FILM, StandardVariable::ReviewedGenre, "none"),
+    (FILM, StandardVariable::ReviewedTitle, "none"),
+    (FILM, StandardVariable::Scale, "none"),
+    (FILM, StandardVariable::Status, "none"),
+    (FILM, StandardVariable::YearSuffix, "none"),
+];
+
+fn assert_all(
+    rt: &impl Abort,
+    alloc: Global,
+    rows: &[(&'static str, LongShortForm, StandardVariable, &'static str)],
+) -> Result<(), Fail> {
+    for (description, form, variable, wanted) in rows {
+        assert_text(rt, alloc, (*description, *form, *variable), *wanted)?;
+    }
+    Ok(())
+}
+
+fn assert_all_in_both(
+    rt: &impl Abort,
+    alloc: Global,
+    rows: &[(&'static str, StandardVariable, &'static str)],
+) -> Result<(), Fail> {
+    for (description, variable, wanted) in rows {
+        assert_text(rt, alloc, (*description, LONG, *variable), *wanted)?;
+        assert_text(rt, alloc, (*description, SHORT, *variable), *wanted)?;
     }
     Ok(())
 }
 
 #[test]
-fn variables_that_no_work_answers(rt: HostRuntime) -> Result<(), Fail> {
-    for (description, variable) in [
-        (ARTICLE, StandardVariable::CollectionTitle),
-        (ARTICLE, StandardVariable::VolumeTitle),
-        (CHAPTER, StandardVariable::VolumeTitle),
-        // Events of parents of parents do not count.
-        (PAPER_OF_PROCEEDINGS, StandardVariable::Event),
-    ] {
-        assert_both(&rt, rt.alloc(), description, variable, "none")?;
-    }
-    Ok(())
-}
-
-#[test]
-fn numbers_are_the_entrys_own(rt: HostRuntime) -> Result<(), Fail> {
-    for variable in [
-        StandardVariable::DOI,
-        StandardVariable::ISBN,
-        StandardVariable::ISSN,
-        StandardVariable::PMCID,
-        StandardVariable::PMID,
-    ] {
-        assert_both(&rt, rt.alloc(), CHAPTER_OF_NUMBERED, variable, "none")?;
-    }
-    Ok(())
-}
-
-#[test]
-fn variables_without_an_answer(rt: HostRuntime) -> Result<(), Fail> {
-    for variable in [
-        StandardVariable::ArchiveCollection,
-        StandardVariable::ArchivePlace,
-        StandardVariable::Division,
-        StandardVariable::Jurisdiction,
-        StandardVariable::Keyword,
-        StandardVariable::License,
-        StandardVariable::Medium,
-        StandardVariable::PartTitle,
-        StandardVariable::References,
-        StandardVariable::ReviewedGenre,
-        StandardVariable::ReviewedTitle,
-        StandardVariable::Scale,
-        StandardVariable::Status,
-        StandardVariable::YearSuffix,
-    ] {
-        assert_both(&rt, rt.alloc(), FILM, variable, "none")?;
-    }
-    Ok(())
+fn texts_of_an_entry_and_its_parents(rt: HostRuntime) -> Result<(), Fail> {
+    assert_all(&rt, rt.alloc(), &TEXTS)?;
+    assert_all_in_both(&rt, rt.alloc(), &TEXTS_OF_ONE_FORM)
 }
 
 /// Whether the short text is one that the entry holds; `None` where there is no answer.

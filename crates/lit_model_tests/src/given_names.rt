@@ -1,0 +1,60 @@
+//! Given names as a name prints them.
+
+use crate::samples::{assert_text, person};
+use std::alloc::Global;
+use std::process::Abort;
+use std::test::Fail;
+
+/// How given names are written.
+#[derive(Clone, Copy)]
+enum Form {
+    /// Those of one letter are marked.
+    Marked,
+    /// Each is its initial.
+    Initials,
+    /// The same, without hyphens.
+    WithoutHyphens,
+}
+
+fn assert_written(
+    rt: &impl Abort,
+    alloc: Global,
+    given: &str,
+    (form, delimiter): (Form, &str),
+    wanted: &str,
+) -> Result<(), Fail> {
+    let person = person(alloc, "Nemo", Some(given))?;
+    let mut written = String::new(alloc);
+    match form {
+        Form::Marked => person.first_name_with_delimiter(&mut written, Some(delimiter))?,
+        Form::Initials => person.initials(&mut written, Some(delimiter), true)?,
+        Form::WithoutHyphens => person.initials(&mut written, Some(delimiter), false)?,
+    }
+    assert_text(rt, written.as_str(), wanted, given);
+    Ok(())
+}
+
+#[test]
+fn letters_are_marked_and_initials_are_graphemes(rt: HostRuntime) -> Result<(), Fail> {
+    let graphemes = "e\u{301}\u{1f469}\u{200d}\u{1f467}";
+    for (given, form, delimiter, wanted) in [
+        ("Karl J", Form::Marked, ".", "Karl J."),
+        ("E. P.", Form::Marked, ". ", "E. P."),
+        ("E P Karl", Form::Marked, ".", "E. P. Karl"),
+        ("E  P.", Form::Marked, "", "E P"),
+        ("e \u{c9} Jr.", Form::Marked, ". ", "e \u{c9}. Jr."),
+        ("Jean-Luc Marie", Form::Initials, ". ", "J.-L. M."),
+        ("Jean-Luc Marie", Form::WithoutHyphens, ". ", "J. L. M."),
+        (" -Jean--Luc- ", Form::Initials, ".", "J.-L."),
+        (" - ", Form::Initials, ".", ""),
+        (
+            "e\u{301}ric \u{1f469}\u{200d}\u{1f467}x",
+            Form::Initials,
+            "",
+            graphemes,
+        ),
+    ] {
+        assert_written(&rt, rt.alloc(), given, (form, delimiter), wanted)?;
+    }
+    Ok(())
+}
