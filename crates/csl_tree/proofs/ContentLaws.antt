@@ -1,5 +1,5 @@
 -- Laws of contents: their texts, their leaf text, and that they hold nothing empty.
-use Rattle.std.proofs.Common.{◌≡◌, ℕ, true, false, cond, List, [], ◌∷◌, ◌++◌, refl, sym, ap, subst, ◌∙◌, append_assoc}
+use Rattle.std.proofs.Common.{◌≡◌, ℕ, ◌<◌, length, arith, true, false, cond, List, [], ◌∷◌, ◌++◌, refl, sym, ap, subst, ◌∙◌, append_assoc}
 use Rattle.std.proofs.lemmas.Grind.{flat_map-append}
 use Rattle.std.proofs.lemmas.List.{append-nil}
 use Rattle.std.specs.Prelude.{Option}
@@ -41,6 +41,11 @@ leaf_text-join (t ∷ a) b = leaf_text-joined t a b ∙ sym (append_assoc (token
 pub leaf_text-boxed : (d : Option Display) (m : Option Meta) (c : List Token) → leaf_text (boxed d m c) ≡ leaf_text c
 leaf_text-boxed d m [] = refl
 leaf_text-boxed d m (t ∷ c) = flat_map-append token_text (t ∷ c) (solid (closed d) ∷ []) ∙ append-nil (leaf_text (t ∷ c))
+
+-- a content between two others shows the leaf text of all three
+pub leaf_text-affixed : (p s c : List Token) → 0 < length c → leaf_text (affixed p s c) ≡ leaf_text p ++ (leaf_text c ++ leaf_text s)
+leaf_text-affixed p s [] h = absurd (omega (arith, h))
+leaf_text-affixed p s (t ∷ c) h = leaf_text-join p ((t ∷ c) ++> s) ∙ ap (λ l. leaf_text p ++ l) (leaf_text-join (t ∷ c) s)
 
 pub IsContent-text : (x : List ℕ) (f : Formatting) → IsContent (text_content x f)
 IsContent-text [] f = nothing
