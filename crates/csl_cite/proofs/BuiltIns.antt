@@ -1,5 +1,5 @@
 -- The label and the kinds of what shows a built-in entry.
-use Rattle.std.proofs.Common.{◌≡◌, ℕ, Bool, true, false, ◌&&◌, List, [], ◌∷◌, Option, Some, None, map, option_map, refl, sym, ap, ◌∙◌}
+use Rattle.std.proofs.Common.{◌≡◌, ℕ, Bool, true, false, ◌&&◌, List, [], ◌∷◌, Option, Some, None, map, option_map, refl, ap, ◌∙◌}
 use Rattle.std.specs.Prelude.{is_none, Vec, ◌||◌, Result, Ok, Err, IfOk, String, string_bytes}
 use Rattle.std.specs.Option.{option_or}
 use Rattle.std.specs.declared.alloc.Global.{Global}
@@ -8,15 +8,15 @@ use Rattle.lit_model.specs.declared.entry.Entry.{Entry, out-Entry}
 use Rattle.lit_model.specs.declared.entry_type.EntryType.TheVariants.{Chapter, Scene}
 use Rattle.lit_model.specs.declared.person.Person.{Person}
 use Rattle.lit_model.specs.Date.{Parts, date_parts}
-use Rattle.lit_model.specs.Entry.{parents_of, preorder, first_some}
+use Rattle.lit_model.specs.Entry.{parents_of}
 use Rattle.lit_model.specs.Person.{Named, named}
 use Rattle.lit_model.specs.Select.{same_type, is_untitled_part, full_of}
 use Rattle.lit_model.specs.Text.{Forms, forms_of}
 use Rattle.lit_model.specs.Work.{Own, own_of}
 use Rattle.lit_model.proofs.Preorder.{first_some_here}
 use Rattle.lit_model.proofs.Whole.{full_whole}
-use Rattle.csl_entry.specs.CitationLabel.{LabelParts, label_parts, label_from, label_date, label}
-use Rattle.csl_entry.specs.Creators.{creators_of, makers, persons_or}
+use Rattle.csl_entry.specs.CitationLabel.{label_parts, label_from, label_date, label}
+use Rattle.csl_entry.specs.Creators.{creators_of, persons_or}
 use Rattle.csl_entry.specs.EntryDate.{date_in, visit_date}
 use Rattle.csl_entry.specs.EntryKind.{typing_of, typing_from, is_kind}
 use Rattle.csl_entry.proofs.ShowSame.{own_stand_in, stand_in_own}
@@ -24,7 +24,7 @@ use Rattle.csl_entry.proofs.Typings.{typing_shown}
 use Rattle.csl_style.specs.declared.taxonomy.Kind.{Kind}
 use Rattle.csl_cite.specs.declared.entries.BuiltIn.{BuiltIn}
 use Rattle.csl_cite.specs.declared.entries.BuiltIn.TheVariants.{CrazyRich, QuantizedVortex, Dependence, Feminism}
-use Rattle.csl_cite.specs.Entries.{Shows, StandsAlone, HasParent, IsBuiltIn, own_fields, parent_fields, date_of, label_parts_of, label_text, is_built_in_kind}
+use Rattle.csl_cite.specs.Entries.{Shows, HasParent, IsBuiltIn, own_fields, parent_fields, date_of, label_parts_of, label_text, is_built_in_kind}
 
 -- ---- kinds
 
