@@ -2,3 +2,4 @@ pub mod Groups
 pub mod Essay
 pub mod Taken
 pub mod KindNames
+pub mod BuiltIns

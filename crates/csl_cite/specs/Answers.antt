@@ -1,12 +1,9 @@
 -- What the program writes for its words.
 use Rattle.std.specs.Prelude.{◌≡◌, ◌⊎◌, ℕ, Bool, true, false, List, ◌++◌, Option, Some, None, IsSomeAnd, codes, string_bytes}
 use Rattle.std.specs.Fmt.{WritesInCalls}
-use Rattle.lit_model.specs.declared.entry.Entry.{Entry}
-use Rattle.csl_entry.specs.CitationLabel.{label}
-use Rattle.csl_entry.specs.EntryKind.{is_kind}
 use Rattle.csl_tree.specs.Tokens.{tokens}
 use Rattle.csl_tree.specs.Writing.{written}
-use Rattle.csl_cite.specs.Entries.{IsBuiltIn}
+use Rattle.csl_cite.specs.Entries.{label_text, is_built_in_kind}
 use Rattle.csl_cite.specs.Title.{title_layout}
 use Rattle.csl_cite.specs.Tree.{layout_tree}
 use Rattle.csl_cite.specs.Words.{Verdict, title_in, label_of, kind_of, missing, unknown}
@@ -26,8 +23,8 @@ truth_text false = codes "false"
 -- The text answers the words: what the built-in layout prints of the title; the label, with three letters, of the built-in entry; whether that entry is of the kind.
 abbrev pub IsAnswer : Verdict → List ℕ → Type 0
 IsAnswer (title_in title format) text = text ≡ written format (layout_tree title title_layout)
-IsAnswer (label_of entry) text = (e : Entry) × IsBuiltIn entry e × (text ≡ label 3 e)
-IsAnswer (kind_of entry kind) text = (e : Entry) × IsBuiltIn entry e × (text ≡ truth_text (is_kind kind e))
+IsAnswer (label_of entry) text = text ≡ label_text entry
+IsAnswer (kind_of entry kind) text = text ≡ truth_text (is_built_in_kind kind entry)
 IsAnswer missing text = ⊥
 IsAnswer (unknown word) text = ⊥
 

@@ -1,5 +1,5 @@
 -- The built-in entries.
-use Rattle.std.specs.Prelude.{◌≡◌, ℕ, pos, false, List, [], ◌∷◌, Option, Some, None, Ok, Err, codes, option_map, if◌then◌else◌}
+use Rattle.std.specs.Prelude.{◌≡◌, ℕ, pos, Bool, false, List, [], ◌∷◌, Option, Some, None, Ok, Err, codes, option_map, unwrap_or, if◌then◌else◌}
 use Rattle.std.specs.Str.{bytes_eq}
 use Rattle.url.specs.Parser.{Parsed, parse_url}
 use Rattle.url.specs.Parts as of_url
@@ -7,6 +7,7 @@ use Rattle.lit_model.specs.declared.entry.Entry.{Entry, out-Entry}
 use Rattle.lit_model.specs.declared.entry_type.EntryType.{EntryType}
 use Rattle.lit_model.specs.declared.entry_type.EntryType.TheVariants.{Article, Book, Blog, Periodical}
 use Rattle.lit_model.specs.declared.text.ChunkKind.TheVariants.{Normal}
+use Rattle.lit_model.specs.Chunks.{text_of}
 use Rattle.lit_model.specs.Date.{Parts, date_parts}
 use Rattle.lit_model.specs.Entry.{parents_of}
 use Rattle.lit_model.specs.MaybeTyped.{MaybeView, typed}
@@ -16,6 +17,9 @@ use Rattle.lit_model.specs.Person.{Named}
 use Rattle.lit_model.specs.Source.{Address}
 use Rattle.lit_model.specs.Text.{Forms}
 use Rattle.lit_model.specs.Work.{Own, own_of}
+use Rattle.csl_style.specs.declared.taxonomy.Kind.{Kind}
+use Rattle.csl_entry.specs.CitationLabel.{LabelParts, label_from}
+use Rattle.csl_entry.specs.EntryKind.{typing_from, is_kind}
 use Rattle.csl_cite.specs.declared.entries.BuiltIn.{BuiltIn}
 use Rattle.csl_cite.specs.declared.entries.BuiltIn.TheVariants.{CrazyRich, QuantizedVortex, Dependence, Feminism}
 
@@ -174,3 +178,40 @@ IsBuiltIn CrazyRich e = Shows crazy_rich (Some (calendar_date 2014 None None)) e
 IsBuiltIn QuantizedVortex e = Shows quantized_vortex (Some (calendar_date 1961 (Some 4) None)) e × HasParent nuovo_cimento e
 IsBuiltIn Dependence e = Shows dependence (Some (calendar_date 1987 (Some 6) None)) e × HasParent transactions e
 IsBuiltIn Feminism e = Shows feminism (Some (calendar_date 2015 (Some 8) (Some 24))) e × HasParent aeon e
+
+-- ---- what tells the label and the kinds of a built-in entry
+
+-- its own fields but the date, its date, and the fields of the works that it is directly a part of
+abbrev pub own_fields : BuiltIn → Own
+own_fields CrazyRich = crazy_rich
+own_fields QuantizedVortex = quantized_vortex
+own_fields Dependence = dependence
+own_fields Feminism = feminism
+
+abbrev pub date_of : BuiltIn → Parts
+date_of CrazyRich = calendar_date 2014 None None
+date_of QuantizedVortex = calendar_date 1961 (Some 4) None
+date_of Dependence = calendar_date 1987 (Some 6) None
+date_of Feminism = calendar_date 2015 (Some 8) (Some 24)
+
+abbrev pub parent_fields : BuiltIn → List Own
+parent_fields CrazyRich = []
+parent_fields QuantizedVortex = nuovo_cimento ∷ []
+parent_fields Dependence = transactions ∷ []
+parent_fields Feminism = aeon ∷ []
+
+-- its authors, its title where there are none, and its date
+abbrev pub label_parts_of : BuiltIn → LabelParts
+label_parts_of entry = record {
+  creators = unwrap_or (own_fields entry).authors [];
+  stand_in = unwrap_or (option_map (λ t. text_of t.value) (own_fields entry).title) [];
+  date = Some (date_of entry);
+}
+
+-- its label, with three letters
+abbrev pub label_text : BuiltIn → List ℕ
+label_text entry = label_from 3 (label_parts_of entry)
+
+-- whether it is of a kind
+abbrev pub is_built_in_kind : Kind → BuiltIn → Bool
+is_built_in_kind kind entry = is_kind kind (typing_from (own_fields entry) (parent_fields entry))

@@ -1,17 +1,20 @@
 //! The answers to words that were understood.
 
-ghost use Rattle.std.specs.Prelude.{◌≡◌, true, OnOk, OnErr, IfOk};
+ghost use Rattle.std.specs.Prelude.{◌≡◌, true, OnOk, OnErr, IfOk, string_bytes};
 ghost use Rattle.csl_tree.specs.Tokens.{tokens};
 ghost use Rattle.csl_cite.specs.Answers.{IsAnswer, TakesLine, text_of, truth_text};
+ghost use Rattle.csl_cite.specs.Entries.{IsBuiltIn, label_text, is_built_in_kind};
 ghost use Rattle.csl_cite.specs.Title.{title_layout};
 ghost use Rattle.csl_cite.specs.Tree.{layout_tree};
 ghost use Rattle.csl_cite.specs.Words.{command_verdict};
 
+use crate::entries::BuiltIn;
 use crate::title::{TitleOnly, title_layout};
 use crate::words::Command;
 use csl_entry::{Alphanumerical, EntryLike};
+use csl_style::Kind;
 use csl_tree::{BufWriteFormat, ElemChildren};
-use lit_model::{Memory, Sink};
+use lit_model::{Entry, Memory, Sink};
 use std::alloc::Global;
 use std::fmt;
 
@@ -35,6 +38,22 @@ fn title_content(alloc: Global, title: &str) -> Result<ElemChildren, Memory>
     layout.render(alloc, &TitleOnly { title })
 }
 
+/// The label, with three letters, of what shows a built-in entry.
+fn label_of(alloc: Global, entry: BuiltIn, work: &Entry) -> Result<String, Memory>
+    requires { IsBuiltIn entry work.now }
+    ensures { IfOk result (λ label. string_bytes label ≡ label_text entry) }
+{
+    Alphanumerical::new().citation(alloc, work)
+}
+
+/// Whether what shows a built-in entry is of a kind.
+fn is_of_kind(entry: BuiltIn, kind: Kind, work: &Entry) -> bool
+    requires { IsBuiltIn entry work.now }
+    ensures { result ≡ is_built_in_kind kind entry }
+{
+    work.matches_entry_type(kind)
+}
+
 /// The answer to a command.
 ///
 /// # Errors
@@ -48,13 +67,13 @@ pub fn answer_to(alloc: Global, command: Command<'_>) -> Result<Answer, Memory>
             Ok(Answer::Content(content, format))
         }
         Command::Label(entry) => {
-            let entry = entry.entry(alloc)?;
-            let label = Alphanumerical::new().citation(alloc, &entry)?;
+            let work = entry.entry(alloc)?;
+            let label = label_of(alloc, entry, &work)?;
             Ok(Answer::Text(label))
         }
         Command::Kind { entry, kind } => {
-            let entry = entry.entry(alloc)?;
-            Ok(Answer::Truth(entry.matches_entry_type(kind)))
+            let work = entry.entry(alloc)?;
+            Ok(Answer::Truth(is_of_kind(entry, kind, &work)))
         }
     }
 }

@@ -1,12 +1,10 @@
 -- Texts that a chain of iterators joins.
-use Rattle.std.proofs.Common.{◌≡◌, ℕ, List, ◌++◌, map, Ok, Err, Result, Option, string_bytes, String, sym, ap, ◌∙◌}
-use Rattle.std.specs.Bool.{⊤}
+use Rattle.std.proofs.Common.{◌≡◌, ℕ, List, ◌++◌, map, Result, Option, sym, ap, ◌∙◌}
 use Rattle.std.specs.Borrow.{Bor}
-use Rattle.std.specs.Prelude.{IfOk, OnOk, MatchResult}
-use Rattle.std.specs.declared.alloc.Global.{Global}
-use Rattle.std.specs.Iterator.{DrainsIf, Drains, Yields}
+use Rattle.std.specs.Prelude.{OnOk, MatchResult}
+use Rattle.std.specs.Iterator.{Drains, Yields}
 use Rattle.std.specs.List.{flat_map}
-use Rattle.std.proofs.lemmas.Iterator.{YieldsList, items_from_drains}
+use Rattle.std.proofs.lemmas.Iterator.{YieldsList}
 use Rattle.std.proofs.lemmas.Iterator.Adapters.{fact_from_extend}
 use Rattle.std.proofs.lemmas.Iterator.Consumers.{YieldsList-at}
 use Rattle.std.proofs.lemmas.List.Folds.{flat_map-map}
@@ -14,11 +12,6 @@ use Rattle.std.proofs.lemmas.List.Folds.{flat_map-map}
 -- texts by their bytes, joined
 pub joined_now : (xs : List (Bor (List ℕ))) (all : List (List ℕ)) → map (λ x. x.now) xs ≡ all → flat_map (λ x. x.now) xs ≡ flat_map (λ x. x) all
 joined_now xs all e = sym (flat_map-map (λ x. x) (λ x. x.now) xs) ∙ ap (λ (l : List (List ℕ)). flat_map (λ x. x) l) e
-
--- what a chain of texts collects into a `String`
-pub text_from_collect : {S E : Type 0} {steps : S → Option (Bor (List ℕ)) → S → Type 0} {s : S} {all : List (List ℕ)} (r : Result (String Global) E) → IfOk r (λ v. (xs : List (Bor (List ℕ))) × DrainsIf steps ⊤ s xs × (string_bytes v ≡ flat_map (λ x. x.now) xs)) → YieldsList steps (λ x. x.now) s all → IfOk r (λ v. string_bytes v ≡ flat_map (λ x. x) all)
-text_from_collect (Ok v) ran road = ran.2 ∙ joined_now ran.0 _ (items_from_drains ran.0 ran.1 road)
-text_from_collect (Err e) ran road = tt
 
 -- what a chain of texts adds to a `String`
 pub text_from_extend : {T E : Type 0} (steps : T → Option (Bor (List ℕ)) → T → Type 0) (s : T) (all : List (List ℕ)) (before after : List ℕ) (r : Result (Unit {0}) E) → ((it : T) × (xs : List (Bor (List ℕ))) × (it ≡ s) × (after ≡ before ++ flat_map (λ x. x.now) xs) × MatchResult r (λ _. Drains steps it xs) (λ _. (t : T) × Yields steps it xs t)) → YieldsList steps (λ x. x.now) s all → OnOk r (after ≡ before ++ flat_map (λ x. x) all)

@@ -7,3 +7,5 @@ pub mod ResultOrder
 pub mod ResultEqual
 pub mod Looks
 pub mod AnswersEqual
+pub mod Typings
+pub mod ShowSame

@@ -1,6 +1,6 @@
 -- Labels of a citation, as Kwa14 (CSL 1.0.2, Appendix IV: Standard Variables, citation-label).
 -- Letters are extended grapheme clusters (Unicode, UAX #29).
-use Rattle.std.specs.Prelude.{ℕ, true, zero, suc, pos, negsuc, ℤ, ◌+◌, ◌%◌, List, [], ◌∷◌, ◌++◌, Option, Some, None, take, filter, flat_map, chars, encode_utf8_all, codes, string_bytes, nat_lt, if◌then◌else◌}
+use Rattle.std.specs.Prelude.{◌≡◌, ℕ, true, zero, suc, pos, negsuc, ℤ, ◌+◌, ◌%◌, List, [], ◌∷◌, ◌++◌, Option, Some, None, option_map, take, filter, chars, encode_utf8_all, codes, string_bytes, nat_lt, if◌then◌else◌}
 use Rattle.std.specs.Fmt.{decimal}
 use Rattle.std.specs.List.{concat}
 use Rattle.std.specs.Option.{option_or}
@@ -9,10 +9,12 @@ use Rattle.unicode_segmentation.specs.Grapheme.{graphemes}
 use Rattle.lit_model.specs.declared.date.Date.{Date}
 use Rattle.lit_model.specs.declared.entry.Entry.{Entry, out-Entry}
 use Rattle.lit_model.specs.declared.text.FormatString.{FormatString}
-use Rattle.lit_model.specs.Date.{date_parts}
+use Rattle.lit_model.specs.Chunks.{text_of}
+use Rattle.lit_model.specs.Date.{Parts, date_parts}
 use Rattle.lit_model.specs.Person.{Named}
 use Rattle.lit_model.specs.Select.{full_of}
-use Rattle.lit_model.specs.Text.{Chunk, chunks}
+use Rattle.lit_model.specs.Text.{chunks}
+use Rattle.lit_model.specs.Work.{works}
 use Rattle.csl_entry.specs.Creators.{creators_of}
 use Rattle.csl_entry.specs.EntryDate.{issued, visit_date}
 
@@ -28,18 +30,14 @@ creators_part n other (p ∷ q ∷ []) = first_letters 1 p.name ++ first_letters
 creators_part n other (p ∷ q ∷ r ∷ []) = first_letters 1 p.name ++ first_letters 1 q.name ++ first_letters 1 r.name
 creators_part n other (p ∷ q ∷ r ∷ s ∷ more) = first_letters n p.name ++ codes "+"
 
--- the chunks of a text, joined
-abbrev pub whole_text : List Chunk → List ℕ
-whole_text cs = flat_map (λ c. c.value) cs
-
 -- the letters among the characters of a key (Unicode Alphabetic)
 abbrev pub alphabetic : List ℕ → List ℕ
 alphabetic key = encode_utf8_all (filter is_alphabetic (chars key))
 
 -- what stands in for the creators: the organization, else the title, both in full; else the letters of the key
 abbrev pub stand_in_of : Option FormatString → Option FormatString → List ℕ → List ℕ
-stand_in_of (Some organization) title key = whole_text (chunks organization.value)
-stand_in_of None (Some title) key = whole_text (chunks title.value)
+stand_in_of (Some organization) title key = text_of (chunks organization.value)
+stand_in_of None (Some title) key = text_of (chunks title.value)
 stand_in_of None None key = alphabetic key
 
 abbrev pub stand_in : Entry → List ℕ
@@ -60,14 +58,27 @@ abbrev pub two_digits : ℕ → List ℕ
 two_digits n = if nat_lt n 10 then codes "0" ++ decimal n else decimal n
 
 -- without a date there is no year
-abbrev pub year_part : Option Date → List ℕ
+abbrev pub year_part : Option Parts → List ℕ
 year_part None = []
-year_part (Some date) = two_digits (year_number (date_parts date).year)
+year_part (Some date) = two_digits (year_number date.year)
 
--- the label of a work: its creators, then its year
-abbrev pub work_label : ℕ → Entry → List ℕ
-work_label n e = creators_part n (stand_in e) (creators_of e) ++ year_part (label_date e)
+-- what the label of a work is made of: its creators, what stands in for them, and its date
+pub record LabelParts : Type 0 where
+  pub creators : List Named
+  pub stand_in : List ℕ
+  pub date : Option Parts
+
+abbrev pub label_parts : Entry → LabelParts
+label_parts e = record { creators = creators_of e; stand_in = stand_in e; date = option_map date_parts (label_date e) }
+
+-- the creators, then the year
+abbrev pub label_from : ℕ → LabelParts → List ℕ
+label_from n parts = creators_part n parts.stand_in parts.creators ++ year_part parts.date
 
 -- the label of an entry is that of the work that it is a part of
 abbrev pub label : ℕ → Entry → List ℕ
-label n e = work_label n (full_of e)
+label n e = label_from n (label_parts (full_of e))
+
+-- entries that show the same have the same label
+abbrev pub LabelIsShown : ℕ → Entry → Type 0
+LabelIsShown n e = (other : Entry) → works e ≡ works other → label n e ≡ label n other

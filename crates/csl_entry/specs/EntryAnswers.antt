@@ -3,7 +3,7 @@ use Rattle.std.specs.Prelude.{ℕ, List, string_bytes}
 use Rattle.lit_model.specs.declared.entry.Entry.{Entry, out-Entry}
 use Rattle.csl_entry.specs.Answers.{Answers}
 use Rattle.csl_entry.specs.EntryDate.{date_of}
-use Rattle.csl_entry.specs.EntryKind.{is_kind}
+use Rattle.csl_entry.specs.EntryKind.{typing_of, is_kind}
 use Rattle.csl_entry.specs.EntryName.{names_of}
 use Rattle.csl_entry.specs.EntryNumber.{number_of}
 use Rattle.csl_entry.specs.EntryPage.{pages_of}
@@ -16,7 +16,7 @@ answers_of e = record {
   standards = standard_of e;
   names = names_of e;
   dates = date_of e;
-  kinds = λ kind. is_kind kind e;
+  kinds = λ kind. is_kind kind (typing_of e);
 }
 
 -- the key that cites it

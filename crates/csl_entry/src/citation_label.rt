@@ -1,13 +1,13 @@
 //! Alphanumerical labels of citations.
 
-ghost use Rattle.std.specs.Prelude.{◌≡◌, ◌++◌, option_copied, string_bytes, IfOk, OnOk};
-ghost use Rattle.lit_model.specs.Text.{chunks};
+ghost use Rattle.std.specs.Prelude.{◌≡◌, ◌++◌, option_copied, option_map, string_bytes, IfOk, OnOk};
+ghost use Rattle.lit_model.specs.Date.{date_parts};
 ghost use Rattle.csl_entry.specs.Creators.{creators_of};
-ghost use Rattle.csl_entry.specs.CitationLabel.{first_letters, creators_part, whole_text, alphabetic, stand_in, label_date, year_number, year_part, label};
+ghost use Rattle.csl_entry.specs.CitationLabel.{first_letters, creators_part, alphabetic, stand_in, label_date, year_number, year_part, label, LabelIsShown};
 
 use crate::creators::creators;
 use crate::entry::visit_date;
-use lit_model::{ChunkedString, Date, Entry, Memory};
+use lit_model::{Date, Entry, Memory};
 use std::alloc::Global;
 use std::fmt::Write;
 use unicode::properties::is_alphabetic;
@@ -48,8 +48,12 @@ impl Alphanumerical {
     ///
     /// # Errors
     /// [`Memory`]: there was no memory left.
+    #[tactic(auto, using(crate::proofs::ShowSame::same_label))]
     pub fn citation(self, alloc: Global, entry: &Entry) -> Result<String, Memory>
-        ensures { IfOk result (λ s. string_bytes s ≡ label self.letters entry.now) }
+        ensures value { IfOk result (λ s. string_bytes s ≡ label self.letters entry.now) }
+
+        // It depends on what the entry and its parents show alone.
+        ensures shown { LabelIsShown self.letters entry.now }
     {
         let work = entry.get_full();
         let mut label = String::new(alloc);
@@ -101,22 +105,11 @@ fn stand_in(alloc: Global, work: &Entry) -> Result<String, Memory>
     ensures { IfOk result (λ s. string_bytes s ≡ stand_in work.now) }
 {
     let text = match (&work.organization, &work.title) {
-        (Some(organization), _) => whole_text(alloc, &organization.value)?,
-        (None, Some(title)) => whole_text(alloc, &title.value)?,
+        (Some(organization), _) => organization.value.to_text(alloc)?,
+        (None, Some(title)) => title.value.to_text(alloc)?,
         (None, None) => alphabetic(alloc, work.key.as_str())?,
     };
     Ok(text)
-}
-
-fn whole_text(alloc: Global, text: &ChunkedString) -> Result<String, Memory>
-    ensures { IfOk result (λ s. string_bytes s ≡ whole_text (chunks text.now)) }
-{
-    let whole = text
-        .0
-        .iter()
-        .map(|chunk| chunk.value.as_str())
-        .collect(alloc)?;
-    Ok(whole)
 }
 
 /// The letters of a key.
@@ -136,7 +129,7 @@ fn label_date(work: &Entry) -> Option<&Date>
 
 fn push_year(label: &mut String, date: Option<&Date>) -> Result<(), Memory>
     ensures { OnOk result (string_bytes label.new
-        ≡ string_bytes label.old ++ year_part (option_copied date.entry)) }
+        ≡ string_bytes label.old ++ year_part (option_map date_parts (option_copied date.entry))) }
 {
     if let Some(date) = date {
         write!(label, "{:02}", year_number(date.year()))?;

@@ -3,7 +3,7 @@
 ghost use Rattle.std.specs.Prelude.{◌≡◌, ◌↔◌, ◌∷◌, [], IsTrue, IsSome, IfSome, IfNone};
 ghost use Rattle.lit_model.specs.declared.entry_type.EntryType.TheVariants.{Legislation};
 ghost use Rattle.csl_style.specs.declared.taxonomy.Kind.TheVariants as kind;
-ghost use Rattle.csl_entry.specs.EntryKind.{is_a, stands_in, is_journal_article, is_newspaper_article, is_conference_paper, is_report, is_thesis, is_periodical, is_recording, is_musical_score, is_motion_picture, is_song, is_blog_post, is_post, is_online, is_figure, is_kind, kinds_among, recording_kinds, legislation_kinds};
+ghost use Rattle.csl_entry.specs.EntryKind.{typing_of, TypingIsShown, is_a, stands_in, is_journal_article, is_newspaper_article, is_conference_paper, is_report, is_thesis, is_periodical, is_recording, is_musical_score, is_motion_picture, is_song, is_blog_post, is_post, is_online, is_figure, is_kind, kinds_among, recording_kinds, legislation_kinds};
 
 use csl_style::Kind;
 use lit_model::{Bind, Clause, Entry, EntryType};
@@ -12,9 +12,10 @@ use lit_model::{Bind, Clause, Entry, EntryType};
 /// `MusicalScore` and `Song`. `None` for an entry of another type, which is of none of them (CSL
 /// 1.0.2, Appendix III: Types).
 pub fn recording_kind(entry: &Entry) -> Option<Kind>
-    ensures recording { IsSome result ↔ IsTrue (is_recording entry.now) }
-    ensures one { IfSome result (λ kind. kinds_among recording_kinds entry.now ≡ kind ∷ []) }
-    ensures none { IfNone result (kinds_among recording_kinds entry.now ≡ []) }
+    ensures recording { IsSome result ↔ IsTrue (is_recording (typing_of entry.now)) }
+    ensures one { IfSome result (λ kind.
+        kinds_among recording_kinds (typing_of entry.now) ≡ kind ∷ []) }
+    ensures none { IfNone result (kinds_among recording_kinds (typing_of entry.now) ≡ []) }
 {
     if !is_recording(entry) {
         return None;
@@ -34,9 +35,10 @@ pub fn recording_kind(entry: &Entry) -> Option<Kind>
 /// The kind of a law: one that has a publisher is `Legislation`, any other a `Bill`, and none is
 /// both. `None` for an entry of another type, which is neither (CSL 1.0.2, Appendix III: Types).
 pub fn legislation_kind(entry: &Entry) -> Option<Kind>
-    ensures law { IsSome result ↔ IsTrue (is_a Legislation entry.now) }
-    ensures one { IfSome result (λ kind. kinds_among legislation_kinds entry.now ≡ kind ∷ []) }
-    ensures none { IfNone result (kinds_among legislation_kinds entry.now ≡ []) }
+    ensures law { IsSome result ↔ IsTrue (is_a Legislation (typing_of entry.now)) }
+    ensures one { IfSome result (λ kind.
+        kinds_among legislation_kinds (typing_of entry.now) ≡ kind ∷ []) }
+    ensures none { IfNone result (kinds_among legislation_kinds (typing_of entry.now) ≡ []) }
 {
     if entry.entry_type != EntryType::Legislation {
         return None;
@@ -48,8 +50,12 @@ pub fn legislation_kind(entry: &Entry) -> Option<Kind>
 }
 
 /// The entry is of that kind (CSL 1.0.2, Appendix III: Types). It may be of several, or of none.
+#[tactic(auto, using(crate::proofs::ShowSame::same_typing))]
 pub(crate) fn is_of_kind(entry: &Entry, kind: Kind) -> bool
-    ensures { result ≡ is_kind kind entry.now }
+    ensures value { result ≡ is_kind kind (typing_of entry.now) }
+
+    // It depends on what the entry and its parents show alone.
+    ensures shown { TypingIsShown entry.now }
 {
     match kind {
         Kind::Article => is_article(entry),
@@ -88,7 +94,7 @@ pub(crate) fn is_of_kind(entry: &Entry, kind: Kind) -> bool
 
 /// A work that the entry is directly a part of is of one of these types.
 fn stands_in(entry: &Entry, types: &[EntryType]) -> bool
-    ensures { result ≡ stands_in types.now entry.now }
+    ensures { result ≡ stands_in types.now (typing_of entry.now) }
 {
     entry.matches(&[Clause {
         own: &[],
@@ -99,31 +105,31 @@ fn stands_in(entry: &Entry, types: &[EntryType]) -> bool
 }
 
 fn is_journal_article(entry: &Entry) -> bool
-    ensures { result ≡ is_journal_article entry.now }
+    ensures { result ≡ is_journal_article (typing_of entry.now) }
 {
     entry.entry_type == EntryType::Article && stands_in(entry, &[EntryType::Periodical])
 }
 
 fn is_newspaper_article(entry: &Entry) -> bool
-    ensures { result ≡ is_newspaper_article entry.now }
+    ensures { result ≡ is_newspaper_article (typing_of entry.now) }
 {
     entry.entry_type == EntryType::Article && stands_in(entry, &[EntryType::Newspaper])
 }
 
 fn is_conference_paper(entry: &Entry) -> bool
-    ensures { result ≡ is_conference_paper entry.now }
+    ensures { result ≡ is_conference_paper (typing_of entry.now) }
 {
     entry.entry_type == EntryType::Article && stands_in(entry, &[EntryType::Proceedings])
 }
 
 fn is_report(entry: &Entry) -> bool
-    ensures { result ≡ is_report entry.now }
+    ensures { result ≡ is_report (typing_of entry.now) }
 {
     entry.entry_type == EntryType::Report || stands_in(entry, &[EntryType::Report])
 }
 
 fn is_thesis(entry: &Entry) -> bool
-    ensures { result ≡ is_thesis entry.now }
+    ensures { result ≡ is_thesis (typing_of entry.now) }
 {
     entry.entry_type == EntryType::Thesis || stands_in(entry, &[EntryType::Thesis])
 }
@@ -131,7 +137,7 @@ fn is_thesis(entry: &Entry) -> bool
 /// An article that is no narrower kind of article, no report or thesis, and in no blog. No article
 /// is a manuscript, since that is a type of its own.
 fn is_article(entry: &Entry) -> bool
-    ensures { result ≡ is_kind kind.Article entry.now }
+    ensures { result ≡ is_kind kind.Article (typing_of entry.now) }
 {
     entry.entry_type == EntryType::Article
         && !(is_journal_article(entry)
@@ -143,20 +149,20 @@ fn is_article(entry: &Entry) -> bool
 }
 
 fn is_periodical(entry: &Entry) -> bool
-    ensures { result ≡ is_periodical entry.now }
+    ensures { result ≡ is_periodical (typing_of entry.now) }
 {
     entry.entry_type == EntryType::Book && stands_in(entry, &[EntryType::Periodical])
 }
 
 fn is_book(entry: &Entry) -> bool
-    ensures { result ≡ is_kind kind.Book entry.now }
+    ensures { result ≡ is_kind kind.Book (typing_of entry.now) }
 {
     (entry.entry_type == EntryType::Book || entry.entry_type == EntryType::Proceedings)
         && !is_periodical(entry)
 }
 
 fn is_chapter(entry: &Entry) -> bool
-    ensures { result ≡ is_kind kind.Chapter entry.now }
+    ensures { result ≡ is_kind kind.Chapter (typing_of entry.now) }
 {
     match entry.entry_type {
         EntryType::Anthos => stands_in(entry, &[EntryType::Anthology]),
@@ -173,20 +179,20 @@ fn is_chapter(entry: &Entry) -> bool
 }
 
 fn is_entry(entry: &Entry) -> bool
-    ensures { result ≡ is_kind kind.Entry entry.now }
+    ensures { result ≡ is_kind kind.Entry (typing_of entry.now) }
 {
     entry.entry_type == EntryType::Entry && !stands_in(entry, &[EntryType::Reference])
 }
 
 fn is_recording(entry: &Entry) -> bool
-    ensures { result ≡ is_recording entry.now }
+    ensures { result ≡ is_recording (typing_of entry.now) }
 {
     entry.entry_type == EntryType::Audio || entry.entry_type == EntryType::Video
 }
 
 /// An audio that comes with something to read.
 fn is_musical_score(entry: &Entry) -> bool
-    ensures { result ≡ is_musical_score entry.now }
+    ensures { result ≡ is_musical_score (typing_of entry.now) }
 {
     entry.entry_type == EntryType::Audio
         && stands_in(
@@ -202,46 +208,48 @@ fn is_musical_score(entry: &Entry) -> bool
         )
 }
 
+#[tactic(auto, using(crate::proofs::Typings::alone_without_parents))]
 fn is_motion_picture(entry: &Entry) -> bool
-    ensures { result ≡ is_motion_picture entry.now }
+    ensures { result ≡ is_motion_picture (typing_of entry.now) }
 {
     entry.entry_type == EntryType::Video && entry.parents.is_empty()
 }
 
+#[tactic(auto, using(crate::proofs::Typings::alone_without_parents))]
 fn is_song(entry: &Entry) -> bool
-    ensures { result ≡ is_song entry.now }
+    ensures { result ≡ is_song (typing_of entry.now) }
 {
     entry.entry_type == EntryType::Audio && entry.parents.is_empty()
 }
 
 fn is_broadcast(entry: &Entry) -> bool
-    ensures { result ≡ is_kind kind.Broadcast entry.now }
+    ensures { result ≡ is_kind kind.Broadcast (typing_of entry.now) }
 {
     is_recording(entry) && !(is_musical_score(entry) || is_motion_picture(entry) || is_song(entry))
 }
 
 /// A law that has a publisher.
 fn is_legislation(entry: &Entry) -> bool
-    ensures { result ≡ is_kind kind.Legislation entry.now }
+    ensures { result ≡ is_kind kind.Legislation (typing_of entry.now) }
 {
     entry.entry_type == EntryType::Legislation && entry.publisher.is_some()
 }
 
 /// A law that has no publisher.
 fn is_bill(entry: &Entry) -> bool
-    ensures { result ≡ is_kind kind.Bill entry.now }
+    ensures { result ≡ is_kind kind.Bill (typing_of entry.now) }
 {
     entry.entry_type == EntryType::Legislation && entry.publisher.is_none()
 }
 
 fn is_blog_post(entry: &Entry) -> bool
-    ensures { result ≡ is_blog_post entry.now }
+    ensures { result ≡ is_blog_post (typing_of entry.now) }
 {
     stands_in(entry, &[EntryType::Blog])
 }
 
 fn is_post(entry: &Entry) -> bool
-    ensures { result ≡ is_post entry.now }
+    ensures { result ≡ is_post (typing_of entry.now) }
 {
     entry.entry_type == EntryType::Post || stands_in(entry, &[EntryType::Thread])
 }
@@ -249,7 +257,7 @@ fn is_post(entry: &Entry) -> bool
 /// A site, a blog or a thread, anything in a site or a blog, and what is of no type of its own
 /// but has an address.
 fn is_online(entry: &Entry) -> bool
-    ensures { result ≡ is_online entry.now }
+    ensures { result ≡ is_online (typing_of entry.now) }
 {
     (entry.entry_type == EntryType::Misc && entry.url.is_some())
         || stands_in(entry, &[EntryType::Web, EntryType::Blog])
@@ -259,19 +267,19 @@ fn is_online(entry: &Entry) -> bool
 }
 
 fn is_webpage(entry: &Entry) -> bool
-    ensures { result ≡ is_kind kind.Webpage entry.now }
+    ensures { result ≡ is_kind kind.Webpage (typing_of entry.now) }
 {
     is_online(entry) && !(is_blog_post(entry) || is_post(entry))
 }
 
 fn is_figure(entry: &Entry) -> bool
-    ensures { result ≡ is_figure entry.now }
+    ensures { result ≡ is_figure (typing_of entry.now) }
 {
     entry.entry_type == EntryType::Artwork && stands_in(entry, &[EntryType::Article])
 }
 
 fn is_graphic(entry: &Entry) -> bool
-    ensures { result ≡ is_kind kind.Graphic entry.now }
+    ensures { result ≡ is_kind kind.Graphic (typing_of entry.now) }
 {
     entry.entry_type == EntryType::Artwork && !is_figure(entry)
 }
