@@ -19,6 +19,7 @@ use Rattle.csl_entry.specs.Cite.{CiteState}
 use Rattle.csl_entry.specs.NameProperties.{NameProperties}
 use Rattle.csl_entry.specs.Instance.{Instance}
 use Rattle.csl_context.specs.State.{State, Inherited, looked}
+use Rattle.csl_context.specs.Texts.{text_in, gap_after}
 use Rattle.csl_context.specs.World.{World}
 use Rattle.csl_context.specs.declared.mark.Mark.{Mark}
 use Rattle.csl_context.specs.declared.error.RenderError.{RenderError}
@@ -110,6 +111,10 @@ same now = now
 -- the context after a content
 abbrev pub with_content : {T : Type 0} → (Inherited → List Token) → Now T → Now T
 with_content c now = record now { inner = now.inner ++> c now.inherited }
+
+-- the context after a space, where one is wanted
+abbrev pub with_space : {T : Type 0} → Now T → Now T
+with_space now = with_content (λ inh. text_in inh (gap_after now.inner)) now
 
 -- the context with one more open part
 abbrev pub with_part : {T : Type 0} → Now T → Now T

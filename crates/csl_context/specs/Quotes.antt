@@ -1,5 +1,5 @@
 -- Quotes around a content, and a comma or period behind them (CSL 1.0.2, Quotes; Locale: punctuation-in-quote).
-use Rattle.std.specs.Prelude.{ℕ, Bool, true, false, ◌||◌, ◌==◌, List, [], ◌∷◌, Option, Some, None, is_some, option_map, if◌then◌else◌}
+use Rattle.std.specs.Prelude.{ℕ, Bool, true, false, ◌||◌, ◌&&◌, ◌==◌, List, [], ◌∷◌, Option, Some, None, is_some, option_map, if◌then◌else◌}
 use Rattle.lit_model.specs.Characters.{comma_char, dot_char}
 use Rattle.csl_style.specs.declared.term.OtherTerm.{OtherTerm}
 use Rattle.csl_style.specs.declared.term.OtherTerm.TheVariants.{OpenQuote, CloseQuote, OpenInnerQuote, CloseInnerQuote}
@@ -8,7 +8,7 @@ use Rattle.csl_style.specs.declared.term.TermForm.TheVariants.{Long}
 use Rattle.csl_style.specs.Dressing.{AffixTexts}
 use Rattle.csl_style.specs.Scopes.{is_punctuation_in_quote}
 use Rattle.csl_style.specs.Style.{StyleParts}
-use Rattle.csl_tree.specs.Tokens.{Token}
+use Rattle.csl_tree.specs.Tokens.{Token, has_children}
 use Rattle.csl_tree.specs.Content.{◌++>◌, affixed}
 use Rattle.csl_context.specs.State.{Inherited}
 use Rattle.csl_context.specs.Texts.{text_in, text_in_if, affixed_in}
@@ -46,8 +46,7 @@ moved_front style (Some suffix) = if is_punctuation_in_quote style.locales then 
 
 -- something did, around this content: nothing is moved into the quotes of nothing
 abbrev pub has_moved : StyleParts → Option (List ℕ) → List Token → Bool
-has_moved style suffix [] = false
-has_moved style suffix (t ∷ ts) = is_some (moved_front style suffix)
+has_moved style suffix c = is_some (moved_front style suffix) && has_children c
 
 -- Quoted: the content in quotes, with the front of the suffix that stands behind it, where that is moved
 abbrev pub quoted_in : StyleParts → Inherited → Option (List ℕ) → List Token → List Token

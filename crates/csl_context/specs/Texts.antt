@@ -1,14 +1,14 @@
 -- The content of a text in what it inherits (CSL 1.0.2, Formatting, Strip-periods, Affixes).
-use Rattle.std.specs.Prelude.{ℕ, Bool, true, false, not, ◌==◌, List, [], ◌∷◌, Option, Some, None, filter, encode_utf8_all, if◌then◌else◌}
+use Rattle.std.specs.Prelude.{ℕ, Bool, not, ◌&&◌, ◌==◌, List, [], ◌∷◌, Option, Some, None, filter, encode_utf8_all, if◌then◌else◌}
 use Rattle.std.specs.Str.{chars}
-use Rattle.lit_model.specs.Characters.{dot_char}
+use Rattle.lit_model.specs.Characters.{dot_char, space_char}
 use Rattle.lit_model.specs.Text.{Chunk}
 use Rattle.lit_model.specs.declared.text.ChunkKind.TheVariants.{Normal, Verbatim, Math}
 use Rattle.lit_model.specs.declared.text.ChunkKind.{ChunkKind}
 use Rattle.csl_style.specs.Dressing.{AffixTexts}
 use Rattle.csl_tree.specs.declared.formatting.Formatting.{Formatting}
-use Rattle.csl_tree.specs.Tokens.{Token, solid, markup, link, transparent}
-use Rattle.csl_tree.specs.Content.{◌++>◌, text_content, affixed}
+use Rattle.csl_tree.specs.Tokens.{Token, solid, transparent, has_text, ends_in_white_space}
+use Rattle.csl_tree.specs.Content.{◌++>◌, text_content, markup_content, link_content, affixed}
 use Rattle.csl_context.specs.State.{Inherited}
 
 abbrev pub is_no_period : ℕ → Bool
@@ -37,10 +37,6 @@ text_in inh bs = text_of inh.stripping inh.formatting bs
 abbrev pub text_in_if : Inherited → Option (List ℕ) → List Token
 text_in_if inh text = text_of_if inh.stripping inh.formatting text
 
-abbrev pub markup_content : List ℕ → List Token
-markup_content [] = []
-markup_content (b ∷ bs) = solid (markup (b ∷ bs)) ∷ []
-
 -- a piece of a text: one that is verbatim keeps its periods, mathematics becomes markup
 abbrev pub chunk_in_kind : Inherited → ChunkKind → List ℕ → List Token
 chunk_in_kind inh Normal bs = text_in inh bs
@@ -57,12 +53,15 @@ chunks_in inh (c ∷ cs) = chunk_in inh c ++> chunks_in inh cs
 
 -- a link, whose text keeps its periods
 abbrev pub link_in : Inherited → List ℕ → List ℕ → List Token
-link_in inh [] url = []
-link_in inh (b ∷ bs) url = solid (link (b ∷ bs) inh.formatting url) ∷ []
+link_in inh bs url = link_content bs inh.formatting url
 
 -- the place of a cite that the caller writes
 abbrev pub transparent_in : Inherited → ℕ → List Token
 transparent_in inh index = solid (transparent index inh.formatting) ∷ []
+
+-- a space, unless there is no text yet or white space ends it
+abbrev pub gap_after : List Token → List ℕ
+gap_after ts = if has_text ts && not (ends_in_white_space ts) then space_char ∷ [] else []
 
 -- Affixed: a content between two texts
 abbrev pub between_in : Inherited → Option (List ℕ) → Option (List ℕ) → List Token → List Token

@@ -2,9 +2,9 @@
 
 ghost use Rattle.std.specs.Prelude.{◌≡◌, ◌+◌, length, false, true, option_map, IfOk, OnOk, IfErr};
 ghost use Rattle.csl_style.specs.Dressing.{affix_texts};
-ghost use Rattle.csl_tree.specs.Content.{affixed};
+ghost use Rattle.csl_tree.specs.Content.{◌++>◌, affixed};
 ghost use Rattle.csl_tree.specs.Tokens.{tokens};
-ghost use Rattle.csl_context.specs.Texts.{between_in};
+ghost use Rattle.csl_context.specs.Texts.{text_in_if, between_in};
 ghost use Rattle.csl_context.specs.Quotes.{opening, closing, quote, front, behind_front, moved_front, has_moved, quoted_in, affixed_after};
 ghost use Rattle.csl_context.specs.Now.{FailsAs, Leaves, IsInnermost, with_part, closed_by, turned};
 
@@ -78,6 +78,101 @@ impl<'s, T> Context<'s, T> {
         self.push_elem()
     }
 
+    /// Closes the middle of affixes, and writes it between them, unless it is empty. A suffix
+    /// whose first character was moved into quotes loses it.
+    ///
+    /// # Errors
+    /// [`RenderError::Memory`]: there was no memory left. The context has failed.
+    /// [`RenderError::Failed`]: the context had failed.
+    pub fn apply_suffix(
+        &mut self,
+        affixes: &Affixes,
+        mark: Mark,
+        moved: bool,
+    ) -> Result<(), RenderError>
+        requires innermost { IsInnermost mark self.old }
+        ensures ok { OnOk result (Leaves
+            (closed_by (λ inh c. affixed_after moved inh (affix_texts affixes.now) c))
+            self.old self.new) }
+        ensures err { IfErr result (λ e. FailsAs e self.old self.new) }
+    {
+        let suffix = if moved {
+            affixes.suffix.as_deref().map(behind_front)
+        } else {
+            affixes.suffix.as_deref()
+        };
+        self.splice_affixed(mark, affixes.prefix.as_deref(), suffix)
+    }
+
+    /// Closes a part, and writes it between two texts in the part around it, unless it is empty.
+    ///
+    /// # Errors
+    /// [`RenderError::Memory`]: there was no memory left. The context has failed.
+    /// [`RenderError::Failed`]: the context had failed.
+    pub fn splice_affixed(
+        &mut self,
+        mark: Mark,
+        prefix: Option<&str>,
+        suffix: Option<&str>,
+    ) -> Result<(), RenderError>
+        requires innermost { IsInnermost mark self.old }
+        ensures ok { OnOk result (Leaves
+            (closed_by (λ inh c. between_in inh (option_map (λ t. t.now) prefix.entry)
+            (option_map (λ t. t.now) suffix.entry) c)) self.old self.new) }
+        ensures err { IfErr result (λ e. FailsAs e self.old self.new) }
+    {
+        if self.writing.failed {
+            return Err(RenderError::Failed);
+        }
+        match self.pen().affixes(prefix, suffix) {
+            Ok((before, after)) => self.splice_between(mark, before, after),
+            Err(_) => {
+                self.writing.failed = true;
+                Err(RenderError::Memory)
+            }
+        }
+    }
+
+    /// Closes a part, and writes it between two contents in the part around it, unless it is
+    /// empty.
+    fn splice_between(
+        &mut self,
+        mark: Mark,
+        before: ElemChildren,
+        after: ElemChildren,
+    ) -> Result<(), RenderError>
+        requires innermost { IsInnermost mark self.old }
+        ensures ok { OnOk result (Leaves
+            (closed_by (λ _ c. affixed (tokens before) (tokens after) c)) self.old self.new) }
+        ensures err { IfErr result (λ e. FailsAs e self.old self.new) }
+    {
+        if self.writing.failed {
+            return Err(RenderError::Failed);
+        }
+        match self.writing.outer.pop() {
+            None => unreachable!(),
+            Some(part) => {
+                let middle = mem::replace(&mut self.writing.inner, part);
+                let alloc = self.writing.alloc;
+                let inner = &mut self.writing.inner;
+                match inner.push_between(alloc, before, middle, after) {
+                    Ok(()) => Ok(()),
+                    Err(_) => {
+                        self.writing.failed = true;
+                        Err(RenderError::Memory)
+                    }
+                }
+            }
+        }
+    }
+
+    /// Whether an odd number of quotes stands around.
+    fn in_quotes(&self) -> bool
+        ensures { result ≡ self.now.inherited.in_quotes }
+    {
+        self.writing.in_quotes
+    }
+
     /// The text of a quote, where a locale has it.
     fn quote(&self, term: OtherTerm) -> Option<&'s str>
         ensures { option_map (λ t. t.now) result ≡ quote self.now.style term }
@@ -100,6 +195,43 @@ impl<'s, T> Context<'s, T> {
             }
             None => None,
         }
+    }
+
+    /// The content of the opening quote.
+    fn opening_content(&self) -> Result<ElemChildren, Memory>
+        ensures { IfOk result (λ c. tokens c ≡ text_in_if self.now.inherited
+            (quote self.now.style (opening self.now.inherited.in_quotes))) }
+    {
+        let open = self.quote(opening(self.in_quotes()));
+        let content = self.pen().content(open)?;
+        Ok(content)
+    }
+
+    /// The content of the closing quote behind what is moved before it.
+    fn closing_content(&self, suffix: Option<&str>) -> Result<ElemChildren, Memory>
+        ensures { IfOk result (λ c. tokens c ≡ text_in_if self.now.inherited
+            (moved_front self.now.style (option_map (λ t. t.now) suffix.entry))
+            ++> text_in_if self.now.inherited
+            (quote self.now.style (closing self.now.inherited.in_quotes))) }
+    {
+        let front = self.moved_front(suffix);
+        let close = self.quote(closing(self.in_quotes()));
+        let content = self.pen().contents(front, close)?;
+        Ok(content)
+    }
+
+    /// The two.
+    fn quotes_around(&self, suffix: Option<&str>) -> Result<(ElemChildren, ElemChildren), Memory>
+        ensures before { IfOk result (λ c. tokens c.0 ≡ text_in_if self.now.inherited
+            (quote self.now.style (opening self.now.inherited.in_quotes))) }
+        ensures after { IfOk result (λ c. tokens c.1 ≡ text_in_if self.now.inherited
+            (moved_front self.now.style (option_map (λ t. t.now) suffix.entry))
+            ++> text_in_if self.now.inherited
+            (quote self.now.style (closing self.now.inherited.in_quotes))) }
+    {
+        let before = self.opening_content()?;
+        let after = self.closing_content(suffix)?;
+        Ok((before, after))
     }
 
     /// Opens the inside of quotes. They are written once it is closed, unless it is empty.

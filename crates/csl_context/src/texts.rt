@@ -1,9 +1,9 @@
 //! Texts, markups and links behind what is written (CSL 1.0.2, Formatting, Strip-periods).
 
-ghost use Rattle.std.specs.Prelude.{◌≡◌, string_bytes, option_map, IfOk, OnOk};
-ghost use Rattle.csl_tree.specs.Content.{◌++>◌, Appends};
-ghost use Rattle.csl_tree.specs.Tokens.{tokens};
-ghost use Rattle.csl_context.specs.Texts.{without_periods, text_of, text_of_if, markup_content};
+ghost use Rattle.std.specs.Prelude.{◌≡◌, [], ◌∷◌, string_bytes, option_map, IfOk, OnOk};
+ghost use Rattle.csl_tree.specs.Content.{◌++>◌, markup_content, link_content, Appends};
+ghost use Rattle.csl_tree.specs.Tokens.{tokens, solid, transparent};
+ghost use Rattle.csl_context.specs.Texts.{without_periods, text_of, text_of_if};
 
 use csl_tree::{ElemChild, ElemChildren, Formatting};
 use lit_model::Memory;
@@ -60,6 +60,22 @@ impl Pen {
         Ok(content)
     }
 
+    /// The contents of two texts, as far as they are there.
+    pub(crate) fn affixes(
+        self,
+        prefix: Option<&str>,
+        suffix: Option<&str>,
+    ) -> Result<(ElemChildren, ElemChildren), Memory>
+        ensures before { IfOk result (λ c. tokens c.0
+            ≡ text_of_if self.stripping self.formatting (option_map (λ t. t.now) prefix.entry)) }
+        ensures after { IfOk result (λ c. tokens c.1
+            ≡ text_of_if self.stripping self.formatting (option_map (λ t. t.now) suffix.entry)) }
+    {
+        let before = self.content(prefix)?;
+        let after = self.content(suffix)?;
+        Ok((before, after))
+    }
+
     /// The content of two texts in a row, as far as they are there.
     pub(crate) fn contents(
         self,
@@ -76,14 +92,41 @@ impl Pen {
     }
 }
 
-/// Writes a markup behind some children, unless it is empty.
-pub(crate) fn write_markup(part: &mut ElemChildren, alloc: Global, text: &str) -> Result<(), Memory>
-    ensures ok { OnOk result (Appends part.old part.new (markup_content text.now)) }
-{
-    if text.is_empty() {
-        return Ok(());
+impl Pen {
+    /// Writes a markup behind some children, unless it is empty.
+    pub(crate) fn write_markup(self, part: &mut ElemChildren, text: &str) -> Result<(), Memory>
+        ensures { OnOk result (Appends part.old part.new (markup_content text.now)) }
+    {
+        let markup = String::from_str(self.alloc, text)?;
+        part.push_child(self.alloc, ElemChild::Markup(markup))
     }
-    let markup = String::from_str(alloc, text)?;
-    part.0.push(ElemChild::Markup(markup))?;
-    Ok(())
+
+    /// Writes a link behind some children, unless its text is empty.
+    pub(crate) fn write_link(
+        self,
+        part: &mut ElemChildren,
+        text: &str,
+        url: &str,
+    ) -> Result<(), Memory>
+        ensures { OnOk result (Appends part.old part.new
+            (link_content text.now self.formatting url.now)) }
+    {
+        let text = String::from_str(self.alloc, text)?;
+        let text = self.formatting.add_text(text);
+        let url = String::from_str(self.alloc, url)?;
+        part.push_child(self.alloc, ElemChild::Link { text, url })
+    }
+
+    /// Writes a place that the caller fills behind some children.
+    pub(crate) fn write_transparent(
+        self,
+        part: &mut ElemChildren,
+        cite_idx: usize,
+    ) -> Result<(), Memory>
+        ensures { OnOk result (Appends part.old part.new
+            (solid (transparent cite_idx self.formatting) ∷ [])) }
+    {
+        let format = self.formatting;
+        part.push_child(self.alloc, ElemChild::Transparent { cite_idx, format })
+    }
 }

@@ -1,16 +1,16 @@
 //! What is written into the open parts of a context.
 
-ghost use Rattle.std.specs.Prelude.{◌≡◌, ◌+◌, length, false, true, IfOk, OnOk, IfErr};
+ghost use Rattle.std.specs.Prelude.{◌≡◌, ◌+◌, not, length, false, true, IfOk, OnOk, IfErr};
 ghost use Rattle.lit_model.specs.Text.{chunk_of, chunks};
-ghost use Rattle.csl_tree.specs.Content.{boxed, text_content};
-ghost use Rattle.csl_tree.specs.Tokens.{optional_meta};
-ghost use Rattle.csl_context.specs.Texts.{text_in, markup_content, chunk_in, chunks_in};
-ghost use Rattle.csl_context.specs.Now.{FailsAs, Leaves, IsInnermost, same, with_content, with_part, closed_by, dropped};
+ghost use Rattle.csl_tree.specs.Content.{boxed, text_content, markup_content};
+ghost use Rattle.csl_tree.specs.Tokens.{optional_meta, has_text, has_children};
+ghost use Rattle.csl_context.specs.Texts.{text_in, gap_after, chunk_in, chunks_in, link_in, transparent_in};
+ghost use Rattle.csl_context.specs.Now.{FailsAs, Leaves, IsInnermost, same, with_content, with_space, with_part, closed_by, dropped};
 
 use crate::context::Context;
 use crate::error::RenderError;
 use crate::mark::Mark;
-use crate::texts::{Pen, write_markup};
+use crate::texts::Pen;
 use csl_style::Display;
 use csl_tree::{ElemChildren, ElemMeta};
 use lit_model::{ChunkKind, ChunkedString, StringChunk};
@@ -25,7 +25,7 @@ impl<'s, T> Context<'s, T> {
         ensures ok { OnOk result (Leaves same self.old self.new) }
         ensures err { IfErr result (λ e. FailsAs e self.old self.new) }
     {
-        if self.writing.failed {
+        if self.has_failed() {
             return Err(RenderError::Failed);
         }
         Ok(())
@@ -98,8 +98,8 @@ impl<'s, T> Context<'s, T> {
         if self.writing.failed {
             return Err(RenderError::Failed);
         }
-        let alloc = self.writing.alloc;
-        match write_markup(&mut self.writing.inner, alloc, text) {
+        let pen = self.pen();
+        match pen.write_markup(&mut self.writing.inner, text) {
             Ok(()) => Ok(()),
             Err(_) => {
                 self.writing.failed = true;
@@ -139,6 +139,92 @@ impl<'s, T> Context<'s, T> {
             self.push_chunk(chunk)?;
         }
         Ok(())
+    }
+
+    /// Writes a link, unless its text is empty. The text is in the inherited formatting, and keeps
+    /// its periods.
+    ///
+    /// # Errors
+    /// [`RenderError::Memory`]: there was no memory left. The context has failed.
+    /// [`RenderError::Failed`]: the context had failed.
+    pub fn push_link(&mut self, text: &str, url: &str) -> Result<(), RenderError>
+        ensures ok { OnOk result
+            (Leaves (with_content (λ inh. link_in inh text.now url.now)) self.old self.new) }
+        ensures err { IfErr result (λ e. FailsAs e self.old self.new) }
+    {
+        if self.writing.failed {
+            return Err(RenderError::Failed);
+        }
+        let pen = self.pen();
+        match pen.write_link(&mut self.writing.inner, text, url) {
+            Ok(()) => Ok(()),
+            Err(_) => {
+                self.writing.failed = true;
+                Err(RenderError::Memory)
+            }
+        }
+    }
+
+    /// Writes a place that the caller fills, for the cite of that index, in the inherited
+    /// formatting.
+    ///
+    /// # Errors
+    /// [`RenderError::Memory`]: there was no memory left. The context has failed.
+    /// [`RenderError::Failed`]: the context had failed.
+    pub fn push_transparent(&mut self, cite_idx: usize) -> Result<(), RenderError>
+        ensures ok { OnOk result
+            (Leaves (with_content (λ inh. transparent_in inh cite_idx)) self.old self.new) }
+        ensures err { IfErr result (λ e. FailsAs e self.old self.new) }
+    {
+        if self.writing.failed {
+            return Err(RenderError::Failed);
+        }
+        let pen = self.pen();
+        match pen.write_transparent(&mut self.writing.inner, cite_idx) {
+            Ok(()) => Ok(()),
+            Err(_) => {
+                self.writing.failed = true;
+                Err(RenderError::Memory)
+            }
+        }
+    }
+
+    /// Writes a space, unless the text of the innermost open part is empty or ends in white space.
+    ///
+    /// # Errors
+    /// [`RenderError::Memory`]: there was no memory left. The context has failed.
+    /// [`RenderError::Failed`]: the context had failed.
+    pub fn ensure_space(&mut self) -> Result<(), RenderError>
+        ensures ok { OnOk result (Leaves with_space self.old self.new) }
+        ensures err { IfErr result (λ e. FailsAs e self.old self.new) }
+    {
+        let gap = self.gap();
+        self.push_str(gap)
+    }
+
+    /// A space where one is wanted, else an empty text.
+    fn gap(&self) -> &'static str
+        ensures { result.now ≡ gap_after self.now.inner }
+    {
+        if self.writing.inner.has_text() && !self.writing.inner.ends_in_white_space() {
+            " "
+        } else {
+            ""
+        }
+    }
+
+    /// Whether the text of the innermost open part is not empty.
+    pub fn open_part_has_text(&self) -> bool
+        ensures { result ≡ has_text self.now.inner }
+    {
+        self.writing.inner.has_text()
+    }
+
+    /// Whether nothing is written in the innermost open part.
+    pub fn open_part_is_empty(&self) -> bool
+        ensures { result ≡ not (has_children self.now.inner) }
+    {
+        !self.writing.inner.has_children()
     }
 
     /// Opens an element.
