@@ -19,6 +19,7 @@ use Rattle.csl_entry.specs.Cite.{CiteState}
 use Rattle.csl_entry.specs.NameProperties.{NameProperties}
 use Rattle.csl_entry.specs.Instance.{Instance}
 use Rattle.csl_context.specs.State.{State, Inherited, looked}
+use Rattle.csl_context.specs.Quotes.{quoted_in}
 use Rattle.csl_context.specs.Texts.{text_in, gap_after}
 use Rattle.csl_context.specs.World.{World}
 use Rattle.csl_context.specs.declared.mark.Mark.{Mark}
@@ -135,6 +136,10 @@ dropped inh c = []
 -- the context on the other side of a quote
 abbrev pub turned : {T : Type 0} → Now T → Now T
 turned now = record now { inherited = record now.inherited { in_quotes = not now.inherited.in_quotes } }
+
+-- the context whose innermost part, the inside of quotes, is closed, and stands in quotes in the part around it
+unfoldable pub with_quotes : {T : Type 0} → Option (List ℕ) → Now T → Now T
+with_quotes suffix now = closed_into (quoted_in now.style now.inherited suffix now.inner) now now.outer
 
 -- ---- what is inherited
 

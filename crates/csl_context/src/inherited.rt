@@ -106,7 +106,8 @@ impl<'s, T> Context<'s, T> {
         &mut self,
         options: &'s InheritableNameOptions,
     ) -> Result<(), RenderError>
-        ensures ok { OnOk result (Leaves (with_options (own_options options.now)) self.old self.new) }
+        ensures ok { OnOk result
+            (Leaves (with_options (own_options options.now)) self.old self.new) }
         ensures err { IfErr result (λ e. FailsAs e self.old self.new) }
     {
         if self.writing.failed {

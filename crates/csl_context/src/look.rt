@@ -180,7 +180,8 @@ impl<'s, T: EntryLike> Context<'s, T> {
     ) -> Result<Option<NumberVariableResult<'s>>, RenderError>
         ensures value { IfOk result (λ found. option_map result_view found
             ≡ number_look (world T.answers self.old) self.old.state variable) }
-        ensures ok { OnOk result (Leaves (after_look (Variable.Number variable)) self.old self.new) }
+        ensures ok { OnOk result
+            (Leaves (after_look (Variable.Number variable)) self.old self.new) }
         ensures err { IfErr result (λ e. FailsAs e self.old self.new) }
     {
         match self.peek_number_variable(variable) {
@@ -235,7 +236,8 @@ impl<'s, T: EntryLike> Context<'s, T> {
     ) -> Result<Option<Cow<'s, ChunkedString>>, RenderError>
         ensures value { IfOk result (λ found. option_map (behind chunks) found
             ≡ standard_look (world T.answers self.old) self.old.state form variable) }
-        ensures ok { OnOk result (Leaves (after_look (Variable.Standard variable)) self.old self.new) }
+        ensures ok { OnOk result
+            (Leaves (after_look (Variable.Standard variable)) self.old self.new) }
         ensures err { IfErr result (λ e. FailsAs e self.old self.new) }
     {
         match self.peek_standard_variable(form, variable) {

@@ -5,8 +5,8 @@ ghost use Rattle.csl_style.specs.Dressing.{affix_texts};
 ghost use Rattle.csl_tree.specs.Content.{◌++>◌, affixed};
 ghost use Rattle.csl_tree.specs.Tokens.{tokens};
 ghost use Rattle.csl_context.specs.Texts.{text_in_if, between_in};
-ghost use Rattle.csl_context.specs.Quotes.{opening, closing, quote, front, behind_front, moved_front, has_moved, quoted_in, affixed_after};
-ghost use Rattle.csl_context.specs.Now.{FailsAs, Leaves, IsInnermost, with_part, closed_by, turned};
+ghost use Rattle.csl_context.specs.Quotes.{opening, closing, quote, front, behind_front, moved_front, has_moved, affixed_after};
+ghost use Rattle.csl_context.specs.Now.{FailsAs, Leaves, IsInnermost, with_part, closed_by, turned, with_quotes};
 
 use crate::context::Context;
 use crate::error::RenderError;
@@ -173,6 +173,13 @@ impl<'s, T> Context<'s, T> {
         self.writing.in_quotes
     }
 
+    /// Goes to the other side of a quote.
+    fn turn(&mut self)
+        ensures { self.new ≡ turned self.old }
+    {
+        self.writing.in_quotes = !self.writing.in_quotes;
+    }
+
     /// The text of a quote, where a locale has it.
     fn quote(&self, term: OtherTerm) -> Option<&'s str>
         ensures { option_map (λ t. t.now) result ≡ quote self.now.style term }
@@ -234,6 +241,34 @@ impl<'s, T> Context<'s, T> {
         Ok((before, after))
     }
 
+    /// Whether something is moved into the quotes that are to be closed.
+    fn has_moved(&self, suffix: Option<&str>) -> bool
+        ensures { result ≡ has_moved self.now.style (option_map (λ t. t.now) suffix.entry)
+            self.now.inner }
+    {
+        self.moved_front(suffix).is_some() && self.writing.inner.has_children()
+    }
+
+    /// Closes the inside of quotes on their outside.
+    #[tactic(auto, unfolding(crate::specs::Now::with_quotes))]
+    fn close_quotes(&mut self, mark: Mark, suffix: Option<&str>) -> Result<(), RenderError>
+        requires innermost { IsInnermost mark self.old }
+        ensures ok { OnOk result (Leaves
+            (with_quotes (option_map (λ t. t.now) suffix.entry)) self.old self.new) }
+        ensures err { IfErr result (λ e. FailsAs e self.old self.new) }
+    {
+        if self.writing.failed {
+            return Err(RenderError::Failed);
+        }
+        match self.quotes_around(suffix) {
+            Ok((before, after)) => self.splice_between(mark, before, after),
+            Err(_) => {
+                self.writing.failed = true;
+                Err(RenderError::Memory)
+            }
+        }
+    }
+
     /// Opens the inside of quotes. They are written once it is closed, unless it is empty.
     ///
     /// # Errors
@@ -247,5 +282,30 @@ impl<'s, T> Context<'s, T> {
         let mark = self.push_elem()?;
         self.writing.in_quotes = !self.writing.in_quotes;
         Ok(mark)
+    }
+
+    /// Closes the inside of quotes, and writes it in quotes, unless it is empty: in the outer ones
+    /// or, inside of an odd number of quotes, in the inner ones. Where the first locale wants it, a
+    /// comma or period at the front of the suffix that is to be written behind them goes before the
+    /// closing quote (CSL 1.0.2, Locale: punctuation-in-quote). It answers whether one did.
+    ///
+    /// # Errors
+    /// [`RenderError::Memory`]: there was no memory left. The context has failed.
+    /// [`RenderError::Failed`]: the context had failed.
+    pub fn pop_quotes(&mut self, mark: Mark, suffix: Option<&str>) -> Result<bool, RenderError>
+        requires innermost { IsInnermost mark self.old }
+        ensures ok { OnOk result (Leaves (λ now.
+            with_quotes (option_map (λ t. t.now) suffix.entry) (turned now)) self.old self.new) }
+        ensures moved { IfOk result (λ moved. moved
+            ≡ has_moved self.old.style (option_map (λ t. t.now) suffix.entry) self.old.inner) }
+        ensures err { IfErr result (λ e. FailsAs e self.old self.new) }
+    {
+        if self.has_failed() {
+            return Err(RenderError::Failed);
+        }
+        let moved = self.has_moved(suffix);
+        self.turn();
+        self.close_quotes(mark, suffix)?;
+        Ok(moved)
     }
 }

@@ -69,7 +69,8 @@ impl<'s, T> Context<'s, T> {
     /// Writes a text in the inherited formatting, which keeps its periods.
     fn push_verbatim(&mut self, text: &str) -> Result<(), RenderError>
         ensures ok { OnOk result
-            (Leaves (with_content (λ inh. text_content text.now inh.formatting)) self.old self.new) }
+            (Leaves (with_content (λ inh. text_content text.now inh.formatting))
+            self.old self.new) }
         ensures err { IfErr result (λ e. FailsAs e self.old self.new) }
     {
         if self.writing.failed {
