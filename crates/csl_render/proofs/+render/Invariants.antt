@@ -1,0 +1,52 @@
+use Rattle.std.proofs.Common.{◌≡◌, ◌+◌, ◌*◌, ◌≤◌, true, false, drop}
+use Rattle.csl_style.specs.Node.{size, sizes, fill, fills}
+use Rattle.csl_style.specs.View.{view, view_text, view_group, views}
+use Rattle.csl_context.specs.World.{env}
+use Rattle.csl_context.specs.Now.{world}
+use Rattle.csl_render.specs.Tree.{sum_of, delimited}
+use Rattle.csl_render.specs.Rendering.{with_made}
+use Rattle.csl_render.proofs.+render.Given as goal
+
+abbrev pub decreases-element::LayoutRenderingElementRenderCsl::render : goal.decreases-element::LayoutRenderingElementRenderCsl::render
+decreases-element::LayoutRenderingElementRenderCsl::render g l = 3 * size (fill (env l.ctx.now.style) (view l.self.now)) + 1
+
+abbrev pub decreases-text::TextRenderCsl::render : goal.decreases-text::TextRenderCsl::render
+decreases-text::TextRenderCsl::render g l = 3 * size (fill (env l.ctx.now.style) (view_text l.self.now))
+
+abbrev pub decreases-text::render_macro : goal.decreases-text::render_macro
+decreases-text::render_macro g l = 3 * sizes (fills (env l.ctx.now.style) (views l.nodes.now)) + 1
+
+abbrev pub decreases-group::GroupRenderCsl::render : goal.decreases-group::GroupRenderCsl::render
+decreases-group::GroupRenderCsl::render g l = 3 * size (fill (env l.ctx.now.style) (view_group l.self.now))
+
+abbrev pub decreases-element::render_all : goal.decreases-element::render_all
+decreases-element::render_all g l = 3 * sizes (fills (env l.ctx.now.style) (views l.nodes.now))
+
+abbrev pub decreases-element::render_with_delimiter : goal.decreases-element::render_with_delimiter
+decreases-element::render_with_delimiter g l = 3 * sizes (fills (env l.ctx.now.style) (views l.nodes.now))
+
+abbrev pub decreases-element::render_admitted : goal.decreases-element::render_admitted
+decreases-element::render_admitted g l = 3 * size (fill (env l.ctx.now.style) (view l.node.now)) + 2
+
+-- what the rest would make, behind what is written so far, is what they all make
+abbrev pub invariant-element::render_all-loop-node : goal.invariant-element::render_all-loop-node
+invariant-element::render_all-loop-node g l =
+    let w = world g.T.EntryLike.answers l.fn.ctx in
+    let rest = fills (env l.fn.ctx.style) (views (drop l.node-index l.nodes)) in
+    record {
+      sound : l.fn.ctx.failed ≡ false;
+      frame : l.ctx ≡ record l.fn.ctx { inner = l.ctx.inner; state = l.ctx.state };
+      told : with_made (sum_of w rest l.fn.ctx.inherited l.ctx.state) l.ctx ≡ with_made (sum_of w (fills (env l.fn.ctx.style) (views l.nodes)) l.fn.ctx.inherited l.fn.ctx.state) l.fn.ctx;
+      inside : sizes rest ≤ sizes (fills (env l.fn.ctx.style) (views l.nodes));
+    }
+
+abbrev pub invariant-element::render_with_delimiter-loop-node : goal.invariant-element::render_with_delimiter-loop-node
+invariant-element::render_with_delimiter-loop-node g l =
+    let w = world g.T.EntryLike.answers l.fn.ctx in
+    let rest = fills (env l.fn.ctx.style) (views (drop l.node-index l.nodes)) in
+    record {
+      sound : l.fn.ctx.failed ≡ false;
+      frame : l.ctx ≡ record l.fn.ctx { inner = l.ctx.inner; state = l.ctx.state };
+      told : with_made (delimited w rest l.fn.ctx.inherited l.first l.ctx.state) l.ctx ≡ with_made (delimited w (fills (env l.fn.ctx.style) (views l.nodes)) l.fn.ctx.inherited true l.fn.ctx.state) l.fn.ctx;
+      inside : sizes rest ≤ sizes (fills (env l.fn.ctx.style) (views l.nodes));
+    }

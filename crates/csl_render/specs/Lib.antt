@@ -1,0 +1,6 @@
+pub mod Flags
+pub mod Usages
+pub mod Text
+pub mod Bodies
+pub mod Tree
+pub mod Rendering

@@ -1,0 +1,129 @@
+-- What a node says in a dry run, what it shows, and what it makes (CSL 1.0.2, Rendering Elements; Group; Layout; Macro).
+-- A number, a label, a date, a choice and names say, show and make nothing yet.
+use Rattle.std.specs.Prelude.{ℕ, Bool, true, false, ◌||◌, List, [], Option, Some, None, if◌then◌else◌}
+use Rattle.csl_style.specs.declared.taxonomy.Variable.{Variable}
+use Rattle.csl_style.specs.Dressing.{AffixTexts, Dressing, TextDressing}
+use Rattle.csl_style.specs.Node.{Full, printed, called, lacking, numbered, labelled, dated, named, shorthand, chosen, grouped, Fulls, none, more, FullLayout}
+use Rattle.csl_tree.specs.Tokens.{Token}
+use Rattle.csl_tree.specs.Content.{◌++>◌, boxed}
+use Rattle.csl_context.specs.State.{State, Inherited}
+use Rattle.csl_context.specs.World.{World}
+use Rattle.csl_context.specs.Texts.{text_in, affixed_in}
+use Rattle.csl_render.specs.Flags.{rule, Info, nothing_said, either, counted, but_groups, group_info, macro_info}
+use Rattle.csl_render.specs.Text.{Made, made, then_made, within, in_body, text_box, no_affixes, target_info, target_shows, target_tree, shows_macro_affixes}
+
+abbrev pub is_group : Full → Bool
+is_group (printed t d) = false
+is_group (called fs d) = false
+is_group lacking = false
+is_group (numbered n) = false
+is_group (labelled v l) = false
+is_group (dated n) = false
+is_group (named n is) = false
+is_group (shorthand written n) = false
+is_group (chosen cs) = false
+is_group (grouped delimiter d fs) = true
+
+-- ---- Delimited
+
+-- one child that is admitted, behind the delimiter unless it is the first
+abbrev pub admitted : Option (List ℕ) → Bool → Inherited → List Token → List Token
+admitted delimiter true inh c = boxed None None c
+admitted None false inh c = boxed None None c
+admitted (Some bs) false inh c = boxed None None (text_in inh bs ++> boxed None None c)
+
+abbrev pub admitted_made : Bool → Inherited → Made → Made
+admitted_made first inh m = made (admitted inh.delimiter first inh m.content) m.state
+
+-- ---- macros
+
+abbrev pub macro_affixes : World → TextDressing → AffixTexts
+macro_affixes w d = if shows_macro_affixes w.instance.special then d.dressing.affixes else no_affixes
+
+-- the nodes of a macro inherit no delimiter
+abbrev pub in_macro : TextDressing → Inherited → Inherited
+in_macro d inh = record (in_body d inh) { delimiter = None }
+
+-- where the rule fails, none of the macro's nodes counts
+abbrev pub macro_made : Bool → World → TextDressing → Inherited → Made → State → Made
+macro_made shows w d inh m s = if shows then made (text_box w.style (macro_affixes w d) d None inh m.content) m.state else made [] s
+
+-- ---- groups
+
+abbrev pub in_group : Option (List ℕ) → Dressing → Inherited → Inherited
+in_group delimiter d inh = record (within d.formatting inh) { delimiter = delimiter }
+
+abbrev pub shown_if : Bool → List Token → List Token
+shown_if true c = c
+shown_if false c = []
+
+-- the state is the children's, whether the group prints or not
+abbrev pub group_made : Bool → Dressing → Inherited → Made → Made
+group_made shows d inh m =
+    made (shown_if shows (boxed d.display None (affixed_in (within d.formatting inh) d.affixes m.content))) m.state
+
+-- ---- the three recursions
+module _ (w : World) where
+  abbrev mutual
+    pub info : State → Full → Info
+    info s (printed t d) = target_info w s t
+    info s (called fs d) = macro_info (but_groups (infos s fs))
+    info s lacking = nothing_said
+    info s (numbered n) = nothing_said
+    info s (labelled v l) = nothing_said
+    info s (dated n) = nothing_said
+    info s (named n is) = nothing_said
+    info s (shorthand written n) = nothing_said
+    info s (chosen cs) = nothing_said
+    info s (grouped delimiter d fs) = group_info (infos s fs)
+
+    pub infos : State → Fulls → Info
+    infos s none = nothing_said
+    infos s (more f fs) = either (counted (is_group f) (info s f)) (infos s fs)
+
+  abbrev mutual
+    pub shows : State → Variable → Full → Bool
+    shows s v (printed t d) = target_shows w s v t
+    shows s v (called fs d) = any_shows s v fs
+    shows s v lacking = false
+    shows s v (numbered n) = false
+    shows s v (labelled u l) = false
+    shows s v (dated n) = false
+    shows s v (named n is) = false
+    shows s v (shorthand written n) = false
+    shows s v (chosen cs) = false
+    shows s v (grouped delimiter d fs) = any_shows s v fs
+
+    pub any_shows : State → Variable → Fulls → Bool
+    any_shows s v none = false
+    any_shows s v (more f fs) = shows s v f || any_shows s v fs
+
+  abbrev mutual
+    pub tree : Full → Inherited → State → Made
+    tree (printed t d) inh s = target_tree w t d inh s
+    tree (called fs d) inh s = macro_made (rule (info s (called fs d)).flags) w d inh (sum_of fs (in_macro d inh) s) s
+    tree lacking inh s = made [] s
+    tree (numbered n) inh s = made [] s
+    tree (labelled v l) inh s = made [] s
+    tree (dated n) inh s = made [] s
+    tree (named n is) inh s = made [] s
+    tree (shorthand written n) inh s = made [] s
+    tree (chosen cs) inh s = made [] s
+    tree (grouped delimiter d fs) inh s =
+        group_made (rule (info s (grouped delimiter d fs)).flags) d inh (delimited fs (in_group delimiter d inh) true s)
+
+    -- all of them, one after another
+    pub sum_of : Fulls → Inherited → State → Made
+    sum_of none inh s = made [] s
+    sum_of (more f fs) inh s = then_made (tree f inh s).content (sum_of fs inh (tree f inh s).state)
+
+    -- Delimited: those that print in the state that the earlier ones left
+    pub delimited : Fulls → Inherited → Bool → State → Made
+    delimited none inh first s = made [] s
+    delimited (more f fs) inh first s =
+        if (info s f).prints
+        then then_made (admitted_made first inh (tree f inh s)).content (delimited fs inh false (tree f inh s).state)
+        else delimited fs inh first s
+
+  abbrev pub layout_tree : FullLayout → Inherited → State → Made
+  layout_tree l inh s = sum_of l.elements (record (within l.formatting inh) { delimiter = l.delimiter }) s

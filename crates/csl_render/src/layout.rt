@@ -1,0 +1,42 @@
+//! Layouts (CSL 1.0.2, Layout).
+
+ghost use Rattle.csl_style.specs.Node.{fill_layout};
+ghost use Rattle.csl_style.specs.View.{view_layout};
+ghost use Rattle.csl_context.specs.World.{env};
+ghost use Rattle.csl_render.specs.Rendering.{whole};
+
+use crate::element::{any_shows, infos, render_all};
+use crate::render::RenderCsl;
+use crate::usage::{UsageInfo, but_groups};
+use csl_context::{Context, RenderError};
+use csl_entry::EntryLike;
+use csl_style::{Layout, Variable};
+
+impl RenderCsl for Layout {
+    ghost rendering = { λ style l. whole (fill_layout (env style) (view_layout l)) };
+
+    fn will_have_info<'s, T: EntryLike>(
+        &'s self,
+        ctx: &mut Context<'s, T>,
+    ) -> Result<(bool, UsageInfo), RenderError> {
+        let said = infos(ctx, &self.elements)?;
+        Ok(but_groups(said))
+    }
+
+    fn will_render<'s, T: EntryLike>(
+        &'s self,
+        ctx: &mut Context<'s, T>,
+        var: Variable,
+    ) -> Result<bool, RenderError> {
+        any_shows(ctx, &self.elements, var)
+    }
+
+    fn render<'s, T: EntryLike>(&'s self, ctx: &mut Context<'s, T>) -> Result<(), RenderError> {
+        ctx.push_format(self.formatting)?;
+        ctx.push_delimiter(self.delimiter.as_deref())?;
+        render_all(ctx, &self.elements)?;
+        ctx.pop_delimiter();
+        ctx.pop_format();
+        Ok(())
+    }
+}

@@ -1,0 +1,20 @@
+//! What each node of a style makes of a cite (CSL 1.0.2, Rendering Elements): whether it prints
+//! and what it notes, whether it shows a variable, and its content, in a context that the caller
+//! lends. A text, a group and a layout do; the other nodes make nothing yet.
+#![tactic(auto)]
+
+mod dressing;
+mod element;
+mod group;
+mod layout;
+mod links;
+mod render;
+mod special;
+mod standard;
+mod text;
+mod usage;
+mod variable;
+mod words;
+
+pub use render::RenderCsl;
+pub use usage::UsageInfo;

@@ -1,0 +1,102 @@
+//! The three calls of what can be rendered.
+
+ghost use Rattle.std.specs.Prelude.{◌≡◌, [], IfOk, OnOk, IfErr, false};
+ghost use Rattle.csl_style.specs.Style.{StyleParts};
+ghost use Rattle.csl_context.specs.Now.{FailsAs, Leaves, same, world};
+ghost use Rattle.csl_render.specs.Flags.{nothing_said, info_of, flags};
+ghost use Rattle.csl_render.specs.Text.{made};
+ghost use Rattle.csl_render.specs.Usages.{told};
+ghost use Rattle.csl_render.specs.Rendering.{Rendering, info_in, shows_in, rendered, with_made};
+
+use crate::usage::UsageInfo;
+use csl_context::{Context, RenderError};
+use csl_entry::EntryLike;
+use csl_style::Variable;
+
+/// A node of a style, or a whole layout.
+pub trait RenderCsl {
+    /// What it stands for in a style, with no name of a macro left.
+    ghost rendering: { StyleParts → Self → Rendering };
+
+    /// Whether it would print something, and what it notes of its variables, macros and groups
+    /// (CSL 1.0.2, Group). The context stays as it was.
+    ///
+    /// # Errors
+    /// [`RenderError::Memory`]: there was no memory left, or the entry said so. The context has
+    /// failed then. [`RenderError::Failed`]: the context had failed before.
+    fn will_have_info<'s, T: EntryLike>(
+        &'s self,
+        ctx: &mut Context<'s, T>,
+    ) -> Result<(bool, UsageInfo), RenderError>
+        ensures value { IfOk result (λ answer. told answer
+            ≡ info_in (world T.answers ctx.old) ctx.old.state (rendering ctx.old.style self.now)) }
+        ensures ok { OnOk result (Leaves same ctx.old ctx.new) }
+        ensures err { IfErr result (λ e. FailsAs e ctx.old ctx.new) };
+
+    /// Whether it would show the variable. The context stays as it was.
+    ///
+    /// # Errors
+    /// As [`RenderCsl::will_have_info`].
+    fn will_render<'s, T: EntryLike>(
+        &'s self,
+        ctx: &mut Context<'s, T>,
+        var: Variable,
+    ) -> Result<bool, RenderError>
+        ensures value { IfOk result (λ answer. answer ≡ shows_in (world T.answers ctx.old)
+            ctx.old.state var (rendering ctx.old.style self.now)) }
+        ensures ok { OnOk result (Leaves same ctx.old ctx.new) }
+        ensures err { IfErr result (λ e. FailsAs e ctx.old ctx.new) };
+
+    /// Appends its content to the innermost open part and leaves its state. Nothing else of the
+    /// context changes.
+    ///
+    /// # Errors
+    /// As [`RenderCsl::will_have_info`].
+    fn render<'s, T: EntryLike>(&'s self, ctx: &mut Context<'s, T>) -> Result<(), RenderError>
+        ensures ok { OnOk result (Leaves (rendered T.answers (rendering ctx.old.style self.now))
+            ctx.old ctx.new) }
+        ensures err { IfErr result (λ e. FailsAs e ctx.old ctx.new) };
+}
+
+/// Makes nothing.
+///
+/// # Errors
+/// [`RenderError::Failed`]: the context had failed before.
+pub(crate) fn nothing<'s, T: EntryLike>(ctx: &mut Context<'s, T>) -> Result<(), RenderError>
+    ensures ok { OnOk result (Leaves same ctx.old ctx.new) }
+    ensures made { OnOk result (Leaves (λ now. with_made (made [] now.state) now) ctx.old ctx.new) }
+    ensures err { IfErr result (λ e. FailsAs e ctx.old ctx.new) }
+{
+    if ctx.has_failed() {
+        return Err(RenderError::Failed);
+    }
+    Ok(())
+}
+
+/// Says nothing.
+///
+/// # Errors
+/// As [`nothing`].
+pub(crate) fn nothing_said<'s, T: EntryLike>(
+    ctx: &mut Context<'s, T>,
+) -> Result<(bool, UsageInfo), RenderError>
+    ensures value { IfOk result (λ answer. told answer ≡ nothing_said) }
+    ensures ok { OnOk result (Leaves same ctx.old ctx.new) }
+    ensures err { IfErr result (λ e. FailsAs e ctx.old ctx.new) }
+{
+    nothing(ctx)?;
+    Ok((false, UsageInfo::default()))
+}
+
+/// Shows nothing.
+///
+/// # Errors
+/// As [`nothing`].
+pub(crate) fn nothing_shown<'s, T: EntryLike>(ctx: &mut Context<'s, T>) -> Result<bool, RenderError>
+    ensures value { IfOk result (λ answer. answer ≡ false) }
+    ensures ok { OnOk result (Leaves same ctx.old ctx.new) }
+    ensures err { IfErr result (λ e. FailsAs e ctx.old ctx.new) }
+{
+    nothing(ctx)?;
+    Ok(false)
+}

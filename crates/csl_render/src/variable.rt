@@ -1,0 +1,89 @@
+//! Texts of a variable (CSL 1.0.2, Text: variable). Only standard variables are found yet.
+
+ghost use Rattle.std.specs.Prelude.{◌≡◌, IfOk, OnOk, IfErr};
+ghost use Rattle.csl_style.specs.Node.{of_variable};
+ghost use Rattle.csl_style.specs.View.{text_dressing};
+ghost use Rattle.csl_context.specs.Now.{FailsAs, Leaves, same, world};
+ghost use Rattle.csl_render.specs.Text.{target_info, target_shows, target_tree};
+ghost use Rattle.csl_render.specs.Usages.{told};
+ghost use Rattle.csl_render.specs.Rendering.{with_made};
+
+use crate::render::{nothing, nothing_shown};
+use crate::standard::{called_in_vain, render_standard, standard_info, standard_shown};
+use crate::usage::UsageInfo;
+use csl_context::{Context, RenderError};
+use csl_entry::EntryLike;
+use csl_style::{Text, Variable};
+use lit_model::LongShortForm;
+
+/// What a text of a variable says.
+///
+/// # Errors
+/// [`RenderError::Memory`]: there was no memory left, or the entry said so. The context has failed.
+/// [`RenderError::Failed`]: the context had failed before.
+pub(crate) fn variable_info<'s, T: EntryLike>(
+    ctx: &mut Context<'s, T>,
+    form: LongShortForm,
+    variable: Variable,
+) -> Result<(bool, UsageInfo), RenderError>
+    ensures value { IfOk result (λ answer. told answer ≡ target_info (world T.answers ctx.old)
+        ctx.old.state (of_variable variable form)) }
+    ensures ok { OnOk result (Leaves same ctx.old ctx.new) }
+    ensures err { IfErr result (λ e. FailsAs e ctx.old ctx.new) }
+{
+    match variable {
+        Variable::Standard(variable) => standard_info(ctx, form, variable),
+        Variable::Number(_) => called_in_vain(ctx),
+        Variable::Page(_) => called_in_vain(ctx),
+        Variable::Name(_) => called_in_vain(ctx),
+        Variable::Date(_) => called_in_vain(ctx),
+    }
+}
+
+/// Whether a text of a variable shows the variable that is asked for.
+///
+/// # Errors
+/// As [`variable_info`].
+pub(crate) fn variable_shown<'s, T: EntryLike>(
+    ctx: &mut Context<'s, T>,
+    form: LongShortForm,
+    variable: Variable,
+    asked: Variable,
+) -> Result<bool, RenderError>
+    ensures value { IfOk result (λ answer. answer ≡ target_shows (world T.answers ctx.old)
+        ctx.old.state asked (of_variable variable form)) }
+    ensures ok { OnOk result (Leaves same ctx.old ctx.new) }
+    ensures err { IfErr result (λ e. FailsAs e ctx.old ctx.new) }
+{
+    match variable {
+        Variable::Standard(variable) => standard_shown(ctx, form, variable, asked),
+        Variable::Number(_) => nothing_shown(ctx),
+        Variable::Page(_) => nothing_shown(ctx),
+        Variable::Name(_) => nothing_shown(ctx),
+        Variable::Date(_) => nothing_shown(ctx),
+    }
+}
+
+/// Appends a text of a variable.
+///
+/// # Errors
+/// As [`variable_info`].
+pub(crate) fn render_variable<'s, T: EntryLike>(
+    text: &Text,
+    ctx: &mut Context<'s, T>,
+    form: LongShortForm,
+    variable: Variable,
+) -> Result<(), RenderError>
+    ensures ok { OnOk result (Leaves (λ now. with_made (target_tree (world T.answers now)
+        (of_variable variable form) (text_dressing text.now) now.inherited now.state) now)
+        ctx.old ctx.new) }
+    ensures err { IfErr result (λ e. FailsAs e ctx.old ctx.new) }
+{
+    match variable {
+        Variable::Standard(variable) => render_standard(text, ctx, form, variable),
+        Variable::Number(_) => nothing(ctx),
+        Variable::Page(_) => nothing(ctx),
+        Variable::Name(_) => nothing(ctx),
+        Variable::Date(_) => nothing(ctx),
+    }
+}
