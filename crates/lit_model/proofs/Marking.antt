@@ -79,9 +79,11 @@ gap_written text w (Some letter) u = written (trimmed text u) (nat_lt (length (t
   where
     rest_of : (p t : List ℕ) → p ++ t ≡ text → p ++ drop (length p) text ≡ text
     rest_of p t e = ap (λ (x : List ℕ). p ++ drop (length p) x) (sym e) ∙ ap (λ (x : List ℕ). p ++ x) (drop-append_seam p t) ∙ e
+
     whole : (p t : List ℕ) → p ++ t ≡ text → nat_lt (length p) (length text) ≡ false → p ≡ text
     whole p [] e h = sym (append-nil p) ∙ e
     whole p (x ∷ t) e h = absurd (omega (arith, ltb-false (length p) (length text) h, ap length e, length-append p (x ∷ t)))
+
     written : ((t : List ℕ) × (trim_end text ++ t ≡ text)) → (b : Bool) → nat_lt (length (trim_end text)) (length text) ≡ b
         → (letter ++ trim_end text) ++ (if b then drop (length (trim_end text)) text else codes " ") ≡ (letter ++ text) ++ (if b then [] else codes " ")
     written parts true h = append_assoc letter (trim_end text) (drop (length (trim_end text)) text) ∙ ap (λ (x : List ℕ). letter ++ x) (rest_of (trim_end text) parts.0 parts.1) ∙ sym (append-nil (letter ++ text))

@@ -12,4 +12,3 @@ gap_after text (Some letter) = if ends_in_white_space text then drop (length (tr
 abbrev pub names_text : List ℕ → List ℕ → List (List ℕ) → List ℕ
 names_text text gap [] = []
 names_text text gap (w ∷ ws) = gap ++ (lettered_last text (single_letter w) w ++ names_text text (gap_after text (single_letter w)) ws)
-
