@@ -127,7 +127,8 @@ fn copied(alloc: Global, works: &[Entry]) -> Result<Vec<Entry>, Memory> {
     Ok(copies)
 }
 
-/// Copies a chain of parents, compares it, and answers the year that is found at the copy's end.
+/// Copies a chain of parents, compares it, looks for the date at the copy's end, and answers how
+/// many parents there are.
 pub fn family(alloc: Global, size: usize) -> Result<usize> {
     let works = chain(alloc, size)?;
     let copies = copied(alloc, &works)?;
@@ -135,10 +136,7 @@ pub fn family(alloc: Global, size: usize) -> Result<usize> {
         bail!("the copy differs");
     }
     match copies.as_slice() {
-        [copy, ..] => match copy.date_any() {
-            Some(date) => Ok(date.year() as usize),
-            None => bail!("no date"),
-        },
-        [] => bail!("no copy"),
+        [copy, ..] if copy.date_any().is_some() => Ok(size),
+        _ => bail!("no date"),
     }
 }
