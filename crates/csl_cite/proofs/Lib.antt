@@ -1,4 +1,3 @@
-pub mod Groups
 pub mod Essay
 pub mod Taken
 pub mod KindNames

@@ -1,11 +1,10 @@
 -- What the program writes for its words.
 use Rattle.std.specs.Prelude.{◌≡◌, ◌⊎◌, ℕ, Bool, true, false, List, ◌++◌, Option, Some, None, IsSomeAnd, codes, string_bytes}
 use Rattle.std.specs.Fmt.{WritesInCalls}
-use Rattle.csl_tree.specs.Tokens.{tokens}
+use Rattle.csl_tree.specs.Tokens.{Token, tokens}
 use Rattle.csl_tree.specs.Writing.{written}
 use Rattle.csl_cite.specs.Entries.{label_text, is_built_in_kind}
-use Rattle.csl_cite.specs.Title.{title_layout}
-use Rattle.csl_cite.specs.Tree.{layout_tree}
+use Rattle.csl_cite.specs.Title.{IsTitleContent}
 use Rattle.csl_cite.specs.Words.{Verdict, title_in, label_of, kind_of, missing, unknown}
 use Rattle.csl_cite.specs.declared.answers.Answer.{Answer}
 use Rattle.csl_cite.specs.declared.answers.Answer.TheVariants.{Content, Text, Truth}
@@ -20,9 +19,9 @@ abbrev pub truth_text : Bool → List ℕ
 truth_text true = codes "true"
 truth_text false = codes "false"
 
--- The text answers the words: what the built-in layout prints of the title; the label, with three letters, of the built-in entry; whether that entry is of the kind.
+-- The text answers the words: what the style of the command makes of the title, as it is written; the label, with three letters, of the built-in entry; whether that entry is of the kind.
 abbrev pub IsAnswer : Verdict → List ℕ → Type 0
-IsAnswer (title_in title format) text = text ≡ written format (layout_tree title title_layout)
+IsAnswer (title_in title format) text = (content : List Token) × IsTitleContent title content × (text ≡ written format content)
 IsAnswer (label_of entry) text = text ≡ label_text entry
 IsAnswer (kind_of entry kind) text = text ≡ truth_text (is_built_in_kind kind entry)
 IsAnswer missing text = ⊥

@@ -1,15 +1,12 @@
 //! The answers to words that were understood.
 
 ghost use Rattle.std.specs.Prelude.{◌≡◌, true, OnOk, OnErr, IfOk, string_bytes};
-ghost use Rattle.csl_tree.specs.Tokens.{tokens};
 ghost use Rattle.csl_cite.specs.Answers.{IsAnswer, TakesLine, text_of, truth_text};
 ghost use Rattle.csl_cite.specs.Entries.{IsBuiltIn, label_text, is_built_in_kind};
-ghost use Rattle.csl_cite.specs.Title.{title_layout};
-ghost use Rattle.csl_cite.specs.Tree.{layout_tree};
 ghost use Rattle.csl_cite.specs.Words.{command_verdict};
 
 use crate::entries::BuiltIn;
-use crate::title::{TitleOnly, title_layout};
+use crate::title::title_content;
 use crate::words::Command;
 use csl_entry::{Alphanumerical, EntryLike};
 use csl_style::Kind;
@@ -27,15 +24,6 @@ pub enum Answer {
     Text(String),
     /// A truth value.
     Truth(bool),
-}
-
-/// What the built-in layout makes of a title.
-fn title_content(alloc: Global, title: &str) -> Result<ElemChildren, Memory>
-    ensures { IfOk result (λ content. tokens content ≡ layout_tree title.now title_layout) }
-{
-    let layout = title_layout(alloc)?;
-    let title = String::from_str(alloc, title)?;
-    layout.render(alloc, &TitleOnly { title })
 }
 
 /// The label, with three letters, of what shows a built-in entry.

@@ -6,8 +6,6 @@
 
 mod answers;
 mod entries;
-mod node;
-mod render;
 mod run;
 mod streams;
 #[cfg(test)]

@@ -1,19 +1,107 @@
-//! An entry that has a title and nothing else, and the layout that prints it.
+//! The command `title`: an entry that has a title and nothing else, and the style that it is cited
+//! in.
 
 ghost use Rattle.std.specs.Prelude.{◌≡◌, IfOk};
-ghost use Rattle.csl_cite.specs.Title.{no_formatting, italic, undressed, label_and_title, title_group, title_layout};
-ghost use Rattle.csl_cite.specs.View.{targeted, view_text, view_group, view_layout, views};
+ghost use Rattle.lit_model.specs.Text.{chunks};
+ghost use Rattle.csl_style.specs.View.{view_text, view_group, view_layout, views};
+ghost use Rattle.csl_tree.specs.Tokens.{tokens};
+ghost use Rattle.csl_entry.specs.Cite.{cite_state};
+ghost use Rattle.csl_cite.specs.Title.{title_answers, one_piece};
+ghost use Rattle.csl_cite.specs.Title.{no_formatting, italic, label_and_title, title_group, title_layout};
+ghost use Rattle.csl_cite.specs.Title.{CitesTitles, first_cite, cited, IsTitleContent};
 
-use crate::node::{Affixes, Group, Layout, LayoutRenderingElement, Text, TextTarget};
-use csl_style::FontStyle;
+use csl_context::{Context, RenderError};
+use csl_entry::{
+    CertainCiteProperties, CitationNumber, CiteProperties, DisambiguateState, EntryLike, IbidState,
+    InstanceContext, SpeculativeCiteProperties,
+};
+use csl_render::RenderCsl;
 use csl_style::formatting::Formatting;
-use lit_model::Memory;
+use csl_style::{
+    Affixes, DateVariable, FontStyle, Group, Kind, Layout, LayoutRenderingElement, NameVariable,
+    NumberVariable, PageVariable, Scope, StandardVariable, Style, StyleError, StyleSettings, Text,
+    TextTarget, Variable,
+};
+use csl_tree::ElemChildren;
+use lit_model::{
+    ChunkKind, ChunkedString, Date, LongShortForm, MaybeTyped, Memory, Numeric, PageRanges, Person,
+    StringChunk,
+};
 use std::alloc::Global;
+use std::borrow::{Cow, CowStr};
 
 /// An entry that has a title and nothing else.
 #[derive(Drop)]
 pub struct TitleOnly {
-    pub title: String,
+    pub title: ChunkedString,
+}
+
+impl EntryLike for TitleOnly {
+    ghost use Rattle.std.specs.Prelude.{[], None};
+    ghost use Rattle.lit_model.specs.Text.{chunks};
+    ghost use Rattle.csl_cite.specs.Title.{title_answers};
+
+    ghost answers = { λ entry. title_answers (chunks entry.title) };
+
+    ghost key_text = { λ _. [] };
+
+    ghost english = { λ _. None };
+
+    fn resolve_number_variable(
+        &self,
+        _alloc: Global,
+        _variable: NumberVariable,
+    ) -> Result<Option<MaybeTyped<Cow<'_, Numeric>>>, Memory> {
+        Ok(None)
+    }
+
+    fn resolve_page_variable(
+        &self,
+        _alloc: Global,
+        _variable: PageVariable,
+    ) -> Result<Option<MaybeTyped<PageRanges>>, Memory> {
+        Ok(None)
+    }
+
+    fn resolve_standard_variable(
+        &self,
+        _alloc: Global,
+        _form: LongShortForm,
+        variable: StandardVariable,
+    ) -> Result<Option<Cow<'_, ChunkedString>>, Memory> {
+        match variable {
+            StandardVariable::Title => Ok(Some(Cow::Borrowed(&self.title))),
+            _ => Ok(None),
+        }
+    }
+
+    fn resolve_name_variable(
+        &self,
+        alloc: Global,
+        _variable: NameVariable,
+    ) -> Result<Vec<Cow<'_, Person>>, Memory> {
+        Ok(Vec::new(alloc))
+    }
+
+    fn resolve_date_variable(
+        &self,
+        _alloc: Global,
+        _variable: DateVariable,
+    ) -> Result<Option<Cow<'_, Date>>, Memory> {
+        Ok(None)
+    }
+
+    fn matches_entry_type(&self, _kind: Kind) -> bool {
+        false
+    }
+
+    fn is_english(&self) -> Option<bool> {
+        None
+    }
+
+    fn key(&self) -> CowStr<'_, Global> {
+        CowStr::Borrowed("")
+    }
 }
 
 /// A formatting that says nothing.
@@ -33,15 +121,15 @@ fn italic() -> Formatting
     }
 }
 
-/// A text node without affixes and display.
-fn undressed(target: TextTarget, formatting: Formatting) -> Text
-    ensures { view_text result ≡ targeted target (record undressed { formatting = formatting }) }
-{
+/// A text node with a formatting and nothing else.
+fn plain_text(target: TextTarget, formatting: Formatting) -> Text {
     Text {
         target,
         formatting,
         affixes: Affixes::default(),
         display: None,
+        quotes: false,
+        strip_periods: false,
     }
 }
 
@@ -49,9 +137,11 @@ fn undressed(target: TextTarget, formatting: Formatting) -> Text
 fn label_and_title(alloc: Global) -> Result<Vec<LayoutRenderingElement>, Memory>
     ensures { IfOk result (λ children. views children.items ≡ label_and_title) }
 {
-    let label = String::from_str(alloc, "Title")?;
-    let label = undressed(TextTarget::Value(label), no_formatting());
-    let title = undressed(TextTarget::Title, italic());
+    let val = String::from_str(alloc, "Title")?;
+    let label = plain_text(TextTarget::Value { val }, no_formatting());
+    let var = Variable::Standard(StandardVariable::Title);
+    let form = LongShortForm::Long;
+    let title = plain_text(TextTarget::Variable { var, form }, italic());
     let children = vec![in alloc;
         LayoutRenderingElement::Text(label),
         LayoutRenderingElement::Text(title),
@@ -79,14 +169,102 @@ fn title_group(alloc: Global) -> Result<Group, Memory>
     })
 }
 
-/// The layout of the command `title`: the word `Title` and the title in italics, in parentheses.
-pub fn title_layout(alloc: Global) -> Result<Layout, Memory>
+/// The word `Title` and the title in italics, in parentheses.
+fn title_layout(alloc: Global) -> Result<Layout, Memory>
     ensures { IfOk result (λ layout. view_layout layout ≡ title_layout) }
 {
     let group = title_group(alloc)?;
     let elements = vec![in alloc; LayoutRenderingElement::Group(group)]?;
     Ok(Layout {
         elements,
+        delimiter: None,
         formatting: no_formatting(),
     })
+}
+
+/// The style of the command: a layout of citations, and no macros and locales.
+fn title_style(alloc: Global) -> Result<Style, Memory>
+    ensures { IfOk result CitesTitles }
+{
+    let citation = title_layout(alloc)?;
+    let settings = StyleSettings::default();
+    let (macros, locales) = (Vec::new(alloc), Vec::new(alloc));
+    match Style::new(alloc, settings, macros, citation, None, locales) {
+        Ok(style) => Ok(style),
+        Err(StyleError::Memory) => Err(Memory),
+        // No macro leads back to itself where there is none, and no page format is asked for.
+        Err(_) => unreachable!(),
+    }
+}
+
+/// A cite that is the first of its entry, without a note and without a locator.
+fn first_cite() -> CiteProperties<'static>
+    ensures { cite_state result ≡ first_cite }
+{
+    let Some(citation_number) = CitationNumber::new(0) else {
+        unreachable!()
+    };
+    CiteProperties {
+        certain: CertainCiteProperties {
+            first_note_number: None,
+            is_first: true,
+            is_near_note: false,
+            initial_idx: 0,
+        },
+        speculative: SpeculativeCiteProperties {
+            locator: None,
+            citation_number,
+            disambiguation: DisambiguateState::None,
+            ibid: IbidState::Different,
+        },
+    }
+}
+
+/// What is missing where a rendering fails in a context that had not failed.
+fn missing(_error: RenderError) -> Memory {
+    Memory
+}
+
+/// What a style makes of the first cite of an entry.
+///
+/// # Errors
+/// [`Memory`]: there was no memory left, or the entry said so.
+fn cite<T: EntryLike>(alloc: Global, style: &Style, entry: &T) -> Result<ElemChildren, Memory>
+    ensures { IfOk result (λ content. tokens content ≡ cited style.now (T.answers entry.now)) }
+{
+    let cite_props = first_cite();
+    let instance = InstanceContext {
+        entry,
+        cite_props: &cite_props,
+        sorting: None,
+        kind: None,
+    };
+    let mut ctx = Context::new(alloc, style, instance, Scope::Citation)?;
+    style.citation().render(&mut ctx).map_err(missing)?;
+    let rendered = ctx.finish().map_err(missing)?;
+    Ok(rendered.content)
+}
+
+/// A title in one piece.
+fn one_piece(alloc: Global, title: &str) -> Result<ChunkedString, Memory>
+    ensures { IfOk result (λ made. chunks made ≡ one_piece title.now) }
+{
+    let chunk = StringChunk {
+        value: String::from_str(alloc, title)?,
+        kind: ChunkKind::Normal,
+    };
+    let chunks = vec![in alloc; chunk]?;
+    Ok(ChunkedString(chunks))
+}
+
+/// What the style of the command makes of a title.
+///
+/// # Errors
+/// [`Memory`]: there was no memory left.
+pub fn title_content(alloc: Global, title: &str) -> Result<ElemChildren, Memory>
+    ensures { IfOk result (λ content. IsTitleContent title.now (tokens content)) }
+{
+    let style = title_style(alloc)?;
+    let title = one_piece(alloc, title)?;
+    cite(alloc, &style, &TitleOnly { title })
 }
