@@ -16,9 +16,9 @@ mod page;
 
 use book::{book_label, the_c_book};
 use cite::{cite, house_style};
+use csl_tree::BufWriteFormat;
 use error::UseError;
 use film::{metropolis, title_of};
-use csl_tree::BufWriteFormat;
 use page::write_page;
 
 fn run(rt: &(impl Print + AllocGlobal)) -> Result<(), UseError> {
