@@ -147,7 +147,7 @@ fn persons(alloc: Global, size: usize) -> Result<Vec<Person>> {
 }
 
 /// An article of a journal, with so many authors and translators.
-fn article(alloc: Global, size: usize) -> Result<Entry> {
+pub fn article(alloc: Global, size: usize) -> Result<Entry> {
     let mut journal = Entry::new(alloc, "journal", EntryType::Periodical)?;
     journal.title = Some(text(alloc, "Il Nuovo Cimento")?);
     journal.volume = Some(MaybeTyped::Typed(Numeric::new(20)));

@@ -6,6 +6,7 @@
 
 mod entry;
 mod literature;
+mod render;
 mod style;
 mod tree;
 
@@ -18,7 +19,7 @@ use std::rt::Env;
 const SMALL: usize = 10;
 
 /// The works, by name.
-const WORKS: [&str; 16] = [
+const WORKS: [&str; 17] = [
     "numeric",
     "pages",
     "initials",
@@ -35,6 +36,7 @@ const WORKS: [&str; 16] = [
     "style_dense",
     "answers",
     "labels",
+    "render",
 ];
 
 /// Does a work, and answers its checksum.
@@ -56,6 +58,7 @@ fn checksum(alloc: Global, work: &str, size: usize) -> Result<usize> {
         "style_dense" => style::dense(alloc, size),
         "answers" => entry::answers(alloc, size),
         "labels" => entry::labels(alloc, size),
+        "render" => render::render(alloc, size),
         _ => bail!("no such work: {work}"),
     }
 }

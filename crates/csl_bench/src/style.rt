@@ -13,20 +13,24 @@ fn name(alloc: Global, number: usize) -> Result<String> {
     Ok(name)
 }
 
+/// A text with nothing around it.
+pub fn text(target: TextTarget) -> LayoutRenderingElement {
+    LayoutRenderingElement::Text(Text {
+        target,
+        formatting: Formatting::default(),
+        affixes: Affixes::default(),
+        display: None,
+        quotes: false,
+        strip_periods: false,
+    })
+}
+
 /// The macro of a number, which calls those from a first number up to an end.
 fn calls(alloc: Global, number: usize, first: usize, end: usize) -> Result<CslMacro> {
     let mut children = Vec::new(alloc);
     for called in first..end {
-        children.push(LayoutRenderingElement::Text(Text {
-            target: TextTarget::Macro {
-                name: name(alloc, called)?,
-            },
-            formatting: Formatting::default(),
-            affixes: Affixes::default(),
-            display: None,
-            quotes: false,
-            strip_periods: false,
-        }))?;
+        let name = name(alloc, called)?;
+        children.push(text(TextTarget::Macro { name }))?;
     }
     Ok(CslMacro {
         name: name(alloc, number)?,
@@ -42,16 +46,22 @@ fn layout(alloc: Global) -> Layout {
     }
 }
 
-/// Makes a style of the macros, and counts them.
-fn macro_count(alloc: Global, macros: Vec<CslMacro>) -> Result<usize> {
+/// A style of the macros and of a layout of the citation.
+pub fn with_layout(alloc: Global, macros: Vec<CslMacro>, citation: Layout) -> Result<Style> {
     let locales = Vec::new(alloc);
     let settings = StyleSettings::default();
-    match Style::new(alloc, settings, macros, layout(alloc), None, locales) {
-        Ok(style) => Ok(style.macros().len()),
+    match Style::new(alloc, settings, macros, citation, None, locales) {
+        Ok(style) => Ok(style),
         Err(StyleError::Memory) => bail!("out of memory"),
         Err(StyleError::CyclicMacro(_)) => bail!("a macro leads back to itself"),
         Err(StyleError::ChicagoPageFormat) => bail!("no such page format"),
     }
+}
+
+/// Makes a style of the macros, and counts them.
+fn macro_count(alloc: Global, macros: Vec<CslMacro>) -> Result<usize> {
+    let style = with_layout(alloc, macros, layout(alloc))?;
+    Ok(style.macros().len())
 }
 
 /// Makes a style in which each macro calls the next, and counts the macros.

@@ -1,25 +1,20 @@
 -- The command `title`: an entry that has a title and nothing else, the style that it is cited in, and what that makes of it.
-use Rattle.std.specs.Prelude.{◌≡◌, ℕ, List, [], ◌∷◌, Option, Some, None, false, true, codes}
+use Rattle.std.specs.Prelude.{◌≡◌, ℕ, List, [], ◌∷◌, Option, Some, None, false, codes}
 use Rattle.lit_model.specs.Text.{Chunk}
 use Rattle.lit_model.specs.declared.text.ChunkKind.TheVariants.{Normal}
 use Rattle.lit_model.specs.declared.text.LongShortForm.TheVariants.{Long}
 use Rattle.csl_style.specs.declared.formatting.Formatting.{Formatting}
 use Rattle.csl_style.specs.declared.formatting.FontStyle.TheVariants.{Italic}
-use Rattle.csl_style.specs.declared.style.settings.Scope.TheVariants.{Citation}
 use Rattle.csl_style.specs.declared.taxonomy.StandardVariable.{StandardVariable}
 use Rattle.csl_style.specs.declared.taxonomy.StandardVariable.TheVariants.{Title}
 use Rattle.csl_style.specs.declared.taxonomy.Variable.TheVariants.{Standard}
 use Rattle.csl_style.specs.Dressing.{Dressing, TextDressing}
-use Rattle.csl_style.specs.Node.{Target, of_variable, of_value, Node, text, group, Nodes, no_nodes, node, LayoutNode, fill_layout}
+use Rattle.csl_style.specs.Node.{Target, of_variable, of_value, Node, text, group, Nodes, no_nodes, node, LayoutNode}
 use Rattle.csl_style.specs.Style.{StyleParts}
 use Rattle.csl_style.specs.View.{view_layout}
 use Rattle.csl_tree.specs.Tokens.{Token}
-use Rattle.csl_entry.specs.declared.cite.IbidState.TheVariants.{Different}
 use Rattle.csl_entry.specs.Answers.{Answers}
-use Rattle.csl_entry.specs.Cite.{CiteState, nothing}
-use Rattle.csl_context.specs.Now.{no_state, base_inherited}
-use Rattle.csl_context.specs.World.{World, env}
-use Rattle.csl_render.specs.Tree.{layout_tree}
+use Rattle.csl_render.specs.Cited.{cited}
 
 -- ---- the entry
 
@@ -78,31 +73,6 @@ pub record CitesTitles (style : StyleParts) : Type 0 where
   pub locales : style.locales ≡ []
 
 -- ---- the content
-
--- a cite that is the first of its entry, without a note and without a locator
-abbrev pub first_cite : CiteState
-first_cite = record {
-  first_note = None;
-  is_first = true;
-  is_near_note = false;
-  initial_index = 0;
-  locator = None;
-  citation_number = 0;
-  disambiguation = nothing;
-  ibid = Different;
-}
-
-abbrev pub first_world : StyleParts → Answers → World
-first_world style answers = record {
-  style = style;
-  scope = Citation;
-  instance = record { answers = answers; cite = first_cite; sorting = None; special = None };
-}
-
--- what a style makes of the first cite of an entry
-abbrev pub cited : StyleParts → Answers → List Token
-cited style answers =
-    (layout_tree (first_world style answers) (fill_layout (env style) (view_layout style.citation)) (base_inherited style Citation) no_state).content
 
 -- what the style of the command makes of a title
 abbrev pub IsTitleContent : List ℕ → List Token → Type 0

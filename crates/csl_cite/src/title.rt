@@ -6,9 +6,10 @@ ghost use Rattle.lit_model.specs.Text.{chunks};
 ghost use Rattle.csl_style.specs.View.{view_text, view_group, view_layout, views};
 ghost use Rattle.csl_tree.specs.Tokens.{tokens};
 ghost use Rattle.csl_entry.specs.Cite.{cite_state};
+ghost use Rattle.csl_render.specs.Cited.{first_cite, cited};
 ghost use Rattle.csl_cite.specs.Title.{title_answers, one_piece};
 ghost use Rattle.csl_cite.specs.Title.{no_formatting, italic, label_and_title, title_group, title_layout};
-ghost use Rattle.csl_cite.specs.Title.{CitesTitles, first_cite, cited, IsTitleContent};
+ghost use Rattle.csl_cite.specs.Title.{CitesTitles, IsTitleContent};
 
 use csl_context::{Context, RenderError};
 use csl_entry::{

@@ -4,3 +4,4 @@ pub mod Text
 pub mod Bodies
 pub mod Tree
 pub mod Rendering
+pub mod Cited

@@ -4,6 +4,7 @@ use Rattle.lit_model.specs.declared.entry.Entry.{Entry, out-Entry}
 use Rattle.lit_model.specs.declared.text.ChunkKind.TheVariants.{Normal}
 use Rattle.lit_model.specs.Date.{Parts, date_parts}
 use Rattle.lit_model.specs.Person.{Named, named}
+use Rattle.lit_model.specs.Source.{press_of}
 use Rattle.lit_model.specs.Text.{Forms, forms_of}
 
 abbrev pub one_piece : List ℕ → Forms
@@ -19,3 +20,4 @@ pub record IsTheCBook (book : Entry) : Type 0 where
   pub title_is : option_map forms_of (out-Entry book).title ≡ Some (one_piece (codes "The C Programming Language"))
   pub authors_are : option_map (λ v. map named v.items) (out-Entry book).authors ≡ Some (person_of (codes "Kernighan") (codes "Brian W.") ∷ person_of (codes "Ritchie") (codes "Dennis M.") ∷ [])
   pub date_is : option_map date_parts (out-Entry book).date ≡ Some february_1978
+  pub publisher_is : option_map press_of (out-Entry book).publisher ≡ Some (record { name = Some (one_piece (codes "Prentice Hall")); location = None })

@@ -1,3 +1,4 @@
 pub mod Book
+pub mod Cite
 pub mod Film
 pub mod Page

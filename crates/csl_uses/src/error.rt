@@ -1,5 +1,7 @@
 //! What can go wrong in the uses: one error type, to which `?` converts those of the crates.
 
+use csl_context::RenderError;
+use csl_style::StyleError;
 use lit_model::{Memory, NumericError};
 use std::alloc::{AllocError, AllocFailed};
 use std::{fmt, io};
@@ -17,6 +19,12 @@ pub enum UseError {
     /// A day is not on the calendar.
     #[error("no such day")]
     NoSuchDay,
+    /// A citation number is too large.
+    #[error("no such number")]
+    NoSuchNumber,
+    /// A style is refused.
+    #[error("{0}")]
+    Style(StyleError),
     /// A writer refused a text.
     #[error("a writer refused a text")]
     Refused,
@@ -48,6 +56,24 @@ impl From<NumericError> for UseError {
         match error {
             NumericError::Memory => UseError::Memory,
             NumericError::NotNumeric => UseError::NotNumeric,
+        }
+    }
+}
+
+impl From<StyleError> for UseError {
+    fn from(error: StyleError) -> UseError {
+        match error {
+            StyleError::Memory => UseError::Memory,
+            StyleError::CyclicMacro(_) | StyleError::ChicagoPageFormat => UseError::Style(error),
+        }
+    }
+}
+
+impl From<RenderError> for UseError {
+    fn from(error: RenderError) -> UseError {
+        match error {
+            // A context fails for want of memory alone.
+            RenderError::Memory | RenderError::Failed => UseError::Memory,
         }
     }
 }

@@ -1,18 +1,22 @@
-//! The program `csl_uses`: three uses of these crates, each to be read and copied.
+//! The program `csl_uses`: four uses of these crates, each to be read and copied.
 //!
 //! - `book`: an entry that is made field by field, and its label;
 //! - `page`: a tree of content that is written as HTML;
-//! - `film`: a type of one's own as an entry.
+//! - `film`: a type of one's own as an entry;
+//! - `cite`: a style that is made as a value, and the cite that it makes of an entry of any type.
 //!
 //! `main` prints what each of them makes.
 #![tactic(auto)]
 
 mod book;
+mod cite;
 mod error;
 mod film;
 mod page;
 
 use book::{book_label, the_c_book};
+use cite::{cite, house_style};
+use csl_tree::BufWriteFormat;
 use error::UseError;
 use film::{metropolis, title_of};
 use page::write_page;
@@ -33,6 +37,14 @@ fn run(rt: &(impl Print + AllocGlobal)) -> Result<(), UseError> {
         title_of(alloc, &book)?,
         title_of(alloc, &film)?
     )?;
+
+    let style = house_style(alloc)?;
+    let cited = cite(alloc, &style, &book)?;
+    let mut html = String::new(alloc);
+    cited.write_buf(&mut html, BufWriteFormat::Html)?;
+    println!(rt; "cite: {cited}")?;
+    println!(rt; "cite as HTML: {html}")?;
+    println!(rt; "cite: {}", cite(alloc, &style, &film)?)?;
     Ok(())
 }
 

@@ -1,0 +1,114 @@
+//! A work over the nodes of a style.
+
+use crate::entry::article;
+use crate::style::{text, with_layout};
+use anyhow::{Result, bail};
+use csl_context::Context;
+use csl_entry::{
+    CertainCiteProperties, CitationNumber, CiteProperties, DisambiguateState, EntryLike, IbidState,
+    InstanceContext, SpeculativeCiteProperties,
+};
+use csl_render::RenderCsl;
+use csl_style::{
+    Affixes, CslMacro, Formatting, Group, Layout, LayoutRenderingElement, Scope, StandardVariable,
+    Style, TextTarget, Variable,
+};
+use lit_model::LongShortForm;
+use std::alloc::Global;
+
+/// The name of the one macro.
+const MACRO: &str = "title";
+
+/// A text of the title.
+fn title() -> LayoutRenderingElement {
+    text(TextTarget::Variable {
+        var: Variable::Standard(StandardVariable::Title),
+        form: LongShortForm::Long,
+    })
+}
+
+/// A text of the macro.
+fn call(alloc: Global) -> Result<LayoutRenderingElement> {
+    let name = String::from_str(alloc, MACRO)?;
+    Ok(text(TextTarget::Macro { name }))
+}
+
+/// A group of a title.
+fn group(alloc: Global) -> Result<LayoutRenderingElement> {
+    Ok(LayoutRenderingElement::Group(Group {
+        children: vec![in alloc; title()]?,
+        delimiter: None,
+        formatting: Formatting::default(),
+        affixes: Affixes::default(),
+        display: None,
+    }))
+}
+
+/// So many groups, with a text of the macro behind each.
+fn nodes(alloc: Global, size: usize) -> Result<Vec<LayoutRenderingElement>> {
+    let mut nodes = Vec::new(alloc);
+    for _ in 0..size {
+        nodes.push(group(alloc)?)?;
+        nodes.push(call(alloc)?)?;
+    }
+    Ok(nodes)
+}
+
+/// A style of one macro, whose layout has so many groups and texts of the macro.
+fn style(alloc: Global, size: usize) -> Result<Style> {
+    let children = vec![in alloc; title()]?;
+    let name = String::from_str(alloc, MACRO)?;
+    let macros = vec![in alloc; CslMacro { name, children }]?;
+    let citation = Layout {
+        elements: nodes(alloc, size)?,
+        delimiter: None,
+        formatting: Formatting::default(),
+    };
+    with_layout(alloc, macros, citation)
+}
+
+/// A cite that no other one stands before.
+fn first_cite<'s>() -> Option<CiteProperties<'s>> {
+    Some(CiteProperties {
+        certain: CertainCiteProperties {
+            first_note_number: None,
+            is_first: true,
+            is_near_note: false,
+            initial_idx: 0,
+        },
+        speculative: SpeculativeCiteProperties {
+            locator: None,
+            citation_number: CitationNumber::new(0)?,
+            disambiguation: DisambiguateState::None,
+            ibid: IbidState::Different,
+        },
+    })
+}
+
+/// Renders the citation layout of a style for an entry, and counts the children of the content.
+fn child_count<T: EntryLike>(alloc: Global, style: &Style, entry: &T) -> Result<usize> {
+    let Some(cite) = first_cite() else {
+        bail!("no such number");
+    };
+    let instance = InstanceContext {
+        entry,
+        cite_props: &cite,
+        sorting: None,
+        kind: None,
+    };
+    let mut ctx = Context::new(alloc, style, instance, Scope::Citation)?;
+    if style.citation().render(&mut ctx).is_err() {
+        bail!("out of memory");
+    }
+    match ctx.finish() {
+        Ok(rendered) => Ok(rendered.content.0.len()),
+        Err(_) => bail!("out of memory"),
+    }
+}
+
+/// Renders groups of a title and texts of a macro for one article.
+pub fn render(alloc: Global, size: usize) -> Result<usize> {
+    let style = style(alloc, size)?;
+    let entry = article(alloc, 1)?;
+    child_count(alloc, &style, &entry)
+}
