@@ -48,14 +48,19 @@ italic = record no_formatting { font_style = Some Italic }
 abbrev pub undressed : Formatting → Dressing
 undressed f = record { formatting = f; affixes = record { prefix = None; suffix = None }; display = None }
 
-abbrev pub plain_text : Target → Formatting → Node
-plain_text target f = text target (record { dressing = undressed f; quotes = false; strip_periods = false })
+abbrev pub bare : Formatting → TextDressing
+bare f = record { dressing = undressed f; quotes = false; strip_periods = false }
 
--- the word `Title` and the title in italics
+-- the word `Title`
+abbrev pub label : Node
+label = text (of_value (codes "Title")) (bare no_formatting)
+
+-- the title in italics
+abbrev pub title_text : Node
+title_text = text (of_variable (Standard Title) Long) (bare italic)
+
 abbrev pub label_and_title : Nodes
-label_and_title =
-    node (plain_text (of_value (codes "Title")) no_formatting)
-    (node (plain_text (of_variable (Standard Title) Long) italic) no_nodes)
+label_and_title = node label (node title_text no_nodes)
 
 -- these two in parentheses
 abbrev pub title_group : Node

@@ -3,15 +3,16 @@
 
 ghost use Rattle.std.specs.Prelude.{◌≡◌, IfOk};
 ghost use Rattle.lit_model.specs.Text.{chunks};
-ghost use Rattle.csl_style.specs.View.{view_text, view_group, view_layout, views};
+ghost use Rattle.csl_style.specs.View.{text_dressing, view, view_group, view_layout, views};
 ghost use Rattle.csl_tree.specs.Tokens.{tokens};
 ghost use Rattle.csl_entry.specs.Cite.{cite_state};
 ghost use Rattle.csl_render.specs.Cited.{first_cite, cited};
 ghost use Rattle.csl_cite.specs.Title.{title_answers, one_piece};
-ghost use Rattle.csl_cite.specs.Title.{no_formatting, italic, label_and_title, title_group, title_layout};
+ghost use Rattle.csl_cite.specs.Title.{no_formatting, italic, bare, label, title_text, label_and_title};
+ghost use Rattle.csl_cite.specs.Title.{title_group, title_layout};
 ghost use Rattle.csl_cite.specs.Title.{CitesTitles, IsTitleContent};
 
-use csl_context::{Context, RenderError};
+use csl_context::{Context, RenderError, Rendered};
 use csl_entry::{
     CertainCiteProperties, CitationNumber, CiteProperties, DisambiguateState, EntryLike, IbidState,
     InstanceContext, SpeculativeCiteProperties,
@@ -122,8 +123,11 @@ fn italic() -> Formatting
     }
 }
 
-/// A text node with a formatting and nothing else.
-fn plain_text(target: TextTarget, formatting: Formatting) -> Text {
+/// A text with a formatting and nothing else.
+fn bare_text(target: TextTarget, formatting: Formatting) -> Text
+    ensures target { result.target ≡ target }
+    ensures dressing { text_dressing result ≡ bare formatting }
+{
     Text {
         target,
         formatting,
@@ -134,23 +138,34 @@ fn plain_text(target: TextTarget, formatting: Formatting) -> Text {
     }
 }
 
-/// The word `Title` and the title in italics.
+/// The word `Title`.
+fn label(alloc: Global) -> Result<LayoutRenderingElement, Memory>
+    ensures { IfOk result (λ made. view made ≡ label) }
+{
+    let val = String::from_str(alloc, "Title")?;
+    let label = bare_text(TextTarget::Value { val }, no_formatting());
+    Ok(LayoutRenderingElement::Text(label))
+}
+
+/// The title in italics.
+fn title_text() -> LayoutRenderingElement
+    ensures { view result ≡ title_text }
+{
+    let var = Variable::Standard(StandardVariable::Title);
+    let form = LongShortForm::Long;
+    LayoutRenderingElement::Text(bare_text(TextTarget::Variable { var, form }, italic()))
+}
+
+/// These two.
 fn label_and_title(alloc: Global) -> Result<Vec<LayoutRenderingElement>, Memory>
     ensures { IfOk result (λ children. views children.items ≡ label_and_title) }
 {
-    let val = String::from_str(alloc, "Title")?;
-    let label = plain_text(TextTarget::Value { val }, no_formatting());
-    let var = Variable::Standard(StandardVariable::Title);
-    let form = LongShortForm::Long;
-    let title = plain_text(TextTarget::Variable { var, form }, italic());
-    let children = vec![in alloc;
-        LayoutRenderingElement::Text(label),
-        LayoutRenderingElement::Text(title),
-    ]?;
+    let label = label(alloc)?;
+    let children = vec![in alloc; label, title_text()]?;
     Ok(children)
 }
 
-/// These two in parentheses.
+/// The word and the title in parentheses.
 fn title_group(alloc: Global) -> Result<Group, Memory>
     ensures { IfOk result (λ group. view_group group ≡ title_group) }
 {
@@ -170,7 +185,7 @@ fn title_group(alloc: Global) -> Result<Group, Memory>
     })
 }
 
-/// The word `Title` and the title in italics, in parentheses.
+/// A layout of that group alone.
 fn title_layout(alloc: Global) -> Result<Layout, Memory>
     ensures { IfOk result (λ layout. view_layout layout ≡ title_layout) }
 {
@@ -221,17 +236,12 @@ fn first_cite() -> CiteProperties<'static>
     }
 }
 
-/// What is missing where a rendering fails in a context that had not failed.
-fn missing(_error: RenderError) -> Memory {
-    Memory
-}
-
 /// What a style makes of the first cite of an entry.
 ///
 /// # Errors
-/// [`Memory`]: there was no memory left, or the entry said so.
-fn cite<T: EntryLike>(alloc: Global, style: &Style, entry: &T) -> Result<ElemChildren, Memory>
-    ensures { IfOk result (λ content. tokens content ≡ cited style.now (T.answers entry.now)) }
+/// [`RenderError::Memory`]: there was no memory left, or the entry said so.
+fn cite<T: EntryLike>(alloc: Global, style: &Style, entry: &T) -> Result<Rendered, RenderError>
+    ensures { IfOk result (λ made. tokens made.content ≡ cited style.now (T.answers entry.now)) }
 {
     let cite_props = first_cite();
     let instance = InstanceContext {
@@ -240,10 +250,11 @@ fn cite<T: EntryLike>(alloc: Global, style: &Style, entry: &T) -> Result<ElemChi
         sorting: None,
         kind: None,
     };
-    let mut ctx = Context::new(alloc, style, instance, Scope::Citation)?;
-    style.citation().render(&mut ctx).map_err(missing)?;
-    let rendered = ctx.finish().map_err(missing)?;
-    Ok(rendered.content)
+    let Ok(mut ctx) = Context::new(alloc, style, instance, Scope::Citation) else {
+        return Err(RenderError::Memory);
+    };
+    style.citation().render(&mut ctx)?;
+    ctx.finish()
 }
 
 /// A title in one piece.
@@ -267,5 +278,9 @@ pub fn title_content(alloc: Global, title: &str) -> Result<ElemChildren, Memory>
 {
     let style = title_style(alloc)?;
     let title = one_piece(alloc, title)?;
-    cite(alloc, &style, &TitleOnly { title })
+    match cite(alloc, &style, &TitleOnly { title }) {
+        Ok(made) => Ok(made.content),
+        // A context that is new has not failed: what is missing is memory.
+        Err(_) => Err(Memory),
+    }
 }
