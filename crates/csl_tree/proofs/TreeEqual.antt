@@ -1,8 +1,7 @@
 -- `==` of two trees, two elements and two children: true exactly where their tokens are equal.
 use Rattle.std.proofs.Common.{◌≡◌, ℕ, Bool, true, false, List, [], ◌∷◌, map, refl, sym, ap, subst, ◌∙◌, rules}
-use Rattle.std.specs.Prelude.{Option, string_bytes, ◌==◌}
+use Rattle.std.specs.Prelude.{◌==◌}
 use Rattle.std.specs.Bool.{Decides}
-use Rattle.std.specs.Option.{option_eq}
 use Rattle.std.specs.Cmp.Lexicographic.{pointwise}
 use Rattle.std.proofs.lemmas.Bool.{false≢true}
 use Rattle.lit_model.proofs.ByValue.{both, through, option_same, text_decides}

@@ -98,7 +98,11 @@ fn assert_rows(
     wanted: bool,
 ) -> Result<(), Fail> {
     for (a, b) in rows {
-        assert_eq!(rt; are_same(alloc, *a, *b)?, (wanted, wanted), "of {a} and {b}");
+        assert_eq!(rt;
+            are_same(alloc, *a, *b)?,
+            (wanted, wanted),
+            "of {a} and {b}"
+        );
     }
     Ok(())
 }
