@@ -8,6 +8,8 @@ pub mod Overlays
 pub mod LastChars
 pub mod Rejects
 pub mod TreeTokens
+pub mod TreeStep
+pub mod TreeEqual
 pub mod Rounds
 pub mod RoundSteps
 pub mod NormalForms

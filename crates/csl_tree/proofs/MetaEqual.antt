@@ -1,6 +1,6 @@
 -- `==` of metas and texts compares what they say.
-use Rattle.std.proofs.Common.{◌≡◌, ℕ, Bool, ◌&&◌, List, [], ◌∷◌, map, ap, rules}
-use Rattle.std.specs.Prelude.{Vec, Option, Some, None}
+use Rattle.std.proofs.Common.{◌≡◌, ℕ, Bool, ◌&&◌, List, [], ◌∷◌, map, refl, ap, rules}
+use Rattle.std.specs.Prelude.{Vec, Option, Some, None, string_bytes}
 use Rattle.std.specs.Bool.{Decides}
 use Rattle.std.specs.Option.{option_eq}
 use Rattle.std.specs.Cmp.Lexicographic.{pointwise}
@@ -57,6 +57,12 @@ all_names_decide x y = through _ (lists_decide x.items y.items) (ap of_names) (a
 pub meta_decides : (a b : ElemMeta) → Decides (eq_meta.it a b) (meta_of a ≡ meta_of b)
 meta_decides a b = let d = all_names_decide in search (rules, d)
 
+pub metas_decide : (m n : Option ElemMeta) → Decides (option_eq eq_meta.it m n) (optional_meta m ≡ optional_meta n)
+metas_decide None None = (λ h. refl, λ h. refl)
+metas_decide None (Some b) = (λ h. cc, λ h. cc)
+metas_decide (Some a) None = (λ h. cc, λ h. cc)
+metas_decide (Some a) (Some b) = let d = meta_decides a b in (λ h. ap Some (d.0 h), λ h. d.1 cc)
+
 pub optional_decides : (m : Option ElemMeta) (b : ElemMeta) → Decides (option_eq eq_meta.it m (Some b)) (optional_meta m ≡ Some (meta_of b))
 optional_decides None b = (λ h. cc, λ h. cc)
 optional_decides (Some a) b = let d = meta_decides a b in (λ h. ap Some (d.0 h), λ h. d.1 cc)
@@ -76,7 +82,7 @@ decoration_decides v w = search rules
 align_decides : (v w : VerticalAlign) → Decides (eq_align.it v w) (v ≡ w)
 align_decides v w = search rules
 
-formatting_decides : (f g : Formatting) → Decides (eq_formatting.it f g) (f ≡ g)
+pub formatting_decides : (f g : Formatting) → Decides (eq_formatting.it f g) (f ≡ g)
 formatting_decides f g = through _ (both _ _ (style_decides f.font_style g.font_style) (both _ _ (variant_decides f.font_variant g.font_variant) (both _ _ (weight_decides f.font_weight g.font_weight) (both _ _ (decoration_decides f.text_decoration g.text_decoration) (align_decides f.vertical_align g.vertical_align)))))
     (λ h i. record { font_style = h.0 i; font_variant = h.1.0 i; font_weight = h.1.1.0 i; text_decoration = h.1.1.1.0 i; vertical_align = h.1.1.1.1 i })
     (λ h. (ap (λ (x : Formatting). x.font_style) h, (ap (λ (x : Formatting). x.font_variant) h, (ap (λ (x : Formatting). x.font_weight) h, (ap (λ (x : Formatting). x.text_decoration) h, ap (λ (x : Formatting). x.vertical_align) h)))))
@@ -89,7 +95,10 @@ abbrev formatting_in : List Token → Formatting
 formatting_in (text bs f ∷ ts) = f
 formatting_in ts = default_formatting
 
+pub formatted_same : (a b : Formatted) → Decides (eq_formatted.it a b) ((string_bytes a.text ≡ string_bytes b.text) × (a.formatting ≡ b.formatting))
+formatted_same a b = both _ _ (text_decides a.text b.text) (formatting_decides a.formatting b.formatting)
+
 pub formatted_decides : (a b : Formatted) → Decides (eq_formatted.it a b) (text_tokens a ≡ text_tokens b)
-formatted_decides a b = through _ (both _ _ (text_decides a.text b.text) (formatting_decides a.formatting b.formatting))
+formatted_decides a b = through _ (formatted_same a b)
     (λ h. let e = h.0 in let f = h.1 in cc)
     (λ h. (ap bytes_in h, ap formatting_in h))

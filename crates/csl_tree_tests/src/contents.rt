@@ -1,4 +1,4 @@
-//! What is pushed into contents, what these say of their text, and when two trees are equal.
+//! What is pushed into contents, and what these say of their text.
 
 use crate::trees::{assert_tree, read};
 use csl_tree::ElemChildren;
@@ -116,34 +116,6 @@ fn the_last_character_may_be_white_space(rt: HostRuntime) -> Result<(), Fail> {
         ("( a~ ) b", (true, true, false)),
     ] {
         assert_eq!(rt; flags(rt.alloc(), source)?, wanted, "of {source}");
-    }
-    Ok(())
-}
-
-/// Whether the trees of two descriptions are equal.
-fn are_same(alloc: Global, a: &str, b: &str) -> Result<bool, Fail> {
-    Ok(read(alloc, a)? == read(alloc, b)?)
-}
-
-#[test]
-fn trees_are_equal_by_value(rt: HostRuntime) -> Result<(), Fail> {
-    for (a, b, same) in [
-        ("", "", true),
-        ("", "_", false),
-        ("a", "a", true),
-        ("a b", "ab", false),
-        ("a", "/a", false),
-        ("a", "$a", false),
-        ("@a|u", "@a|u", true),
-        ("@a|u", "@a|w", false),
-        ("#1", "#2", false),
-        ("( a ( b ):date )block", "( a ( b ):date )block", true),
-        ("( a ( b ):date )block", "( a ( b ):date )", false),
-        ("( a ( b ):date )block", "( a ( b ):label )block", false),
-        ("( a ( b ):date )block", "( a ( c ):date )block", false),
-        ("( a ) b", "( a b )", false),
-    ] {
-        assert_eq!(rt; are_same(rt.alloc(), a, b)?, same, "of {a} and {b}");
     }
     Ok(())
 }

@@ -10,6 +10,8 @@ mod copies;
 #[cfg(test)]
 mod elem;
 #[cfg(test)]
+mod equal;
+#[cfg(test)]
 mod formatting;
 #[cfg(test)]
 mod named;

@@ -1,0 +1,114 @@
+//! When trees, elements and children are equal: exactly where their tokens are. Those that are
+//! equal feed a hasher the same.
+
+ghost use Rattle.std.specs.Prelude.{◌≡◌, ◌↔◌, IsTrue};
+ghost use Rattle.csl_tree.specs.Tokens.{tokens, elem_tokens, child_tokens};
+ghost use Rattle.csl_tree.specs.contracts.elem.ElemChildrenHash.TheImpl.{hash_input-value as hash_tree};
+ghost use Rattle.csl_tree.specs.contracts.elem.ElemHash.TheImpl.{hash_input-value as hash_elem};
+ghost use Rattle.csl_tree.specs.contracts.elem.ElemChildHash.TheImpl.{hash_input-value as hash_child};
+
+use crate::trees::read;
+use csl_tree::{Elem, ElemChild, ElemChildren};
+use std::alloc::Global;
+use std::process::Abort;
+use std::test::Fail;
+
+/// Whether the two trees are equal.
+fn same_tree(a: &ElemChildren, b: &ElemChildren) -> bool
+    ensures equal { IsTrue result ↔ (tokens a.now ≡ tokens b.now) }
+    ensures hashed { tokens a.now ≡ tokens b.now → hash_tree.it a.now ≡ hash_tree.it b.now }
+{
+    *a == *b
+}
+
+/// The same for elements.
+fn same_elem(a: &Elem, b: &Elem) -> bool
+    ensures equal { IsTrue result ↔ (elem_tokens a.now ≡ elem_tokens b.now) }
+    ensures hashed { elem_tokens a.now ≡ elem_tokens b.now
+        → hash_elem.it a.now ≡ hash_elem.it b.now }
+{
+    *a == *b
+}
+
+/// The same for children.
+fn same_child(a: &ElemChild, b: &ElemChild) -> bool
+    ensures equal { IsTrue result ↔ (child_tokens a.now ≡ child_tokens b.now) }
+    ensures hashed { child_tokens a.now ≡ child_tokens b.now
+        → hash_child.it a.now ≡ hash_child.it b.now }
+{
+    *a == *b
+}
+
+/// Whether two trees are equal: asked of the two elements where each is one, of the two children
+/// where each has one, and else of the trees.
+fn same_inner(a: &ElemChildren, b: &ElemChildren) -> bool {
+    match (a.0.as_slice(), b.0.as_slice()) {
+        ([ElemChild::Elem(a)], [ElemChild::Elem(b)]) => same_elem(a, b),
+        ([a], [b]) => same_child(a, b),
+        _ => same_tree(a, b),
+    }
+}
+
+/// Whether the trees of two descriptions are equal, and what is in them.
+fn are_same(alloc: Global, a: &str, b: &str) -> Result<(bool, bool), Fail> {
+    let a = read(alloc, a)?;
+    let b = read(alloc, b)?;
+    Ok((same_tree(&a, &b), same_inner(&a, &b)))
+}
+
+/// Two descriptions of trees that are equal.
+static SAME: [(&str, &str); 5] = [
+    ("", ""),
+    ("a", "a"),
+    ("@a|u", "@a|u"),
+    ("( a ( b ):date )block", "( a ( b ):date )block"),
+    ("( @/x|u $$m$ #7 ~ ):Knuth b", "( @/x|u $$m$ #7 ~ ):Knuth b"),
+];
+
+/// Two descriptions of trees that are not.
+static DIFFERENT: [(&str, &str); 19] = [
+    ("", "_"),
+    // Leaves.
+    ("a", "b"),
+    ("a", "/a"),
+    ("a", "$a"),
+    ("a", "@a|u"),
+    ("@a|u", "@a|w"),
+    ("@a|u", "@/a|u"),
+    ("#1", "#2"),
+    // Rows.
+    ("a b", "ab"),
+    ("a b", "b a"),
+    ("a", "a a"),
+    // Elements.
+    ("( a )", "a"),
+    ("( a )", "( )"),
+    ("( a ) b", "( a b )"),
+    ("( ( a ) b )", "( ( a b ) )"),
+    ("( a ( b ):date )block", "( a ( b ):date )"),
+    ("( a ( b ):date )block", "( a ( b ):label )block"),
+    ("( a ( b ):date )block", "( a ( c ):date )block"),
+    ("( a ):Knuth", "( a ):Lamport"),
+];
+
+fn assert_rows(
+    rt: &impl Abort,
+    alloc: Global,
+    rows: &[(&'static str, &'static str)],
+    wanted: bool,
+) -> Result<(), Fail> {
+    for (a, b) in rows {
+        assert_eq!(rt;
+            are_same(alloc, *a, *b)?,
+            (wanted, wanted),
+            "of {a} and {b}"
+        );
+    }
+    Ok(())
+}
+
+#[test]
+fn trees_are_equal_by_value(rt: HostRuntime) -> Result<(), Fail> {
+    assert_rows(&rt, rt.alloc(), &SAME, true)?;
+    assert_rows(&rt, rt.alloc(), &DIFFERENT, false)
+}
