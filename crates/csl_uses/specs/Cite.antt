@@ -1,5 +1,5 @@
 -- The house style as data (CSL 1.0.2, Layout; Group; Text).
-use Rattle.std.specs.Prelude.{◌≡◌, List, [], Option, Some, None, true, false, codes}
+use Rattle.std.specs.Prelude.{◌≡◌, [], Some, None, false, codes}
 use Rattle.lit_model.specs.declared.text.LongShortForm.TheVariants.{Long}
 use Rattle.csl_style.specs.declared.formatting.FontStyle.TheVariants.{Italic}
 use Rattle.csl_style.specs.declared.formatting.Formatting.{Formatting}
@@ -7,7 +7,7 @@ use Rattle.csl_style.specs.declared.taxonomy.StandardVariable.{StandardVariable}
 use Rattle.csl_style.specs.declared.taxonomy.StandardVariable.TheVariants.{Title, Publisher}
 use Rattle.csl_style.specs.declared.taxonomy.Variable.TheVariants.{Standard}
 use Rattle.csl_style.specs.Dressing.{AffixTexts, Dressing}
-use Rattle.csl_style.specs.Node.{Node, text, group, of_variable, Nodes, no_nodes, node, LayoutNode}
+use Rattle.csl_style.specs.Node.{Node, text, group, of_variable, no_nodes, node, LayoutNode}
 use Rattle.csl_style.specs.Style.{StyleParts}
 use Rattle.csl_style.specs.View.{view_layout}
 
