@@ -14,7 +14,9 @@ fn peek_all(ctx: &mut Context<'_, Film>) -> Result<(), RenderError>
     ensures { OnOk result (ctx.new.outer ≡ ctx.old.outer) }
 {
     let title = StandardVariable::Title;
-    let found = ctx.peek_standard_variable(LongShortForm::Short, title)?.is_some();
+    let found = ctx
+        .peek_standard_variable(LongShortForm::Short, title)?
+        .is_some();
     put(ctx, yes(found))?;
     let found = ctx.peek_number_variable(NumberVariable::Volume)?.is_some();
     put(ctx, yes(found))?;
@@ -31,15 +33,21 @@ fn resolve_all(ctx: &mut Context<'_, Film>) -> Result<(), RenderError>
     ensures { OnOk result (ctx.new.outer ≡ ctx.old.outer) }
 {
     let title = StandardVariable::Title;
-    let found = ctx.resolve_standard_variable(LongShortForm::Short, title)?.is_some();
+    let found = ctx
+        .resolve_standard_variable(LongShortForm::Short, title)?
+        .is_some();
     put(ctx, yes(found))?;
-    let found = ctx.resolve_number_variable(NumberVariable::Volume)?.is_some();
+    let found = ctx
+        .resolve_number_variable(NumberVariable::Volume)?
+        .is_some();
     put(ctx, yes(found))?;
     let found = ctx.resolve_page_variable(PageVariable::Page)?.is_some();
     put(ctx, yes(found))?;
     let found = ctx.resolve_date_variable(DateVariable::Issued)?.is_some();
     put(ctx, yes(found))?;
-    let found = !ctx.resolve_name_variable(NameVariable::Director)?.is_empty();
+    let found = !ctx
+        .resolve_name_variable(NameVariable::Director)?
+        .is_empty();
     put(ctx, yes(found))
 }
 
@@ -70,7 +78,9 @@ pub(crate) fn suppress_genre(ctx: &mut Context<'_, Film>) -> Result<(), RenderEr
 {
     let was_suppressing = ctx.start_suppressing_queried_variables();
     let genre = StandardVariable::Genre;
-    let found = ctx.resolve_standard_variable(LongShortForm::Long, genre)?.is_some();
+    let found = ctx
+        .resolve_standard_variable(LongShortForm::Long, genre)?
+        .is_some();
     put(ctx, yes(was_suppressing))?;
     put(ctx, yes(found))
 }

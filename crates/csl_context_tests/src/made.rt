@@ -42,9 +42,24 @@ type TermRow = (Term, TermForm, &'static str, &'static str);
 static TERMS: [TermRow; 6] = [
     (Term::Other(OtherTerm::OpenQuote), TermForm::Long, "“", "“"),
     (Term::Other(OtherTerm::CloseQuote), TermForm::Long, "”", "”"),
-    (Term::Other(OtherTerm::OpenInnerQuote), TermForm::Long, "‘", "‘"),
-    (Term::Other(OtherTerm::CloseInnerQuote), TermForm::Long, "’", "’"),
-    (Term::Page(PageVariable::Page), TermForm::Long, "page", "pages"),
+    (
+        Term::Other(OtherTerm::OpenInnerQuote),
+        TermForm::Long,
+        "‘",
+        "‘",
+    ),
+    (
+        Term::Other(OtherTerm::CloseInnerQuote),
+        TermForm::Long,
+        "’",
+        "’",
+    ),
+    (
+        Term::Page(PageVariable::Page),
+        TermForm::Long,
+        "page",
+        "pages",
+    ),
     (Term::Page(PageVariable::Page), TermForm::Short, "p.", "pp."),
 ];
 

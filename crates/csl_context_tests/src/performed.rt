@@ -45,11 +45,7 @@ enum Act {
     SuppressGenre,
 }
 
-fn perform(
-    ctx: &mut Context<'_, Film>,
-    affixes: &Affixes,
-    act: Act,
-) -> Result<(), RenderError>
+fn perform(ctx: &mut Context<'_, Film>, affixes: &Affixes, act: Act) -> Result<(), RenderError>
     ensures { OnOk result (ctx.new.outer ≡ ctx.old.outer) }
 {
     match act {
@@ -143,7 +139,11 @@ fn said(alloc: Global, act: Act, next: Option<Act>) -> Result<String, Fail> {
 
 /// What a context that is marked as failed answers to a text, to a look and at its end, where that
 /// is an error.
-type Refusals = (Option<RenderError>, Option<RenderError>, Option<RenderError>);
+type Refusals = (
+    Option<RenderError>,
+    Option<RenderError>,
+    Option<RenderError>,
+);
 
 fn refusals_in<'s>(world: World<'s>) -> Result<(bool, Refusals), Fail> {
     let cite = instance(world);
@@ -271,7 +271,9 @@ fn a_call_writes_or_answers_what_it_is_for(rt: HostRuntime) -> Result<(), Fail> 
 }
 
 #[test]
-fn a_resumed_context_begins_with_what_was_left_and_a_failed_one_answers_so(rt: HostRuntime) -> Result<(), Fail> {
+fn a_resumed_context_begins_with_what_was_left_and_a_failed_one_answers_so(
+    rt: HostRuntime,
+) -> Result<(), Fail> {
     assert_two_acts(&rt, rt.alloc(), &TWO_ACTS)?;
     let failed = Some(RenderError::Failed);
     assert_eq!(rt; refusals(rt.alloc())?, (true, (failed, failed, failed)));
