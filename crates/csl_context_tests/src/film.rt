@@ -10,6 +10,9 @@ use std::alloc::Global;
 use std::borrow::{Cow, CowStr};
 use std::test::Fail;
 
+/// A text variable for which a film has no memory.
+pub(crate) const UNANSWERED: StandardVariable = StandardVariable::Annote;
+
 /// A film. To each variable of a sort it answers the same, but for the texts: it has a title alone.
 #[derive(Drop)]
 pub(crate) struct Film {
@@ -68,6 +71,7 @@ impl EntryLike for Film {
     ) -> Result<Option<Cow<'_, ChunkedString>>, Memory> {
         match variable {
             StandardVariable::Title => Ok(Some(Cow::Borrowed(&self.title))),
+            UNANSWERED => Err(Memory),
             _ => Ok(None),
         }
     }

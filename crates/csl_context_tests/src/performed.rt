@@ -5,7 +5,7 @@ ghost use Rattle.std.specs.Prelude.{◌≡◌, OnOk};
 use crate::asked::{
     ask_cite, ask_locale, ask_terms, delimit, inherit_options, keep_names, mark_dates,
 };
-use crate::film::{Film, metropolis};
+use crate::film::{Film, UNANSWERED, metropolis};
 use crate::looked::{look, look_and_suppress, suppress_genre};
 use crate::made::{affixes, first_cite, style};
 use crate::said::say;
@@ -14,7 +14,8 @@ use crate::written::{
 };
 use csl_context::{Context, RenderError, Rendered};
 use csl_entry::{CiteProperties, InstanceContext, Sorting, SpecialForm};
-use csl_style::{Affixes, DateVariable, Scope, Style};
+use csl_style::{Affixes, Scope, Style};
+use lit_model::LongShortForm;
 use std::alloc::Global;
 use std::process::Abort;
 use std::test::Fail;
@@ -137,26 +138,26 @@ fn said(alloc: Global, act: Act, next: Option<Act>) -> Result<String, Fail> {
     said_in(world, act, next)
 }
 
-/// What a context that is marked as failed answers to a text, to a look and at its end, where that
-/// is an error.
-type Refusals = (
-    Option<RenderError>,
-    Option<RenderError>,
-    Option<RenderError>,
-);
+/// What a context answers to a silent look for which the entry has no memory, to such a look for
+/// printing, to a text behind that, and at its end, where it is an error. Then whether it had failed
+/// behind the first and behind the third.
+type Refusals = ([Option<RenderError>; 4], [bool; 2]);
 
-fn refusals_in<'s>(world: World<'s>) -> Result<(bool, Refusals), Fail> {
-    let cite = instance(world);
+fn refusals_in<'s>(world: World<'s>) -> Result<Refusals, Fail> {
+    let (cite, form) = (instance(world), LongShortForm::Long);
     let mut ctx = Context::new(world.alloc, world.style, cite, Scope::Citation)?;
-    ctx.fail();
+    let looked = ctx.peek_standard_variable(form, UNANSWERED).err();
+    let had_failed = ctx.has_failed();
+    let printed = ctx.resolve_standard_variable(form, UNANSWERED).err();
     let written = ctx.push_str("a").err();
-    let found = ctx.peek_date_variable(DateVariable::Issued).err();
     let has_failed = ctx.has_failed();
-    Ok((has_failed, (written, found, ctx.finish().err())))
+    ctx.fail();
+    let errors = [looked, printed, written, ctx.finish().err()];
+    Ok((errors, [had_failed, has_failed]))
 }
 
 /// The same in a world that is made for it.
-fn refusals(alloc: Global) -> Result<(bool, Refusals), Fail> {
+fn refusals(alloc: Global) -> Result<Refusals, Fail> {
     let style = style(alloc)?;
     let film = metropolis(alloc)?;
     let cite = first_cite()?;
@@ -214,7 +215,8 @@ static ACTS: [(Act, &str); 26] = [
     ),
     (
         Act::LookAndSuppress,
-        "yes|yes|yes|yes|yes|yes|yes|yes|yes|yes|no|no|no|no|no| suppressed {Standard(Title), Number(Volume), Page(Page), Date(Issued), Name(Director)}",
+        "yes|yes|yes|yes|yes|yes|yes|yes|yes|yes|no|no|no|no|no| suppressed {Standard(Title), \
+         Number(Volume), Page(Page), Date(Issued), Name(Director)}",
     ),
     // A variable is suppressed whatever is found.
     (
@@ -241,7 +243,8 @@ static TWO_ACTS: [(Act, Act, &str); 5] = [
     (
         Act::LookAndSuppress,
         Act::Look,
-        "no|no|no|no|no|no|no|no|no|no|no|no|no|no|no| suppressed {Standard(Title), Number(Volume), Page(Page), Date(Issued), Name(Director)}",
+        "no|no|no|no|no|no|no|no|no|no|no|no|no|no|no| suppressed {Standard(Title), \
+         Number(Volume), Page(Page), Date(Issued), Name(Director)}",
     ),
 ];
 
@@ -275,7 +278,8 @@ fn a_resumed_context_begins_with_what_was_left_and_a_failed_one_answers_so(
     rt: HostRuntime,
 ) -> Result<(), Fail> {
     assert_two_acts(&rt, rt.alloc(), &TWO_ACTS)?;
-    let failed = Some(RenderError::Failed);
-    assert_eq!(rt; refusals(rt.alloc())?, (true, (failed, failed, failed)));
+    let (memory, failed) = (Some(RenderError::Memory), Some(RenderError::Failed));
+    let wanted = ([memory, memory, failed, failed], [false, true]);
+    assert_eq!(rt; refusals(rt.alloc())?, wanted);
     Ok(())
 }

@@ -68,6 +68,9 @@ pub(crate) enum Asked {
     /// What they say in a dry run, and whether they would show the title, behind a text `a`, while
     /// looks for printing suppress their variable.
     Dry,
+    /// The error of rendering, that of a dry run behind it, and whether the context failed then;
+    /// and the same where the dry run comes first.
+    Errors,
 }
 
 /// What contexts are made of, and what is rendered in them.
@@ -80,6 +83,9 @@ struct World<'s> {
     form: Option<SpecialForm>,
     element: &'s RenderingElement,
 }
+
+/// The errors of two calls, and whether the context has failed.
+type Errors = (Option<RenderError>, Option<RenderError>, bool);
 
 fn instance<'s>(world: World<'s>) -> InstanceContext<'s, Work> {
     InstanceContext {
@@ -169,6 +175,30 @@ fn dry<'s>(world: World<'s>) -> Result<String, Fail> {
     Ok(words)
 }
 
+/// The errors of rendering and of a dry run behind it, and whether the context has failed.
+fn render_first<'s>(world: World<'s>) -> Result<Errors, Fail> {
+    let cite = instance(world);
+    let mut ctx = Context::new(world.alloc, world.style, cite, Scope::Citation)?;
+    let rendered = world.element.render(&mut ctx).err();
+    let asked = world.element.will_have_info(&mut ctx).err();
+    Ok((rendered, asked, ctx.has_failed()))
+}
+
+/// The errors of a dry run and of rendering behind it, and whether the context has failed.
+fn ask_first<'s>(world: World<'s>) -> Result<Errors, Fail> {
+    let cite = instance(world);
+    let mut ctx = Context::new(world.alloc, world.style, cite, Scope::Citation)?;
+    let asked = world.element.will_have_info(&mut ctx).err();
+    let rendered = world.element.render(&mut ctx).err();
+    Ok((asked, rendered, ctx.has_failed()))
+}
+
+fn errors<'s>(world: World<'s>) -> Result<String, Fail> {
+    let first = render_first(world)?;
+    let second = ask_first(world)?;
+    Ok(format!(in world.alloc; "{first:?} {second:?}")?)
+}
+
 fn written(alloc: Global, rendered: &Rendered, format: BufWriteFormat) -> Result<String, Fail> {
     let mut text = String::new(alloc);
     rendered.content.write_buf(&mut text, format)?;
@@ -184,6 +214,7 @@ fn answer<'s>(world: World<'s>, asked: Asked) -> Result<String, Fail> {
         Asked::Plain => written(alloc, &render(world)?, BufWriteFormat::Plain),
         Asked::Html => written(alloc, &render(world)?, BufWriteFormat::Html),
         Asked::Dry => dry(world),
+        Asked::Errors => errors(world),
     }
 }
 

@@ -12,9 +12,11 @@
 //! | `=a` | the macro `a` |
 //!
 //! Behind a text, behind the end of a group and before the nodes of a layout stand options, each
-//! behind a bar: `|<(` is the prefix `(`, `|>)` the suffix `)`, `|,;` the delimiter `;`, `|/` italics,
-//! `|*` bold, `|q` quotes, `|s` the stripping of periods, and `|b` a block. In these `~` says a blank.
+//! behind a bar: `|<(` is the prefix `(`, `|>)` the suffix `)`, `|,;` the delimiter `;`, `|/`
+//! italics, `|*` bold, `|q` quotes, `|s` the stripping of periods, and `|b` a block. In all texts `~`
+//! says a blank.
 
+use crate::work::UNANSWERED;
 use csl_style::{
     Affixes, DateVariable, Display, FontStyle, FontWeight, Formatting, Group, Layout,
     LayoutRenderingElement, NameVariable, NumberVariable, OtherTerm, PageVariable,
@@ -29,6 +31,7 @@ use std::test::Fail;
 pub(crate) fn variable_named(name: &str) -> Result<Variable, Fail> {
     match name {
         "title" => Ok(Variable::Standard(StandardVariable::Title)),
+        "unanswered" => Ok(Variable::Standard(UNANSWERED)),
         "genre" => Ok(Variable::Standard(StandardVariable::Genre)),
         "doi" => Ok(Variable::Standard(StandardVariable::DOI)),
         "pmid" => Ok(Variable::Standard(StandardVariable::PMID)),

@@ -171,7 +171,8 @@ static TWICE: [Row; 2] = [
     (
         "title",
         TITLED,
-        "a [ T ]:text suppressed {Standard(Title)} suppressing; then suppressed {Standard(Title)} suppressing",
+        "a [ T ]:text suppressed {Standard(Title)} suppressing; \
+         then suppressed {Standard(Title)} suppressing",
     ),
     ("'v", TITLED, "a [ v ] suppressing; then [ v ] suppressing"),
 ];
@@ -231,6 +232,21 @@ static DRY: [Row; 24] = [
     ),
 ];
 
+/// What is answered where the entry has no memory for an answer: the first call says so, the next one
+/// that the context has failed.
+const NO_MEMORY: &str = "(Some(Memory), Some(Failed), true) (Some(Memory), Some(Failed), true)";
+
+const NO_ERROR: &str = "(None, None, false) (None, None, false)";
+
+/// Errors.
+static ERRORS: [Row; 4] = [
+    ("( 'v title genre )", TITLED, NO_ERROR),
+    ("'v unanswered", TITLED, NO_MEMORY),
+    ("( 'v ( unanswered ) )", TITLED, NO_MEMORY),
+    // What is not shown is not asked for.
+    ("( 'v ( unanswered ) )", TITLE_ALONE, NO_ERROR),
+];
+
 fn assert_text(rt: &impl Abort, answer: &str, wanted: &str, words: &str, cite: Cite) {
     assert_eq!(rt; answer, wanted, "of {words} for {cite:?}");
 }
@@ -255,7 +271,8 @@ fn nodes_make_what_the_standard_says(rt: HostRuntime) -> Result<(), Fail> {
 fn nodes_leave_a_state_and_dry_runs_leave_all_as_it_was(rt: HostRuntime) -> Result<(), Fail> {
     assert_rows(&rt, rt.alloc(), Asked::Behind, &BEHIND)?;
     assert_rows(&rt, rt.alloc(), Asked::Twice, &TWICE)?;
-    assert_rows(&rt, rt.alloc(), Asked::Dry, &DRY)
+    assert_rows(&rt, rt.alloc(), Asked::Dry, &DRY)?;
+    assert_rows(&rt, rt.alloc(), Asked::Errors, &ERRORS)
 }
 
 /// The plain text of a value in a hundred groups, one in another.

@@ -16,6 +16,9 @@ use std::alloc::{AllocError, Global};
 use std::borrow::{Cow, CowStr};
 use std::test::Fail;
 
+/// A variable for which a work has no memory.
+pub(crate) const UNANSWERED: StandardVariable = StandardVariable::Annote;
+
 /// A work that answers one text and nothing else. It has a key, which nothing prints.
 #[derive(Drop)]
 pub(crate) struct Work {
@@ -63,7 +66,9 @@ impl EntryLike for Work {
         _form: LongShortForm,
         variable: StandardVariable,
     ) -> Result<Option<Cow<'_, ChunkedString>>, Memory> {
-        if variable == self.own {
+        if variable == UNANSWERED {
+            Err(Memory)
+        } else if variable == self.own {
             Ok(Some(Cow::Borrowed(&self.text)))
         } else {
             Ok(None)
