@@ -125,18 +125,21 @@ pub(crate) fn mark_dates(ctx: &mut Context<'_, Film>) -> Result<(), RenderError>
     put(ctx, yes(printed_again))
 }
 
+/// Keeps names of a form.
+fn keep(ctx: &mut Context<'_, Film>, form: DisambiguatedNameForm)
+    ensures { ctx.new.outer ≡ ctx.old.outer }
+{
+    let alloc = ctx.alloc();
+    let names = NameDisambiguationProperties::new(form, Vec::new(alloc), Vec::new(alloc));
+    ctx.keep_first_name_properties(names);
+}
+
 /// Keeps names of two forms. It writes whether some were kept before.
 pub(crate) fn keep_names(ctx: &mut Context<'_, Film>) -> Result<(), RenderError>
     ensures { OnOk result (ctx.new.outer ≡ ctx.old.outer) }
 {
     let had_some = ctx.first_name_properties().is_some();
-    let alloc = ctx.alloc();
-    for form in [
-        DisambiguatedNameForm::Count,
-        DisambiguatedNameForm::LongFull,
-    ] {
-        let names = NameDisambiguationProperties::new(form, Vec::new(alloc), Vec::new(alloc));
-        ctx.keep_first_name_properties(names);
-    }
+    keep(ctx, DisambiguatedNameForm::Count);
+    keep(ctx, DisambiguatedNameForm::LongFull);
     put(ctx, yes(had_some))
 }

@@ -99,6 +99,7 @@ fn first<'s>(world: World<'s>, act: Act) -> Result<Rendered, Fail> {
     let cite = instance(world);
     let mut ctx = Context::new(world.alloc, world.style, cite, Scope::Citation)?;
     perform(&mut ctx, world.affixes, act)?;
+    ctx.nothing()?;
     Ok(ctx.finish()?)
 }
 
@@ -107,6 +108,7 @@ fn second<'s>(world: World<'s>, before: &Rendered, act: Act) -> Result<Rendered,
     let (cite, scope) = (instance(world), Scope::Citation);
     let mut ctx = Context::resume(world.alloc, world.style, cite, scope, &before.state)?;
     perform(&mut ctx, world.affixes, act)?;
+    ctx.nothing()?;
     Ok(ctx.finish()?)
 }
 

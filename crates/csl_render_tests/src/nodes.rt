@@ -194,17 +194,21 @@ pub(crate) fn nodes(alloc: Global, words: &str) -> Result<Vec<LayoutRenderingEle
     Ok(nodes)
 }
 
-/// A layout of some words. Its own options stand before them, if they begin with a bar.
+/// The options of a layout, and its nodes: options begin with a bar.
+fn split_options(words: &str) -> (&str, &str) {
+    if !words.starts_with('|') {
+        return ("", words);
+    }
+    words.split_once(' ').unwrap_or((words, ""))
+}
+
+/// A layout of some words. Its own options stand before them.
 pub(crate) fn layout(alloc: Global, words: &str) -> Result<Layout, Fail> {
-    let (options, words) = if words.starts_with('|') {
-        words.split_once(' ').unwrap_or((words, ""))
-    } else {
-        ("", words)
-    };
-    let elements = nodes(alloc, words)?;
+    let (options, words) = split_options(words);
+    let delimiter = text_of(alloc, options, ",")?;
     Ok(Layout {
-        elements,
-        delimiter: text_of(alloc, options, ",")?,
+        elements: nodes(alloc, words)?,
+        delimiter,
         formatting: formatting(options),
     })
 }
