@@ -90,7 +90,8 @@ impl EntryLike for Film {
         _alloc: Global,
         _variable: DateVariable,
     ) -> Result<Option<Cow<'_, Date>>, Memory> {
-        Ok(Some(Cow::Borrowed(&self.shown)))
+        let date = Some(&self.shown);
+        Ok(date.map(Cow::Borrowed))
     }
 
     fn matches_entry_type(&self, kind: Kind) -> bool {
