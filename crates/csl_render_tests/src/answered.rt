@@ -5,7 +5,7 @@ ghost use Rattle.std.specs.Prelude.{◌≡◌, OnOk};
 use crate::made::style;
 use crate::nodes::element;
 use crate::said::say;
-use crate::work::{Work, first_cite, work};
+use crate::work::{Work, described, first_cite};
 use csl_context::{Context, RenderError, Rendered};
 use csl_entry::{CiteProperties, InstanceContext, SpecialForm};
 use csl_render::{RenderCsl, UsageInfo};
@@ -227,7 +227,7 @@ pub(crate) fn answered(
 ) -> Result<String, Fail> {
     let style = style(alloc)?;
     let element = element(alloc, words)?;
-    let work = work(alloc, cite.entry())?;
+    let work = described(alloc, cite.entry())?;
     let props = first_cite(cite.suffix())?;
     let world = World {
         alloc,

@@ -128,7 +128,7 @@ fn pieces(alloc: Global, text: &str) -> Result<ChunkedString, AllocError> {
 }
 
 /// The work of a variable and of the pieces of its text, as in `title T`.
-pub(crate) fn work(alloc: Global, words: &str) -> Result<Work, Fail> {
+pub(crate) fn described(alloc: Global, words: &str) -> Result<Work, Fail> {
     let (variable, text) = words.split_once(' ').ok_or("a text")?;
     match variable_named(variable)? {
         Variable::Standard(own) => Ok(Work {
