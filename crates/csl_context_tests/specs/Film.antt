@@ -1,0 +1,16 @@
+-- What a film answers that depends on what is asked.
+use Rattle.std.specs.Prelude.{List, Option, Some, None, Bool, true, false}
+use Rattle.lit_model.specs.Text.{Chunk}
+use Rattle.csl_style.specs.declared.taxonomy.Kind.{Kind}
+use Rattle.csl_style.specs.declared.taxonomy.Kind.TheVariants.{MotionPicture}
+use Rattle.csl_style.specs.declared.taxonomy.StandardVariable.{StandardVariable}
+use Rattle.csl_style.specs.declared.taxonomy.StandardVariable.TheVariants.{Title}
+
+-- of the texts it has the title
+abbrev pub title_alone : List Chunk → StandardVariable → Option (List Chunk)
+title_alone title Title = Some title
+title_alone title _ = None
+
+abbrev pub is_film : Kind → Bool
+is_film MotionPicture = true
+is_film _ = false

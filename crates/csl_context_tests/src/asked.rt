@@ -1,0 +1,145 @@
+//! What a context is asked: what nodes inherit, the style, the citation, what rendering left. The
+//! answers are written into it, each before a bar.
+
+ghost use Rattle.std.specs.Prelude.{◌≡◌, OnOk};
+
+use crate::film::Film;
+use crate::written::yes;
+use csl_context::{Context, RenderError};
+use csl_entry::{DisambiguatedNameForm, NameDisambiguationProperties, Sorting, SpecialForm};
+use csl_style::{DateForm, Kind, OtherTerm, PageVariable, Scope, Term, TermForm};
+use lit_model::{GrammarGender, Ordinals};
+
+/// Writes an answer, or that there is none, before a bar.
+pub(crate) fn put(ctx: &mut Context<'_, Film>, answer: Option<&str>) -> Result<(), RenderError>
+    ensures { OnOk result (ctx.new.outer ≡ ctx.old.outer) }
+{
+    ctx.push_str(answer.unwrap_or("none"))?;
+    ctx.push_str("|")?;
+    Ok(())
+}
+
+/// The delimiter before, within and behind one and none.
+pub(crate) fn delimit(ctx: &mut Context<'_, Film>) -> Result<(), RenderError>
+    ensures { OnOk result (ctx.new.outer ≡ ctx.old.outer) }
+{
+    ctx.push_delimiter(Some("; "))?;
+    let one = ctx.delimiter();
+    ctx.push_delimiter(None)?;
+    let none = ctx.delimiter();
+    ctx.pop_delimiter();
+    let again = ctx.delimiter();
+    ctx.pop_delimiter();
+    put(ctx, one)?;
+    put(ctx, none)?;
+    put(ctx, again)?;
+    let base = ctx.delimiter();
+    put(ctx, base)?;
+    Ok(())
+}
+
+/// The delimiter of names within and behind the options of the bibliography, and the separator
+/// within them.
+pub(crate) fn inherit_options(ctx: &mut Context<'_, Film>) -> Result<(), RenderError>
+    ensures { OnOk result (ctx.new.outer ≡ ctx.old.outer) }
+{
+    let own = &ctx.style().settings().bibliography_names;
+    ctx.push_name_options(own)?;
+    let within = ctx.name_options();
+    ctx.pop_name_options();
+    let base = ctx.name_options();
+    put(ctx, within.delimiter)?;
+    put(ctx, within.sort_separator)?;
+    put(ctx, base.delimiter)?;
+    Ok(())
+}
+
+const PAGE: Term = Term::Page(PageVariable::Page);
+
+/// The terms of pages in some forms, one that the style has not, and the gender of both.
+pub(crate) fn ask_terms(ctx: &mut Context<'_, Film>) -> Result<(), RenderError>
+    ensures { OnOk result (ctx.new.outer ≡ ctx.old.outer) }
+{
+    let (one, several) = (false, true);
+    let term = ctx.term(PAGE, TermForm::Long, one);
+    put(ctx, term)?;
+    let term = ctx.term(PAGE, TermForm::Short, several);
+    put(ctx, term)?;
+    let term = ctx.term(PAGE, TermForm::Verb, several);
+    put(ctx, term)?;
+    let and = Term::Other(OtherTerm::And);
+    let term = ctx.term(and, TermForm::Long, one);
+    put(ctx, term)?;
+    let is_feminine = ctx.gender(PAGE) == Some(GrammarGender::Feminine);
+    put(ctx, yes(is_feminine))?;
+    let has_none = ctx.gender(and).is_none();
+    put(ctx, yes(has_none))
+}
+
+/// Ordinals, and whether there are localized dates.
+pub(crate) fn ask_locale(ctx: &mut Context<'_, Film>) -> Result<(), RenderError>
+    ensures { OnOk result (ctx.new.outer ≡ ctx.old.outer) }
+{
+    let ordinals = ctx.ordinal_lookup();
+    put(ctx, ordinals.lookup(21, None))?;
+    put(ctx, ordinals.lookup(2, None))?;
+    let in_words = ctx.localized_date(DateForm::Text).is_some();
+    put(ctx, yes(in_words))?;
+    let in_numbers = ctx.localized_date(DateForm::Numeric).is_some();
+    put(ctx, yes(in_numbers))
+}
+
+/// Whether the cite is that of the tests.
+pub(crate) fn ask_cite(ctx: &mut Context<'_, Film>) -> Result<(), RenderError>
+    ensures { OnOk result (ctx.new.outer ≡ ctx.old.outer) }
+{
+    let is_citation = ctx.scope() == Scope::Citation;
+    put(ctx, yes(is_citation))?;
+    let is_sorted = ctx.sorting() == Some(Sorting::Macro);
+    put(ctx, yes(is_sorted))?;
+    let is_special = ctx.special_form() == Some(SpecialForm::SuppressAuthor);
+    put(ctx, yes(is_special))?;
+    let is_first = ctx.instance().cite_props.certain.is_first;
+    put(ctx, yes(is_first))?;
+    let is_told_by_choice = ctx.should_disambiguate();
+    put(ctx, yes(is_told_by_choice))?;
+    let is_film = ctx.matches_entry_type(Kind::MotionPicture);
+    put(ctx, yes(is_film))?;
+    let is_book = ctx.matches_entry_type(Kind::Book);
+    put(ctx, yes(is_book))?;
+    let has_failed = ctx.has_failed();
+    put(ctx, yes(has_failed))
+}
+
+/// Whether a date is the first, by looks and by printing.
+pub(crate) fn mark_dates(ctx: &mut Context<'_, Film>) -> Result<(), RenderError>
+    ensures { OnOk result (ctx.new.outer ≡ ctx.old.outer) }
+{
+    let looked = ctx.peek_is_first_date();
+    let printed = ctx.is_first_date();
+    let looked_again = ctx.peek_is_first_date();
+    let printed_again = ctx.is_first_date();
+    put(ctx, yes(looked))?;
+    put(ctx, yes(printed))?;
+    put(ctx, yes(looked_again))?;
+    put(ctx, yes(printed_again))
+}
+
+/// Keeps names of a form.
+fn keep(ctx: &mut Context<'_, Film>, form: DisambiguatedNameForm)
+    ensures { ctx.new.outer ≡ ctx.old.outer }
+{
+    let alloc = ctx.alloc();
+    let names = NameDisambiguationProperties::new(form, Vec::new(alloc), Vec::new(alloc));
+    ctx.keep_first_name_properties(names);
+}
+
+/// Keeps names of two forms. It writes whether some were kept before.
+pub(crate) fn keep_names(ctx: &mut Context<'_, Film>) -> Result<(), RenderError>
+    ensures { OnOk result (ctx.new.outer ≡ ctx.old.outer) }
+{
+    let had_some = ctx.first_name_properties().is_some();
+    keep(ctx, DisambiguatedNameForm::Count);
+    keep(ctx, DisambiguatedNameForm::LongFull);
+    put(ctx, yes(had_some))
+}

@@ -1,0 +1,134 @@
+//! An entry type of these tests' own.
+
+use crate::made::pieces;
+use csl_entry::EntryLike;
+use csl_style::{DateVariable, Kind, NameVariable, NumberVariable, PageVariable, StandardVariable};
+use lit_model::{
+    ChunkedString, Date, LongShortForm, MaybeTyped, Memory, Numeric, PageRanges, Person,
+};
+use std::alloc::Global;
+use std::borrow::{Cow, CowStr};
+use std::test::Fail;
+
+/// A text variable for which a film has no memory.
+pub(crate) const UNANSWERED: StandardVariable = StandardVariable::Annote;
+
+/// A film. To each variable of a sort it answers the same, but for the texts: it has a title alone.
+#[derive(Drop)]
+pub(crate) struct Film {
+    number: Numeric,
+    pages: PageRanges,
+    title: ChunkedString,
+    director: Person,
+    shown: Date,
+}
+
+impl EntryLike for Film {
+    ghost use Rattle.std.specs.Prelude.{[], ◌∷◌, Some, None};
+    ghost use Rattle.lit_model.specs.Date.{date_parts};
+    ghost use Rattle.lit_model.specs.MaybeTyped.{typed};
+    ghost use Rattle.lit_model.specs.Numeric.{numeric_view};
+    ghost use Rattle.lit_model.specs.Page.{pages_view};
+    ghost use Rattle.lit_model.specs.Person.{named};
+    ghost use Rattle.lit_model.specs.Text.{chunks};
+    ghost use Rattle.csl_context_tests.specs.Film.{title_alone, is_film};
+
+    ghost answers = { λ film. record {
+      numbers = λ _. Some (typed (numeric_view film.number));
+      pages = λ _. Some (typed (pages_view film.pages));
+      standards = λ _ variable. title_alone (chunks film.title) variable;
+      names = λ _. named film.director ∷ [];
+      dates = λ _. Some (date_parts film.shown);
+      kinds = is_film;
+    } };
+
+    ghost key_text = { λ _. [] };
+
+    ghost english = { λ _. None };
+
+    fn resolve_number_variable(
+        &self,
+        _alloc: Global,
+        _variable: NumberVariable,
+    ) -> Result<Option<MaybeTyped<Cow<'_, Numeric>>>, Memory> {
+        Ok(Some(MaybeTyped::Typed(Cow::Borrowed(&self.number))))
+    }
+
+    fn resolve_page_variable(
+        &self,
+        alloc: Global,
+        _variable: PageVariable,
+    ) -> Result<Option<MaybeTyped<PageRanges>>, Memory> {
+        let pages = self.pages.clone(alloc)?;
+        Ok(Some(MaybeTyped::Typed(pages)))
+    }
+
+    fn resolve_standard_variable(
+        &self,
+        _alloc: Global,
+        _form: LongShortForm,
+        variable: StandardVariable,
+    ) -> Result<Option<Cow<'_, ChunkedString>>, Memory> {
+        match variable {
+            StandardVariable::Title => Ok(Some(Cow::Borrowed(&self.title))),
+            UNANSWERED => Err(Memory),
+            _ => Ok(None),
+        }
+    }
+
+    fn resolve_name_variable(
+        &self,
+        alloc: Global,
+        _variable: NameVariable,
+    ) -> Result<Vec<Cow<'_, Person>>, Memory> {
+        let persons = vec![in alloc; Cow::Borrowed(&self.director)]?;
+        Ok(persons)
+    }
+
+    fn resolve_date_variable(
+        &self,
+        _alloc: Global,
+        _variable: DateVariable,
+    ) -> Result<Option<Cow<'_, Date>>, Memory> {
+        let date = Some(&self.shown);
+        Ok(date.map(Cow::Borrowed))
+    }
+
+    fn matches_entry_type(&self, kind: Kind) -> bool {
+        matches!(kind, Kind::MotionPicture)
+    }
+
+    fn is_english(&self) -> Option<bool> {
+        None
+    }
+
+    fn key(&self) -> CowStr<'_, Global> {
+        CowStr::Borrowed("")
+    }
+}
+
+/// A person of that name.
+fn person(alloc: Global, name: &str) -> Result<Person, Memory> {
+    Ok(Person {
+        name: String::from_str(alloc, name)?,
+        given_name: None,
+        prefix: None,
+        suffix: None,
+        alias: None,
+        comma_suffix: false,
+    })
+}
+
+/// Number 20, page 7, a title in three pieces, of Lang, in 1927.
+pub(crate) fn metropolis(alloc: Global) -> Result<Film, Fail> {
+    let shown = Date::new(1927, None, None, None, false).ok_or("a year")?;
+    let pages = PageRanges::parse(alloc, "7")?;
+    let title = pieces(alloc, "a.+`b.+$c.")?;
+    Ok(Film {
+        number: Numeric::new(20),
+        pages,
+        title,
+        director: person(alloc, "Lang")?,
+        shown,
+    })
+}

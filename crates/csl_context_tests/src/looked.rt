@@ -1,0 +1,86 @@
+//! Looks for printing and silent ones.
+
+ghost use Rattle.std.specs.Prelude.{◌≡◌, OnOk};
+
+use crate::asked::put;
+use crate::film::Film;
+use crate::written::yes;
+use csl_context::{Context, RenderError};
+use csl_style::{DateVariable, NameVariable, NumberVariable, PageVariable, StandardVariable};
+use lit_model::LongShortForm;
+
+/// Writes which of five variables are found by silent looks.
+fn peek_all(ctx: &mut Context<'_, Film>) -> Result<(), RenderError>
+    ensures { OnOk result (ctx.new.outer ≡ ctx.old.outer) }
+{
+    let title = StandardVariable::Title;
+    let found = ctx
+        .peek_standard_variable(LongShortForm::Short, title)?
+        .is_some();
+    put(ctx, yes(found))?;
+    let found = ctx.peek_number_variable(NumberVariable::Volume)?.is_some();
+    put(ctx, yes(found))?;
+    let found = ctx.peek_page_variable(PageVariable::Page)?.is_some();
+    put(ctx, yes(found))?;
+    let found = ctx.peek_date_variable(DateVariable::Issued)?.is_some();
+    put(ctx, yes(found))?;
+    let found = !ctx.peek_name_variable(NameVariable::Director)?.is_empty();
+    put(ctx, yes(found))
+}
+
+/// Writes which of them are found by looks for printing.
+fn resolve_all(ctx: &mut Context<'_, Film>) -> Result<(), RenderError>
+    ensures { OnOk result (ctx.new.outer ≡ ctx.old.outer) }
+{
+    let title = StandardVariable::Title;
+    let found = ctx
+        .resolve_standard_variable(LongShortForm::Short, title)?
+        .is_some();
+    put(ctx, yes(found))?;
+    let found = ctx
+        .resolve_number_variable(NumberVariable::Volume)?
+        .is_some();
+    put(ctx, yes(found))?;
+    let found = ctx.resolve_page_variable(PageVariable::Page)?.is_some();
+    put(ctx, yes(found))?;
+    let found = ctx.resolve_date_variable(DateVariable::Issued)?.is_some();
+    put(ctx, yes(found))?;
+    let found = !ctx
+        .resolve_name_variable(NameVariable::Director)?
+        .is_empty();
+    put(ctx, yes(found))
+}
+
+/// Looks for printing between silent ones.
+pub(crate) fn look(ctx: &mut Context<'_, Film>) -> Result<(), RenderError>
+    ensures { OnOk result (ctx.new.outer ≡ ctx.old.outer) }
+{
+    peek_all(ctx)?;
+    resolve_all(ctx)?;
+    peek_all(ctx)?;
+    Ok(())
+}
+
+/// The same while looks for printing suppress their variable.
+pub(crate) fn look_and_suppress(ctx: &mut Context<'_, Film>) -> Result<(), RenderError>
+    ensures { OnOk result (ctx.new.outer ≡ ctx.old.outer) }
+{
+    let before = ctx.start_suppressing_queried_variables();
+    look(ctx)?;
+    ctx.restore_suppressing(before);
+    Ok(())
+}
+
+/// Has looks for printing suppress their variable from then on, and looks for a genre, which the
+/// entry has not.
+pub(crate) fn suppress_genre(ctx: &mut Context<'_, Film>) -> Result<(), RenderError>
+    ensures { OnOk result (ctx.new.outer ≡ ctx.old.outer) }
+{
+    let was_suppressing = ctx.start_suppressing_queried_variables();
+    let genre = StandardVariable::Genre;
+    let found = ctx
+        .resolve_standard_variable(LongShortForm::Long, genre)?
+        .is_some();
+    put(ctx, yes(was_suppressing))?;
+    put(ctx, yes(found))
+}

@@ -1,0 +1,208 @@
+//! What a context is made of: a style, and the properties of a cite.
+
+use csl_entry::{
+    CertainCiteProperties, CitationNumber, CiteProperties, DisambiguateState, IbidState,
+    SpeculativeCiteProperties,
+};
+use csl_style::{
+    Affixes, Date, DateForm, Formatting, InheritableNameOptions, Layout, Locale, OrdinalSlot,
+    OrdinalTerm, OtherTerm, PageVariable, Style, StyleSettings, Term, TermEntry, TermForm,
+};
+use lit_model::{ChunkKind, ChunkedString, GrammarGender, StringChunk};
+use std::alloc::{AllocError, Global};
+use std::test::Fail;
+
+/// The kind of a piece of a text, and the piece without the mark of its kind.
+fn kind_of(piece: &str) -> (ChunkKind, &str) {
+    if let Some(verbatim) = piece.strip_prefix('`') {
+        return (ChunkKind::Verbatim, verbatim);
+    }
+    if let Some(math) = piece.strip_prefix('$') {
+        return (ChunkKind::Math, math);
+    }
+    (ChunkKind::Normal, piece)
+}
+
+/// The text of some pieces with `+` between them. A backtick before a piece says `Verbatim`, and
+/// `$` says `Math`.
+pub(crate) fn pieces(alloc: Global, text: &str) -> Result<ChunkedString, AllocError> {
+    let mut chunks = Vec::new(alloc);
+    for piece in text.split('+') {
+        let (kind, piece) = kind_of(piece);
+        let value = String::from_str(alloc, piece)?;
+        chunks.push(StringChunk { value, kind })?;
+    }
+    Ok(ChunkedString(chunks))
+}
+
+/// A term, its form, its text for one and that for several.
+type TermRow = (Term, TermForm, &'static str, &'static str);
+
+/// The terms of the style. Those in the long form are feminine.
+static TERMS: [TermRow; 6] = [
+    (Term::Other(OtherTerm::OpenQuote), TermForm::Long, "“", "“"),
+    (Term::Other(OtherTerm::CloseQuote), TermForm::Long, "”", "”"),
+    (
+        Term::Other(OtherTerm::OpenInnerQuote),
+        TermForm::Long,
+        "‘",
+        "‘",
+    ),
+    (
+        Term::Other(OtherTerm::CloseInnerQuote),
+        TermForm::Long,
+        "’",
+        "’",
+    ),
+    (
+        Term::Page(PageVariable::Page),
+        TermForm::Long,
+        "page",
+        "pages",
+    ),
+    (Term::Page(PageVariable::Page), TermForm::Short, "p.", "pp."),
+];
+
+/// The terms of these rows.
+fn terms(alloc: Global, rows: &[TermRow]) -> Result<Vec<TermEntry>, AllocError> {
+    let mut terms = Vec::new(alloc);
+    for (term, form, single, multiple) in rows {
+        let single = String::from_str(alloc, *single)?;
+        terms.push(TermEntry {
+            term: *term,
+            form: *form,
+            single,
+            multiple: Some(String::from_str(alloc, *multiple)?),
+            gender: Some(GrammarGender::Feminine),
+        })?;
+    }
+    Ok(terms)
+}
+
+/// The ordinals: `st` behind 1, else `th`.
+fn ordinals(alloc: Global) -> Result<Vec<OrdinalTerm>, AllocError> {
+    let mut ordinals = Vec::new(alloc);
+    for (slot, text) in [(OrdinalSlot::Default, "th"), (OrdinalSlot::Two(1), "st")] {
+        ordinals.push(OrdinalTerm {
+            slot,
+            matching: None,
+            gender: None,
+            text: String::from_str(alloc, text)?,
+        })?;
+    }
+    Ok(ordinals)
+}
+
+/// A localized date in words, without parts.
+fn dates(alloc: Global) -> Result<Vec<Date>, AllocError> {
+    let date = Date {
+        variable: None,
+        form: Some(DateForm::Text),
+        parts: None,
+        date_part: Vec::new(alloc),
+        delimiter: None,
+        formatting: Formatting::default(),
+        affixes: Affixes::default(),
+        display: None,
+    };
+    Ok(vec![in alloc; date]?)
+}
+
+/// The one locale. A comma or period behind a closing quote goes before it.
+fn locales(alloc: Global) -> Result<Vec<Locale>, AllocError> {
+    let terms = terms(alloc, &TERMS)?;
+    let ordinals = ordinals(alloc)?;
+    let dates = dates(alloc)?;
+    let locale = Locale {
+        terms,
+        ordinals,
+        dates,
+        punctuation_in_quote: true,
+        limit_day_ordinals_to_day_1: false,
+    };
+    Ok(vec![in alloc; locale]?)
+}
+
+/// Options of names that set two texts or one.
+fn options(
+    alloc: Global,
+    delimiter: &str,
+    sort_separator: Option<&str>,
+) -> Result<InheritableNameOptions, AllocError> {
+    let delimiter = String::from_str(alloc, delimiter)?;
+    let sort_separator = match sort_separator {
+        Some(text) => Some(String::from_str(alloc, text)?),
+        None => None,
+    };
+    Ok(InheritableNameOptions {
+        delimiter: Some(delimiter),
+        sort_separator,
+        ..InheritableNameOptions::default()
+    })
+}
+
+/// Settings: names are delimited by `n`, in the citation by `c`, in the bibliography by `b`; the
+/// sort separator is `s`.
+fn settings(alloc: Global) -> Result<StyleSettings, AllocError> {
+    let names = options(alloc, "n", Some("s"))?;
+    let citation_names = options(alloc, "c", None)?;
+    let bibliography_names = options(alloc, "b", None)?;
+    Ok(StyleSettings {
+        names,
+        citation_names,
+        bibliography_names,
+        ..StyleSettings::default()
+    })
+}
+
+/// A layout without elements.
+fn empty_layout(alloc: Global) -> Layout {
+    Layout {
+        elements: Vec::new(alloc),
+        delimiter: None,
+        formatting: Formatting::default(),
+    }
+}
+
+/// A style of these settings and this locale, without macros and elements.
+pub(crate) fn style(alloc: Global) -> Result<Style, Fail> {
+    let settings = settings(alloc)?;
+    let locales = locales(alloc)?;
+    Ok(Style::new(
+        alloc,
+        settings,
+        Vec::new(alloc),
+        empty_layout(alloc),
+        None,
+        locales,
+    )?)
+}
+
+/// The first cite of an entry, whose disambiguation is that of a choose.
+pub(crate) fn first_cite() -> Result<CiteProperties<'static>, Fail> {
+    let citation_number = CitationNumber::new(0).ok_or("a citation number")?;
+    Ok(CiteProperties {
+        certain: CertainCiteProperties {
+            first_note_number: None,
+            is_first: true,
+            is_near_note: false,
+            initial_idx: 0,
+        },
+        speculative: SpeculativeCiteProperties {
+            locator: None,
+            citation_number,
+            disambiguation: DisambiguateState::Choose,
+            ibid: IbidState::Different,
+        },
+    })
+}
+
+/// The prefix `(` and the suffix `, `.
+pub(crate) fn affixes(alloc: Global) -> Result<Affixes, AllocError> {
+    let prefix = String::from_str(alloc, "(")?;
+    let suffix = String::from_str(alloc, ", ")?;
+    Ok(Affixes {
+        prefix: Some(prefix),
+        suffix: Some(suffix),
+    })
+}

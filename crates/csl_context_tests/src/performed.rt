@@ -1,0 +1,287 @@
+//! The tests: what is done in a context, and what it makes and leaves.
+
+ghost use Rattle.std.specs.Prelude.{◌≡◌, OnOk};
+
+use crate::asked::{
+    ask_cite, ask_locale, ask_terms, delimit, inherit_options, keep_names, mark_dates,
+};
+use crate::film::{Film, UNANSWERED, metropolis};
+use crate::looked::{look, look_and_suppress, suppress_genre};
+use crate::made::{affixes, first_cite, style};
+use crate::said::say;
+use crate::written::{
+    affix, discard, format, join, nest, quote, quote_twice, space, splice, strip, write_pieces,
+};
+use csl_context::{Context, RenderError, Rendered};
+use csl_entry::{CiteProperties, InstanceContext, Sorting, SpecialForm};
+use csl_style::{Affixes, Scope, Style};
+use lit_model::LongShortForm;
+use std::alloc::Global;
+use std::process::Abort;
+use std::test::Fail;
+
+/// What is done in a context.
+#[derive(Clone, Copy, Debug)]
+enum Act {
+    Join,
+    Nest(&'static str),
+    Discard,
+    Splice(&'static str),
+    Affix(&'static str),
+    Quote(&'static str),
+    QuoteTwice,
+    Format,
+    Strip,
+    WritePieces,
+    Space,
+    Delimit,
+    InheritOptions,
+    AskTerms,
+    AskLocale,
+    AskCite,
+    MarkDates,
+    KeepNames,
+    Look,
+    LookAndSuppress,
+    SuppressGenre,
+}
+
+fn perform(ctx: &mut Context<'_, Film>, affixes: &Affixes, act: Act) -> Result<(), RenderError>
+    ensures { OnOk result (ctx.new.outer ≡ ctx.old.outer) }
+{
+    match act {
+        Act::Join => join(ctx),
+        Act::Nest(text) => nest(ctx, text),
+        Act::Discard => discard(ctx),
+        Act::Splice(text) => splice(ctx, text),
+        Act::Affix(text) => affix(ctx, affixes, text),
+        Act::Quote(text) => quote(ctx, affixes, text),
+        Act::QuoteTwice => quote_twice(ctx),
+        Act::Format => format(ctx),
+        Act::Strip => strip(ctx),
+        Act::WritePieces => write_pieces(ctx),
+        Act::Space => space(ctx),
+        Act::Delimit => delimit(ctx),
+        Act::InheritOptions => inherit_options(ctx),
+        Act::AskTerms => ask_terms(ctx),
+        Act::AskLocale => ask_locale(ctx),
+        Act::AskCite => ask_cite(ctx),
+        Act::MarkDates => mark_dates(ctx),
+        Act::KeepNames => keep_names(ctx),
+        Act::Look => look(ctx),
+        Act::LookAndSuppress => look_and_suppress(ctx),
+        Act::SuppressGenre => suppress_genre(ctx),
+    }
+}
+
+/// What contexts are made of, and the affixes that are written in them.
+#[derive(Clone, Copy)]
+struct World<'s> {
+    alloc: Global,
+    style: &'s Style,
+    film: &'s Film,
+    cite: &'s CiteProperties<'s>,
+    affixes: &'s Affixes,
+}
+
+/// The cite, as it is sorted by a macro, without its author.
+fn instance<'s>(world: World<'s>) -> InstanceContext<'s, Film> {
+    InstanceContext {
+        entry: world.film,
+        cite_props: world.cite,
+        sorting: Some(Sorting::Macro),
+        kind: Some(SpecialForm::SuppressAuthor),
+    }
+}
+
+/// What an act makes and leaves in a new context.
+fn first<'s>(world: World<'s>, act: Act) -> Result<Rendered, Fail> {
+    let cite = instance(world);
+    let mut ctx = Context::new(world.alloc, world.style, cite, Scope::Citation)?;
+    perform(&mut ctx, world.affixes, act)?;
+    ctx.nothing()?;
+    Ok(ctx.finish()?)
+}
+
+/// What an act makes and leaves behind another.
+fn second<'s>(world: World<'s>, before: &Rendered, act: Act) -> Result<Rendered, Fail> {
+    let (cite, scope) = (instance(world), Scope::Citation);
+    let mut ctx = Context::resume(world.alloc, world.style, cite, scope, &before.state)?;
+    perform(&mut ctx, world.affixes, act)?;
+    ctx.nothing()?;
+    Ok(ctx.finish()?)
+}
+
+/// The last of one act or two, in words.
+fn said_in<'s>(world: World<'s>, act: Act, next: Option<Act>) -> Result<String, Fail> {
+    let rendered = first(world, act)?;
+    match next {
+        None => say(world.alloc, &rendered),
+        Some(act) => {
+            let next = second(world, &rendered, act)?;
+            say(world.alloc, &next)
+        }
+    }
+}
+
+/// The same in a world that is made for it.
+fn said(alloc: Global, act: Act, next: Option<Act>) -> Result<String, Fail> {
+    let style = style(alloc)?;
+    let film = metropolis(alloc)?;
+    let cite = first_cite()?;
+    let affixes = affixes(alloc)?;
+    let world = World {
+        alloc,
+        style: &style,
+        film: &film,
+        cite: &cite,
+        affixes: &affixes,
+    };
+    said_in(world, act, next)
+}
+
+/// What a context answers to a silent look for which the entry has no memory, to such a look for
+/// printing, to a text behind that, and at its end, where it is an error. Then whether it had failed
+/// behind the first and behind the third.
+type Refusals = ([Option<RenderError>; 4], [bool; 2]);
+
+fn refusals_in<'s>(world: World<'s>) -> Result<Refusals, Fail> {
+    let (cite, form) = (instance(world), LongShortForm::Long);
+    let mut ctx = Context::new(world.alloc, world.style, cite, Scope::Citation)?;
+    let looked = ctx.peek_standard_variable(form, UNANSWERED).err();
+    let had_failed = ctx.has_failed();
+    let printed = ctx.resolve_standard_variable(form, UNANSWERED).err();
+    let written = ctx.push_str("a").err();
+    let has_failed = ctx.has_failed();
+    ctx.fail();
+    let errors = [looked, printed, written, ctx.finish().err()];
+    Ok((errors, [had_failed, has_failed]))
+}
+
+/// The same in a world that is made for it.
+fn refusals(alloc: Global) -> Result<Refusals, Fail> {
+    let style = style(alloc)?;
+    let film = metropolis(alloc)?;
+    let cite = first_cite()?;
+    let affixes = affixes(alloc)?;
+    refusals_in(World {
+        alloc,
+        style: &style,
+        film: &film,
+        cite: &cite,
+        affixes: &affixes,
+    })
+}
+
+fn assert_said(rt: &impl Abort, said: &str, wanted: &str, act: Act) {
+    assert_eq!(rt; said, wanted, "{act:?}");
+}
+
+/// An act, and what it makes and leaves.
+static ACTS: [(Act, &str); 26] = [
+    (Act::Join, "ab"),
+    // An element without content is dropped, whatever its display and its meta are.
+    (Act::Nest("b"), "[ a [ b ]block:date ]"),
+    (Act::Nest(""), "[ a ]"),
+    (Act::Discard, "ac"),
+    // Texts join at the seams.
+    (Act::Splice("b"), "ab<b>"),
+    (Act::Splice(""), "a"),
+    (Act::Affix("m"), "(m,~"),
+    (Act::Affix(""), ""),
+    // The comma of the suffix stands inside the quotes, and the rest of it behind them.
+    (Act::Quote("A"), "(“A,”~"),
+    (Act::Quote(""), ""),
+    // A colon stays, a period goes before the closing quote. Behind the quotes the outer ones count
+    // again.
+    (Act::QuoteTwice, "“‘B’.”“C”"),
+    (Act::Format, "/a /*b c"),
+    (Act::Strip, "abcd.no|yes|"),
+    // What is verbatim, mathematics or a link keeps its periods. A link without text is not
+    // written.
+    (Act::WritePieces, "ab. $c. @t.|u. #3"),
+    (Act::Space, "a~byes|no|yes|no|"),
+    (Act::Delimit, ";~|none|;~|none|"),
+    // The citation's own delimiter of names comes before that of the style.
+    (Act::InheritOptions, "b|s|c|"),
+    // A verb that is missing is the long form.
+    (Act::AskTerms, "page|pp.|pages|none|yes|yes|"),
+    (Act::AskLocale, "st|th|yes|no|"),
+    (Act::AskCite, "yes|yes|yes|yes|yes|yes|no|no|"),
+    (Act::MarkDates, "yes|yes|no|no| dated"),
+    (Act::KeepNames, "no| named Count"),
+    // Looks for printing suppress nothing by themselves.
+    (
+        Act::Look,
+        "yes|yes|yes|yes|yes|yes|yes|yes|yes|yes|yes|yes|yes|yes|yes|",
+    ),
+    (
+        Act::LookAndSuppress,
+        "yes|yes|yes|yes|yes|yes|yes|yes|yes|yes|no|no|no|no|no| suppressed {Standard(Title), \
+         Number(Volume), Page(Page), Date(Issued), Name(Director)}",
+    ),
+    // A variable is suppressed whatever is found.
+    (
+        Act::SuppressGenre,
+        "no|no| suppressed {Standard(Genre)} suppressing",
+    ),
+    (Act::Nest("b c"), "[ a [ b~c ]block:date ]"),
+];
+
+/// Two acts, of which the second begins with what the first left, and what that one makes and
+/// leaves.
+static TWO_ACTS: [(Act, Act, &str); 5] = [
+    // What was written is not left.
+    (Act::Join, Act::Join, "ab"),
+    (Act::MarkDates, Act::MarkDates, "no|no|no|no| dated"),
+    (Act::KeepNames, Act::KeepNames, "yes| named Count"),
+    // The switch stays on.
+    (
+        Act::SuppressGenre,
+        Act::SuppressGenre,
+        "yes|no| suppressed {Standard(Genre)} suppressing",
+    ),
+    // What was suppressed answers nothing.
+    (
+        Act::LookAndSuppress,
+        Act::Look,
+        "no|no|no|no|no|no|no|no|no|no|no|no|no|no|no| suppressed {Standard(Title), \
+         Number(Volume), Page(Page), Date(Issued), Name(Director)}",
+    ),
+];
+
+fn assert_acts(rt: &impl Abort, alloc: Global, rows: &[(Act, &'static str)]) -> Result<(), Fail> {
+    for (act, wanted) in rows {
+        let said = said(alloc, *act, None)?;
+        assert_said(rt, said.as_str(), *wanted, *act);
+    }
+    Ok(())
+}
+
+fn assert_two_acts(
+    rt: &impl Abort,
+    alloc: Global,
+    rows: &[(Act, Act, &'static str)],
+) -> Result<(), Fail> {
+    for (act, next, wanted) in rows {
+        let said = said(alloc, *act, Some(*next))?;
+        assert_said(rt, said.as_str(), *wanted, *next);
+    }
+    Ok(())
+}
+
+#[test]
+fn a_call_writes_or_answers_what_it_is_for(rt: HostRuntime) -> Result<(), Fail> {
+    assert_acts(&rt, rt.alloc(), &ACTS)
+}
+
+#[test]
+fn a_resumed_context_begins_with_what_was_left_and_a_failed_one_answers_so(
+    rt: HostRuntime,
+) -> Result<(), Fail> {
+    assert_two_acts(&rt, rt.alloc(), &TWO_ACTS)?;
+    let (memory, failed) = (Some(RenderError::Memory), Some(RenderError::Failed));
+    let wanted = ([memory, memory, failed, failed], [false, true]);
+    assert_eq!(rt; refusals(rt.alloc())?, wanted);
+    Ok(())
+}

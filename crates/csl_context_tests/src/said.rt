@@ -1,0 +1,130 @@
+//! What was rendered, in words, with one space between them.
+//!
+//! | Word | What was written |
+//! |---|---|
+//! | `a` | the text `a` |
+//! | `/a`, `*a` | the text `a` in italics, in bold |
+//! | `$a` | the markup `a` |
+//! | `@a\|b` | a link from what `a` says to the address `b` |
+//! | `#3` | the place of the citation 3 |
+//! | `[ a ]` | an element around what `a` says |
+//!
+//! In a text `~` says a blank. Behind the end of an element stand its display and its meta:
+//! `]block`, `]:date`, `]block:date`. Behind it all stands what was left, as far as it is not as in
+//! the beginning: ` suppressed {..}`, `suppressing`, `dated`, and `named` with the default form of
+//! the names.
+
+use csl_context::{LeftState, Rendered};
+use csl_style::{Display, FontStyle, FontWeight};
+use csl_tree::{ElemChild, ElemChildren, ElemMeta, Formatted, Formatting};
+use lit_model::Memory;
+use std::alloc::Global;
+use std::test::Fail;
+
+/// Says a text in a word.
+fn say_text(text: &str, said: &mut String) -> Result<(), Memory> {
+    for c in text.chars() {
+        said.push(if c == ' ' { '~' } else { c })?;
+    }
+    Ok(())
+}
+
+/// The marks of a formatting.
+fn marks(formatting: Formatting) -> &'static str {
+    match (formatting.font_style, formatting.font_weight) {
+        (FontStyle::Italic, FontWeight::Bold) => "/*",
+        (FontStyle::Italic, _) => "/",
+        (_, FontWeight::Bold) => "*",
+        _ => "",
+    }
+}
+
+/// Says a text in its formatting.
+fn say_formatted(text: &Formatted, said: &mut String) -> Result<(), Memory> {
+    said.push_str(marks(text.formatting))?;
+    say_text(text.text.as_str(), said)
+}
+
+/// The end of an element.
+fn end_of(display: Option<Display>) -> &'static str {
+    match display {
+        Some(Display::Block) => " ]block",
+        Some(_) => " ]placed",
+        None => " ]",
+    }
+}
+
+/// What made an element.
+fn meta_of(meta: &Option<ElemMeta>) -> &'static str {
+    match meta {
+        None => "",
+        Some(ElemMeta::Date) => ":date",
+        Some(ElemMeta::Text) => ":text",
+        Some(ElemMeta::CitationLabel) => ":label",
+        Some(_) => ":another",
+    }
+}
+
+/// Says a child behind a blank.
+#[cycle(say)]
+fn say_child(child: &ElemChild, said: &mut String) -> Result<(), Memory> {
+    match child {
+        ElemChild::Text(text) => {
+            said.push(' ')?;
+            say_formatted(text, said)
+        }
+        ElemChild::Elem(elem) => {
+            said.push_str(" [")?;
+            say_children(&elem.children, said)?;
+            said.push_str(end_of(elem.display))?;
+            Ok(said.push_str(meta_of(&elem.meta))?)
+        }
+        ElemChild::Markup(markup) => {
+            said.push_str(" $")?;
+            say_text(markup.as_str(), said)
+        }
+        ElemChild::Link { text, url } => {
+            said.push_str(" @")?;
+            say_formatted(text, said)?;
+            said.push('|')?;
+            Ok(said.push_str(url.as_str())?)
+        }
+        ElemChild::Transparent { cite_idx, .. } => Ok(write!(said, " #{}", *cite_idx).map_err(
+            |_| Memory,
+        )?),
+    }
+}
+
+/// Says children, each behind a blank.
+#[cycle(say)]
+fn say_children(children: &ElemChildren, said: &mut String) -> Result<(), Memory> {
+    for child in &children.0 {
+        say_child(child, said)?;
+    }
+    Ok(())
+}
+
+/// Says what was left.
+fn say_state(state: &LeftState, said: &mut String) -> Result<(), Fail> {
+    if !state.suppressed.is_empty() {
+        write!(said, " suppressed {:?}", state.suppressed)?;
+    }
+    if state.suppressing {
+        said.push_str(" suppressing")?;
+    }
+    if state.first_date_seen {
+        said.push_str(" dated")?;
+    }
+    if let Some(names) = &state.first_names {
+        write!(said, " named {:?}", names.default_name_form())?;
+    }
+    Ok(())
+}
+
+/// What was rendered and left, in words.
+pub(crate) fn say(alloc: Global, rendered: &Rendered) -> Result<String, Fail> {
+    let mut said = String::new(alloc);
+    say_children(&rendered.content, &mut said)?;
+    say_state(&rendered.state, &mut said)?;
+    Ok(String::from_str(alloc, said.as_str().trim_start_matches(' '))?)
+}

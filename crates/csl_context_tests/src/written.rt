@@ -1,0 +1,199 @@
+//! What calls write, and around what.
+
+ghost use Rattle.std.specs.Prelude.{◌≡◌, OnOk};
+
+use crate::asked::put;
+use crate::film::Film;
+use csl_context::{Context, RenderError};
+use csl_style::{Affixes, Display, FontStyle, FontWeight, StandardVariable, formatting};
+use csl_tree::ElemMeta;
+use lit_model::LongShortForm;
+
+/// Two texts around an empty one.
+pub(crate) fn join(ctx: &mut Context<'_, Film>) -> Result<(), RenderError>
+    ensures { OnOk result (ctx.new.outer ≡ ctx.old.outer) }
+{
+    ctx.nothing()?;
+    ctx.push_str("a")?;
+    ctx.push_str("")?;
+    ctx.push_str("b")?;
+    Ok(())
+}
+
+/// A date in a block around the text, in an element with another text.
+pub(crate) fn nest(ctx: &mut Context<'_, Film>, text: &str) -> Result<(), RenderError>
+    ensures { OnOk result (ctx.new.outer ≡ ctx.old.outer) }
+{
+    let outer = ctx.push_elem()?;
+    ctx.push_str("a")?;
+    let inner = ctx.push_elem()?;
+    ctx.push_str(text)?;
+    ctx.commit_elem(inner, Some(Display::Block), Some(ElemMeta::Date))?;
+    ctx.commit_elem(outer, None, None)?;
+    Ok(())
+}
+
+/// A part that is dropped between two texts.
+pub(crate) fn discard(ctx: &mut Context<'_, Film>) -> Result<(), RenderError>
+    ensures { OnOk result (ctx.new.outer ≡ ctx.old.outer) }
+{
+    ctx.push_str("a")?;
+    let part = ctx.push_elem()?;
+    ctx.push_str("b")?;
+    ctx.discard_elem(part);
+    ctx.push_str("c")?;
+    Ok(())
+}
+
+/// A part that is spliced, and one that is spliced between two texts.
+pub(crate) fn splice(ctx: &mut Context<'_, Film>, text: &str) -> Result<(), RenderError>
+    ensures { OnOk result (ctx.new.outer ≡ ctx.old.outer) }
+{
+    ctx.push_str("a")?;
+    let plain = ctx.push_elem()?;
+    ctx.push_str(text)?;
+    ctx.splice(plain)?;
+    let between = ctx.push_elem()?;
+    ctx.push_str(text)?;
+    ctx.splice_affixed(between, Some("<"), Some(">"))?;
+    Ok(())
+}
+
+/// The text in affixes.
+pub(crate) fn affix(
+    ctx: &mut Context<'_, Film>,
+    affixes: &Affixes,
+    text: &str,
+) -> Result<(), RenderError>
+    ensures { OnOk result (ctx.new.outer ≡ ctx.old.outer) }
+{
+    let middle = ctx.apply_prefix()?;
+    ctx.push_str(text)?;
+    ctx.apply_suffix(affixes, middle, false)?;
+    Ok(())
+}
+
+/// The text in quotes in affixes.
+#[tactic(auto, unfolding(csl_context::specs::Now::with_quotes))]
+pub(crate) fn quote(
+    ctx: &mut Context<'_, Film>,
+    affixes: &Affixes,
+    text: &str,
+) -> Result<(), RenderError>
+    ensures { OnOk result (ctx.new.outer ≡ ctx.old.outer) }
+{
+    let middle = ctx.apply_prefix()?;
+    let inside = ctx.push_quotes()?;
+    ctx.push_str(text)?;
+    let moved = ctx.pop_quotes(inside, affixes.suffix.as_deref())?;
+    ctx.apply_suffix(affixes, middle, moved)?;
+    Ok(())
+}
+
+/// A text in quotes in quotes, before two suffixes that are not written. Behind it a text in
+/// quotes.
+#[tactic(auto, unfolding(csl_context::specs::Now::with_quotes))]
+pub(crate) fn quote_twice(ctx: &mut Context<'_, Film>) -> Result<(), RenderError>
+    ensures { OnOk result (ctx.new.outer ≡ ctx.old.outer) }
+{
+    let outer = ctx.push_quotes()?;
+    let inner = ctx.push_quotes()?;
+    ctx.push_str("B")?;
+    ctx.pop_quotes(inner, Some(": "))?;
+    ctx.pop_quotes(outer, Some(". "))?;
+    let other = ctx.push_quotes()?;
+    ctx.push_str("C")?;
+    ctx.pop_quotes(other, None)?;
+    Ok(())
+}
+
+fn italic() -> formatting::Formatting {
+    formatting::Formatting {
+        font_style: Some(FontStyle::Italic),
+        ..formatting::Formatting::default()
+    }
+}
+
+fn bold() -> formatting::Formatting {
+    formatting::Formatting {
+        font_weight: Some(FontWeight::Bold),
+        ..formatting::Formatting::default()
+    }
+}
+
+/// A text in italics, one that is bold as well, and one behind both.
+pub(crate) fn format(ctx: &mut Context<'_, Film>) -> Result<(), RenderError>
+    ensures { OnOk result (ctx.new.outer ≡ ctx.old.outer) }
+{
+    ctx.push_format(italic())?;
+    ctx.push_str("a")?;
+    ctx.push_format(bold())?;
+    ctx.push_str("b")?;
+    ctx.pop_format();
+    ctx.pop_format();
+    ctx.push_str("c")?;
+    Ok(())
+}
+
+/// Texts that lose their periods, and one that keeps them.
+pub(crate) fn strip(ctx: &mut Context<'_, Film>) -> Result<(), RenderError>
+    ensures { OnOk result (ctx.new.outer ≡ ctx.old.outer) }
+{
+    let before = ctx.may_strip_periods(true);
+    ctx.push_str("a.b.")?;
+    let within = ctx.may_strip_periods(false);
+    ctx.push_str("c.")?;
+    ctx.stop_stripping_periods(before);
+    ctx.push_str("d.")?;
+    put(ctx, yes(before))?;
+    put(ctx, yes(within))?;
+    Ok(())
+}
+
+/// A word for a truth value.
+pub(crate) fn yes(is_so: bool) -> Option<&'static str> {
+    if is_so { Some("yes") } else { Some("no") }
+}
+
+/// The title in its pieces, two links and a place, where texts lose their periods.
+pub(crate) fn write_pieces(ctx: &mut Context<'_, Film>) -> Result<(), RenderError>
+    ensures { OnOk result (ctx.new.outer ≡ ctx.old.outer) }
+{
+    let before = ctx.may_strip_periods(true);
+    write_title(ctx)?;
+    ctx.push_link("t.", "u.")?;
+    ctx.push_link("", "u.")?;
+    ctx.push_transparent(3)?;
+    ctx.stop_stripping_periods(before);
+    Ok(())
+}
+
+/// The title in its pieces.
+fn write_title(ctx: &mut Context<'_, Film>) -> Result<(), RenderError>
+    ensures { OnOk result (ctx.new.outer ≡ ctx.old.outer) }
+{
+    match ctx.resolve_standard_variable(LongShortForm::Long, StandardVariable::Title)? {
+        Some(title) => ctx.push_chunked(title.as_ref()),
+        None => ctx.nothing(),
+    }
+}
+
+/// Spaces before, between and behind two texts.
+pub(crate) fn space(ctx: &mut Context<'_, Film>) -> Result<(), RenderError>
+    ensures { OnOk result (ctx.new.outer ≡ ctx.old.outer) }
+{
+    let was_empty = ctx.open_part_is_empty();
+    ctx.ensure_space()?;
+    let had_text = ctx.open_part_has_text();
+    ctx.push_str("a")?;
+    ctx.ensure_space()?;
+    ctx.ensure_space()?;
+    ctx.push_str("b")?;
+    let has_text = ctx.open_part_has_text();
+    let is_empty = ctx.open_part_is_empty();
+    put(ctx, yes(was_empty))?;
+    put(ctx, yes(had_text))?;
+    put(ctx, yes(has_text))?;
+    put(ctx, yes(is_empty))?;
+    Ok(())
+}

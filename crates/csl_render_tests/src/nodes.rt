@@ -1,0 +1,225 @@
+//! Nodes from words.
+//!
+//! The words of some nodes have one space between them. A node `( .. )` is a group of what stands
+//! inside, and each other word is a text. It begins with what the text prints:
+//!
+//! | Word | Text of |
+//! |---|---|
+//! | `'a` | the value `a` |
+//! | `title` | the variable of that name |
+//! | `%long`, `%longs` | the term of pages in the form of that name, for one and for several |
+//! | `%by` | a term that the style has not |
+//! | `=a` | the macro `a` |
+//!
+//! Behind a text, behind the end of a group and before the nodes of a layout stand options, each
+//! behind a bar: `|<(` is the prefix `(`, `|>)` the suffix `)`, `|,;` the delimiter `;`, `|/`
+//! italics, `|*` bold, `|q` quotes, `|s` the stripping of periods, and `|b` a block. In all texts `~`
+//! says a blank.
+
+use crate::work::UNANSWERED;
+use csl_style::{
+    Affixes, DateVariable, Display, FontStyle, FontWeight, Formatting, Group, Layout,
+    LayoutRenderingElement, NameVariable, NumberVariable, OtherTerm, PageVariable,
+    RenderingElement, StandardVariable, Term, TermForm, Text, TextTarget, Variable,
+};
+use lit_model::LongShortForm;
+use std::alloc::{AllocError, Global};
+use std::mem;
+use std::test::Fail;
+
+/// The variable of a name.
+pub(crate) fn variable_named(name: &str) -> Result<Variable, Fail> {
+    match name {
+        "title" => Ok(Variable::Standard(StandardVariable::Title)),
+        "unanswered" => Ok(Variable::Standard(UNANSWERED)),
+        "genre" => Ok(Variable::Standard(StandardVariable::Genre)),
+        "doi" => Ok(Variable::Standard(StandardVariable::DOI)),
+        "pmid" => Ok(Variable::Standard(StandardVariable::PMID)),
+        "pmcid" => Ok(Variable::Standard(StandardVariable::PMCID)),
+        "url" => Ok(Variable::Standard(StandardVariable::URL)),
+        "label" => Ok(Variable::Standard(StandardVariable::CitationLabel)),
+        "suffix" => Ok(Variable::Standard(StandardVariable::YearSuffix)),
+        "volume" => Ok(Variable::Number(NumberVariable::Volume)),
+        "page" => Ok(Variable::Page(PageVariable::Page)),
+        "author" => Ok(Variable::Name(NameVariable::Author)),
+        "issued" => Ok(Variable::Date(DateVariable::Issued)),
+        _ => Err(Fail::from("no variable")),
+    }
+}
+
+/// A form of a term by its name, and whether several are meant.
+fn form_named(name: &str) -> Result<(TermForm, bool), Fail> {
+    match name {
+        "long" => Ok((TermForm::Long, false)),
+        "longs" => Ok((TermForm::Long, true)),
+        "short" => Ok((TermForm::Short, false)),
+        "shorts" => Ok((TermForm::Short, true)),
+        "symbol" => Ok((TermForm::Symbol, false)),
+        "symbols" => Ok((TermForm::Symbol, true)),
+        "verb" => Ok((TermForm::Verb, false)),
+        "verbs" => Ok((TermForm::Verb, true)),
+        "verb-short" => Ok((TermForm::VerbShort, false)),
+        "verb-shorts" => Ok((TermForm::VerbShort, true)),
+        _ => Err(Fail::from("no form")),
+    }
+}
+
+/// The text of a word.
+fn read(alloc: Global, word: &str) -> Result<String, AllocError> {
+    let mut text = String::new(alloc);
+    for c in word.chars() {
+        text.push(if c == '~' { ' ' } else { c })?;
+    }
+    Ok(text)
+}
+
+/// What stands behind a mark among the options.
+fn option<'w>(options: &'w str, mark: &str) -> Option<&'w str> {
+    for option in options.split('|') {
+        if let Some(text) = option.strip_prefix(mark) {
+            return Some(text);
+        }
+    }
+    None
+}
+
+/// The text behind a mark among the options.
+fn text_of(alloc: Global, options: &str, mark: &str) -> Result<Option<String>, AllocError> {
+    match option(options, mark) {
+        Some(text) => Ok(Some(read(alloc, text)?)),
+        None => Ok(None),
+    }
+}
+
+fn affixes(alloc: Global, options: &str) -> Result<Affixes, AllocError> {
+    let prefix = text_of(alloc, options, "<")?;
+    let suffix = text_of(alloc, options, ">")?;
+    Ok(Affixes { prefix, suffix })
+}
+
+fn formatting(options: &str) -> Formatting {
+    Formatting {
+        font_style: option(options, "/").map(|_| FontStyle::Italic),
+        font_weight: option(options, "*").map(|_| FontWeight::Bold),
+        ..Formatting::default()
+    }
+}
+
+fn display(options: &str) -> Option<Display> {
+    option(options, "b").map(|_| Display::Block)
+}
+
+fn target(alloc: Global, word: &str) -> Result<TextTarget, Fail> {
+    if let Some(val) = word.strip_prefix('\'') {
+        return Ok(TextTarget::Value {
+            val: read(alloc, val)?,
+        });
+    }
+    if let Some(name) = word.strip_prefix('=') {
+        return Ok(TextTarget::Macro {
+            name: read(alloc, name)?,
+        });
+    }
+    if let Some(name) = word.strip_prefix('%') {
+        return term_target(name);
+    }
+    Ok(TextTarget::Variable {
+        var: variable_named(word)?,
+        form: LongShortForm::Long,
+    })
+}
+
+/// The term of pages.
+pub(crate) const PAGE: Term = Term::Page(PageVariable::Page);
+
+fn term_target(name: &str) -> Result<TextTarget, Fail> {
+    if name == "by" {
+        return Ok(TextTarget::Term {
+            term: Term::Other(OtherTerm::By),
+            form: TermForm::Long,
+            plural: false,
+        });
+    }
+    let (form, plural) = form_named(name)?;
+    Ok(TextTarget::Term {
+        term: PAGE,
+        form,
+        plural,
+    })
+}
+
+fn text(alloc: Global, word: &str) -> Result<LayoutRenderingElement, Fail> {
+    let (word, options) = word.split_once('|').unwrap_or((word, ""));
+    let affixes = affixes(alloc, options)?;
+    Ok(LayoutRenderingElement::Text(Text {
+        target: target(alloc, word)?,
+        formatting: formatting(options),
+        affixes,
+        display: display(options),
+        quotes: option(options, "q").is_some(),
+        strip_periods: option(options, "s").is_some(),
+    }))
+}
+
+fn group(
+    alloc: Global,
+    children: Vec<LayoutRenderingElement>,
+    options: &str,
+) -> Result<LayoutRenderingElement, AllocError> {
+    let affixes = affixes(alloc, options)?;
+    Ok(LayoutRenderingElement::Group(Group {
+        children,
+        delimiter: text_of(alloc, options, ",")?,
+        formatting: formatting(options),
+        affixes,
+        display: display(options),
+    }))
+}
+
+/// The nodes of some words.
+pub(crate) fn nodes(alloc: Global, words: &str) -> Result<Vec<LayoutRenderingElement>, Fail> {
+    let mut around: Vec<Vec<LayoutRenderingElement>> = Vec::new(alloc);
+    let mut nodes = Vec::new(alloc);
+    for word in words.split(' ') {
+        if word == "(" {
+            around.push(mem::replace(&mut nodes, Vec::new(alloc)))?;
+        } else if let Some(options) = word.strip_prefix(')') {
+            let outside = around.pop().ok_or("a group ends that began")?;
+            let inside = mem::replace(&mut nodes, outside);
+            nodes.push(group(alloc, inside, options)?)?;
+        } else if !word.is_empty() {
+            nodes.push(text(alloc, word)?)?;
+        }
+    }
+    Ok(nodes)
+}
+
+/// The options of a layout, and its nodes: options begin with a bar.
+fn split_options(words: &str) -> (&str, &str) {
+    if !words.starts_with('|') {
+        return ("", words);
+    }
+    words.split_once(' ').unwrap_or((words, ""))
+}
+
+/// A layout of some words. Its own options stand before them.
+pub(crate) fn layout(alloc: Global, words: &str) -> Result<Layout, Fail> {
+    let (options, words) = split_options(words);
+    let delimiter = text_of(alloc, options, ",")?;
+    Ok(Layout {
+        elements: nodes(alloc, words)?,
+        delimiter,
+        formatting: formatting(options),
+    })
+}
+
+/// A layout of some words, or, behind `!`, their last node.
+pub(crate) fn element(alloc: Global, words: &str) -> Result<RenderingElement, Fail> {
+    match words.strip_prefix('!') {
+        Some(words) => {
+            let node = nodes(alloc, words)?.pop().ok_or("a node")?;
+            Ok(RenderingElement::Other(node))
+        }
+        None => Ok(RenderingElement::Layout(layout(alloc, words)?)),
+    }
+}

@@ -1,0 +1,330 @@
+//! The tests: some nodes, the cite, and what these answer.
+
+use crate::answered::{Asked, Cite, answered};
+use csl_entry::SpecialForm;
+use csl_render::UsageInfo;
+use csl_style::{StandardVariable, Variable};
+use std::alloc::Global;
+use std::process::Abort;
+use std::test::Fail;
+
+const TITLED: Cite = Cite::Titled;
+
+const SUFFIXED: Cite = Cite::Suffixed;
+
+const TITLE_ALONE: Cite = Cite::In(SpecialForm::VarOnly(Variable::Standard(
+    StandardVariable::Title,
+)));
+
+const GENRE_ALONE: Cite = Cite::In(SpecialForm::VarOnly(Variable::Standard(
+    StandardVariable::Genre,
+)));
+
+const FIRST_DATE: Cite = Cite::In(SpecialForm::OnlyFirstDate);
+
+const SUFFIX_ALONE: Cite = Cite::In(SpecialForm::OnlyYearSuffix);
+
+const NO_AUTHOR: Cite = Cite::In(SpecialForm::SuppressAuthor);
+
+const IDENTIFIED: Cite = Cite::Of("doi 10.1007/BF02731494");
+
+/// Some nodes, their cite, and what they answer.
+type Row = (&'static str, Cite, &'static str);
+
+/// The word `Title` and the title, in parentheses.
+const TITLE: &str = "( 'Title title|/ )|<(|>)|,:~";
+
+/// The trees of texts and layouts.
+static TEXTS: [Row; 30] = [
+    ("", TITLED, ""),
+    ("title", TITLED, "[ T ]:text"),
+    ("!title", TITLED, "[ T ]:text"),
+    ("label", Cite::Of("label L"), "[ L ]:label"),
+    // Affixes stand inside a text's own formatting, and nothing stands around nothing.
+    ("title|<(|>)|/|b", TITLED, "[ /(T) ]block:text"),
+    ("title|<(|>)|b", Cite::Of("title "), ""),
+    ("genre|<(|>)", TITLED, ""),
+    ("'|q|<(", TITLED, ""),
+    ("|/ 'a|* 'b", TITLED, "[ /*a ] [ /b ]"),
+    // Only texts of standard variables find something yet.
+    ("volume page author issued", TITLED, ""),
+    // Verbatim pieces keep their periods, mathematics is markup.
+    ("title|s", Cite::Of("title a.+`b.+$c."), "[ ab. $c. ]:text"),
+    // A term in each form, for one and for several.
+    ("%long %longs", TITLED, "[ page ] [ pages ]"),
+    ("%short %shorts", TITLED, "[ p. ] [ pp. ]"),
+    ("%symbol %symbols", TITLED, "[ ¶ ] [ ¶¶ ]"),
+    ("%verb %verbs", TITLED, "[ leaf ] [ leaves ]"),
+    ("%verb-short %verb-shorts", TITLED, "[ lf ] [ lvs ]"),
+    ("%short|s %by", TITLED, "[ p ]"),
+    // Macros.
+    ("=absent|<(", TITLED, ""),
+    ("=both|<{|>}", TITLED, "[ { [ w ] [ T ]:text } ]"),
+    ("=genre|<{|>}", TITLED, ""),
+    // Identifiers link to an address. The node's prefix that begins it begins the text.
+    (
+        "doi|<doi:",
+        IDENTIFIED,
+        "[ doi: @10.1007/BF02731494|https://doi.org/10.1007/BF02731494 ]:text",
+    ),
+    (
+        "pmid",
+        Cite::Of("pmid 7"),
+        "[ @7|https://www.ncbi.nlm.nih.gov/pubmed/7 ]:text",
+    ),
+    (
+        "pmcid|s",
+        Cite::Of("pmcid 7."),
+        "[ @7.|https://www.ncbi.nlm.nih.gov/pmc/articles/7. ]:text",
+    ),
+    ("url|/", Cite::Of("url u"), "[ @/u|u ]:text"),
+    // Groups.
+    ("( 'x genre )|<(|>)", TITLED, ""),
+    ("( genre ( 'v ) )", TITLED, "[ [ [ [ [ v ] ] ] ] ]"),
+    // A macro forgets that a group in it prints.
+    ("=group", TITLED, ""),
+    // An empty delimiter is one.
+    ("( 'A 'B )|,", TITLED, "[ [ [ A ] ] [ [ [ B ] ] ] ]"),
+    ("( 'A 'B )", TITLED, "[ [ [ A ] ] [ [ B ] ] ]"),
+    (
+        "( 'A genre 'B|* =y )|,;~|/|b|<(",
+        TITLED,
+        "[ /( [ [ /A ] ] [ /;~ [ [ /*B ] ] ] [ /;~ [ [ [ /y ] ] ] ] ]block",
+    ),
+];
+
+/// Texts of each target: two variables, a term, a value, and macros of such texts in affixes.
+const EACH: &str = "title suffix %long 'v =both|<{|>} =suffix|<{|>}";
+
+const ALL_OF_EACH: &str = "[ T ]:text [ a ]:text [ page ] [ v ] \
+                           [ { [ w ] [ T ]:text } ] [ { [ a ]:text } ]";
+
+/// The trees in each special form.
+static FORMS: [Row; 7] = [
+    (EACH, SUFFIXED, ALL_OF_EACH),
+    (EACH, NO_AUTHOR, ALL_OF_EACH),
+    (EACH, TITLE_ALONE, "[ T ]:text [ [ T ]:text ]"),
+    (EACH, GENRE_ALONE, ""),
+    (EACH, FIRST_DATE, "[ a ]:text [ { [ a ]:text } ]"),
+    (EACH, SUFFIX_ALONE, "[ a ]:text [ { [ a ]:text } ]"),
+    ("suffix =suffix|<{|>}", TITLED, ""),
+];
+
+/// Plain texts.
+static PLAIN: [Row; 12] = [
+    (TITLE, TITLED, "(Title: T)"),
+    (TITLE, TITLE_ALONE, "(T)"),
+    // The suffix keeps its period.
+    ("'a.b|s|>.", TITLED, "ab."),
+    ("( 'x genre )|<(|>)|,~", TITLED, ""),
+    ("( 'x genre =y )|<(|>)|,~", TITLED, "(x y)"),
+    // The comma or period of the suffix goes before the closing quote, where there are quotes.
+    ("'A|q|>,~", TITLED, "“A,” "),
+    ("'A|q|>:~", TITLED, "“A”: "),
+    ("'|q|>,~", TITLED, ""),
+    ("=quoted|q", TITLED, "“‘B’”"),
+    // Periods are stripped from the body alone, where the text itself says so. From the affixes and
+    // what is moved they are where a macro around them says so.
+    ("'a.b|q|s|>.", TITLED, "“ab.”"),
+    ("=stopped", TITLED, "“a.”,"),
+    ("=stopped|s", TITLED, "“a”,"),
+];
+
+static HTML: [Row; 3] = [
+    (
+        TITLE,
+        Cite::Of("title Nature"),
+        "(Title: <span style=\"font-style: italic;\">Nature</span>)",
+    ),
+    (
+        "doi",
+        IDENTIFIED,
+        "<a href=\"https://doi.org/10.1007/BF02731494\">10.1007/BF02731494</a>",
+    ),
+    (
+        "doi|<https://doi.org/|>.",
+        IDENTIFIED,
+        "<a href=\"https://doi.org/10.1007/BF02731494\">https://doi.org/10.1007/BF02731494</a>",
+    ),
+];
+
+/// What is made behind a text `a`, while looks for printing suppress their variable.
+static BEHIND: [Row; 4] = [
+    ("'b", TITLED, "a [ b ] suppressing"),
+    ("", TITLED, "a suppressing"),
+    // What was printed once answers nothing, and takes no delimiter.
+    (
+        "( title title 'v title )|,;",
+        TITLED,
+        "a [ [ [ T ]:text ] [ ; [ [ v ] ] ] ] suppressed {Standard(Title)} suppressing",
+    ),
+    // A look that finds nothing suppresses as well.
+    (
+        "genre",
+        TITLED,
+        "a suppressed {Standard(Genre)} suppressing",
+    ),
+];
+
+/// What is made so, and what is made again from what was left.
+static TWICE: [Row; 2] = [
+    (
+        "title",
+        TITLED,
+        "a [ T ]:text suppressed {Standard(Title)} suppressing; \
+         then suppressed {Standard(Title)} suppressing",
+    ),
+    ("'v", TITLED, "a [ v ] suppressing; then [ v ] suppressing"),
+];
+
+/// What is said in dry runs, which leave the context as it was.
+static DRY: [Row; 24] = [
+    ("", TITLED, "a suppressing;"),
+    (
+        "title",
+        TITLED,
+        "a suppressing; prints called non-empty shows",
+    ),
+    (
+        "!title",
+        TITLED,
+        "a suppressing; prints called non-empty shows",
+    ),
+    ("title", Cite::Of("title "), "a suppressing; called shows"),
+    ("genre", TITLED, "a suppressing; called"),
+    ("title", GENRE_ALONE, "a suppressing; called"),
+    ("title", FIRST_DATE, "a suppressing; called"),
+    // The year suffix is called only where it is found.
+    ("suffix", TITLED, "a suppressing;"),
+    ("suffix", SUFFIXED, "a suppressing; prints called non-empty"),
+    ("volume", TITLED, "a suppressing; called"),
+    ("'v %long", TITLED, "a suppressing; prints"),
+    ("' %by", TITLED, "a suppressing;"),
+    ("'v %long", TITLE_ALONE, "a suppressing;"),
+    (
+        "=both",
+        TITLED,
+        "a suppressing; prints called non-empty macro shows",
+    ),
+    ("=y", TITLED, "a suppressing; prints macro"),
+    ("=genre =absent", TITLED, "a suppressing; called"),
+    // A group whose variables are all empty does not print, unless a group or a macro in it does.
+    ("!( 'x genre )", TITLED, "a suppressing; called"),
+    (
+        "!( genre ( 'v ) )",
+        TITLED,
+        "a suppressing; prints called group",
+    ),
+    (
+        "!( genre =y )",
+        TITLED,
+        "a suppressing; prints called macro",
+    ),
+    ("!( genre ( genre ) )", TITLED, "a suppressing; called"),
+    // A layout and a macro count no group.
+    ("( genre ( 'v ) )", TITLED, "a suppressing; prints called"),
+    ("=group", TITLED, "a suppressing; called"),
+    ("( 'v )", TITLED, "a suppressing; prints"),
+    (
+        "!( ( title ) )",
+        TITLED,
+        "a suppressing; prints called non-empty group shows",
+    ),
+];
+
+/// What is answered where the entry has no memory for an answer: the first call says so, the next one
+/// that the context has failed.
+const NO_MEMORY: &str = "(Some(Memory), Some(Failed), true) (Some(Memory), Some(Failed), true)";
+
+const NO_ERROR: &str = "(None, None, false) (None, None, false)";
+
+/// Errors.
+static ERRORS: [Row; 4] = [
+    ("( 'v title genre )", TITLED, NO_ERROR),
+    ("'v unanswered", TITLED, NO_MEMORY),
+    ("( 'v ( unanswered ) )", TITLED, NO_MEMORY),
+    // What is not shown is not asked for.
+    ("( 'v ( unanswered ) )", TITLE_ALONE, NO_ERROR),
+];
+
+fn assert_text(rt: &impl Abort, answer: &str, wanted: &str, words: &str, cite: Cite) {
+    assert_eq!(rt; answer, wanted, "of {words} for {cite:?}");
+}
+
+fn assert_rows(rt: &impl Abort, alloc: Global, asked: Asked, rows: &[Row]) -> Result<(), Fail> {
+    for (words, cite, wanted) in rows {
+        let answer = answered(alloc, *words, *cite, asked)?;
+        assert_text(rt, answer.as_str(), *wanted, *words, *cite);
+    }
+    Ok(())
+}
+
+#[test]
+fn nodes_make_what_the_standard_says(rt: HostRuntime) -> Result<(), Fail> {
+    assert_rows(&rt, rt.alloc(), Asked::Tree, &TEXTS)?;
+    assert_rows(&rt, rt.alloc(), Asked::Tree, &FORMS)?;
+    assert_rows(&rt, rt.alloc(), Asked::Plain, &PLAIN)?;
+    assert_rows(&rt, rt.alloc(), Asked::Html, &HTML)
+}
+
+#[test]
+fn nodes_leave_a_state_and_dry_runs_leave_all_as_it_was(rt: HostRuntime) -> Result<(), Fail> {
+    assert_rows(&rt, rt.alloc(), Asked::Behind, &BEHIND)?;
+    assert_rows(&rt, rt.alloc(), Asked::Twice, &TWICE)?;
+    assert_rows(&rt, rt.alloc(), Asked::Dry, &DRY)?;
+    assert_rows(&rt, rt.alloc(), Asked::Errors, &ERRORS)
+}
+
+/// The plain text of a value in a hundred groups, one in another.
+fn deep(alloc: Global) -> Result<String, Fail> {
+    let mut words = String::new(alloc);
+    for _ in 0..100 {
+        words.push_str("( ")?;
+    }
+    words.push_str("'x")?;
+    for _ in 0..100 {
+        words.push_str(" )")?;
+    }
+    answered(alloc, words.as_str(), TITLED, Asked::Plain)
+}
+
+/// Whether a group whose parts note this is to be shown.
+fn is_shown(parent: UsageInfo, child: UsageInfo) -> bool {
+    parent.merge_child(child).should_render_group()
+}
+
+const CALLED: UsageInfo = UsageInfo {
+    has_vars: true,
+    has_non_empty_vars: false,
+    has_used_macros: false,
+    has_non_empty_group: false,
+};
+
+const USED: UsageInfo = UsageInfo {
+    has_vars: false,
+    has_non_empty_vars: false,
+    has_used_macros: true,
+    has_non_empty_group: false,
+};
+
+const WITH_GROUP: UsageInfo = UsageInfo {
+    has_vars: false,
+    has_non_empty_vars: false,
+    has_used_macros: false,
+    has_non_empty_group: true,
+};
+
+#[test]
+fn groups_stand_in_groups_and_flags_join(rt: HostRuntime) -> Result<(), Fail> {
+    let text = deep(rt.alloc())?;
+    assert_text(&rt, text.as_str(), "x", "a hundred groups", TITLED);
+    let answers = [
+        is_shown(CALLED, CALLED),
+        is_shown(CALLED, USED),
+        is_shown(WITH_GROUP, CALLED),
+        // The group flag stays the parent's.
+        is_shown(CALLED, WITH_GROUP),
+    ];
+    assert_eq!(rt; answers, [false, true, true, false]);
+    Ok(())
+}
