@@ -141,8 +141,8 @@ fn said(alloc: Global, act: Act, next: Option<Act>) -> Result<String, Fail> {
 }
 
 /// What a context answers to a silent look for which the entry has no memory, to such a look for
-/// printing, to a text behind that, and at its end, where it is an error. Then whether it had failed
-/// behind the first and behind the third.
+/// printing, to a text behind that, and at its end, where it is an error. Then whether it had
+/// failed behind the first and behind the third.
 type Refusals = ([Option<RenderError>; 4], [bool; 2]);
 
 fn refusals_in<'s>(world: World<'s>) -> Result<Refusals, Fail> {

@@ -13,8 +13,8 @@
 //!
 //! Behind a text, behind the end of a group and before the nodes of a layout stand options, each
 //! behind a bar: `|<(` is the prefix `(`, `|>)` the suffix `)`, `|,;` the delimiter `;`, `|/`
-//! italics, `|*` bold, `|q` quotes, `|s` the stripping of periods, and `|b` a block. In all texts `~`
-//! says a blank.
+//! italics, `|*` bold, `|q` quotes, `|s` the stripping of periods, and `|b` a block. In all texts
+//! `~` says a blank.
 
 use crate::work::UNANSWERED;
 use csl_style::{

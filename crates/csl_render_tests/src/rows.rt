@@ -232,8 +232,8 @@ static DRY: [Row; 24] = [
     ),
 ];
 
-/// What is answered where the entry has no memory for an answer: the first call says so, the next one
-/// that the context has failed.
+/// What is answered where the entry has no memory for an answer: the first call says so, the next
+/// one that the context has failed.
 const NO_MEMORY: &str = "(Some(Memory), Some(Failed), true) (Some(Memory), Some(Failed), true)";
 
 const NO_ERROR: &str = "(None, None, false) (None, None, false)";
