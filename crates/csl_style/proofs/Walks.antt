@@ -1,6 +1,5 @@
 -- What a walk over a style adds to what is named.
 use Rattle.std.proofs.Common.{◌≡◌, ℕ, Bool, true, false, cond, List, ◌∷◌, map, Option, Some, None, option_map, Result, Ok, Err, OnOk, OnErr, refl, sym, ap, ap₂, ◌∙◌, arith, if◌then◌else◌}
-use Rattle.std.proofs.lemmas.Grind.{common_steps}
 use Rattle.std.proofs.lemmas.Map.Text.{is_eq-slice_cmp}
 use Rattle.std.proofs.lemmas.Slice.Eq.{bytes_eq-Decides}
 use Rattle.std.specs.BTreeMap.{is_at}
@@ -11,7 +10,7 @@ use Rattle.csl_style.specs.Named.{NamedSet, nothing_named, joined, of_full, of_f
 use Rattle.csl_style.specs.Names.{NamesNode, in_place_of}
 use Rattle.csl_style.specs.Node.{Node, names, Nodes, no_nodes, node, Substitutes, no_substitutes, substitute, Full, Fulls, named, shorthand, fill, fills, fill_branches, fill_substitutes, fill_within, within, is_childless}
 use Rattle.csl_style.specs.Style.{StyleParts}
-use Rattle.csl_style.specs.View.{views, view_choose, view_branch, view_names, view_child, substitutes, Child, a_name, an_et_al, a_label, a_substitute, Part, element_step, child_step, choose_step, branch_step, group_step, names_step, substitute_step}
+use Rattle.csl_style.specs.View.{view_choose, view_branch, view_names, view_child, substitutes, Child, a_substitute, Part, element_step, child_step, choose_step, branch_step, group_step, names_step, substitute_step}
 use Rattle.csl_style.specs.declared.element.Choose.{Choose, out-Choose}
 use Rattle.csl_style.specs.declared.element.ChooseBranch.{ChooseBranch, out-ChooseBranch}
 use Rattle.csl_style.specs.declared.element.LayoutRenderingElement.TheFolds.{fold_out-Names, fold_out-ChooseBranch}

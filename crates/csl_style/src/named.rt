@@ -1,7 +1,7 @@
 //! What a layout names: the variables and kinds that are written in it and in the macros that it
 //! reaches (CSL 1.0.2, Rendering Elements; Macro; Choose; Substitute).
 
-ghost use Rattle.std.specs.Prelude.{◌≡◌, ◌≤◌, ◌∷◌, [], map, None, Some, IfSome, IfOk, OnOk, OnErr, IsTrue, option_map};
+ghost use Rattle.std.specs.Prelude.{◌≡◌, None, Some, IfSome, IfOk, OnOk, OnErr, IsTrue, option_map};
 ghost use Rattle.csl_style.specs.Node.{fill, fills, fill_layout};
 ghost use Rattle.csl_style.specs.View.{view, views, view_choose, view_names, view_child, view_branch, view_layout};
 ghost use Rattle.csl_style.specs.Reached.{env};

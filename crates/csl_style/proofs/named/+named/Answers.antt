@@ -23,7 +23,7 @@ pub name_names-loop-child-init : goal.name_names-loop-child-init
 name_names-loop-child-init t c =
     let e = env c.args.walk.now.style in
     let rest = of_substitutes e (substitutes (map view_child (out-Names c.args.names.now).children.items)) in
-    let add = c.in_ok-note_names.ensures in
+    let add = rw c.deref.ensures.value at c.in_ok-note_names.ensures in
     let sized = names_sized e c.args.names.now in
     rw c.deref-child-items.ensures.value record {
       style = add.style;
@@ -55,11 +55,11 @@ pub name_choose-loop-branch-preserved : goal.name_choose-loop-branch-preserved
 name_choose-loop-branch-preserved t c = grind (arith, common_steps, branch_then)
 
 pub name_branch-returns : goal.name_branch-returns
-name_branch-returns t c = rw (nodes_out c.args.branch.now) (adds_at (λ s. of_fulls (fills (env s) (views (out-ChooseBranch c.args.branch.now).children.items))) (of_tests (view_branch c.args.branch.now).tests) _ _ _ c.in_ok-note_tests.ensures c.in_ok-name_all.ensures)
+name_branch-returns t c = rw (nodes_out c.args.branch.now) (adds_at (λ s. of_fulls (fills (env s) (views (out-ChooseBranch c.args.branch.now).children.items))) (of_tests (view_branch c.args.branch.now).tests) _ _ _ c.in_ok-note_tests.ensures (rw c.deref.ensures.value at c.in_ok-name_all.ensures))
 
 pub name_element-learn-requires : goal.name_element-learn-requires
 name_element-learn-requires t c =
     let e = env c.args.walk.now.style in
-    let add = c.in_ok-name_all-in-Some.ensures in
+    let add = rw c.deref.ensures.value at c.in_ok-name_all-in-Some.ensures in
     let means = rw c.as_str.ensures.value at c.in-Some.ensures.meaning in
     rw (add.style, c.as_str-in-Some.ensures.value) (absorbed e (has c.args.walk.now.named) (has c.name_all.new.walk.named) (fills e (views c.in-Some.found.now.children.items)) (string_bytes c.in-Macro.name) means add.named)
