@@ -58,10 +58,15 @@ static ROWS: [(&str, &str, &[Variable], &str); 22] = [
     ("book; title T", "book; title U", VOLUME, ALIKE),
     ("book; volume 9", "book; volume 9", VOLUME, ALIKE),
     ("book; volume 9", "book; volume 10", VOLUME, NOT_ALIKE),
-    ("book; volume 9", "book; volume '9", VOLUME, NOT_ALIKE),
+    ("book; volume 9", "book; volume 'nine", VOLUME, NOT_ALIKE),
     ("article; pages 3-5", "article; pages 3-5", PAGE, ALIKE),
     ("article; pages 3-5", "article; pages 3", PAGE, NOT_ALIKE),
-    ("article; pages 3-5", "article; pages '3-5", PAGE, NOT_ALIKE),
+    (
+        "article; pages 3-5",
+        "article; pages 'three",
+        PAGE,
+        NOT_ALIKE,
+    ),
     (
         "book; authors Ann, Ben/B",
         "web; authors Ann, Ben/B",

@@ -14,11 +14,11 @@ use std::process::Abort;
 use std::test::Fail;
 
 /// What is in each set.
-fn said(alloc: Global, named: &Named) -> Result<String, AllocError> {
-    format!(in alloc;
+fn said(alloc: Global, named: &Named) -> Result<String, Fail> {
+    Ok(format!(in alloc;
         "numbers {:?} pages {:?} standards {:?} names {:?} dates {:?} kinds {:?}",
         named.numbers, named.pages, named.standards, named.names, named.dates, named.kinds
-    )
+    )?)
 }
 
 /// Two macros, of which the first calls the other twice, and one that the style lacks.
