@@ -9,3 +9,4 @@ pub mod Looks
 pub mod AnswersEqual
 pub mod Typings
 pub mod ShowSame
+pub mod AlikeSets

@@ -18,3 +18,4 @@ pub mod NameProperties
 pub mod NumberResult
 pub mod Numbers
 pub mod NumericText
+pub mod Alike

@@ -2,6 +2,7 @@
 //! built-in entry, and what a cite answers in its citation.
 #![tactic(auto)]
 
+mod alike;
 mod chunk;
 mod citation_label;
 mod cite;
@@ -18,6 +19,7 @@ mod numeric_text;
 mod same;
 mod taxonomy;
 
+pub use alike::same_answers;
 pub use citation_label::Alphanumerical;
 pub use cite::{
     CertainCiteProperties, CiteProperties, DisambiguateState, IbidState, LocatorPayload, Sorting,

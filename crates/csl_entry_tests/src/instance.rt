@@ -21,7 +21,7 @@ use std::test::Fail;
 /// An entry that answers the same to each variable of a sort: a number, pages, or a text. It has
 /// no names and no dates.
 #[derive(Drop)]
-struct Sample {
+pub struct Sample {
     number: Numeric,
     pages: PageRanges,
     text: ChunkedString,
@@ -102,13 +102,13 @@ impl EntryLike for Sample {
     }
 }
 
-/// Number 20, page 7 and the text `Nature`, alone in a list.
-fn samples(alloc: Global) -> Result<Vec<Sample>, Fail> {
+/// Number 20, page 7 and a text of these pieces, alone in a list.
+pub fn samples(alloc: Global, text: &str) -> Result<Vec<Sample>, Fail> {
     let mut samples = Vec::with_capacity(alloc, 1)?;
     samples.push(Sample {
         number: Numeric::new(20),
         pages: PageRanges::parse(alloc, "7")?,
-        text: pieces(alloc, "`Nature")?,
+        text: pieces(alloc, text)?,
     })?;
     Ok(samples)
 }
@@ -156,7 +156,7 @@ fn number(
     page: Option<LocatorPayload<'_>>,
     variable: NumberVariable,
 ) -> Result<String, Fail> {
-    let samples = samples(alloc)?;
+    let samples = samples(alloc, "`Nature")?;
     let entry = only(&samples)?;
     let props = cited(first_note_number, page, DisambiguateState::None)?;
     match instance(entry, &props).resolve_number_variable(alloc, variable)? {
@@ -195,7 +195,7 @@ type Separated = (i32, Option<NumericDelimiter>);
 
 /// The two numbers of a locator, where it is a list of two.
 fn two_numbers(alloc: Global, page: &str) -> Result<Option<(Separated, Separated)>, Fail> {
-    let samples = samples(alloc)?;
+    let samples = samples(alloc, "`Nature")?;
     let entry = only(&samples)?;
     let props = cited(
         None,
@@ -247,7 +247,7 @@ fn text(
     form: LongShortForm,
     variable: StandardVariable,
 ) -> Result<String, Fail> {
-    let samples = samples(alloc)?;
+    let samples = samples(alloc, "`Nature")?;
     let props = cited(None, None, state(alloc, told)?)?;
     text_in(alloc, &samples, &props, form, variable)
 }
@@ -266,7 +266,7 @@ fn pages_in<'s>(
 }
 
 fn pages(alloc: Global) -> Result<String, Fail> {
-    let samples = samples(alloc)?;
+    let samples = samples(alloc, "`Nature")?;
     let props = cited(None, None, DisambiguateState::YearSuffix(0))?;
     pages_in(alloc, &samples, &props)
 }

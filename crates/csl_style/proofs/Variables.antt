@@ -1,4 +1,4 @@
--- `==` and the order of variables tell which are one.
+-- `==` and the order of variables and kinds tell which are one.
 use Rattle.std.proofs.Common.{◌≡◌, ◌↔◌, true, false, rules}
 use Rattle.std.proofs.lemmas.Bool.{false≢true}
 use Rattle.std.specs.declared.cmp.Ordering.TheVariants.{Less, Equal, Greater}
@@ -26,6 +26,9 @@ use Rattle.csl_style.specs.contracts.taxonomy.DateVariablePartialEq.TheImpl.{eq-
 use Rattle.csl_style.specs.contracts.taxonomy.NameVariable.{enum as names}
 use Rattle.csl_style.specs.contracts.taxonomy.NameVariableOrd.TheImpl.{cmp-value as cmp_name}
 use Rattle.csl_style.specs.contracts.taxonomy.NameVariablePartialEq.TheImpl.{eq-value as eq_name}
+use Rattle.csl_style.specs.declared.taxonomy.Kind.{Kind}
+use Rattle.csl_style.specs.contracts.taxonomy.Kind.{enum as kinds}
+use Rattle.csl_style.specs.contracts.taxonomy.KindOrd.TheImpl.{cmp-value as cmp_kind}
 use Rattle.csl_style.proofs.Alike.{values_tell, bare, alone, copies}
 
 pub standard_decides : (a b : StandardVariable) → Decides (eq_standard.it a b) (a ≡ b)
@@ -48,22 +51,25 @@ variable_decides a b =
     values_tell true false false false≢true false≢true variables _
     (alone true false false eq_standard.it standard_decides, (alone true false false eq_number.it number_decides, (alone true false false eq_page.it page_decides, (alone true false false eq_date.it date_decides, (alone true false false eq_name.it name_decides, tt))))) a b
 
-standard_ordered : (a b : StandardVariable) → (cmp_standard.it a b ≡ Equal) ↔ (a ≡ b)
+pub standard_ordered : (a b : StandardVariable) → (cmp_standard.it a b ≡ Equal) ↔ (a ≡ b)
 standard_ordered a b = values_tell Equal Less Greater (λ e. cc) (λ e. cc) standards _ (copies (bare Equal Less Greater) 47) a b
 
-number_ordered : (a b : NumberVariable) → (cmp_number.it a b ≡ Equal) ↔ (a ≡ b)
+pub number_ordered : (a b : NumberVariable) → (cmp_number.it a b ≡ Equal) ↔ (a ≡ b)
 number_ordered a b = values_tell Equal Less Greater (λ e. cc) (λ e. cc) numbers _ (copies (bare Equal Less Greater) 17) a b
 
-page_ordered : (a b : PageVariable) → (cmp_page.it a b ≡ Equal) ↔ (a ≡ b)
+pub page_ordered : (a b : PageVariable) → (cmp_page.it a b ≡ Equal) ↔ (a ≡ b)
 page_ordered a b = search rules
 
-date_ordered : (a b : DateVariable) → (cmp_date.it a b ≡ Equal) ↔ (a ≡ b)
+pub date_ordered : (a b : DateVariable) → (cmp_date.it a b ≡ Equal) ↔ (a ≡ b)
 date_ordered a b = values_tell Equal Less Greater (λ e. cc) (λ e. cc) dates _ (copies (bare Equal Less Greater) 6) a b
 
-name_ordered : (a b : NameVariable) → (cmp_name.it a b ≡ Equal) ↔ (a ≡ b)
+pub name_ordered : (a b : NameVariable) → (cmp_name.it a b ≡ Equal) ↔ (a ≡ b)
 name_ordered a b = values_tell Equal Less Greater (λ e. cc) (λ e. cc) names _ (copies (bare Equal Less Greater) 27) a b
 
 pub variable_ordered : (a b : Variable) → (cmp_variable.it a b ≡ Equal) ↔ (a ≡ b)
 variable_ordered a b =
     values_tell Equal Less Greater (λ e. cc) (λ e. cc) variables _
     (alone Equal Less Greater cmp_standard.it standard_ordered, (alone Equal Less Greater cmp_number.it number_ordered, (alone Equal Less Greater cmp_page.it page_ordered, (alone Equal Less Greater cmp_date.it date_ordered, (alone Equal Less Greater cmp_name.it name_ordered, tt))))) a b
+
+pub kind_ordered : (a b : Kind) → (cmp_kind.it a b ≡ Equal) ↔ (a ≡ b)
+kind_ordered a b = values_tell Equal Less Greater (λ e. cc) (λ e. cc) kinds _ (copies (bare Equal Less Greater) 45) a b

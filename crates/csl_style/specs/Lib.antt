@@ -22,3 +22,5 @@ pub mod Scopes
 pub mod OfCitation
 pub mod Overlaid
 pub mod NamesParts
+pub mod Named
+pub mod Has

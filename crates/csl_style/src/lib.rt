@@ -7,6 +7,7 @@ pub mod date;
 pub mod element;
 pub mod formatting;
 pub mod locale;
+mod named;
 pub mod names;
 mod names_parts;
 pub mod number;
@@ -31,6 +32,7 @@ pub use formatting::{
 };
 pub use lit_model::LongShortForm;
 pub use locale::{Locale, LocaleOrdinals, OrdinalMatch, OrdinalSlot, OrdinalTerm, TermEntry};
+pub use named::{Named, named_by};
 pub use names::{
     DelimiterBehavior, EtAl, InheritableNameOptions, InheritedNameOptions, Name, NameAnd,
     NameAsSortOrder, NameForm, NameOptions, NamePart, NamePartName,

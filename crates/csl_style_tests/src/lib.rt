@@ -13,6 +13,8 @@ mod locale;
 #[cfg(test)]
 mod made;
 #[cfg(test)]
+mod named;
+#[cfg(test)]
 mod names;
 #[cfg(test)]
 mod names_parts;

@@ -1,0 +1,22 @@
+-- When two entries answer alike what is named, whatever their types (CSL 1.0.2, Appendix III: Types; Appendix IV: Variables).
+use Rattle.std.specs.Prelude.{◌≡◌, true, List, [], ◌∷◌}
+use Rattle.lit_model.specs.declared.text.LongShortForm.{LongShortForm}
+use Rattle.csl_style.specs.Named.{Asked, a_variable, a_kind, NamedSet}
+use Rattle.csl_style.specs.declared.taxonomy.Variable.TheVariants as variable
+use Rattle.csl_entry.specs.Answers.{Answers}
+
+-- the same answer to what is asked, to a standard variable in both forms
+abbrev pub SameAnswer : Answers → Answers → Asked → Type 0
+SameAnswer a b (a_variable (variable.Number v)) = a.numbers v ≡ b.numbers v
+SameAnswer a b (a_variable (variable.Page v)) = a.pages v ≡ b.pages v
+SameAnswer a b (a_variable (variable.Standard v)) = (form : LongShortForm) → a.standards form v ≡ b.standards form v
+SameAnswer a b (a_variable (variable.Name v)) = a.names v ≡ b.names v
+SameAnswer a b (a_variable (variable.Date v)) = a.dates v ≡ b.dates v
+SameAnswer a b (a_kind k) = a.kinds k ≡ b.kinds k
+
+abbrev pub Alike : NamedSet → Answers → Answers → Type 0
+Alike ns a b = (q : Asked) → ns q ≡ true → SameAnswer a b q
+
+abbrev pub Each : {A : Type 0} → (A → Type 0) → List A → Type 0
+Each P [] = Unit {0}
+Each P (x ∷ xs) = P x × Each P xs

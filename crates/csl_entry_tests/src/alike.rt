@@ -1,0 +1,253 @@
+//! Entries that answer alike what is named, of one type and of two.
+
+use crate::asked::{assert_answer, only};
+use crate::described::described;
+use crate::instance::samples;
+use csl_entry::{EntryLike, same_answers};
+use csl_style::{
+    DateVariable, Kind, NameVariable, Named, NumberVariable, PageVariable, StandardVariable,
+    Variable,
+};
+use lit_model::Memory;
+use std::alloc::Global;
+use std::collections::BTreeSet;
+use std::process::Abort;
+use std::test::Fail;
+
+const TITLE: &[Variable] = &[Variable::Standard(StandardVariable::Title)];
+
+const AUTHOR: &[Variable] = &[Variable::Name(NameVariable::Author)];
+
+const VOLUME: &[Variable] = &[Variable::Number(NumberVariable::Volume)];
+
+const PAGE: &[Variable] = &[Variable::Page(PageVariable::Page)];
+
+const AUTHOR_AND_DATE: &[Variable] = &[
+    Variable::Name(NameVariable::Author),
+    Variable::Date(DateVariable::Issued),
+];
+
+/// What a reference of a work in a journal names.
+const REFERENCE: &[Variable] = &[
+    Variable::Name(NameVariable::Author),
+    Variable::Name(NameVariable::Editor),
+    Variable::Standard(StandardVariable::Title),
+    Variable::Standard(StandardVariable::ContainerTitle),
+    Variable::Standard(StandardVariable::DOI),
+    Variable::Number(NumberVariable::Volume),
+    Variable::Page(PageVariable::Page),
+    Variable::Date(DateVariable::Issued),
+];
+
+const ALIKE: &str = "alike";
+
+const NOT_ALIKE: &str = "not alike";
+
+/// Two entries, the variables that are named, and whether they answer alike.
+static ROWS: [(&str, &str, &[Variable], &str); 22] = [
+    ("book; title T|S", "web; title T|S", TITLE, ALIKE),
+    // Each form counts.
+    ("book; title T|S", "book; title T|U", TITLE, NOT_ALIKE),
+    ("book; title T|S", "book; title U|S", TITLE, NOT_ALIKE),
+    ("book; title T", "book; title T|T", TITLE, ALIKE),
+    ("book; title T", "book; title T|S", TITLE, NOT_ALIKE),
+    ("book; title T", "book; title `T", TITLE, NOT_ALIKE),
+    ("book; title T", "book", TITLE, NOT_ALIKE),
+    // What is not named does not.
+    ("book; title T", "book; title U", &[], ALIKE),
+    ("book; title T", "book; title U", VOLUME, ALIKE),
+    ("book; volume 9", "book; volume 9", VOLUME, ALIKE),
+    ("book; volume 9", "book; volume 10", VOLUME, NOT_ALIKE),
+    ("book; volume 9", "book; volume 'nine", VOLUME, NOT_ALIKE),
+    ("article; pages 3-5", "article; pages 3-5", PAGE, ALIKE),
+    ("article; pages 3-5", "article; pages 3", PAGE, NOT_ALIKE),
+    (
+        "article; pages 3-5",
+        "article; pages 'three",
+        PAGE,
+        NOT_ALIKE,
+    ),
+    (
+        "book; authors Ann, Ben/B",
+        "web; authors Ann, Ben/B",
+        AUTHOR,
+        ALIKE,
+    ),
+    (
+        "book; authors Ann, Ben",
+        "book; authors Ben, Ann",
+        AUTHOR,
+        NOT_ALIKE,
+    ),
+    (
+        "book; authors Ann",
+        "book; authors Ann/A",
+        AUTHOR,
+        NOT_ALIKE,
+    ),
+    (
+        "book; authors Ann; date 2014",
+        "book; authors Ann; date 2014; title T",
+        AUTHOR_AND_DATE,
+        ALIKE,
+    ),
+    (
+        "book; authors Ann; date 2014",
+        "book; authors Ann; date 2015",
+        AUTHOR_AND_DATE,
+        NOT_ALIKE,
+    ),
+    (
+        "book; authors Ann; date 2014",
+        "book; authors Ben; date 2014",
+        AUTHOR_AND_DATE,
+        NOT_ALIKE,
+    ),
+    (
+        "book; key a; language en-US",
+        "book; key b",
+        REFERENCE,
+        ALIKE,
+    ),
+];
+
+/// Four works: a book, and articles in two journals and on a site.
+static WORKS: [&str; 4] = [
+    "book; title Crazy Rich Asians; authors Kwan/Kevin; date 2014",
+    "article; title Structure of a Quantized Vortex in Boson Systems; authors Gross/E. P.; \
+     date 1961; pages 454-477; serial doi 10.1007/BF02731494; \
+     in periodical; issue 3; volume 20; title Il Nuovo Cimento",
+    "article; title The program dependence graph and its use in optimization; \
+     authors Ferrante/Jeanne, Ottenstein/Karl J., Warren/Joe D.; date 1987; \
+     serial doi 10.1145/24039.24041; in periodical; volume 9; issue 3; \
+     title ACM Transactions on Programming Languages and Systems",
+    "article; title She swoons to conquer; authors Ungard-Sargon/Batya; editors Weintraub/Pam; \
+     date 2015; in blog; title Aeon",
+];
+
+/// A kind that is named, and whether a book and a web site are alike in it.
+static KINDS: [(Kind, &str); 3] = [
+    (Kind::Book, NOT_ALIKE),
+    (Kind::Webpage, NOT_ALIKE),
+    (Kind::Song, ALIKE),
+];
+
+/// Adds a variable to what is named.
+fn name(named: &mut Named, variable: Variable) -> Result<(), Memory> {
+    match variable {
+        Variable::Number(v) => {
+            named.numbers.insert(v)?;
+        }
+        Variable::Page(v) => {
+            named.pages.insert(v)?;
+        }
+        Variable::Standard(v) => {
+            named.standards.insert(v)?;
+        }
+        Variable::Name(v) => {
+            named.names.insert(v)?;
+        }
+        Variable::Date(v) => {
+            named.dates.insert(v)?;
+        }
+    }
+    Ok(())
+}
+
+/// These variables, and a kind.
+fn named(alloc: Global, variables: &[Variable], kind: Option<Kind>) -> Result<Named, Memory> {
+    let mut named = Named {
+        numbers: BTreeSet::new(alloc),
+        pages: BTreeSet::new(alloc),
+        standards: BTreeSet::new(alloc),
+        names: BTreeSet::new(alloc),
+        dates: BTreeSet::new(alloc),
+        kinds: BTreeSet::new(alloc),
+    };
+    for variable in variables {
+        name(&mut named, *variable)?;
+    }
+    if let Some(kind) = kind {
+        named.kinds.insert(kind)?;
+    }
+    Ok(named)
+}
+
+/// Whether the two answer alike.
+fn compared<T: EntryLike, U: EntryLike>(
+    alloc: Global,
+    left: &T,
+    right: &U,
+    variables: &[Variable],
+    kind: Option<Kind>,
+) -> Result<&'static str, Memory> {
+    let named = named(alloc, variables, kind)?;
+    let alike = same_answers(alloc, left, right, &named)?;
+    Ok(if alike { ALIKE } else { NOT_ALIKE })
+}
+
+fn assert_alike(
+    rt: &impl Abort,
+    alloc: Global,
+    (left, right): (&'static str, &'static str),
+    variables: &'static [Variable],
+    kind: Option<Kind>,
+    wanted: &'static str,
+) -> Result<(), Fail> {
+    let lefts = described(alloc, left)?;
+    let rights = described(alloc, right)?;
+    let answer = compared(alloc, only(&lefts)?, only(&rights)?, variables, kind)?;
+    assert_answer(rt, answer, wanted, right);
+    Ok(())
+}
+
+#[test]
+fn entries_are_alike_where_all_that_is_named_is(rt: HostRuntime) -> Result<(), Fail> {
+    let rows: &[(
+        &'static str,
+        &'static str,
+        &'static [Variable],
+        &'static str,
+    )] = &ROWS;
+    for (left, right, variables, wanted) in rows {
+        assert_alike(&rt, rt.alloc(), (*left, *right), *variables, None, *wanted)?;
+    }
+    let kinds: &[(Kind, &'static str)] = &KINDS;
+    for (kind, wanted) in kinds {
+        assert_alike(&rt, rt.alloc(), ("book", "web"), &[], Some(*kind), *wanted)?;
+    }
+    Ok(())
+}
+
+#[test]
+fn four_works_are_alike_each_with_itself(rt: HostRuntime) -> Result<(), Fail> {
+    let works: &[&'static str] = &WORKS;
+    for (i, left) in works.iter().enumerate() {
+        for (j, right) in works.iter().enumerate() {
+            let wanted = if i == j { ALIKE } else { NOT_ALIKE };
+            let pair = (*left, *right);
+            assert_alike(&rt, rt.alloc(), pair, AUTHOR_AND_DATE, None, wanted)?;
+            assert_alike(&rt, rt.alloc(), pair, REFERENCE, None, wanted)?;
+        }
+    }
+    Ok(())
+}
+
+/// An entry of another type that says `Crazy Rich Asians` to each text and nothing of persons.
+#[test]
+fn entries_of_two_types(rt: HostRuntime) -> Result<(), Fail> {
+    let alloc = rt.alloc();
+    let samples = samples(alloc, "Crazy Rich Asians")?;
+    let sample = only(&samples)?;
+    let works = described(alloc, WORKS[0])?;
+    let work = only(&works)?;
+    let titles = compared(alloc, work, sample, TITLE, None)?;
+    assert_answer(&rt, titles, ALIKE, "the title");
+    let titles = compared(alloc, sample, work, TITLE, None)?;
+    assert_answer(&rt, titles, ALIKE, "the title of the other");
+    let authors = compared(alloc, work, sample, AUTHOR, None)?;
+    assert_answer(&rt, authors, NOT_ALIKE, "the authors");
+    let book = compared(alloc, work, sample, TITLE, Some(Kind::Book))?;
+    assert_answer(&rt, book, NOT_ALIKE, "a book");
+    Ok(())
+}

@@ -1,0 +1,439 @@
+//! What a layout names: the variables and kinds that are written in it and in the macros that it
+//! reaches (CSL 1.0.2, Rendering Elements; Macro; Choose; Substitute).
+
+ghost use Rattle.std.specs.Prelude.{◌≡◌, None, Some, IfSome, IfOk, OnOk, OnErr, IsTrue, option_map};
+ghost use Rattle.csl_style.specs.Node.{fill, fills, fill_layout};
+ghost use Rattle.csl_style.specs.View.{view, views, view_choose, view_names, view_child, view_branch, view_layout};
+ghost use Rattle.csl_style.specs.Reached.{env};
+ghost use Rattle.csl_style.specs.Named.{joined, nothing_named, the_variable, the_kind, the_name, the_date, the_number_or_page, each_of, each_if, of_full, of_fulls, of_meaning, of_child, of_part, of_tests};
+ghost use Rattle.csl_style.specs.Has.{has, Adds};
+
+use crate::element::{
+    Choose, ChooseBranch, CslMacro, Layout, LayoutRenderingElement, Names, NamesChild,
+};
+use crate::style::Style;
+use crate::taxonomy::{
+    DateVariable, Kind, NameVariable, NumberOrPageVariable, NumberVariable, PageVariable,
+    StandardVariable, Variable,
+};
+use crate::text::TextTarget;
+use lit_model::Memory;
+use std::alloc::Global;
+use std::collections::BTreeSet;
+use std::marker::Model;
+
+/// Variables and kinds that are named, by sort.
+#[derive(Drop)]
+pub struct Named {
+    pub numbers: BTreeSet<NumberVariable>,
+    pub pages: BTreeSet<PageVariable>,
+    pub standards: BTreeSet<StandardVariable>,
+    pub names: BTreeSet<NameVariable>,
+    pub dates: BTreeSet<DateVariable>,
+    pub kinds: BTreeSet<Kind>,
+}
+
+/// Nothing.
+#[tactic(auto, using(crate::proofs::Noted::has_nothing))]
+fn nothing(alloc: Global) -> Named
+    ensures { has result ≡ nothing_named }
+{
+    Named {
+        numbers: BTreeSet::new(alloc),
+        pages: BTreeSet::new(alloc),
+        standards: BTreeSet::new(alloc),
+        names: BTreeSet::new(alloc),
+        dates: BTreeSet::new(alloc),
+        kinds: BTreeSet::new(alloc),
+    }
+}
+
+/// Adds a variable, unless the citation answers it.
+///
+/// # Errors
+/// [`Memory`]: there was no memory left, and nothing was added.
+#[tactic(auto, using(crate::proofs::Noted::not_noted, crate::proofs::Noted::number_noted, crate::proofs::Noted::page_noted, crate::proofs::Noted::standard_noted, crate::proofs::Noted::name_noted, crate::proofs::Noted::date_noted))]
+fn note_variable(named: &mut Named, variable: Variable) -> Result<(), Memory>
+    ensures ok { OnOk result (has named.new ≡ joined (has named.old) (the_variable variable)) }
+    ensures err { OnErr result (has named.new ≡ has named.old) }
+{
+    if variable.is_of_citation() {
+        return Ok(());
+    }
+    match variable {
+        Variable::Number(v) => {
+            named.numbers.insert(v)?;
+        }
+        Variable::Page(v) => {
+            named.pages.insert(v)?;
+        }
+        Variable::Standard(v) => {
+            named.standards.insert(v)?;
+        }
+        Variable::Name(v) => {
+            named.names.insert(v)?;
+        }
+        Variable::Date(v) => {
+            named.dates.insert(v)?;
+        }
+    }
+    Ok(())
+}
+
+/// Adds a kind.
+///
+/// # Errors
+/// [`Memory`]: there was no memory left, and nothing was added.
+#[tactic(auto, using(crate::proofs::Noted::kind_noted))]
+fn note_kind(named: &mut Named, kind: Kind) -> Result<(), Memory>
+    ensures ok { OnOk result (has named.new ≡ joined (has named.old) (the_kind kind)) }
+    ensures err { OnErr result (has named.new ≡ has named.old) }
+{
+    named.kinds.insert(kind)?;
+    Ok(())
+}
+
+/// What a walk over a style has named so far. All that the macros name that were seen is among
+/// it, so none is walked twice.
+#[derive(Drop)]
+struct Walk<'s> {
+    style: &'s Style,
+    named: Named,
+    seen: BTreeSet<&'s str>,
+}
+
+impl<'s> Model for Walk<'s> {
+    ghost use Rattle.std.specs.Coded.{codes};
+    ghost use Rattle.csl_style.specs.contracts.element.CslMacro as of_macro;
+    ghost use Rattle.csl_style.specs.contracts.element.Layout as of_layout;
+    ghost use Rattle.csl_style.specs.Reached.{env};
+    ghost use Rattle.csl_style.specs.Has.{has, Walked, Covers};
+
+    ghost Value = { Walked };
+
+    ghost coded = { Prim.hlevel (codes, of_macro.the_row.coded, of_layout.the_row.coded) };
+
+    ghost view = { λ w. record { style = w.style.now; named = w.named } };
+
+    ghost invariant = { λ w. Covers (has w.named) (env w.style.now) w.seen };
+}
+
+impl<'s> Walk<'s> {
+    /// Nothing is named yet.
+    fn new(alloc: Global, style: &'s Style) -> Walk<'s>
+        ensures style { result ≡ record { style = style.now; named = result.named } }
+        ensures none { has result.named ≡ nothing_named }
+    {
+        Walk {
+            style,
+            named: nothing(alloc),
+            seen: BTreeSet::new(alloc),
+        }
+    }
+
+    /// The style that is walked.
+    fn style(&self) -> &'s Style
+        ensures { result.now ≡ self.now.style }
+    {
+        self.style
+    }
+
+    /// What was named.
+    fn into_named(self) -> Named
+        ensures { result ≡ self.entry.named }
+    {
+        self.named
+    }
+
+    /// Adds a variable, unless the citation answers it.
+    ///
+    /// # Errors
+    /// [`Memory`]: there was no memory left.
+    fn note(&mut self, variable: Variable) -> Result<(), Memory>
+        ensures { OnOk result (Adds (the_variable variable) self.old self.new) }
+    {
+        note_variable(&mut self.named, variable)
+    }
+
+    /// Adds a kind.
+    ///
+    /// # Errors
+    /// [`Memory`]: there was no memory left.
+    fn note_kind(&mut self, kind: Kind) -> Result<(), Memory>
+        ensures { OnOk result (Adds (the_kind kind) self.old self.new) }
+    {
+        note_kind(&mut self.named, kind)
+    }
+
+    /// Whether the macro was seen.
+    fn knows(&self, name: &str) -> bool
+        ensures { IsTrue result
+            → joined (has self.now.named) (of_meaning (env self.now.style name.now))
+            ≡ has self.now.named }
+    {
+        self.seen.contains(name)
+    }
+
+    /// Keeps in mind that a macro was seen: all that it names is named.
+    ///
+    /// # Errors
+    /// [`Memory`]: there was no memory left.
+    fn learn(&mut self, name: &'s str) -> Result<(), Memory>
+        requires { joined (has self.old.named) (of_meaning (env self.old.style name.now))
+            ≡ has self.old.named }
+        ensures { OnOk result (self.new ≡ self.old) }
+    {
+        self.seen.insert(name)?;
+        Ok(())
+    }
+}
+
+/// Adds nothing.
+#[tactic(auto, using(crate::proofs::Walks::adds_nothing))]
+fn none<'s>(walk: &mut Walk<'s>) -> Result<(), Memory>
+    ensures { OnOk result (Adds nothing_named walk.old walk.new) }
+{
+    let _style = walk.style();
+    Ok(())
+}
+
+/// Adds the variables of a test.
+///
+/// # Errors
+/// [`Memory`]: there was no memory left.
+fn note_variables<'s>(walk: &mut Walk<'s>, tested: &Option<Vec<Variable>>) -> Result<(), Memory>
+    ensures { OnOk result (Adds
+        (each_if the_variable (option_map (λ vs. vs.items) tested.now)) walk.old walk.new) }
+{
+    match tested {
+        Some(variables) => {
+            for v in variables {
+                walk.note(*v)?;
+            }
+            Ok(())
+        }
+        None => none(walk),
+    }
+}
+
+/// Adds the dates of a test.
+///
+/// # Errors
+/// [`Memory`]: there was no memory left.
+fn note_dates<'s>(walk: &mut Walk<'s>, tested: &Option<Vec<DateVariable>>) -> Result<(), Memory>
+    ensures { OnOk result (Adds
+        (each_if the_date (option_map (λ vs. vs.items) tested.now)) walk.old walk.new) }
+{
+    match tested {
+        Some(dates) => {
+            for v in dates {
+                walk.note(Variable::Date(*v))?;
+            }
+            Ok(())
+        }
+        None => none(walk),
+    }
+}
+
+/// Adds the kinds of a test.
+///
+/// # Errors
+/// [`Memory`]: there was no memory left.
+fn note_kinds<'s>(walk: &mut Walk<'s>, tested: &Option<Vec<Kind>>) -> Result<(), Memory>
+    ensures { OnOk result (Adds
+        (each_if the_kind (option_map (λ vs. vs.items) tested.now)) walk.old walk.new) }
+{
+    match tested {
+        Some(kinds) => {
+            for kind in kinds {
+                walk.note_kind(*kind)?;
+            }
+            Ok(())
+        }
+        None => none(walk),
+    }
+}
+
+/// Adds the variable of a number or a label.
+///
+/// # Errors
+/// [`Memory`]: there was no memory left.
+fn note_number_or_page<'s>(
+    walk: &mut Walk<'s>,
+    variable: NumberOrPageVariable,
+) -> Result<(), Memory>
+    ensures { OnOk result (Adds (the_number_or_page variable) walk.old walk.new) }
+{
+    match variable {
+        NumberOrPageVariable::Number(v) => walk.note(Variable::Number(v)),
+        NumberOrPageVariable::Page(v) => walk.note(Variable::Page(v)),
+    }
+}
+
+/// Adds the variables of names.
+///
+/// # Errors
+/// [`Memory`]: there was no memory left.
+fn note_names<'s>(walk: &mut Walk<'s>, names: &[NameVariable]) -> Result<(), Memory>
+    ensures { OnOk result (Adds (each_of the_name names.now) walk.old walk.new) }
+{
+    for v in names {
+        walk.note(Variable::Name(*v))?;
+    }
+    Ok(())
+}
+
+/// Adds what the tests of a branch ask the entry.
+///
+/// # Errors
+/// [`Memory`]: there was no memory left.
+fn note_tests<'s>(walk: &mut Walk<'s>, branch: &'s ChooseBranch) -> Result<(), Memory>
+    ensures { OnOk result (Adds (of_tests (view_branch branch.now).tests) walk.old walk.new) }
+{
+    note_variables(walk, &branch.is_numeric)?;
+    note_dates(walk, &branch.is_uncertain_date)?;
+    note_kinds(walk, &branch.type_)?;
+    note_variables(walk, &branch.variable)?;
+    Ok(())
+}
+
+/// The macro of a name, unless it was seen or the style lacks it.
+fn unseen<'s>(walk: &Walk<'s>, name: &str) -> Option<&'s CslMacro>
+    ensures meaning { IfSome result (λ found. env walk.now.style name.now
+        ≡ Some (fills (env walk.now.style) (views found.now.children.items))) }
+    ensures known { result ≡ None
+        → joined (has walk.now.named) (of_meaning (env walk.now.style name.now))
+        ≡ has walk.now.named }
+{
+    if walk.knows(name) {
+        return None;
+    }
+    walk.style().get_macro(name)
+}
+
+/// Adds what an element names.
+///
+/// # Errors
+/// [`Memory`]: there was no memory left.
+#[cycle(named)]
+fn name_element<'s>(walk: &mut Walk<'s>, element: &'s LayoutRenderingElement) -> Result<(), Memory>
+    ensures { OnOk result (Adds
+        (of_full (fill (env walk.old.style) (view element.now))) walk.old walk.new) }
+{
+    match element {
+        LayoutRenderingElement::Text(text) => match &text.target {
+            TextTarget::Variable { var, .. } => walk.note(*var),
+            TextTarget::Macro { name } => match unseen(walk, name.as_str()) {
+                Some(found) => {
+                    name_all(walk, &found.children)?;
+                    walk.learn(name.as_str())
+                }
+                None => Ok(()),
+            },
+            TextTarget::Term { .. } | TextTarget::Value { .. } => none(walk),
+        },
+        LayoutRenderingElement::Number(number) => note_number_or_page(walk, number.variable),
+        LayoutRenderingElement::Label(label) => note_number_or_page(walk, label.variable),
+        LayoutRenderingElement::Date(date) => match date.variable {
+            Some(v) => walk.note(Variable::Date(v)),
+            None => none(walk),
+        },
+        LayoutRenderingElement::Names(names) => name_names(walk, names),
+        LayoutRenderingElement::Choose(choose) => name_choose(walk, choose),
+        LayoutRenderingElement::Group(group) => name_all(walk, &group.children),
+    }
+}
+
+/// Adds what any of the elements names.
+///
+/// # Errors
+/// [`Memory`]: there was no memory left.
+#[cycle(named)]
+fn name_all<'s>(walk: &mut Walk<'s>, elements: &'s [LayoutRenderingElement]) -> Result<(), Memory>
+    ensures { OnOk result (Adds
+        (of_fulls (fills (env walk.old.style) (views elements.now))) walk.old walk.new) }
+{
+    for element in elements {
+        name_element(walk, element)?;
+    }
+    Ok(())
+}
+
+/// Adds what names and their substitutes name.
+///
+/// # Errors
+/// [`Memory`]: there was no memory left.
+#[cycle(named)]
+fn name_names<'s>(walk: &mut Walk<'s>, names: &'s Names) -> Result<(), Memory>
+    ensures { OnOk result (Adds
+        (of_full (fill (env walk.old.style) (view_names names.now))) walk.old walk.new) }
+{
+    note_names(walk, &names.variable)?;
+    for child in &names.children {
+        name_child(walk, child)?;
+    }
+    Ok(())
+}
+
+/// Adds what a child of names names: a substitute.
+///
+/// # Errors
+/// [`Memory`]: there was no memory left.
+#[cycle(named)]
+fn name_child<'s>(walk: &mut Walk<'s>, child: &'s NamesChild) -> Result<(), Memory>
+    ensures { OnOk result (Adds
+        (of_child (env walk.old.style) (view_child child.now)) walk.old walk.new) }
+{
+    match child {
+        NamesChild::Name(_) | NamesChild::EtAl(_) | NamesChild::Label(_) => none(walk),
+        NamesChild::Substitute(substitute) => name_all(walk, &substitute.children),
+    }
+}
+
+/// Adds what a branch names, with its tests.
+///
+/// # Errors
+/// [`Memory`]: there was no memory left.
+#[cycle(named)]
+fn name_branch<'s>(walk: &mut Walk<'s>, branch: &'s ChooseBranch) -> Result<(), Memory>
+    ensures { OnOk result (Adds
+        (of_part (env walk.old.style) (view_branch branch.now)) walk.old walk.new) }
+{
+    note_tests(walk, branch)?;
+    name_all(walk, &branch.children)?;
+    Ok(())
+}
+
+/// Adds what the branches of a choice name, and what is printed where none is chosen.
+///
+/// # Errors
+/// [`Memory`]: there was no memory left.
+#[cycle(named)]
+fn name_choose<'s>(walk: &mut Walk<'s>, choose: &'s Choose) -> Result<(), Memory>
+    ensures { OnOk result (Adds
+        (of_full (fill (env walk.old.style) (view_choose choose.now))) walk.old walk.new) }
+{
+    name_branch(walk, &choose.if_)?;
+    for branch in &choose.else_if {
+        name_branch(walk, branch)?;
+    }
+    match &choose.otherwise {
+        Some(otherwise) => name_all(walk, otherwise),
+        None => none(walk),
+    }
+}
+
+/// What a layout names of an entry: the variables and kinds that are written in it and in the
+/// macros of the style that it reaches, every branch with its tests and every substitute included.
+/// The four variables that the citation answers ([`Variable::is_of_citation`]) are not named.
+///
+/// # Errors
+/// [`Memory`]: there was no memory left.
+pub fn named_by(alloc: Global, style: &Style, layout: &Layout) -> Result<Named, Memory>
+    ensures { IfOk result (λ named. has named
+        ≡ of_fulls (fill_layout (env style.now) (view_layout layout.now)).elements) }
+{
+    let mut walk = Walk::new(alloc, style);
+    name_all(&mut walk, &layout.elements)?;
+    Ok(walk.into_named())
+}
