@@ -5,3 +5,5 @@ pub mod Leaving
 pub mod Grouped
 pub mod GroupView
 pub mod Called
+pub mod SpelledNumbers
+pub mod Readings

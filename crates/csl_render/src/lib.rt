@@ -3,6 +3,9 @@
 //! lends. A text, a group and a layout do; the other nodes make nothing yet.
 #![tactic(auto)]
 
+mod choose;
+mod condition;
+mod conditions;
 mod dressing;
 mod element;
 mod group;
@@ -16,5 +19,7 @@ mod usage;
 mod variable;
 mod words;
 
+pub use choose::choose_children;
+pub use conditions::{BranchConditionIter, BranchConditionPos};
 pub use render::RenderCsl;
 pub use usage::UsageInfo;
