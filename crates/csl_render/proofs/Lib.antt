@@ -7,3 +7,4 @@ pub mod GroupView
 pub mod Called
 pub mod SpelledNumbers
 pub mod Readings
+pub mod Chosen

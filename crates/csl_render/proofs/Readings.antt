@@ -1,10 +1,13 @@
 -- What is left behind a place, once the test there was read, and where there is none.
 use Rattle.std.proofs.Common.{◌≡◌, ℕ, ◌+◌, ◌<◌, suc, zero, Bool, List, [], ◌∷◌, ◌++◌, drop, length, Option, Some, None, slice_get, refl, sym, ap, ◌∙◌, subst, arith, append-nil}
-use Rattle.csl_style.specs.Node.{Tests}
+use Rattle.csl_style.specs.declared.element.ChooseBranch.{ChooseBranch}
+use Rattle.csl_style.specs.declared.element.LayoutRenderingElement.TheFolds.{fold_out-ChooseBranch}
+use Rattle.csl_style.specs.Node.{Node, Nodes, Tests}
+use Rattle.csl_style.specs.View.{view_branch, Child, Part, element_step, child_step, choose_step, branch_step, group_step, names_step, substitute_step}
 use Rattle.csl_context.specs.State.{State}
 use Rattle.csl_context.specs.World.{World}
-use Rattle.csl_render.specs.Conditions.{conditions_at}
-use Rattle.csl_render.specs.ConditionsLeft.{arm_behind, arms_from, conditions_behind, conditions_from}
+use Rattle.csl_render.specs.Conditions.{conditions_at, conditions}
+use Rattle.csl_render.specs.ConditionsLeft.{arm_behind, arms_from, conditions_behind, conditions_from, tests_of}
 use Rattle.csl_render.specs.declared.conditions.BranchConditionPos.{BranchConditionPos}
 use Rattle.csl_render.specs.declared.conditions.BranchConditionPos.TheVariants as arm
 
@@ -61,3 +64,10 @@ arms_fall arm.Locator r e = falls_to arm.Locator arm.Position (omega arith) r e
 arms_fall arm.Position r e = falls_to arm.Position arm.Type_ (omega arith) r e
 arms_fall arm.Type_ r e = falls_to arm.Type_ arm.Variable (omega arith) r e
 arms_fall arm.Variable r e = cc
+
+tests_out : (b : ChooseBranch) → tests_of b ≡ (view_branch b).tests
+tests_out b = rw (fold_out-ChooseBranch Node Child Node Part Node Node Nodes element_step child_step choose_step branch_step group_step names_step substitute_step b) refl
+
+-- before anything is read, all of a branch is left
+pub all_left : (w : World) (s : State) (b : ChooseBranch) → conditions_from w s (tests_of b) arm.Disambiguate 0 ≡ conditions w s (view_branch b).tests
+all_left w s b = ap (conditions w s) (tests_out b)

@@ -1,7 +1,7 @@
 -- The conditions of a branch that are still to be read, and what one reading gives.
-use Rattle.std.specs.Prelude.{◌≡◌, ℕ, Bool, true, false, List, [], ◌∷◌, ◌++◌, drop, Option, Some, None, Result, MatchOption, MatchResult, if◌then◌else◌}
+use Rattle.std.specs.Prelude.{◌≡◌, ℕ, Bool, true, false, List, [], ◌∷◌, ◌++◌, drop, Option, Some, None, option_map, Result, MatchOption, MatchResult, if◌then◌else◌}
 use Rattle.csl_style.specs.Node.{Tests}
-use Rattle.csl_style.specs.View.{view_branch}
+use Rattle.csl_style.specs.declared.element.ChooseBranch.{ChooseBranch, out-ChooseBranch}
 use Rattle.csl_entry.specs.Answers.{Answers}
 use Rattle.csl_context.specs.State.{State}
 use Rattle.csl_context.specs.World.{World}
@@ -57,11 +57,24 @@ conditions_from w s ts p i = drop i (conditions_at w s ts p) ++ conditions_behin
 
 -- ---- readings
 
+-- what a branch asks, part by part
+abbrev pub tests_of : ChooseBranch → Tests
+tests_of b = let branch = out-ChooseBranch b in record {
+  disambiguate = branch.disambiguate;
+  is_numeric = option_map (λ v. v.items) branch.is_numeric;
+  is_uncertain_date = option_map (λ v. v.items) branch.is_uncertain_date;
+  locator = option_map (λ v. v.items) branch.locator;
+  position = option_map (λ v. v.items) branch.position;
+  type_ = option_map (λ v. v.items) branch.type_;
+  variable = option_map (λ v. v.items) branch.variable;
+  match_ = branch.match_;
+}
+
 -- what is left to be read: nothing behind an error
 abbrev pub conditions_left : {T : Type 0} → (T → Answers) → BranchConditionIter T → List Bool
 conditions_left answers it =
     if it.ended then []
-    else conditions_from (world answers it.ctx.now) it.ctx.now.state (view_branch it.branch.now).tests it.pos it.index
+    else conditions_from (world answers it.ctx.now) it.ctx.now.state (tests_of it.branch.now) it.pos it.index
 
 -- a look failed: the context stays as it is
 abbrev pub FailsSilently : {T : Type 0} → RenderError → Now T → Type 0

@@ -32,7 +32,6 @@ fn sound<'s, T: EntryLike>(ctx: &Context<'s, T>) -> Result<(), RenderError>
 ///
 /// # Errors
 /// [`Memory`]: there was no memory left.
-#[tactic(auto, using(crate::proofs::SpelledNumbers::is_number_by))]
 fn is_number(alloc: Global, text: &ChunkedString) -> Result<bool, Memory>
     ensures { IfOk result (λ holds. holds ≡ is_number (chunks text.now)) }
 {

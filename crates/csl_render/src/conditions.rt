@@ -5,7 +5,7 @@ ghost use Rattle.std.specs.Iterator.{YieldsFirst, item_count};
 ghost use Rattle.csl_style.specs.View.{view_branch};
 ghost use Rattle.csl_context.specs.Now.{world};
 ghost use Rattle.csl_render.specs.Conditions.{all_if, conditions_at, conditions};
-ghost use Rattle.csl_render.specs.ConditionsLeft.{arm_behind, arms_from, conditions_left, ReadsAt, Reads};
+ghost use Rattle.csl_render.specs.ConditionsLeft.{arm_behind, arms_from, conditions_left, tests_of, ReadsAt, Reads};
 
 use crate::condition::{
     is_disambiguated, is_located, is_numeric, is_of_kind, is_positioned, is_present, is_uncertain,
@@ -102,38 +102,47 @@ impl<'a, 's, T: EntryLike> BranchConditionIter<'a, 's, T> {
     fn read(&self) -> Option<Result<bool, RenderError>>
         ensures { ReadsAt self.now.ctx.now (slice_get (conditions_at
             (world T.answers self.now.ctx.now) self.now.ctx.now.state
-            (view_branch self.now.branch.now).tests self.now.pos) self.now.index) result }
+            (tests_of self.now.branch.now) self.now.pos) self.now.index) result }
     {
         let branch = self.branch;
         match self.pos {
-            BranchConditionPos::Disambiguate => match branch.disambiguate {
-                Some(wanted) if self.index == 0 => Some(is_disambiguated(self.ctx, wanted)),
-                _ => None,
+            BranchConditionPos::Disambiguate => {
+                if self.index == 0 {
+                    match branch.disambiguate {
+                        Some(wanted) => Some(is_disambiguated(self.ctx, wanted)),
+                        None => None,
+                    }
+                } else {
+                    None
+                }
+            }
+            BranchConditionPos::IsNumeric => match asked(&branch.is_numeric, self.index) {
+                Some(variable) => Some(is_numeric(self.ctx, variable)),
+                None => None,
             },
-            BranchConditionPos::IsNumeric => {
-                let variable = asked(&branch.is_numeric, self.index)?;
-                Some(is_numeric(self.ctx, variable))
-            }
-            BranchConditionPos::IsUncertainDate => {
-                let variable = asked(&branch.is_uncertain_date, self.index)?;
-                Some(is_uncertain(self.ctx, variable))
-            }
-            BranchConditionPos::Locator => {
-                let kind = asked(&branch.locator, self.index)?;
-                Some(is_located(self.ctx, kind))
-            }
-            BranchConditionPos::Position => {
-                let position = asked(&branch.position, self.index)?;
-                Some(is_positioned(self.ctx, position))
-            }
-            BranchConditionPos::Type_ => {
-                let kind = asked(&branch.type_, self.index)?;
-                Some(is_of_kind(self.ctx, kind))
-            }
-            BranchConditionPos::Variable => {
-                let variable = asked(&branch.variable, self.index)?;
-                Some(is_present(self.ctx, variable))
-            }
+            BranchConditionPos::IsUncertainDate => match asked(
+                &branch.is_uncertain_date,
+                self.index,
+            ) {
+                Some(variable) => Some(is_uncertain(self.ctx, variable)),
+                None => None,
+            },
+            BranchConditionPos::Locator => match asked(&branch.locator, self.index) {
+                Some(kind) => Some(is_located(self.ctx, kind)),
+                None => None,
+            },
+            BranchConditionPos::Position => match asked(&branch.position, self.index) {
+                Some(position) => Some(is_positioned(self.ctx, position)),
+                None => None,
+            },
+            BranchConditionPos::Type_ => match asked(&branch.type_, self.index) {
+                Some(kind) => Some(is_of_kind(self.ctx, kind)),
+                None => None,
+            },
+            BranchConditionPos::Variable => match asked(&branch.variable, self.index) {
+                Some(variable) => Some(is_present(self.ctx, variable)),
+                None => None,
+            },
         }
     }
 }
