@@ -8,3 +8,4 @@ pub mod Called
 pub mod SpelledNumbers
 pub mod Readings
 pub mod Chosen
+pub mod Macros
