@@ -5,3 +5,7 @@ pub mod Leaving
 pub mod Grouped
 pub mod GroupView
 pub mod Called
+pub mod SpelledNumbers
+pub mod Readings
+pub mod Chosen
+pub mod Macros

@@ -1,14 +1,15 @@
--- What a node says in a dry run, what it shows, and what it makes (CSL 1.0.2, Rendering Elements; Group; Layout; Macro).
--- A number, a label, a date, a choice and names say, show and make nothing yet.
+-- What a node says in a dry run, what it shows, and what it makes (CSL 1.0.2, Rendering Elements; Group; Layout; Macro; Choose).
+-- A number, a label, a date and names say, show and make nothing yet.
 use Rattle.std.specs.Prelude.{ℕ, Bool, true, false, ◌||◌, List, [], Option, Some, None, if◌then◌else◌}
 use Rattle.csl_style.specs.declared.taxonomy.Variable.{Variable}
 use Rattle.csl_style.specs.Dressing.{AffixTexts, Dressing, TextDressing}
-use Rattle.csl_style.specs.Node.{Full, printed, called, lacking, numbered, labelled, dated, named, shorthand, chosen, grouped, Fulls, none, more, FullLayout}
+use Rattle.csl_style.specs.Node.{Full, printed, called, lacking, numbered, labelled, dated, named, shorthand, chosen, grouped, Fulls, none, more, Cases, no_cases, else_case, case, FullLayout}
 use Rattle.csl_tree.specs.Tokens.{Token}
 use Rattle.csl_tree.specs.Content.{◌++>◌, boxed}
 use Rattle.csl_context.specs.State.{State, Inherited}
 use Rattle.csl_context.specs.World.{World}
 use Rattle.csl_context.specs.Texts.{text_in, affixed_in}
+use Rattle.csl_render.specs.Conditions.{holds}
 use Rattle.csl_render.specs.Flags.{rule, Info, nothing_said, either, counted, but_groups, group_info, macro_info}
 use Rattle.csl_render.specs.Text.{Made, made, then_made, within, in_body, text_box, no_affixes, target_info, target_shows, target_tree, shows_macro_affixes}
 
@@ -74,12 +75,18 @@ module _ (w : World) where
     info s (dated n) = nothing_said
     info s (named n is) = nothing_said
     info s (shorthand written n) = nothing_said
-    info s (chosen cs) = nothing_said
+    info s (chosen cs) = cases_info s cs
     info s (grouped delimiter d fs) = group_info (infos s fs)
 
     pub infos : State → Fulls → Info
     infos s none = nothing_said
     infos s (more f fs) = either (counted (is_group f) (info s f)) (infos s fs)
+
+    -- the nodes that are chosen; no group among them is counted
+    pub cases_info : State → Cases → Info
+    cases_info s no_cases = nothing_said
+    cases_info s (else_case fs) = but_groups (infos s fs)
+    cases_info s (case ts fs cs) = if holds w s ts then but_groups (infos s fs) else cases_info s cs
 
   abbrev mutual
     pub shows : State → Variable → Full → Bool
@@ -91,12 +98,17 @@ module _ (w : World) where
     shows s v (dated n) = false
     shows s v (named n is) = false
     shows s v (shorthand written n) = false
-    shows s v (chosen cs) = false
+    shows s v (chosen cs) = cases_show s v cs
     shows s v (grouped delimiter d fs) = any_shows s v fs
 
     pub any_shows : State → Variable → Fulls → Bool
     any_shows s v none = false
     any_shows s v (more f fs) = shows s v f || any_shows s v fs
+
+    pub cases_show : State → Variable → Cases → Bool
+    cases_show s v no_cases = false
+    cases_show s v (else_case fs) = any_shows s v fs
+    cases_show s v (case ts fs cs) = if holds w s ts then any_shows s v fs else cases_show s v cs
 
   abbrev mutual
     pub tree : Full → Inherited → State → Made
@@ -108,7 +120,7 @@ module _ (w : World) where
     tree (dated n) inh s = made [] s
     tree (named n is) inh s = made [] s
     tree (shorthand written n) inh s = made [] s
-    tree (chosen cs) inh s = made [] s
+    tree (chosen cs) inh s = cases_tree cs inh s
     tree (grouped delimiter d fs) inh s =
         group_made (rule (info s (grouped delimiter d fs)).flags) d inh (delimited fs (in_group delimiter d inh) true s)
 
@@ -125,5 +137,24 @@ module _ (w : World) where
         then then_made (admitted_made first inh (tree f inh s)).content (delimited fs inh false (tree f inh s).state)
         else delimited fs inh first s
 
+    -- the nodes that are chosen, under the inherited delimiter
+    pub cases_tree : Cases → Inherited → State → Made
+    cases_tree no_cases inh s = made [] s
+    cases_tree (else_case fs) inh s = delimited fs inh true s
+    cases_tree (case ts fs cs) inh s = if holds w s ts then delimited fs inh true s else cases_tree cs inh s
+
   abbrev pub layout_tree : FullLayout → Inherited → State → Made
   layout_tree l inh s = sum_of l.elements (record (within l.formatting inh) { delimiter = l.delimiter }) s
+
+  -- what is said, shown and made of the nodes that were chosen, if there are any
+  abbrev pub choice_info : State → Option Fulls → Info
+  choice_info s None = nothing_said
+  choice_info s (Some fs) = but_groups (infos s fs)
+
+  abbrev pub choice_shows : State → Variable → Option Fulls → Bool
+  choice_shows s v None = false
+  choice_shows s v (Some fs) = any_shows s v fs
+
+  abbrev pub choice_tree : Option Fulls → Inherited → State → Made
+  choice_tree None inh s = made [] s
+  choice_tree (Some fs) inh s = delimited fs inh true s

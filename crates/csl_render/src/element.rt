@@ -30,7 +30,7 @@ impl RenderCsl for LayoutRenderingElement {
             LayoutRenderingElement::Label(_) => nothing_said(ctx),
             LayoutRenderingElement::Date(_) => nothing_said(ctx),
             LayoutRenderingElement::Names(_) => nothing_said(ctx),
-            LayoutRenderingElement::Choose(_) => nothing_said(ctx),
+            LayoutRenderingElement::Choose(choose) => choose.will_have_info(ctx),
         }
     }
 
@@ -47,7 +47,7 @@ impl RenderCsl for LayoutRenderingElement {
             LayoutRenderingElement::Label(_) => nothing_shown(ctx),
             LayoutRenderingElement::Date(_) => nothing_shown(ctx),
             LayoutRenderingElement::Names(_) => nothing_shown(ctx),
-            LayoutRenderingElement::Choose(_) => nothing_shown(ctx),
+            LayoutRenderingElement::Choose(choose) => choose.will_render(ctx, var),
         }
     }
 
@@ -60,7 +60,7 @@ impl RenderCsl for LayoutRenderingElement {
             LayoutRenderingElement::Label(_) => nothing(ctx),
             LayoutRenderingElement::Date(_) => nothing(ctx),
             LayoutRenderingElement::Names(_) => nothing(ctx),
-            LayoutRenderingElement::Choose(_) => nothing(ctx),
+            LayoutRenderingElement::Choose(choose) => choose.render(ctx),
         }
     }
 }

@@ -1,8 +1,12 @@
 //! What each node of a style makes of a cite (CSL 1.0.2, Rendering Elements): whether it prints
 //! and what it notes, whether it shows a variable, and its content, in a context that the caller
-//! lends. A text, a group and a layout do; the other nodes make nothing yet.
+//! lends. A text, a group, a choice and a layout do; the other nodes make
+//! nothing yet.
 #![tactic(auto)]
 
+mod choose;
+mod condition;
+mod conditions;
 mod dressing;
 mod element;
 mod group;
@@ -16,5 +20,7 @@ mod usage;
 mod variable;
 mod words;
 
+pub use choose::choose_children;
+pub use conditions::{BranchConditionIter, BranchConditionPos};
 pub use render::RenderCsl;
 pub use usage::UsageInfo;

@@ -1,6 +1,6 @@
 use Rattle.std.proofs.Common.{◌≡◌, ◌+◌, ◌*◌, ◌≤◌, false, drop}
 use Rattle.csl_style.specs.Node.{size, sizes, fill, fills}
-use Rattle.csl_style.specs.View.{view, view_text, view_group, views}
+use Rattle.csl_style.specs.View.{view, view_text, view_group, view_choose, views}
 use Rattle.csl_context.specs.World.{env}
 use Rattle.csl_context.specs.Now.{world}
 use Rattle.csl_render.specs.Flags.{either}
@@ -16,6 +16,9 @@ decreases-text::TextRenderCsl::will_have_info g l = 2 * size (fill (env l.ctx.no
 
 abbrev pub decreases-group::GroupRenderCsl::will_have_info : goal.decreases-group::GroupRenderCsl::will_have_info
 decreases-group::GroupRenderCsl::will_have_info g l = 2 * size (fill (env l.ctx.now.style) (view_group l.self.now))
+
+abbrev pub decreases-choose::ChooseRenderCsl::will_have_info : goal.decreases-choose::ChooseRenderCsl::will_have_info
+decreases-choose::ChooseRenderCsl::will_have_info g l = 2 * size (fill (env l.ctx.now.style) (view_choose l.self.now))
 
 abbrev pub decreases-element::infos : goal.decreases-element::infos
 decreases-element::infos g l = 2 * sizes (fills (env l.ctx.now.style) (views l.nodes.now))

@@ -1,6 +1,6 @@
 use Rattle.std.proofs.Common.{◌≡◌, ◌+◌, ◌*◌, ◌≤◌, true, false, drop}
 use Rattle.csl_style.specs.Node.{size, sizes, fill, fills}
-use Rattle.csl_style.specs.View.{view, view_text, view_group, views}
+use Rattle.csl_style.specs.View.{view, view_text, view_group, view_choose, views}
 use Rattle.csl_context.specs.World.{env}
 use Rattle.csl_context.specs.Now.{world}
 use Rattle.csl_render.specs.Tree.{sum_of, delimited}
@@ -18,6 +18,9 @@ decreases-text::render_macro g l = 3 * sizes (fills (env l.ctx.now.style) (views
 
 abbrev pub decreases-group::GroupRenderCsl::render : goal.decreases-group::GroupRenderCsl::render
 decreases-group::GroupRenderCsl::render g l = 3 * size (fill (env l.ctx.now.style) (view_group l.self.now))
+
+abbrev pub decreases-choose::ChooseRenderCsl::render : goal.decreases-choose::ChooseRenderCsl::render
+decreases-choose::ChooseRenderCsl::render g l = 3 * size (fill (env l.ctx.now.style) (view_choose l.self.now))
 
 abbrev pub decreases-element::render_all : goal.decreases-element::render_all
 decreases-element::render_all g l = 3 * sizes (fills (env l.ctx.now.style) (views l.nodes.now))

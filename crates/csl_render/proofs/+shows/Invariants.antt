@@ -1,6 +1,6 @@
 use Rattle.std.proofs.Common.{◌≡◌, ◌+◌, ◌*◌, ◌≤◌, false, drop}
 use Rattle.csl_style.specs.Node.{size, sizes, fill, fills}
-use Rattle.csl_style.specs.View.{view, view_text, view_group, views}
+use Rattle.csl_style.specs.View.{view, view_text, view_group, view_choose, views}
 use Rattle.csl_context.specs.World.{env}
 use Rattle.csl_context.specs.Now.{world}
 use Rattle.csl_render.specs.Tree.{any_shows}
@@ -14,6 +14,9 @@ decreases-text::TextRenderCsl::will_render g l = 2 * size (fill (env l.ctx.now.s
 
 abbrev pub decreases-group::GroupRenderCsl::will_render : goal.decreases-group::GroupRenderCsl::will_render
 decreases-group::GroupRenderCsl::will_render g l = 2 * size (fill (env l.ctx.now.style) (view_group l.self.now))
+
+abbrev pub decreases-choose::ChooseRenderCsl::will_render : goal.decreases-choose::ChooseRenderCsl::will_render
+decreases-choose::ChooseRenderCsl::will_render g l = 2 * size (fill (env l.ctx.now.style) (view_choose l.self.now))
 
 abbrev pub decreases-element::any_shows : goal.decreases-element::any_shows
 decreases-element::any_shows g l = 2 * sizes (fills (env l.ctx.now.style) (views l.nodes.now))
