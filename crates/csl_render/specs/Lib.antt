@@ -1,6 +1,11 @@
 pub mod Flags
 pub mod Usages
+pub mod Pages
+pub mod Answered
 pub mod Text
+pub mod Boxes
 pub mod Bodies
+pub mod Numbers
+pub mod Labels
 pub mod Tree
 pub mod Rendering
