@@ -2,19 +2,18 @@
 //! Strip-periods).
 
 ghost use Rattle.std.specs.Prelude.{◌≡◌, ◌+◌, length, IfOk, OnOk, IfErr};
-ghost use Rattle.csl_style.specs.Dressing.{affix_texts, dressing_of};
+ghost use Rattle.csl_style.specs.Dressing.{affix_texts};
 ghost use Rattle.csl_style.specs.View.{text_dressing};
-ghost use Rattle.csl_tree.specs.Tokens.{meta_of, optional_meta};
+ghost use Rattle.csl_tree.specs.Tokens.{optional_meta};
 ghost use Rattle.csl_context.specs.Now.{FailsAs, Leaves, IsInnermost, with_part, closed_by, with_content};
 ghost use Rattle.csl_render.specs.Text.{made, in_body, in_quotes_if, moved_if, turned_if, text_box};
 ghost use Rattle.csl_render.specs.Bodies.{body_in};
-ghost use Rattle.csl_render.specs.Boxes.{plain_box};
 ghost use Rattle.csl_render.specs.Rendering.{with_made};
 
 use crate::answered::Shown;
 use csl_context::{Context, Mark, RenderError};
 use csl_entry::EntryLike;
-use csl_style::{Affixes, Display, Formatting, Text};
+use csl_style::{Affixes, Text};
 use csl_tree::ElemMeta;
 use lit_model::ChunkedString;
 
@@ -75,7 +74,13 @@ pub(crate) fn close_quotes<'s, T: EntryLike>(
 }
 
 /// Appends a body.
-fn write_body<'s, T: EntryLike>(ctx: &mut Context<'s, T>, body: Body<'_>) -> Result<(), RenderError>
+///
+/// # Errors
+/// As [`open_quotes`].
+pub(crate) fn write_body<'s, T: EntryLike>(
+    ctx: &mut Context<'s, T>,
+    body: Body<'_>,
+) -> Result<(), RenderError>
     ensures ok { OnOk result (Leaves (with_content (λ inh. body_in inh body.entry))
         ctx.old ctx.new) }
     ensures err { IfErr result (λ e. FailsAs e ctx.old ctx.new) }
@@ -116,42 +121,6 @@ pub(crate) fn render_body<'s, T: EntryLike>(
     let moved = close_quotes(ctx, inside, text.quotes, affixes)?;
     ctx.apply_suffix(affixes, middle, moved)?;
     ctx.commit_elem(element, text.display, meta)?;
-    ctx.pop_format();
-    Ok(())
-}
-
-/// What stands around the body of a node that has no quotes.
-#[derive(Clone, Copy)]
-pub(crate) struct Around<'b> {
-    pub(crate) formatting: Formatting,
-    pub(crate) affixes: &'b Affixes,
-    pub(crate) display: Option<Display>,
-    pub(crate) strip_periods: bool,
-}
-
-/// Appends the box of a node without quotes around a body.
-///
-/// # Errors
-/// As [`open_quotes`].
-pub(crate) fn render_plain<'s, T: EntryLike>(
-    around: Around<'_>,
-    ctx: &mut Context<'s, T>,
-    meta: ElemMeta,
-    body: Body<'_>,
-) -> Result<(), RenderError>
-    ensures ok { OnOk result (Leaves (with_content (plain_box (dressing_of around.entry.formatting
-        around.entry.affixes.now around.entry.display) around.entry.strip_periods (meta_of meta)
-        (λ inh. body_in inh body.entry))) ctx.old ctx.new) }
-    ensures err { IfErr result (λ e. FailsAs e ctx.old ctx.new) }
-{
-    ctx.push_format(around.formatting)?;
-    let element = ctx.push_elem()?;
-    let middle = ctx.apply_prefix()?;
-    let stripping = ctx.may_strip_periods(around.strip_periods);
-    write_body(ctx, body)?;
-    ctx.stop_stripping_periods(stripping);
-    ctx.apply_suffix(around.affixes, middle, false)?;
-    ctx.commit_elem(element, around.display, Some(meta))?;
     ctx.pop_format();
     Ok(())
 }

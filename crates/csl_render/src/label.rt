@@ -10,7 +10,8 @@ ghost use Rattle.csl_render.specs.Labels.{label_term, is_count, plural_number, i
 ghost use Rattle.csl_render.specs.Rendering.{part};
 
 use crate::answered::peek_number_or_page;
-use crate::dressing::{Around, Body, render_plain};
+use crate::boxes::{Around, render_plain};
+use crate::dressing::Body;
 use crate::render::{RenderCsl, nothing, nothing_shown};
 use crate::usage::UsageInfo;
 use csl_context::{Context, RenderError};

@@ -4,6 +4,7 @@
 #![tactic(auto)]
 
 mod answered;
+mod boxes;
 mod dressing;
 mod element;
 mod group;

@@ -14,7 +14,8 @@ ghost use Rattle.csl_render.specs.Rendering.{part};
 ghost use Rattle.csl_render.specs.Usages.{told};
 
 use crate::answered::{peek_number_or_page, resolve_number_or_page, shown_by_number};
-use crate::dressing::{Around, Body, render_plain};
+use crate::boxes::{Around, render_plain};
+use crate::dressing::Body;
 use crate::render::{RenderCsl, nothing};
 use crate::special::is_left_by_only;
 use crate::usage::UsageInfo;
