@@ -134,6 +134,7 @@ calls (of_value bs) = false
 abbrev pub found_info : Bool → Option Found → Info
 found_info calls None = info_of false (flags calls false false false)
 found_info calls (Some (answer v cs)) = info_of (not (is_empty cs)) (flags true (not (is_empty cs)) false false)
+found_info calls (Some (numeral v n)) = info_of true (flags true true false false)
 found_info calls (Some (term bs)) = info_of true no_flags
 found_info calls (Some (value bs)) = info_of (not (length bs == 0)) no_flags
 
