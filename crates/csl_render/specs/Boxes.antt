@@ -12,9 +12,9 @@ abbrev pub in_plain : Dressing → Bool → Inherited → Inherited
 in_plain d strip inh = record (within d.formatting inh) { stripping = strip || inh.stripping }
 
 -- a body in its affixes
-abbrev pub plain_between : Dressing → Bool → (Inherited → List Token) → Inherited → List Token
-plain_between d strip body inh = affixed_in (within d.formatting inh) d.affixes (body (in_plain d strip inh))
+abbrev pub plain_between : Dressing → Inherited → List Token → List Token
+plain_between d inh c = affixed_in (within d.formatting inh) d.affixes c
 
 -- a node's box around its body
-abbrev pub plain_box : Dressing → Bool → Meta → (Inherited → List Token) → Inherited → List Token
-plain_box d strip meta body inh = boxed d.display (Some meta) (plain_between d strip body inh)
+abbrev pub plain_box : Dressing → Meta → Inherited → List Token → List Token
+plain_box d meta inh c = boxed d.display (Some meta) (plain_between d inh c)

@@ -29,7 +29,7 @@ use Rattle.csl_context.specs.State.{State, Inherited}
 use Rattle.csl_context.specs.Texts.{text_in}
 use Rattle.csl_context.specs.World.{World, term_in}
 use Rattle.csl_render.specs.Answered.{number_or_page_look}
-use Rattle.csl_render.specs.Boxes.{plain_box}
+use Rattle.csl_render.specs.Boxes.{in_plain, plain_box}
 use Rattle.csl_render.specs.Flags.{no_flags, Info, info_of}
 use Rattle.csl_render.specs.Text.{Made, made, same_variable}
 
@@ -125,7 +125,7 @@ label_dressing l = record { formatting = l.formatting; affixes = l.affixes; disp
 
 abbrev pub label_box : LabelNode → Option (List ℕ) → Inherited → List Token
 label_box l None inh = []
-label_box l (Some bs) inh = plain_box (label_dressing l) l.strip_periods of_label (λ inside. text_in inside bs) inh
+label_box l (Some bs) inh = plain_box (label_dressing l) of_label inh (text_in (in_plain (label_dressing l) l.strip_periods inh) bs)
 
 abbrev pub label_tree : World → NumberOrPageVariable → LabelNode → Inherited → State → Made
 label_tree w v l inh s = made (if label_prints w s v l then label_box l (label_text w s v l) inh else []) s

@@ -20,7 +20,7 @@ use Rattle.csl_context.specs.State.{State, Inherited, looked}
 use Rattle.csl_context.specs.Texts.{text_in}
 use Rattle.csl_context.specs.World.{World, gender_in}
 use Rattle.csl_render.specs.Answered.{number_or_page_look, shown_in, shown_by_number}
-use Rattle.csl_render.specs.Boxes.{plain_box}
+use Rattle.csl_render.specs.Boxes.{in_plain, plain_box}
 use Rattle.csl_render.specs.Flags.{flags, Info, info_of}
 use Rattle.csl_render.specs.Text.{Made, made, same_variable, is_left_by_only}
 
@@ -75,7 +75,7 @@ number_body w n found inh = shown_in inh (shown_by_number w.style n.form (gender
 -- a sort text is one text without a box
 abbrev pub number_content : World → NumberNode → NumberOrPageView → Option (List ℕ) → Inherited → List Token
 number_content w n found (Some key) inh = text_in inh key
-number_content w n found None inh = plain_box n.dressing false (number_meta n.variable) (number_body w n found) inh
+number_content w n found None inh = plain_box n.dressing (number_meta n.variable) inh (number_body w n found (in_plain n.dressing false inh))
 
 abbrev pub found_content : World → NumberNode → Option NumberOrPageView → Inherited → List Token
 found_content w n None inh = []

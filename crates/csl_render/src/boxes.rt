@@ -6,7 +6,7 @@ ghost use Rattle.csl_style.specs.Dressing.{dressing_of};
 ghost use Rattle.csl_tree.specs.Tokens.{meta_of};
 ghost use Rattle.csl_context.specs.Now.{FailsAs, Leaves, with_content};
 ghost use Rattle.csl_render.specs.Bodies.{body_in};
-ghost use Rattle.csl_render.specs.Boxes.{plain_box};
+ghost use Rattle.csl_render.specs.Boxes.{in_plain, plain_box};
 
 use crate::dressing::{Body, write_body};
 use csl_context::{Context, RenderError};
@@ -34,9 +34,10 @@ pub(crate) fn render_plain<'s, T: EntryLike>(
     meta: ElemMeta,
     body: Body<'_>,
 ) -> Result<(), RenderError>
-    ensures ok { OnOk result (Leaves (with_content (plain_box (dressing_of around.entry.formatting
-        around.entry.affixes.now around.entry.display) around.entry.strip_periods (meta_of meta)
-        (λ inh. body_in inh body.entry))) ctx.old ctx.new) }
+    ensures ok { OnOk result (Leaves (with_content (λ inh. plain_box (dressing_of
+        around.entry.formatting around.entry.affixes.now around.entry.display) (meta_of meta) inh
+        (body_in (in_plain (dressing_of around.entry.formatting around.entry.affixes.now
+        around.entry.display) around.entry.strip_periods inh) body.entry))) ctx.old ctx.new) }
     ensures err { IfErr result (λ e. FailsAs e ctx.old ctx.new) }
 {
     ctx.push_format(around.formatting)?;
