@@ -8,4 +8,3 @@ pub mod Called
 pub mod SpelledNumbers
 pub mod Readings
 pub mod Chosen
-pub mod Macros

@@ -1,7 +1,12 @@
 pub mod Flags
 pub mod Usages
+pub mod Pages
+pub mod Answered
 pub mod Text
+pub mod Boxes
 pub mod Bodies
+pub mod Numbers
+pub mod Labels
 pub mod Conditions
 pub mod ConditionsLeft
 pub mod Tree

@@ -9,7 +9,9 @@ use Rattle.csl_style.specs.declared.taxonomy.Variable.TheVariants as variable
 use Rattle.csl_style.specs.declared.taxonomy.StandardVariable.{StandardVariable}
 use Rattle.csl_style.specs.declared.taxonomy.StandardVariable.TheVariants as standard
 use Rattle.csl_style.specs.declared.taxonomy.NumberVariable.{NumberVariable}
-use Rattle.csl_style.specs.declared.taxonomy.NumberVariable.TheVariants.{Locator}
+use Rattle.csl_style.specs.declared.taxonomy.NumberVariable.TheVariants.{CitationNumber, Locator}
+use Rattle.csl_style.specs.declared.taxonomy.NumberOrPageVariable.{NumberOrPageVariable}
+use Rattle.csl_style.specs.declared.taxonomy.NumberOrPageVariable.TheVariants as number_or_page
 use Rattle.csl_style.specs.contracts.taxonomy.StandardVariable.{the_type as the_standard}
 use Rattle.csl_style.specs.contracts.taxonomy.NumberVariable.{the_type as the_number}
 use Rattle.csl_style.specs.contracts.taxonomy.VariablePartialEq.TheImpl.{eq-value}
@@ -20,15 +22,17 @@ use Rattle.csl_style.specs.Dressing.{AffixTexts, TextDressing}
 use Rattle.csl_style.specs.Node.{Target, of_variable, of_term, of_value}
 use Rattle.csl_style.specs.Style.{StyleParts}
 use Rattle.csl_tree.specs.Formatting.{over}
-use Rattle.csl_tree.specs.Tokens.{Token, Meta, of_text, of_citation_label}
+use Rattle.csl_tree.specs.Tokens.{Token, Meta, of_text, of_citation_label, of_citation_number}
 use Rattle.csl_tree.specs.Content.{◌++>◌, boxed}
 use Rattle.csl_entry.specs.declared.cite.SpecialForm.{SpecialForm}
 use Rattle.csl_entry.specs.declared.cite.SpecialForm.TheVariants.{VarOnly, OnlyFirstDate, OnlyYearSuffix, SuppressAuthor}
+use Rattle.csl_entry.specs.NumberResult.{NumberOrPageView}
 use Rattle.csl_context.specs.State.{State, Inherited, looked}
 use Rattle.csl_context.specs.World.{World, standard_look, term_in}
 use Rattle.csl_context.specs.Texts.{text_in, chunks_in, link_in}
 use Rattle.csl_context.specs.Now.{Now}
 use Rattle.csl_context.specs.Quotes.{quoted_in, has_moved, affixed_after}
+use Rattle.csl_render.specs.Answered.{number_or_page_look, shown_in, shown_by_text}
 use Rattle.csl_render.specs.Flags.{flags, no_flags, Info, info_of}
 
 -- what a node makes: a content, and the state that it leaves
@@ -85,17 +89,22 @@ shows_macro_affixes (Some SuppressAuthor) = true
 
 -- ---- what a text finds
 
--- the answer to a standard variable, the text of a term, the value that the style gives
+-- the answer to a standard variable, the answer to one that holds a number or pages, the text of a term, the value that the style
+-- gives
 pub data Found : Type 0 where
   answer : StandardVariable → List Chunk → Found
+  numeral : NumberOrPageVariable → NumberOrPageView → Found
   term : List ℕ → Found
   value : List ℕ → Found
 
--- A number or a page variable finds nothing yet, a name or a date variable never does.
+abbrev pub numeral_found : World → State → NumberOrPageVariable → Option Found
+numeral_found w s v = option_map (numeral v) (number_or_page_look w s v)
+
+-- A name or a date variable finds nothing.
 abbrev pub variable_found : World → State → LongShortForm → Variable → Option Found
 variable_found w s form (variable.Standard v) = option_map (answer v) (standard_look w s form v)
-variable_found w s form (variable.Number v) = None
-variable_found w s form (variable.Page v) = None
+variable_found w s form (variable.Number v) = numeral_found w s (number_or_page.Number v)
+variable_found w s form (variable.Page v) = numeral_found w s (number_or_page.Page v)
 variable_found w s form (variable.Name v) = None
 variable_found w s form (variable.Date v) = None
 
@@ -125,6 +134,7 @@ calls (of_value bs) = false
 abbrev pub found_info : Bool → Option Found → Info
 found_info calls None = info_of false (flags calls false false false)
 found_info calls (Some (answer v cs)) = info_of (not (is_empty cs)) (flags true (not (is_empty cs)) false false)
+found_info calls (Some (numeral v n)) = info_of true (flags true true false false)
 found_info calls (Some (term bs)) = info_of true no_flags
 found_info calls (Some (value bs)) = info_of (not (length bs == 0)) no_flags
 
@@ -225,6 +235,7 @@ no_affixes = record { prefix = None; suffix = None }
 -- the affixes that stand
 abbrev pub found_affixes : TextDressing → Found → AffixTexts
 found_affixes d (answer v cs) = if begins_link d v then no_affixes else d.dressing.affixes
+found_affixes d (numeral v n) = d.dressing.affixes
 found_affixes d (term bs) = d.dressing.affixes
 found_affixes d (value bs) = d.dressing.affixes
 
@@ -232,8 +243,13 @@ found_affixes d (value bs) = d.dressing.affixes
 abbrev pub standard_meta : StandardVariable → Meta
 standard_meta v = if is_standard standard.CitationLabel v then of_citation_label else of_text
 
+abbrev pub numeral_meta : NumberOrPageVariable → Meta
+numeral_meta (number_or_page.Number v) = if sameb the_number v CitationNumber then of_citation_number else of_text
+numeral_meta (number_or_page.Page v) = of_text
+
 abbrev pub found_meta : Found → Option Meta
 found_meta (answer v cs) = Some (standard_meta v)
+found_meta (numeral v n) = Some (numeral_meta v)
 found_meta (term bs) = None
 found_meta (value bs) = None
 
@@ -242,21 +258,25 @@ abbrev pub answer_body : Option (List ℕ) → Bool → Inherited → List Chunk
 answer_body (Some p) begins inh cs = link_in inh (if begins then p ++ text_of cs else text_of cs) (p ++ text_of cs)
 answer_body None begins inh cs = chunks_in inh cs
 
-abbrev pub found_body : TextDressing → Inherited → Found → List Token
-found_body d inh (answer v cs) = answer_body (address_prefix v) (begins_link d v) inh cs
-found_body d inh (term bs) = text_in inh bs
-found_body d inh (value bs) = text_in inh bs
+abbrev pub found_body : StyleParts → TextDressing → Inherited → Found → List Token
+found_body style d inh (answer v cs) = answer_body (address_prefix v) (begins_link d v) inh cs
+found_body style d inh (numeral v n) = shown_in inh (shown_by_text style n)
+found_body style d inh (term bs) = text_in inh bs
+found_body style d inh (value bs) = text_in inh bs
 
 abbrev pub found_tree : World → TextDressing → Inherited → Option Found → List Token
 found_tree w d inh None = []
-found_tree w d inh (Some f) = text_box w.style (found_affixes d f) d (found_meta f) inh (found_body d (in_body d inh) f)
+found_tree w d inh (Some f) = text_box w.style (found_affixes d f) d (found_meta f) inh (found_body w.style d (in_body d inh) f)
 
--- a text of a standard variable that is left looks it up for printing, whatever is found
+-- a text of the variable that is left looks it up for printing, whatever is found
+abbrev pub state_after_look : World → Variable → State → State
+state_after_look w v s = if shows_variable w.instance.special v then looked v s else s
+
+-- no name and no date is looked up
 abbrev pub variable_state : World → Variable → State → State
-variable_state w (variable.Standard v) s =
-    if shows_variable w.instance.special (variable.Standard v) then looked (variable.Standard v) s else s
-variable_state w (variable.Number v) s = s
-variable_state w (variable.Page v) s = s
+variable_state w (variable.Standard v) s = state_after_look w (variable.Standard v) s
+variable_state w (variable.Number v) s = state_after_look w (variable.Number v) s
+variable_state w (variable.Page v) s = state_after_look w (variable.Page v) s
 variable_state w (variable.Name v) s = s
 variable_state w (variable.Date v) s = s
 

@@ -1,5 +1,5 @@
 -- What a node says in a dry run, what it shows, and what it makes (CSL 1.0.2, Rendering Elements; Group; Layout; Macro; Choose).
--- A number, a label, a date and names say, show and make nothing yet.
+-- A date and names say, show and make nothing yet.
 use Rattle.std.specs.Prelude.{ℕ, Bool, true, false, ◌||◌, List, [], Option, Some, None, if◌then◌else◌}
 use Rattle.csl_style.specs.declared.taxonomy.Variable.{Variable}
 use Rattle.csl_style.specs.Dressing.{AffixTexts, Dressing, TextDressing}
@@ -11,6 +11,8 @@ use Rattle.csl_context.specs.World.{World}
 use Rattle.csl_context.specs.Texts.{text_in, affixed_in}
 use Rattle.csl_render.specs.Conditions.{holds}
 use Rattle.csl_render.specs.Flags.{rule, Info, nothing_said, either, counted, but_groups, group_info, macro_info}
+use Rattle.csl_render.specs.Numbers.{number_info, number_shows, number_tree}
+use Rattle.csl_render.specs.Labels.{label_info, label_tree}
 use Rattle.csl_render.specs.Text.{Made, made, then_made, within, in_body, text_box, no_affixes, target_info, target_shows, target_tree, shows_macro_affixes}
 
 abbrev pub is_group : Full → Bool
@@ -70,8 +72,8 @@ module _ (w : World) where
     info s (printed t d) = target_info w s t
     info s (called fs d) = macro_info (but_groups (infos s fs))
     info s lacking = nothing_said
-    info s (numbered n) = nothing_said
-    info s (labelled v l) = nothing_said
+    info s (numbered n) = number_info w s n
+    info s (labelled v l) = label_info w s v l
     info s (dated n) = nothing_said
     info s (named n is) = nothing_said
     info s (shorthand written n) = nothing_said
@@ -93,7 +95,7 @@ module _ (w : World) where
     shows s v (printed t d) = target_shows w s v t
     shows s v (called fs d) = any_shows s v fs
     shows s v lacking = false
-    shows s v (numbered n) = false
+    shows s v (numbered n) = number_shows w v n
     shows s v (labelled u l) = false
     shows s v (dated n) = false
     shows s v (named n is) = false
@@ -115,8 +117,8 @@ module _ (w : World) where
     tree (printed t d) inh s = target_tree w t d inh s
     tree (called fs d) inh s = macro_made (rule (info s (called fs d)).flags) w d inh (sum_of fs (in_macro d inh) s) s
     tree lacking inh s = made [] s
-    tree (numbered n) inh s = made [] s
-    tree (labelled v l) inh s = made [] s
+    tree (numbered n) inh s = number_tree w n inh s
+    tree (labelled v l) inh s = label_tree w v l inh s
     tree (dated n) inh s = made [] s
     tree (named n is) inh s = made [] s
     tree (shorthand written n) inh s = made [] s

@@ -10,6 +10,7 @@ ghost use Rattle.csl_render.specs.Text.{made, in_body, in_quotes_if, moved_if, t
 ghost use Rattle.csl_render.specs.Bodies.{body_in};
 ghost use Rattle.csl_render.specs.Rendering.{with_made};
 
+use crate::answered::Shown;
 use csl_context::{Context, Mark, RenderError};
 use csl_entry::EntryLike;
 use csl_style::{Affixes, Text};
@@ -22,6 +23,7 @@ pub(crate) enum Body<'b> {
     Words(&'b str),
     Pieces(&'b ChunkedString),
     Link { text: &'b str, url: &'b str },
+    Answered(&'b Shown),
 }
 
 /// Opens the inside of quotes, or a part without quotes.
@@ -72,7 +74,13 @@ pub(crate) fn close_quotes<'s, T: EntryLike>(
 }
 
 /// Appends a body.
-fn write_body<'s, T: EntryLike>(ctx: &mut Context<'s, T>, body: Body<'_>) -> Result<(), RenderError>
+///
+/// # Errors
+/// As [`open_quotes`].
+pub(crate) fn write_body<'s, T: EntryLike>(
+    ctx: &mut Context<'s, T>,
+    body: Body<'_>,
+) -> Result<(), RenderError>
     ensures ok { OnOk result (Leaves (with_content (λ inh. body_in inh body.entry))
         ctx.old ctx.new) }
     ensures err { IfErr result (λ e. FailsAs e ctx.old ctx.new) }
@@ -81,6 +89,8 @@ fn write_body<'s, T: EntryLike>(ctx: &mut Context<'s, T>, body: Body<'_>) -> Res
         Body::Words(words) => ctx.push_str(words),
         Body::Pieces(pieces) => ctx.push_chunked(pieces),
         Body::Link { text, url } => ctx.push_link(text, url),
+        Body::Answered(Shown::Words(words)) => ctx.push_str(words.as_str()),
+        Body::Answered(Shown::Place(index)) => ctx.push_transparent(*index),
     }
 }
 

@@ -26,8 +26,8 @@ impl RenderCsl for LayoutRenderingElement {
         match self {
             LayoutRenderingElement::Text(text) => text.will_have_info(ctx),
             LayoutRenderingElement::Group(group) => group.will_have_info(ctx),
-            LayoutRenderingElement::Number(_) => nothing_said(ctx),
-            LayoutRenderingElement::Label(_) => nothing_said(ctx),
+            LayoutRenderingElement::Number(number) => number.will_have_info(ctx),
+            LayoutRenderingElement::Label(label) => label.will_have_info(ctx),
             LayoutRenderingElement::Date(_) => nothing_said(ctx),
             LayoutRenderingElement::Names(_) => nothing_said(ctx),
             LayoutRenderingElement::Choose(choose) => choose.will_have_info(ctx),
@@ -43,8 +43,8 @@ impl RenderCsl for LayoutRenderingElement {
         match self {
             LayoutRenderingElement::Text(text) => text.will_render(ctx, var),
             LayoutRenderingElement::Group(group) => group.will_render(ctx, var),
-            LayoutRenderingElement::Number(_) => nothing_shown(ctx),
-            LayoutRenderingElement::Label(_) => nothing_shown(ctx),
+            LayoutRenderingElement::Number(number) => number.will_render(ctx, var),
+            LayoutRenderingElement::Label(label) => label.will_render(ctx, var),
             LayoutRenderingElement::Date(_) => nothing_shown(ctx),
             LayoutRenderingElement::Names(_) => nothing_shown(ctx),
             LayoutRenderingElement::Choose(choose) => choose.will_render(ctx, var),
@@ -56,8 +56,8 @@ impl RenderCsl for LayoutRenderingElement {
         match self {
             LayoutRenderingElement::Text(text) => text.render(ctx),
             LayoutRenderingElement::Group(group) => group.render(ctx),
-            LayoutRenderingElement::Number(_) => nothing(ctx),
-            LayoutRenderingElement::Label(_) => nothing(ctx),
+            LayoutRenderingElement::Number(number) => number.render(ctx),
+            LayoutRenderingElement::Label(label) => label.render(ctx),
             LayoutRenderingElement::Date(_) => nothing(ctx),
             LayoutRenderingElement::Names(_) => nothing(ctx),
             LayoutRenderingElement::Choose(choose) => choose.render(ctx),

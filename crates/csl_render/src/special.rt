@@ -7,7 +7,7 @@ use csl_entry::SpecialForm;
 use csl_style::{NumberVariable, StandardVariable, Variable};
 
 /// Whether the forms for dates and for suffixes leave a text of the variable.
-fn is_left_by_only(variable: Variable) -> bool
+pub(crate) fn is_left_by_only(variable: Variable) -> bool
     ensures { result ≡ is_left_by_only variable }
 {
     match variable {

@@ -165,8 +165,8 @@ fn render_answer<'s, T: EntryLike>(
     ensures ok { OnOk result (Leaves (λ now. with_made (made (text_box now.style
         (found_affixes (text_dressing text.now) (answer variable (chunks found.now)))
         (text_dressing text.now) (found_meta (answer variable (chunks found.now))) now.inherited
-        (found_body (text_dressing text.now) (in_body (text_dressing text.now) now.inherited)
-        (answer variable (chunks found.now)))) now.state) now) ctx.old ctx.new) }
+        (found_body now.style (text_dressing text.now) (in_body (text_dressing text.now)
+        now.inherited) (answer variable (chunks found.now)))) now.state) now) ctx.old ctx.new) }
     ensures err { IfErr result (λ e. FailsAs e ctx.old ctx.new) }
 {
     nothing(ctx)?;

@@ -1,4 +1,4 @@
-//! Texts of a variable (CSL 1.0.2, Text: variable). Only standard variables are found yet.
+//! Texts of a variable (CSL 1.0.2, Text: variable). No name and no date is found.
 
 ghost use Rattle.std.specs.Prelude.{◌≡◌, IfOk, OnOk, IfErr};
 ghost use Rattle.csl_style.specs.Node.{of_variable};
@@ -8,12 +8,13 @@ ghost use Rattle.csl_render.specs.Text.{target_info, target_shows, target_tree};
 ghost use Rattle.csl_render.specs.Usages.{told};
 ghost use Rattle.csl_render.specs.Rendering.{with_made};
 
+use crate::numeral::{numeral_info, numeral_shown, render_numeral};
 use crate::render::{nothing, nothing_shown};
 use crate::standard::{called_in_vain, render_standard, standard_info, standard_shown};
 use crate::usage::UsageInfo;
 use csl_context::{Context, RenderError};
 use csl_entry::EntryLike;
-use csl_style::{Text, Variable};
+use csl_style::{NumberOrPageVariable, Text, Variable};
 use lit_model::LongShortForm;
 
 /// What a text of a variable says.
@@ -33,8 +34,8 @@ pub(crate) fn variable_info<'s, T: EntryLike>(
 {
     match variable {
         Variable::Standard(variable) => standard_info(ctx, form, variable),
-        Variable::Number(_) => called_in_vain(ctx),
-        Variable::Page(_) => called_in_vain(ctx),
+        Variable::Number(variable) => numeral_info(ctx, NumberOrPageVariable::Number(variable)),
+        Variable::Page(variable) => numeral_info(ctx, NumberOrPageVariable::Page(variable)),
         Variable::Name(_) => called_in_vain(ctx),
         Variable::Date(_) => called_in_vain(ctx),
     }
@@ -57,8 +58,12 @@ pub(crate) fn variable_shown<'s, T: EntryLike>(
 {
     match variable {
         Variable::Standard(variable) => standard_shown(ctx, form, variable, asked),
-        Variable::Number(_) => nothing_shown(ctx),
-        Variable::Page(_) => nothing_shown(ctx),
+        Variable::Number(variable) => {
+            numeral_shown(ctx, NumberOrPageVariable::Number(variable), asked)
+        }
+        Variable::Page(variable) => {
+            numeral_shown(ctx, NumberOrPageVariable::Page(variable), asked)
+        }
         Variable::Name(_) => nothing_shown(ctx),
         Variable::Date(_) => nothing_shown(ctx),
     }
@@ -81,8 +86,12 @@ pub(crate) fn render_variable<'s, T: EntryLike>(
 {
     match variable {
         Variable::Standard(variable) => render_standard(text, ctx, form, variable),
-        Variable::Number(_) => nothing(ctx),
-        Variable::Page(_) => nothing(ctx),
+        Variable::Number(variable) => {
+            render_numeral(text, ctx, NumberOrPageVariable::Number(variable))
+        }
+        Variable::Page(variable) => {
+            render_numeral(text, ctx, NumberOrPageVariable::Page(variable))
+        }
         Variable::Name(_) => nothing(ctx),
         Variable::Date(_) => nothing(ctx),
     }

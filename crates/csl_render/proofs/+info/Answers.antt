@@ -1,9 +1,13 @@
-use Rattle.std.proofs.Common.{arith, sym, ap, ◌∙◌}
+use Rattle.std.proofs.Common.{◌≡◌, Some, string_bytes, sym, ap, ◌∙◌, arith, rules}
 use Rattle.std.proofs.lemmas.Grind.{common_steps}
-use Rattle.csl_render.proofs.Eithers.{either_assoc, either_nothing, nothing_either}
+use Rattle.csl_style.specs.Node.{fill, fill_call, fills}
+use Rattle.csl_style.specs.View.{view_text, views, text_dressing}
+use Rattle.csl_context.specs.World.{env}
 use Rattle.csl_context.specs.Now.{world}
-use Rattle.csl_render.specs.Flags.{macro_info, but_groups}
-use Rattle.csl_render.proofs.Macros.{macro_text}
+use Rattle.csl_render.specs.Flags.{but_groups, macro_info}
+use Rattle.csl_render.specs.Usages.{told}
+use Rattle.csl_render.specs.Tree.{info, infos}
+use Rattle.csl_render.proofs.Eithers.{either_assoc, either_nothing, nothing_either}
 use Rattle.csl_render.proofs.+info.Goals as goal
 
 pub element::infos-loop-node-preserved : goal.element::infos-loop-node-preserved
@@ -18,7 +22,15 @@ element::infos-loop-node-init g t c = grind (arith, common_steps, nothing_either
 pub text::TextRenderCsl::will_have_info-returns-in_ok-said-in-Some-clause-value : goal.text::TextRenderCsl::will_have_info-returns-in_ok-said-in-Some-clause-value
 text::TextRenderCsl::will_have_info-returns-in_ok-said-in-Some-clause-value g t c =
     let now = c.args.ctx.now in
-    let meaning = rw (c.style.ensures, c.as_str.ensures.value) at c.in-Some.ensures.meaning in
-    let said = rw c.deref.ensures.value at c.in_ok-said-in-Some.ensures.value in
-    c.macro_said.ensures ∙ ap macro_info c.but_groups.ensures ∙ ap (λ i. macro_info (but_groups i)) said
-    ∙ sym (macro_text (world g.T.EntryLike.answers now) now.state now.style c.args.self.now c.in-Macro.name c.in-Some.found.now c.in-Macro.is meaning)
+    let text = c.args.self.now in
+    let w = world g.T.EntryLike.answers now in
+    let e = env now.style in
+    let d = text_dressing text in
+    let ns = views c.in-Some.found.now.children.items in
+    let children : views c.deref.result.now ≡ ns = ap views c.deref.ensures.value in
+    let filled : fill e (view_text text) ≡ fill_call d (e (string_bytes c.in-Macro.name)) = search rules in
+    let meaning : e (string_bytes c.in-Macro.name) ≡ Some (fills e ns) = search rules in
+    c.macro_said.ensures ∙ ap macro_info c.but_groups.ensures
+        ∙ ap (λ i. macro_info (but_groups i)) c.in_ok-said-in-Some.ensures.value
+        ∙ ap (λ x. macro_info (but_groups (infos w now.state (fills e x)))) children
+        ∙ ap (info w now.state) (sym (filled ∙ ap (fill_call d) meaning))
