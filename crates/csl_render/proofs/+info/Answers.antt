@@ -31,6 +31,6 @@ text::TextRenderCsl::will_have_info-returns-in_ok-said-in-Some-clause-value g t 
     let filled : fill e (view_text text) ≡ fill_call d (e (string_bytes c.in-Macro.name)) = search rules in
     let meaning : e (string_bytes c.in-Macro.name) ≡ Some (fills e ns) = search rules in
     c.macro_said.ensures ∙ ap macro_info c.but_groups.ensures
-        ∙ ap (λ i. macro_info (but_groups i)) c.in_ok-said-in-Some.ensures.value
-        ∙ ap (λ x. macro_info (but_groups (infos w now.state (fills e x)))) children
-        ∙ ap (info w now.state) (sym (filled ∙ ap (fill_call d) meaning))
+    ∙ ap (λ i. macro_info (but_groups i)) c.in_ok-said-in-Some.ensures.value
+    ∙ ap (λ x. macro_info (but_groups (infos w now.state (fills e x)))) children
+    ∙ ap (info w now.state) (sym (filled ∙ ap (fill_call d) meaning))
