@@ -1,7 +1,7 @@
 //! What each node of a style makes of a cite (CSL 1.0.2, Rendering Elements): whether it prints
 //! and what it notes, whether it shows a variable, and its content, in a context that the caller
-//! lends. A text, a number, a label, a choice, a group and a layout do; the other nodes make nothing
-//! yet.
+//! lends. A text, a number, a label, a choice, a group and a layout do; the other nodes make
+//! nothing yet.
 #![tactic(auto)]
 
 mod answered;

@@ -46,7 +46,7 @@ static TEXTS: [Row; 30] = [
     ("genre|<(|>)", TITLED, ""),
     ("'|q|<(", TITLED, ""),
     ("|/ 'a|* 'b", TITLED, "[ /*a ] [ /b ]"),
-    // Only texts of standard variables find something yet.
+    // What the work does not answer prints nothing.
     ("volume page author issued", TITLED, ""),
     // Verbatim pieces keep their periods, mathematics is markup.
     ("title|s", Cite::Of("title a.+`b.+$c."), "[ ab. $c. ]:text"),
