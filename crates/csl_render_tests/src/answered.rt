@@ -139,7 +139,7 @@ fn twice<'s>(world: World<'s>) -> Result<String, Fail> {
 }
 
 /// What a dry run says.
-fn flags((prints, usage): (bool, UsageInfo)) -> [(bool, &'static str); 5] {
+pub(crate) fn flags((prints, usage): (bool, UsageInfo)) -> [(bool, &'static str); 5] {
     [
         (prints, " prints"),
         (usage.has_vars, " called"),
@@ -225,7 +225,7 @@ pub(crate) fn answered(
     cite: Cite,
     asked: Asked,
 ) -> Result<String, Fail> {
-    let style = style(alloc)?;
+    let style = style(alloc, None)?;
     let element = element(alloc, words)?;
     let work = described(alloc, cite.entry())?;
     let props = first_cite(cite.suffix())?;

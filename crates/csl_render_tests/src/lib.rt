@@ -5,9 +5,21 @@
 #[cfg(test)]
 mod answered;
 #[cfg(test)]
+mod choice_nodes;
+#[cfg(test)]
+mod choice_rows;
+#[cfg(test)]
+mod cited;
+#[cfg(test)]
+mod entries;
+#[cfg(test)]
 mod made;
 #[cfg(test)]
 mod nodes;
+#[cfg(test)]
+mod number_nodes;
+#[cfg(test)]
+mod number_rows;
 #[cfg(test)]
 mod rows;
 #[cfg(test)]

@@ -1,7 +1,8 @@
 //! Nodes from words.
 //!
 //! The words of some nodes have one space between them. A node `( .. )` is a group of what stands
-//! inside, and each other word is a text. It begins with what the text prints:
+//! inside, a node `( .. )?` a choice, as `choice_nodes` says, a word with `#` or `&` a number or a
+//! label, as `number_nodes` says, and each other word a text. It begins with what the text prints:
 //!
 //! | Word | Text of |
 //! |---|---|
@@ -16,6 +17,8 @@
 //! italics, `|*` bold, `|q` quotes, `|s` the stripping of periods, and `|b` a block. In all texts
 //! `~` says a blank.
 
+use crate::choice_nodes::choice;
+use crate::number_nodes::{label, number};
 use crate::work::UNANSWERED;
 use csl_style::{
     Affixes, DateVariable, Display, FontStyle, FontWeight, Formatting, Group, Layout,
@@ -40,6 +43,9 @@ pub(crate) fn variable_named(name: &str) -> Result<Variable, Fail> {
         "label" => Ok(Variable::Standard(StandardVariable::CitationLabel)),
         "suffix" => Ok(Variable::Standard(StandardVariable::YearSuffix)),
         "volume" => Ok(Variable::Number(NumberVariable::Volume)),
+        "edition" => Ok(Variable::Number(NumberVariable::Edition)),
+        "locator" => Ok(Variable::Number(NumberVariable::Locator)),
+        "citation-number" => Ok(Variable::Number(NumberVariable::CitationNumber)),
         "page" => Ok(Variable::Page(PageVariable::Page)),
         "author" => Ok(Variable::Name(NameVariable::Author)),
         "issued" => Ok(Variable::Date(DateVariable::Issued)),
@@ -48,7 +54,7 @@ pub(crate) fn variable_named(name: &str) -> Result<Variable, Fail> {
 }
 
 /// A form of a term by its name, and whether several are meant.
-fn form_named(name: &str) -> Result<(TermForm, bool), Fail> {
+pub(crate) fn form_named(name: &str) -> Result<(TermForm, bool), Fail> {
     match name {
         "long" => Ok((TermForm::Long, false)),
         "longs" => Ok((TermForm::Long, true)),
@@ -65,7 +71,7 @@ fn form_named(name: &str) -> Result<(TermForm, bool), Fail> {
 }
 
 /// The text of a word.
-fn read(alloc: Global, word: &str) -> Result<String, AllocError> {
+pub(crate) fn read(alloc: Global, word: &str) -> Result<String, AllocError> {
     let mut text = String::new(alloc);
     for c in word.chars() {
         text.push(if c == '~' { ' ' } else { c })?;
@@ -74,7 +80,7 @@ fn read(alloc: Global, word: &str) -> Result<String, AllocError> {
 }
 
 /// What stands behind a mark among the options.
-fn option<'w>(options: &'w str, mark: &str) -> Option<&'w str> {
+pub(crate) fn option<'w>(options: &'w str, mark: &str) -> Option<&'w str> {
     for option in options.split('|') {
         if let Some(text) = option.strip_prefix(mark) {
             return Some(text);
@@ -91,13 +97,13 @@ fn text_of(alloc: Global, options: &str, mark: &str) -> Result<Option<String>, A
     }
 }
 
-fn affixes(alloc: Global, options: &str) -> Result<Affixes, AllocError> {
+pub(crate) fn affixes(alloc: Global, options: &str) -> Result<Affixes, AllocError> {
     let prefix = text_of(alloc, options, "<")?;
     let suffix = text_of(alloc, options, ">")?;
     Ok(Affixes { prefix, suffix })
 }
 
-fn formatting(options: &str) -> Formatting {
+pub(crate) fn formatting(options: &str) -> Formatting {
     Formatting {
         font_style: option(options, "/").map(|_| FontStyle::Italic),
         font_weight: option(options, "*").map(|_| FontWeight::Bold),
@@ -105,7 +111,7 @@ fn formatting(options: &str) -> Formatting {
     }
 }
 
-fn display(options: &str) -> Option<Display> {
+pub(crate) fn display(options: &str) -> Option<Display> {
     option(options, "b").map(|_| Display::Block)
 }
 
@@ -148,8 +154,7 @@ fn term_target(name: &str) -> Result<TextTarget, Fail> {
     })
 }
 
-fn text(alloc: Global, word: &str) -> Result<LayoutRenderingElement, Fail> {
-    let (word, options) = word.split_once('|').unwrap_or((word, ""));
+fn text(alloc: Global, word: &str, options: &str) -> Result<LayoutRenderingElement, Fail> {
     let affixes = affixes(alloc, options)?;
     Ok(LayoutRenderingElement::Text(Text {
         target: target(alloc, word)?,
@@ -159,6 +164,30 @@ fn text(alloc: Global, word: &str) -> Result<LayoutRenderingElement, Fail> {
         quotes: option(options, "q").is_some(),
         strip_periods: option(options, "s").is_some(),
     }))
+}
+
+/// The node of a word.
+fn node(alloc: Global, word: &str) -> Result<LayoutRenderingElement, Fail> {
+    let (word, options) = word.split_once('|').unwrap_or((word, ""));
+    if let Some(word) = word.strip_prefix('#') {
+        return number(alloc, word, options);
+    }
+    if let Some(word) = word.strip_prefix('&') {
+        return label(alloc, word, options);
+    }
+    text(alloc, word, options)
+}
+
+/// What ends with these options, or with the branches of a choice.
+fn ended(
+    alloc: Global,
+    children: Vec<LayoutRenderingElement>,
+    end: &str,
+) -> Result<LayoutRenderingElement, Fail> {
+    match end.strip_prefix('?') {
+        Some(branches) => choice(alloc, children, branches),
+        None => Ok(group(alloc, children, end)?),
+    }
 }
 
 fn group(
@@ -183,12 +212,12 @@ pub(crate) fn nodes(alloc: Global, words: &str) -> Result<Vec<LayoutRenderingEle
     for word in words.split(' ') {
         if word == "(" {
             around.push(mem::replace(&mut nodes, Vec::new(alloc)))?;
-        } else if let Some(options) = word.strip_prefix(')') {
+        } else if let Some(end) = word.strip_prefix(')') {
             let outside = around.pop().ok_or("a group ends that began")?;
             let inside = mem::replace(&mut nodes, outside);
-            nodes.push(group(alloc, inside, options)?)?;
+            nodes.push(ended(alloc, inside, end)?)?;
         } else if !word.is_empty() {
-            nodes.push(text(alloc, word)?)?;
+            nodes.push(node(alloc, word)?)?;
         }
     }
     Ok(nodes)

@@ -39,14 +39,14 @@ static TEXTS: [Row; 30] = [
     ("", TITLED, ""),
     ("title", TITLED, "[ T ]:text"),
     ("!title", TITLED, "[ T ]:text"),
-    ("label", Cite::Of("label L"), "[ L ]:label"),
+    ("label", Cite::Of("label L"), "[ L ]:citation-label"),
     // Affixes stand inside a text's own formatting, and nothing stands around nothing.
     ("title|<(|>)|/|b", TITLED, "[ /(T) ]block:text"),
     ("title|<(|>)|b", Cite::Of("title "), ""),
     ("genre|<(|>)", TITLED, ""),
     ("'|q|<(", TITLED, ""),
     ("|/ 'a|* 'b", TITLED, "[ /*a ] [ /b ]"),
-    // What the work does not answer prints nothing.
+    // The work answers none of these variables.
     ("volume page author issued", TITLED, ""),
     // Verbatim pieces keep their periods, mathematics is markup.
     ("title|s", Cite::Of("title a.+`b.+$c."), "[ ab. $c. ]:text"),

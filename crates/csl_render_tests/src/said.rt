@@ -60,7 +60,10 @@ fn meta_of(meta: &Option<ElemMeta>) -> &'static str {
         None => "",
         Some(ElemMeta::Date) => ":date",
         Some(ElemMeta::Text) => ":text",
-        Some(ElemMeta::CitationLabel) => ":label",
+        Some(ElemMeta::Number) => ":number",
+        Some(ElemMeta::Label) => ":label",
+        Some(ElemMeta::CitationNumber) => ":citation-number",
+        Some(ElemMeta::CitationLabel) => ":citation-label",
         Some(_) => ":another",
     }
 }

@@ -1,0 +1,168 @@
+//! Choices from words.
+//!
+//! `( ( 'a ) ( 'b ) )?all:position=first` is a choice. Each group in it holds the nodes of a
+//! branch, and one group more those for the other cases. Behind each `?` stand the match of a branch
+//! and its tests, as `is-numeric=title,volume`.
+
+use crate::nodes::variable_named;
+use csl_style::{
+    Choose, ChooseBranch, ChooseMatch, DateVariable, Kind, LayoutRenderingElement, Locator,
+    TestPosition, Variable,
+};
+use std::alloc::Global;
+use std::test::Fail;
+
+/// What a test asks for, by its name.
+trait Named: Copy {
+    fn named(name: &str) -> Result<Self, Fail>;
+}
+
+impl Named for Variable {
+    fn named(name: &str) -> Result<Variable, Fail> {
+        variable_named(name)
+    }
+}
+
+impl Named for DateVariable {
+    fn named(name: &str) -> Result<DateVariable, Fail> {
+        match variable_named(name)? {
+            Variable::Date(variable) => Ok(variable),
+            _ => Err(Fail::from("a variable that holds no date")),
+        }
+    }
+}
+
+impl Named for Locator {
+    fn named(name: &str) -> Result<Locator, Fail> {
+        match name {
+            "page" => Ok(Locator::Page),
+            "chapter" => Ok(Locator::Chapter),
+            "custom" => Ok(Locator::Custom),
+            _ => Err(Fail::from("no locator")),
+        }
+    }
+}
+
+impl Named for TestPosition {
+    fn named(name: &str) -> Result<TestPosition, Fail> {
+        match name {
+            "first" => Ok(TestPosition::First),
+            "subsequent" => Ok(TestPosition::Subsequent),
+            "ibid" => Ok(TestPosition::Ibid),
+            "ibid-with-locator" => Ok(TestPosition::IbidWithLocator),
+            "near-note" => Ok(TestPosition::NearNote),
+            _ => Err(Fail::from("no position")),
+        }
+    }
+}
+
+impl Named for Kind {
+    fn named(name: &str) -> Result<Kind, Fail> {
+        match name {
+            "book" => Ok(Kind::Book),
+            "article" => Ok(Kind::Article),
+            _ => Err(Fail::from("no type")),
+        }
+    }
+}
+
+/// The locator of a name.
+pub(crate) fn locator_named(name: &str) -> Result<Locator, Fail> {
+    Locator::named(name)
+}
+
+/// What the names between commas stand for.
+fn listed<A: Named>(alloc: Global, names: &str) -> Result<Vec<A>, Fail> {
+    let mut listed = Vec::new(alloc);
+    for name in names.split(',') {
+        listed.push(A::named(name)?)?;
+    }
+    Ok(listed)
+}
+
+fn match_named(name: &str) -> Result<ChooseMatch, Fail> {
+    match name {
+        "all" => Ok(ChooseMatch::All),
+        "any" => Ok(ChooseMatch::Any),
+        "none" => Ok(ChooseMatch::None),
+        _ => Err(Fail::from("no match")),
+    }
+}
+
+/// A branch without tests.
+fn bare(match_: ChooseMatch, children: Vec<LayoutRenderingElement>) -> ChooseBranch {
+    ChooseBranch {
+        disambiguate: None,
+        is_numeric: None,
+        is_uncertain_date: None,
+        locator: None,
+        position: None,
+        type_: None,
+        variable: None,
+        match_,
+        children,
+    }
+}
+
+/// Adds the tests of a sort.
+fn add(alloc: Global, branch: &mut ChooseBranch, sort: &str, names: &str) -> Result<(), Fail> {
+    match sort {
+        "disambiguate" => branch.disambiguate = Some(names == "true"),
+        "is-numeric" => branch.is_numeric = Some(listed(alloc, names)?),
+        "is-uncertain-date" => branch.is_uncertain_date = Some(listed(alloc, names)?),
+        "locator" => branch.locator = Some(listed(alloc, names)?),
+        "position" => branch.position = Some(listed(alloc, names)?),
+        "type" => branch.type_ = Some(listed(alloc, names)?),
+        "variable" => branch.variable = Some(listed(alloc, names)?),
+        _ => return Err(Fail::from("no test")),
+    }
+    Ok(())
+}
+
+/// The branch of a match and its tests, with these nodes.
+fn branch(
+    alloc: Global,
+    words: &str,
+    children: Vec<LayoutRenderingElement>,
+) -> Result<ChooseBranch, Fail> {
+    let mut tests = words.split(':');
+    let mut branch = bare(match_named(tests.next().unwrap_or(""))?, children);
+    for test in tests {
+        let (sort, names) = test.split_once('=').ok_or("a test")?;
+        add(alloc, &mut branch, sort, names)?;
+    }
+    Ok(branch)
+}
+
+/// The nodes of a group.
+fn nodes_of(part: Option<LayoutRenderingElement>) -> Result<Vec<LayoutRenderingElement>, Fail> {
+    match part {
+        Some(LayoutRenderingElement::Group(group)) => Ok(group.children),
+        _ => Err(Fail::from("a group holds the nodes of a branch")),
+    }
+}
+
+/// The choice between these parts, by its branches.
+pub(crate) fn choice(
+    alloc: Global,
+    parts: Vec<LayoutRenderingElement>,
+    branches: &str,
+) -> Result<LayoutRenderingElement, Fail> {
+    let mut parts = parts.into_iter();
+    let mut branches = branches.split('?');
+    let first = branches.next().unwrap_or("");
+    let if_ = branch(alloc, first, nodes_of(parts.next())?)?;
+    let mut else_if = Vec::new(alloc);
+    for words in branches {
+        else_if.push(branch(alloc, words, nodes_of(parts.next())?)?)?;
+    }
+    let otherwise = match parts.next() {
+        Some(part) => Some(nodes_of(Some(part))?),
+        None => None,
+    };
+    Ok(LayoutRenderingElement::Choose(Choose {
+        if_,
+        else_if,
+        otherwise,
+    }))
+}

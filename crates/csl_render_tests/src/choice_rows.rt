@@ -1,0 +1,194 @@
+//! The tests of choices.
+
+use crate::cited::{Row, Sought, assert_cited};
+use csl_render::BranchConditionPos;
+use std::process::Abort;
+use std::test::Fail;
+
+/// Plain texts.
+static PLAIN: [Row; 33] = [
+    // A branch without tests.
+    ("( ( 'A ) ( 'B ) )?all", "book", "A"),
+    ("( ( 'A ) ( 'B ) )?any", "book", "B"),
+    ("( ( 'A ) ( 'B ) )?none", "book", "A"),
+    // The first branch that is taken, and no other.
+    ("( ( 'A ) ( 'B ) ( 'C ) )?any?all", "book", "B"),
+    ("( ( 'A ) ( 'B ) ( 'C ) )?all?all", "book", "A"),
+    ("( ( 'A ) ( 'B ) ( 'C ) )?any?any", "book", "C"),
+    ("( ( 'A ) )?any", "book", ""),
+    // What is chosen stands under the delimiter that is inherited.
+    ("|,;~ ( ( ) ( 'A 'B ) )?any 'C", "book", "A; BC"),
+    ("( =pair 'C )|,,~", "book", "AB, C"),
+    // Numbers.
+    ("( ( 'A ) ( 'B ) )?all:is-numeric=title", "title 12", "A"),
+    (
+        "( ( 'A ) ( 'B ) )?all:is-numeric=title",
+        "title 12 men",
+        "B",
+    ),
+    ("( ( 'A ) ( 'B ) )?all:is-numeric=volume", "volume 20", "A"),
+    ("( ( 'A ) ( 'B ) )?all:is-numeric=volume", "volume 'x", "B"),
+    ("( ( 'A ) ( 'B ) )?all:is-numeric=page", "pages 7-8", "A"),
+    ("( ( 'A ) ( 'B ) )?all:is-numeric=issued", "date 2014", "B"),
+    // Variables: a text of white space is not there.
+    ("( ( 'A ) ( 'B ) )?all:variable=title", "title T", "A"),
+    ("( ( 'A ) ( 'B ) )?all:variable=title", "title ~", "B"),
+    ("( ( 'A ) ( 'B ) )?all:variable=title", "book", "B"),
+    (
+        "( ( 'A ) ( 'B ) )?any:variable=title,volume",
+        "volume 20",
+        "A",
+    ),
+    (
+        "( ( 'A ) ( 'B ) )?all:variable=title,volume",
+        "volume 20",
+        "B",
+    ),
+    (
+        "( ( 'A ) ( 'B ) )?none:variable=title,volume",
+        "volume 20",
+        "B",
+    ),
+    (
+        "( ( 'A ) ( 'B ) )?none:variable=title,page",
+        "volume 20",
+        "A",
+    ),
+    // In a bibliography a cite has no position.
+    (
+        "( ( 'A ) ( 'B ) )?any:position=first,ibid",
+        "book @ bibliography ibid",
+        "B",
+    ),
+    (
+        "( ( 'A ) ( 'B ) )?none:position=first,ibid",
+        "book @ bibliography ibid",
+        "A",
+    ),
+    (
+        "( ( 'A ) ( 'B ) )?all:position=first",
+        "book @ bibliography",
+        "B",
+    ),
+    (
+        "( ( 'A ) ( 'B ) )?none:position=first",
+        "book @ bibliography",
+        "A",
+    ),
+    ("( ( 'A ) ( 'B ) )?all:position=first", "book", "A"),
+    (
+        "( ( 'A ) ( 'B ) )?all:position=first",
+        "book @ subsequent",
+        "B",
+    ),
+    (
+        "( ( 'A ) ( 'B ) )?all:position=subsequent",
+        "book @ subsequent",
+        "A",
+    ),
+    // Types.
+    ("( ( 'A ) ( 'B ) )?all:type=book", "book", "A"),
+    ("( ( 'A ) ( 'B ) )?all:type=book", "article", "B"),
+    // Two sorts of tests.
+    (
+        "( ( 'A ) ( 'B ) )?all:type=book:variable=title",
+        "title T",
+        "A",
+    ),
+    (
+        "( ( 'A ) ( 'B ) )?all:type=book:variable=title",
+        "book",
+        "B",
+    ),
+];
+
+/// Tests of each sort, written in another order than they are read in.
+const ALL_SORTS: &str = "( ( 'A ) )?all:variable=title,volume:type=book:position=first:locator=page\
+                         :is-uncertain-date=issued:is-numeric=volume:disambiguate=true";
+
+/// What the tests of a branch answer, 1 where they hold.
+static CONDITIONS: [Row; 15] = [
+    ("( ( 'A ) )?all", "book", ""),
+    (
+        "( ( 'A ) )?all:position=ibid,ibid-with-locator",
+        "book @ ibid-with-locator",
+        "11",
+    ),
+    (
+        "( ( 'A ) )?all:position=ibid,ibid-with-locator",
+        "book @ ibid",
+        "10",
+    ),
+    (
+        "( ( 'A ) )?all:position=ibid,ibid-with-locator",
+        "book",
+        "00",
+    ),
+    ("( ( 'A ) )?all:position=first,near-note", "book", "10"),
+    ("( ( 'A ) )?all:locator=page", "book @ page:7", "1"),
+    ("( ( 'A ) )?all:locator=page", "book @ chapter:3", "0"),
+    ("( ( 'A ) )?all:locator=page", "book", "0"),
+    ("( ( 'A ) )?all:is-uncertain-date=issued", "date 2014", "0"),
+    ("( ( 'A ) )?all:is-uncertain-date=issued", "date ~2014", "1"),
+    ("( ( 'A ) )?all:disambiguate=true", "book", "0"),
+    ("( ( 'A ) )?all:disambiguate=true", "book @ told", "1"),
+    ("( ( 'A ) )?all:disambiguate=false", "book", "1"),
+    ("( ( 'A ) )?all:disambiguate=false", "book @ told", "0"),
+    // Disambiguation, numbers, dates, locators, positions, types and variables.
+    (
+        ALL_SORTS,
+        "article; volume 20; date ~2014 @ page:7",
+        "01111001",
+    ),
+];
+
+/// How many nodes a choice takes.
+static CHOSEN: [Row; 4] = [
+    ("( ( 'A 'B ) ( 'C ) )?all", "book", "2"),
+    ("( ( 'A 'B ) ( 'C ) )?any", "book", "1"),
+    ("( ( 'A 'B ) ( 'C ) ( ) )?any?none", "book", "1"),
+    ("( ( 'A 'B ) ( 'C ) )?any?any", "book", "none"),
+];
+
+/// What is said in dry runs.
+static DRY: [Row; 4] = [
+    (
+        "( ( #volume ) )?all",
+        "volume 20",
+        " prints called non-empty shows",
+    ),
+    ("( ( #volume ) ( 'A ) )?any", "volume 20", " prints"),
+    ("( ( #volume ) )?any", "volume 20", ""),
+    (
+        "!( ( ( volume ) ) )?all",
+        "volume 20",
+        " prints called non-empty shows",
+    ),
+];
+
+/// The sorts of tests that begin with the first one: each but the last, and then no more.
+fn assert_sorts(rt: &impl Abort) {
+    let mut sorts = BranchConditionPos::Disambiguate;
+    for wanted in [
+        BranchConditionPos::Disambiguate,
+        BranchConditionPos::IsNumeric,
+        BranchConditionPos::IsUncertainDate,
+        BranchConditionPos::Locator,
+        BranchConditionPos::Position,
+        BranchConditionPos::Type_,
+    ] {
+        assert_eq!(rt; sorts.next(), Some(wanted));
+    }
+    assert_eq!(rt; sorts.next(), None);
+    assert_eq!(rt; sorts.next(), None);
+}
+
+#[test]
+fn choices_take_what_the_standard_says(rt: HostRuntime) -> Result<(), Fail> {
+    assert_cited(&rt, rt.alloc(), Sought::Plain, &PLAIN)?;
+    assert_cited(&rt, rt.alloc(), Sought::Conditions, &CONDITIONS)?;
+    assert_cited(&rt, rt.alloc(), Sought::Chosen, &CHOSEN)?;
+    assert_cited(&rt, rt.alloc(), Sought::Dry, &DRY)?;
+    assert_sorts(&rt);
+    Ok(())
+}
