@@ -1,8 +1,8 @@
 //! Choices from words.
 //!
 //! `( ( 'a ) ( 'b ) )?all:position=first` is a choice. Each group in it holds the nodes of a
-//! branch, and one group more those for the other cases. Behind each `?` stand the match of a branch
-//! and its tests, as `is-numeric=title,volume`.
+//! branch, and one group more those for the other cases. Behind each `?` stand the match of a
+//! branch and its tests, as `is-numeric=title,volume`.
 
 use crate::nodes::variable_named;
 use csl_style::{

@@ -1,11 +1,11 @@
 //! Cites from words: an entry, and behind ` @ ` what its citation says of it.
 //!
 //! An entry is a book. It has clauses with `; ` between them: `article` makes it an article, and
-//! `title T`, `volume 20`, `edition 2`, `pages 7-8` and `date 2014` say the rest. Behind `'` a number
-//! or pages are a text, behind a backslash pages are an escaped range, and behind `~` a date is about
-//! right. In a title `~` says a blank.
+//! `title T`, `volume 20`, `edition 2`, `pages 7-8` and `date 2014` say the rest. Behind `'` a
+//! number or pages are a text, behind a backslash pages are an escaped range, and behind `~` a date
+//! is about right. In a title `~` says a blank.
 //!
-//! What the citation says has one space between its words, which are read in [`set`].
+//! What the citation says has one space between its words, which are read in [`set_by`].
 
 use crate::choice_nodes::locator_named;
 use crate::nodes::{read, variable_named};

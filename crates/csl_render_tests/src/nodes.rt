@@ -97,12 +97,14 @@ fn text_of(alloc: Global, options: &str, mark: &str) -> Result<Option<String>, A
     }
 }
 
+/// The affixes among the options.
 pub(crate) fn affixes(alloc: Global, options: &str) -> Result<Affixes, AllocError> {
     let prefix = text_of(alloc, options, "<")?;
     let suffix = text_of(alloc, options, ">")?;
     Ok(Affixes { prefix, suffix })
 }
 
+/// The formatting among the options.
 pub(crate) fn formatting(options: &str) -> Formatting {
     Formatting {
         font_style: option(options, "/").map(|_| FontStyle::Italic),
@@ -111,6 +113,7 @@ pub(crate) fn formatting(options: &str) -> Formatting {
     }
 }
 
+/// The place on the page among the options.
 pub(crate) fn display(options: &str) -> Option<Display> {
     option(options, "b").map(|_| Display::Block)
 }
