@@ -5,7 +5,7 @@
 //! number or pages are a text, behind a backslash pages are an escaped range, and behind `~` a date
 //! is about right. In a title `~` says a blank.
 //!
-//! What the citation says has one space between its words, which are read in [`set_by`].
+//! What the citation says has one space between its words, which are read in [`set`].
 
 use crate::choice_nodes::locator_named;
 use crate::nodes::{read, variable_named};
