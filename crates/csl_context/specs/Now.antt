@@ -129,7 +129,7 @@ closed_into content now (part ∷ parts) = record now { inner = part ++> content
 abbrev pub closed_by : {T : Type 0} → (Inherited → List Token → List Token) → Now T → Now T
 closed_by f now = closed_into (f now.inherited now.inner) now now.outer
 
--- the context whose innermost part is closed and dropped
+-- what is left of a part that is dropped: nothing
 abbrev pub dropped : Inherited → List Token → List Token
 dropped inh c = []
 

@@ -11,7 +11,7 @@ use Rattle.csl_style.specs.NameOptions.{SetOptions}
 use Rattle.csl_tree.specs.declared.formatting.Formatting.{Formatting}
 use Rattle.csl_entry.specs.NameProperties.{NameProperties}
 
--- The variables that answer nothing any more; whether a look for printing adds its own to them; whether a date was printed; the
+-- The variables that answer nothing any more; whether a look for printing adds its own to them; whether a date was rendered, be it to nothing; the
 -- names that were printed first.
 pub record State : Type 0 where
   pub suppressed : List Variable

@@ -92,7 +92,7 @@ pub struct LeftState {
     pub suppressed: BTreeSet<Variable>,
     /// Whether a look for printing adds its variable to them.
     pub suppressing: bool,
-    /// Whether a date was printed.
+    /// Whether a date was rendered, be it to nothing.
     pub first_date_seen: bool,
     /// The forms of the names that were printed first.
     pub first_names: Option<NameDisambiguationProperties>,

@@ -26,7 +26,8 @@ impl<'s, T: EntryLike> Context<'s, T> {
     /// Number Variables). The look is silent.
     ///
     /// # Errors
-    /// [`RenderError::Memory`]: there was no memory left. The context is as it was.
+    /// [`RenderError::Memory`]: there was no memory left, or the entry said so. The context is as
+    /// it was.
     /// [`RenderError::Failed`]: the context had failed.
     pub fn peek_number_variable(
         &self,
@@ -54,7 +55,8 @@ impl<'s, T: EntryLike> Context<'s, T> {
     /// Number Variables). The look is silent.
     ///
     /// # Errors
-    /// [`RenderError::Memory`]: there was no memory left. The context is as it was.
+    /// [`RenderError::Memory`]: there was no memory left, or the entry said so. The context is as
+    /// it was.
     /// [`RenderError::Failed`]: the context had failed.
     pub fn peek_page_variable(
         &self,
@@ -82,7 +84,8 @@ impl<'s, T: EntryLike> Context<'s, T> {
     /// Standard Variables). The look is silent.
     ///
     /// # Errors
-    /// [`RenderError::Memory`]: there was no memory left. The context is as it was.
+    /// [`RenderError::Memory`]: there was no memory left, or the entry said so. The context is as
+    /// it was.
     /// [`RenderError::Failed`]: the context had failed.
     pub fn peek_standard_variable(
         &self,
@@ -114,7 +117,8 @@ impl<'s, T: EntryLike> Context<'s, T> {
     /// Name Variables). The look is silent.
     ///
     /// # Errors
-    /// [`RenderError::Memory`]: there was no memory left. The context is as it was.
+    /// [`RenderError::Memory`]: there was no memory left, or the entry said so. The context is as
+    /// it was.
     /// [`RenderError::Failed`]: the context had failed.
     pub fn peek_name_variable(
         &self,
@@ -142,7 +146,8 @@ impl<'s, T: EntryLike> Context<'s, T> {
     /// Date Variables). The look is silent.
     ///
     /// # Errors
-    /// [`RenderError::Memory`]: there was no memory left. The context is as it was.
+    /// [`RenderError::Memory`]: there was no memory left, or the entry said so. The context is as
+    /// it was.
     /// [`RenderError::Failed`]: the context had failed.
     pub fn peek_date_variable(
         &self,
@@ -172,7 +177,8 @@ impl<'s, T: EntryLike> Context<'s, T> {
     /// variable is suppressed from then on.
     ///
     /// # Errors
-    /// [`RenderError::Memory`]: there was no memory left. The context has failed.
+    /// [`RenderError::Memory`]: there was no memory left, or the entry said so. The context has
+    /// failed.
     /// [`RenderError::Failed`]: the context had failed.
     pub fn resolve_number_variable(
         &mut self,
@@ -200,7 +206,8 @@ impl<'s, T: EntryLike> Context<'s, T> {
     /// variable is suppressed from then on.
     ///
     /// # Errors
-    /// [`RenderError::Memory`]: there was no memory left. The context has failed.
+    /// [`RenderError::Memory`]: there was no memory left, or the entry said so. The context has
+    /// failed.
     /// [`RenderError::Failed`]: the context had failed.
     pub fn resolve_page_variable(
         &mut self,
@@ -227,7 +234,8 @@ impl<'s, T: EntryLike> Context<'s, T> {
     /// variable is suppressed from then on.
     ///
     /// # Errors
-    /// [`RenderError::Memory`]: there was no memory left. The context has failed.
+    /// [`RenderError::Memory`]: there was no memory left, or the entry said so. The context has
+    /// failed.
     /// [`RenderError::Failed`]: the context had failed.
     pub fn resolve_standard_variable(
         &mut self,
@@ -256,7 +264,8 @@ impl<'s, T: EntryLike> Context<'s, T> {
     /// variable is suppressed from then on.
     ///
     /// # Errors
-    /// [`RenderError::Memory`]: there was no memory left. The context has failed.
+    /// [`RenderError::Memory`]: there was no memory left, or the entry said so. The context has
+    /// failed.
     /// [`RenderError::Failed`]: the context had failed.
     pub fn resolve_name_variable(
         &mut self,
@@ -283,7 +292,8 @@ impl<'s, T: EntryLike> Context<'s, T> {
     /// variable is suppressed from then on.
     ///
     /// # Errors
-    /// [`RenderError::Memory`]: there was no memory left. The context has failed.
+    /// [`RenderError::Memory`]: there was no memory left, or the entry said so. The context has
+    /// failed.
     /// [`RenderError::Failed`]: the context had failed.
     pub fn resolve_date_variable(
         &mut self,

@@ -56,7 +56,7 @@ impl<'s, T> Context<'s, T> {
         self.writing.state.suppressing = old;
     }
 
-    /// Whether no date was printed yet. From now on one was.
+    /// Whether no date was rendered yet, be it to nothing. From now on one was.
     pub fn is_first_date(&mut self) -> bool
         ensures value { result ≡ not self.old.state.first_date_seen }
         ensures after { self.new ≡ with_first_date self.old }
@@ -64,7 +64,7 @@ impl<'s, T> Context<'s, T> {
         !mem::replace(&mut self.writing.state.first_date_seen, true)
     }
 
-    /// Whether no date was printed yet.
+    /// Whether no date was rendered yet, be it to nothing.
     pub fn peek_is_first_date(&self) -> bool
         ensures { result ≡ not self.now.state.first_date_seen }
     {

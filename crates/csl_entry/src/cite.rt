@@ -15,7 +15,7 @@ pub enum IbidState {
     Different,
     /// It cites the same entry with the same locator.
     Ibid,
-    /// It cites the same entry with another locator.
+    /// It cites the same entry, and has a locator that the one before it had not.
     IbidWithLocator,
 }
 

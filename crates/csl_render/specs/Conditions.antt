@@ -127,7 +127,7 @@ conditions_at w s ts arm.Position = map (is_positioned w) (all_if ts.position)
 conditions_at w s ts arm.Type_ = map (is_of_kind w) (all_if ts.type_)
 conditions_at w s ts arm.Variable = map (is_present w s) (all_if ts.variable)
 
--- ---- one truth value for each test, sort by sort
+-- ---- one truth value for each test: those of a sort, and of all sorts behind it
 module _ (w : World) (s : State) (ts : Tests) where
   abbrev pub of_kinds : List Bool
   of_kinds = conditions_at w s ts arm.Type_ ++ conditions_at w s ts arm.Variable

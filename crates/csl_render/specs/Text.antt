@@ -118,7 +118,7 @@ found w s (of_value bs) = if shows_words w.instance.special then Some (value bs)
 
 -- ---- dry runs
 
--- a text of a variable calls it, but for the year suffix
+-- a text calls its variable also where it finds nothing, but for the year suffix
 abbrev pub calls_variable : Variable → Bool
 calls_variable (variable.Standard v) = not (is_standard standard.YearSuffix v)
 calls_variable (variable.Number v) = true
@@ -132,11 +132,11 @@ calls (of_term t form plural) = false
 calls (of_value bs) = false
 
 abbrev pub found_info : Bool → Option Found → Info
-found_info calls None = info_of false (flags calls false false false)
-found_info calls (Some (answer v cs)) = info_of (not (is_empty cs)) (flags true (not (is_empty cs)) false false)
-found_info calls (Some (numeral v n)) = info_of true (flags true true false false)
-found_info calls (Some (term bs)) = info_of true no_flags
-found_info calls (Some (value bs)) = info_of (not (length bs == 0)) no_flags
+found_info called None = info_of false (flags called false false false)
+found_info called (Some (answer v cs)) = info_of (not (is_empty cs)) (flags true (not (is_empty cs)) false false)
+found_info called (Some (numeral v n)) = info_of true (flags true true false false)
+found_info called (Some (term bs)) = info_of true no_flags
+found_info called (Some (value bs)) = info_of (not (length bs == 0)) no_flags
 
 abbrev pub target_info : World → State → Target → Info
 target_info w s t = found_info (calls t) (found w s t)

@@ -141,7 +141,7 @@ fn is_ibid(state: IbidState) -> bool
     }
 }
 
-/// Whether the cite before is of the same entry and has another locator.
+/// Whether the cite before is of the same entry and had not this cite's locator.
 fn is_ibid_with_locator(state: IbidState) -> bool
     ensures { result ≡ is_ibid_with_locator state }
 {
@@ -152,7 +152,7 @@ fn is_ibid_with_locator(state: IbidState) -> bool
     }
 }
 
-/// Whether the cite stands there among those of its entry. In a bibliography it stands nowhere.
+/// Whether the cite is in that position. In a bibliography it is in none.
 ///
 /// # Errors
 /// As [`is_located`].

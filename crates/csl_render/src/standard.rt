@@ -1,4 +1,4 @@
-//! Texts of a variable (CSL 1.0.2, Text: variable; Appendix VI: Links).
+//! Texts of a standard variable (CSL 1.0.2, Text: variable; Appendix VI: Links).
 
 ghost use Rattle.std.specs.Prelude.{◌≡◌, ◌++◌, if◌then◌else◌, Some, None, true, false, option_map, string_bytes, IfOk, OnOk, IfErr};
 ghost use Rattle.lit_model.specs.Text.{chunks};
