@@ -1,0 +1,16 @@
+use Rattle.std.proofs.Common.{◌≡◌, Bool, List, [], ◌∷◌, drop, map, if◌then◌else◌}
+use Rattle.std.specs.List.{list_all}
+use Rattle.csl_style.specs.NameOptions.{inherited_options, SetOptions}
+use Rattle.csl_style.specs.Names.{NameNode}
+use Rattle.csl_style.specs.View.{view_child, name_children}
+use Rattle.csl_names.specs.NamesForms.{each_hides, name_hides}
+use Rattle.csl_names.specs.PersonLists.{list_of}
+use Rattle.csl_names.proofs.names.forms.each_hides.Given as goal
+
+-- the children from here on answer what all do: where one was met, each of the rest does
+abbrev pub invariant-loop-child : goal.invariant-loop-child
+invariant-loop-child l =
+    let own = inherited_options l.own in
+    let lists = map list_of l.lists in
+    let rest = name_children (map view_child (drop l.child-index l.children)) in
+    (if l.is_alone then each_hides own lists rest else list_all (name_hides own lists) rest) ≡ each_hides own lists (name_children (map view_child l.children))

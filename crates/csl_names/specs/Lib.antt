@@ -1,0 +1,10 @@
+pub mod Piece
+pub mod OneName
+pub mod Ways
+pub mod NameList
+pub mod ListWays
+pub mod NamesLists
+pub mod PersonLists
+pub mod NamesForms
+pub mod NamesContent
+pub mod NamesStyles

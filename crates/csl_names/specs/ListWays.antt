@@ -1,0 +1,45 @@
+-- How a list of names is written by a style (CSL 1.0.2, Name, Et-al): what the Name, the options and the terms of the style say.
+use Rattle.std.specs.Prelude.{ℕ, Bool, false, List, [], Option, Some, None, codes, is_some, unwrap_or}
+use Rattle.lit_model.specs.Person.{Named}
+use Rattle.csl_style.specs.declared.names.NameAnd.{NameAnd}
+use Rattle.csl_style.specs.declared.names.NameAnd.TheVariants.{Text, Symbol}
+use Rattle.csl_style.specs.declared.taxonomy.NameVariable.{NameVariable}
+use Rattle.csl_style.specs.declared.term.Term.TheVariants.{Other}
+use Rattle.csl_style.specs.declared.term.OtherTerm.TheVariants.{And}
+use Rattle.csl_style.specs.declared.term.TermForm.TheVariants.{Long}
+use Rattle.csl_style.specs.NameOptions.{UsedOptions}
+use Rattle.csl_style.specs.Names.{NameNode, EtAlNode}
+use Rattle.csl_style.specs.Style.{StyleParts}
+use Rattle.csl_context.specs.Now.{Now}
+use Rattle.csl_context.specs.World.{term_in}
+use Rattle.csl_names.specs.NameList.{ListHow, Forms, with_names}
+use Rattle.csl_names.specs.Ways.{name_way}
+
+-- the word before the last name, where there is to be one: an ampersand, or the term, or nothing where the style lacks it
+abbrev pub and_word : StyleParts → Option NameAnd → Option (List ℕ)
+and_word style None = None
+and_word style (Some Symbol) = Some (codes "&")
+and_word style (Some Text) = Some (unwrap_or (term_in style (Other And) Long false) [])
+
+-- how a list of names is written, where a sort key is made or not
+abbrev pub list_way : StyleParts → Bool → NameNode → UsedOptions → EtAlNode → NameVariable → ListHow
+list_way style sorting name o et_al variable = record {
+  variable = variable;
+  name = name_way style.settings sorting name o;
+  delimiter = o.delimiter;
+  and_word = and_word style o.and;
+  before_last = o.delimiter_precedes_last;
+  before_et_al = o.delimiter_precedes_et_al;
+  use_last = o.et_al_use_last;
+  order = o.name_as_sort_order;
+  et_al = term_in style (Other et_al.term) Long false;
+  et_al_formatting = et_al.formatting;
+}
+
+-- the same in a context
+abbrev pub list_in : {T : Type 0} → Now T → NameNode → UsedOptions → EtAlNode → NameVariable → ListHow
+list_in now name o et_al variable = list_way now.style (is_some now.sorting) name o et_al variable
+
+-- the context behind a list of names
+abbrev pub with_name_list : {T : Type 0} → NameNode → UsedOptions → EtAlNode → NameVariable → List Named → Forms → Now T → Now T
+with_name_list name o et_al variable persons forms now = with_names (list_in now name o et_al variable) persons forms now

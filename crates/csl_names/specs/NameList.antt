@@ -1,0 +1,178 @@
+-- A list of names (CSL 1.0.2, Name: and, delimiter, delimiter-precedes-et-al, delimiter-precedes-last, et-al-use-last,
+-- name-as-sort-order; Et-al): which names are shown, what stands before each, and what stands for those that are left out.
+use Rattle.std.specs.Prelude.{ℕ, ◌+◌, ◌-◌, Bool, true, false, ◌&&◌, ◌==◌, nat_lt, nat_le, min, List, [], ◌∷◌, ◌++◌, length, Option, Some, None, option_map, is_none, slice_get, codes, if◌then◌else◌}
+use Rattle.std.specs.List.{position}
+use Rattle.lit_model.specs.Person.{Named}
+use Rattle.csl_style.specs.declared.formatting.Formatting as partial
+use Rattle.csl_style.specs.declared.taxonomy.NameVariable.{NameVariable}
+use Rattle.csl_style.specs.declared.names.DelimiterBehavior.{DelimiterBehavior}
+use Rattle.csl_style.specs.declared.names.DelimiterBehavior.TheVariants.{Contextual, AfterInvertedName, Always, Never}
+use Rattle.csl_style.specs.declared.names.NameAsSortOrder.{NameAsSortOrder}
+use Rattle.csl_style.specs.declared.names.NameAsSortOrder.TheVariants.{First, All}
+use Rattle.csl_style.specs.NamesParts.{plain}
+use Rattle.csl_tree.specs.Tokens.{of_name}
+use Rattle.csl_tree.specs.Content.{boxed}
+use Rattle.csl_entry.specs.declared.name_form.DisambiguatedNameForm.{DisambiguatedNameForm}
+use Rattle.csl_context.specs.State.{Inherited}
+use Rattle.csl_context.specs.Now.{Now}
+use Rattle.csl_names.specs.declared.list.ListStyle.{ListStyle}
+use Rattle.csl_names.specs.Piece.{Piece, word, gap, whole, with_pieces}
+use Rattle.csl_names.specs.OneName.{NameHow, name_how, name_content}
+
+-- The variable; how each name is written; what stands between two names; the word before the last one, where there is to be one; when
+-- a delimiter stands before that word and before `et al.`; whether the last name is kept; which names begin with the family name; the
+-- text of `et al.`, where the style has one, and its formatting.
+pub record ListHow : Type 0 where
+  pub variable : NameVariable
+  pub name : NameHow
+  pub delimiter : List ℕ
+  pub and_word : Option (List ℕ)
+  pub before_last : DelimiterBehavior
+  pub before_et_al : DelimiterBehavior
+  pub use_last : Bool
+  pub order : Option NameAsSortOrder
+  pub et_al : Option (List ℕ)
+  pub et_al_formatting : partial.Formatting
+
+abbrev pub list_how : ListStyle → ListHow
+list_how s = record {
+  variable = s.variable;
+  name = name_how s.name;
+  delimiter = s.delimiter.now;
+  and_word = option_map (λ t. t.now) s.and_word;
+  before_last = s.before_last;
+  before_et_al = s.before_et_al;
+  use_last = s.use_last;
+  order = s.order;
+  et_al = option_map (λ t. t.now) s.et_al;
+  et_al_formatting = s.et_al_formatting;
+}
+
+-- ---- who is shown
+
+-- the form of each name: one without a form is left out
+abbrev pub Forms : Type 0
+Forms = List (Option DisambiguatedNameForm)
+
+abbrev pub form_or_none : Option (Option DisambiguatedNameForm) → Option DisambiguatedNameForm
+form_or_none None = None
+form_or_none (Some form) = form
+
+-- the form of the name at a place; beyond the forms there is none
+abbrev pub form_at : Forms → ℕ → Option DisambiguatedNameForm
+form_at forms place = form_or_none (slice_get forms place)
+
+-- the place of the first name that is said to be left out, if one is
+abbrev pub first_absent : Forms → Option ℕ
+first_absent forms = position (λ form. is_none form) forms
+
+-- the number of names of a list that is shown whole
+abbrev pub whole_count : Option ℕ → ℕ → Option ℕ
+whole_count None count = Some count
+whole_count (Some place) count = None
+
+-- ---- order
+
+-- the name at a place begins with the family name
+abbrev pub is_reversed : Option NameAsSortOrder → ℕ → Bool
+is_reversed None place = false
+is_reversed (Some First) place = place == 0
+is_reversed (Some All) place = true
+
+-- every name does
+abbrev pub is_all : Option NameAsSortOrder → Bool
+is_all None = false
+is_all (Some First) = false
+is_all (Some All) = true
+
+-- ---- what stands before a name
+
+-- a delimiter stands behind this many names, of which this many are shown
+abbrev pub precedes : DelimiterBehavior → Option NameAsSortOrder → ℕ → ℕ → Bool
+precedes Contextual order names shown = nat_le 2 names
+precedes AfterInvertedName order names shown = nat_lt 0 shown && is_reversed order (shown - 1)
+precedes Always order names shown = true
+precedes Never order names shown = false
+
+abbrev pub delimiter_of : ListHow → Piece
+delimiter_of how = word how.delimiter plain
+
+-- before the last name at a place: the word behind a delimiter or a space, and a gap; the delimiter, where there is no word
+abbrev pub last_join : ListHow → ℕ → Option (List ℕ) → List Piece
+last_join how place None = delimiter_of how ∷ []
+last_join how place (Some and) =
+    word (if precedes how.before_last how.order place place then how.delimiter else codes " ") plain ∷ word and plain ∷ gap plain ∷ []
+
+-- the last place of a list that is shown whole
+abbrev pub is_last : Option ℕ → ℕ → Bool
+is_last None place = false
+is_last (Some count) place = place + 1 == count
+
+-- before the name at a place; `ends` is the number of names, where all are shown
+abbrev pub join : ListHow → Option ℕ → ℕ → List Piece
+join how ends place =
+    if nat_lt 0 place then (if is_last ends place then last_join how place how.and_word else delimiter_of how ∷ []) else []
+
+-- ---- the names
+
+-- one name in an element of its own
+abbrev pub one_whole : Inherited → ListHow → DisambiguatedNameForm → Bool → ℕ → Named → Piece
+one_whole inh how form reversed place p = whole (boxed None (Some (of_name how.variable place)) (name_content how.name form reversed p inh))
+
+-- a name that has a form, and those behind it; nothing, where it has none
+abbrev pub from_form : Inherited → ListHow → Option ℕ → ℕ → Named → List Piece → Option DisambiguatedNameForm → List Piece
+from_form inh how ends place p behind None = []
+from_form inh how ends place p behind (Some form) =
+    join how ends place ++ (one_whole inh how form (is_reversed how.order place) place p ∷ behind)
+
+-- the names from a place on, up to the first without a form
+abbrev pub names_from : Inherited → ListHow → Option ℕ → Forms → ℕ → List Named → List Piece
+names_from inh how ends forms place [] = []
+names_from inh how ends forms place (p ∷ ps) =
+    from_form inh how ends place p (names_from inh how ends forms (place + 1) ps) (form_at forms place)
+
+-- ---- what stands for those that are left out
+
+-- `et al.`, behind this many names, of which this many are shown
+abbrev pub others : ListHow → ℕ → ℕ → Option (List ℕ) → List Piece
+others how names shown None = []
+others how names shown (Some term) =
+    (if precedes how.before_et_al how.order names shown then delimiter_of how ∷ [] else [])
+    ++ (gap how.et_al_formatting ∷ word term how.et_al_formatting ∷ [])
+
+-- the bytes of an ellipsis and a space
+abbrev pub ellipsis : List ℕ
+ellipsis = 226 ∷ 128 ∷ 166 ∷ 32 ∷ []
+
+-- the last name behind an ellipsis
+abbrev pub kept_last : Inherited → ListHow → List Named → DisambiguatedNameForm → Option Named → List Piece
+kept_last inh how persons form None = []
+kept_last inh how persons form (Some p) =
+    delimiter_of how ∷ word ellipsis plain ∷ one_whole inh how form (is_all how.order) (length persons - 1) p ∷ []
+
+-- the form of the last name, where that is to be kept
+abbrev pub last_form : ListHow → Forms → Option DisambiguatedNameForm
+last_form how forms = if how.use_last then form_at forms (length forms - 1) else None
+
+-- behind the names, of which that at a place is the first without a form; a sort key has no `et al.`
+abbrev pub cut_end : Inherited → ListHow → ℕ → Forms → List Named → Option DisambiguatedNameForm → List Piece
+cut_end inh how names forms persons (Some form) = kept_last inh how persons form (slice_get persons (length persons - 1))
+cut_end inh how names forms persons None = if how.name.sorting then [] else others how names (min names (length persons)) how.et_al
+
+abbrev pub list_end : Inherited → ListHow → Forms → List Named → Option ℕ → List Piece
+list_end inh how forms persons None = []
+list_end inh how forms persons (Some names) = cut_end inh how names forms persons (last_form how forms)
+
+-- ---- Name list
+
+abbrev pub name_list : Inherited → ListHow → List Named → Forms → List Piece
+name_list inh how persons forms =
+    names_from inh how (whole_count (first_absent forms) (length persons)) forms 0 persons
+    ++ list_end inh how forms persons (first_absent forms)
+
+-- a context behind one name, and behind the list: a gap of the list looks at what is written in the innermost open part
+abbrev pub with_whole : {T : Type 0} → ListHow → DisambiguatedNameForm → Bool → ℕ → Named → Now T → Now T
+with_whole how form reversed place p now = with_pieces (one_whole now.inherited how form reversed place p ∷ []) now
+
+abbrev pub with_names : {T : Type 0} → ListHow → List Named → Forms → Now T → Now T
+with_names how persons forms now = with_pieces (name_list now.inherited how persons forms) now

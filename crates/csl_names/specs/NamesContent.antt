@@ -1,0 +1,142 @@
+-- What a names node writes of its lists (CSL 1.0.2, Names; Label in Names; Affixes; Display; Name: form).
+use Rattle.std.specs.Prelude.{ℕ, ◌+◌, Bool, true, false, not, ◌&&◌, ◌||◌, ◌==◌, List, [], ◌∷◌, length, Option, Some, None, slice_get, decimal, if◌then◌else◌}
+use Rattle.std.specs.Option.{unwrap_or, option_or}
+use Rattle.lit_model.specs.Person.{Named}
+use Rattle.csl_style.specs.declared.names.NameForm.{NameForm}
+use Rattle.csl_style.specs.declared.names.NameForm.TheVariants.{Count, Short, Long}
+use Rattle.csl_style.specs.declared.taxonomy.NameVariable.{NameVariable}
+use Rattle.csl_style.specs.declared.term.Term.TheVariants as terms
+use Rattle.csl_style.specs.Dressing.{Dressing}
+use Rattle.csl_style.specs.NameOptions.{SetOptions, UsedOptions, options_over, with_defaults, names_delimiter_of}
+use Rattle.csl_style.specs.Names.{NameNode, EtAlNode, LabelNode, NamesLabel, NamesNode, first_name}
+use Rattle.csl_style.specs.NamesParts.{default_name, default_et_al}
+use Rattle.csl_style.specs.Style.{StyleParts}
+use Rattle.csl_tree.specs.Tokens.{Token, Meta, of_names}
+use Rattle.csl_tree.specs.Content.{◌++>◌, boxed}
+use Rattle.csl_context.specs.State.{Inherited}
+use Rattle.csl_context.specs.Texts.{text_in, affixed_in}
+use Rattle.csl_context.specs.World.{term_in}
+use Rattle.csl_names.specs.Piece.{under, written}
+use Rattle.csl_names.specs.NameList.{Forms, name_list}
+use Rattle.csl_names.specs.ListWays.{list_way}
+use Rattle.csl_names.specs.NamesLists.{Lists}
+use Rattle.csl_names.specs.NamesForms.{default_forms, count_of, counted}
+
+-- ---- how the lists are written
+
+-- the name, its options, et al., the label, and what stands between two lists
+pub record NamesHow : Type 0 where
+  pub name : NameNode
+  pub options : UsedOptions
+  pub et_al : EtAlNode
+  pub label : Option NamesLabel
+  pub delimiter : List ℕ
+
+abbrev pub name_of : NamesNode → NameNode
+name_of n = unwrap_or (first_name n) default_name
+
+-- those of the name count first, then those of the node, then the inherited ones
+abbrev pub set_options : NamesNode → SetOptions → SetOptions
+set_options n inherited = options_over (name_of n).options (options_over n.options inherited)
+
+-- the delimiter that the node itself has counts before that among its options
+abbrev pub lists_delimiter : NamesNode → SetOptions → List ℕ
+lists_delimiter n inherited =
+    unwrap_or (option_or (name_of n).options.names_delimiter n.delimiter) (names_delimiter_of (options_over n.options inherited))
+
+abbrev pub names_how : NamesNode → SetOptions → NamesHow
+names_how n inherited = record {
+  name = name_of n;
+  options = with_defaults (set_options n inherited);
+  et_al = unwrap_or n.et_al default_et_al;
+  label = n.label;
+  delimiter = lists_delimiter n inherited;
+}
+
+-- ---- labels
+
+-- the affixed term of a label in its formatting, of which the term alone is stripped
+abbrev pub in_label : LabelNode → Inherited → Inherited
+in_label l inh = record (under l.formatting inh) { stripping = l.strip_periods || inh.stripping }
+
+abbrev pub label_content : LabelNode → List ℕ → Inherited → List Token
+label_content l term inh = affixed_in (under l.formatting inh) l.affixes (text_in (in_label l inh) term)
+
+-- the term of the label of a list: that of its variable, in the plural where there is not one person
+abbrev pub list_term : StyleParts → LabelNode → NameVariable → ℕ → Option (List ℕ)
+list_term style l v count = term_in style (terms.Name v) l.form (not (count == 1))
+
+-- the label, where it stands on that side and no sort key is made
+abbrev pub label_on : Bool → Bool → Option NamesLabel → Option LabelNode
+label_on sorting behind None = None
+label_on true behind (Some l) = None
+label_on false true (Some l) = if l.is_behind then Some l.label else None
+label_on false false (Some l) = if l.is_behind then None else Some l.label
+
+-- behind what is written, a label; nothing where the style lacks the term
+abbrev pub with_term : LabelNode → Option (List ℕ) → Inherited → List Token → List Token
+with_term l None inh ts = ts
+with_term l (Some term) inh ts = ts ++> label_content l term inh
+
+-- the same, if there is a label
+abbrev pub with_label : StyleParts → Option LabelNode → NameVariable → ℕ → Inherited → List Token → List Token
+with_label style None v count inh ts = ts
+with_label style (Some l) v count inh ts = with_term l (list_term style l v count) inh ts
+
+-- ---- lists
+
+-- a list that is empty, or has no forms, is left out
+abbrev pub is_skipped : List Named → Option Forms → Bool
+is_skipped persons None = true
+is_skipped [] (Some forms) = true
+is_skipped (p ∷ ps) (Some forms) = false
+
+module _ (style : StyleParts) (sorting : Bool) (how : NamesHow) (inh : Inherited) where
+  -- behind what is written, the names of a list, in the formatting of the name
+  abbrev pub with_list : List Named → NameVariable → Forms → List Token → List Token
+  with_list persons v forms ts =
+      written (under how.name.formatting inh)
+      (name_list (under how.name.formatting inh) (list_way style sorting how.name how.options how.et_al v) persons forms) ts
+
+  -- the delimiter, unless it is the first; label, names, label
+  unfoldable pub with_one : Bool → List Named → NameVariable → Forms → List Token → List Token
+  with_one first persons v forms ts =
+      with_label style (label_on sorting true how.label) v (length persons) inh
+      (with_list persons v forms
+      (with_label style (label_on sorting false how.label) v (length persons) inh
+      (if first then ts else ts ++> text_in inh how.delimiter)))
+
+  -- unless it is left out
+  abbrev pub with_one_if : Bool → List Named → NameVariable → Option Forms → List Token → List Token
+  with_one_if first persons v None ts = ts
+  with_one_if first [] v (Some forms) ts = ts
+  with_one_if first (p ∷ ps) v (Some forms) ts = with_one first (p ∷ ps) v forms ts
+
+  -- the lists from a place on, each with the forms at its place; `first` while none is written
+  abbrev pub with_lists : Bool → ℕ → List Forms → Lists → List Token → List Token
+  with_lists first place forms [] ts = ts
+  with_lists first place forms (l ∷ ls) ts =
+      with_lists (first && is_skipped l.0 (slice_get forms place)) (place + 1) forms ls
+      (with_one_if first l.0 l.1 (slice_get forms place) ts)
+
+-- ---- the node
+
+-- what is inherited inside a node's box
+abbrev pub inside : Dressing → Inherited → Inherited
+inside d inh = under d.formatting inh
+
+-- a names node writes how many names there are, or the names
+abbrev pub written_by : NameForm → StyleParts → Bool → Bool → NamesHow → Lists → Inherited → List Token
+written_by Count style sorting later how ls inh = text_in inh (decimal (counted (count_of how.options later ls)))
+written_by Short style sorting later how ls inh = with_lists style sorting how inh true 0 (default_forms how.options later ls) ls []
+written_by Long style sorting later how ls inh = with_lists style sorting how inh true 0 (default_forms how.options later ls) ls []
+
+-- which node the box is said to be
+abbrev pub lists_meta : Lists → Option Meta
+lists_meta ls = Some (of_names ls)
+
+-- the box of a names node that has persons, around the affixed lists, in a style, for a sort key or not, in a later cite or a first
+abbrev pub names_content : StyleParts → Bool → Bool → NamesNode → Lists → Inherited → List Token
+names_content style sorting later n ls inh = boxed n.dressing.display (lists_meta ls)
+    (affixed_in (inside n.dressing inh) n.dressing.affixes
+    (written_by (names_how n inh.options).options.form style sorting later (names_how n inh.options) ls (inside n.dressing inh)))

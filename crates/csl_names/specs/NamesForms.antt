@@ -1,0 +1,71 @@
+-- In which form each name of a names node is written, which are left out, and when none is written (CSL 1.0.2, Name: form,
+-- initialize, et-al-min and those after it).
+use Rattle.std.specs.Prelude.{ℕ, ◌+◌, Bool, true, false, not, ◌&&◌, ◌||◌, ◌==◌, nat_le, min, List, [], ◌∷◌, map, length, count_by, Option, Some, None, is_some, if◌then◌else◌}
+use Rattle.std.specs.List.{list_all, range_with_len}
+use Rattle.csl_style.specs.declared.names.NameForm.{NameForm}
+use Rattle.csl_style.specs.declared.names.NameForm.TheVariants.{Count, Short, Long}
+use Rattle.csl_style.specs.NameOptions.{SetOptions, UsedOptions, options_over, is_suppressed}
+use Rattle.csl_style.specs.Names.{NameNode, NamesNode}
+use Rattle.csl_entry.specs.declared.name_form.DisambiguatedNameForm.{DisambiguatedNameForm}
+use Rattle.csl_entry.specs.declared.name_form.DisambiguatedNameForm.TheVariants as forms
+use Rattle.csl_names.specs.NameList.{Forms}
+use Rattle.csl_names.specs.NamesLists.{Lists, all_empty}
+
+-- ---- forms
+
+-- given names are written by their initials
+abbrev pub is_initialized : UsedOptions → Bool
+is_initialized o = o.initialize && is_some o.initialize_with
+
+abbrev pub form_by : NameForm → Bool → DisambiguatedNameForm
+form_by Count initialized = forms.Count
+form_by Short initialized = if initialized then forms.ShortInitialized else forms.ShortFull
+form_by Long initialized = if initialized then forms.LongInitialized else forms.LongFull
+
+-- the form of each name that is shown
+abbrev pub default_form : UsedOptions → DisambiguatedNameForm
+default_form o = form_by o.form (is_initialized o)
+
+-- the form of the name at a place of a list so long, in a first or in a later cite; a name that is left out has none
+abbrev pub form_in : UsedOptions → Bool → ℕ → ℕ → Option DisambiguatedNameForm
+form_in o later len place = if is_suppressed o place len later then None else Some (default_form o)
+
+abbrev pub list_forms : UsedOptions → Bool → ℕ → Forms
+list_forms o later len = map (form_in o later len) (range_with_len 0 len)
+
+abbrev pub default_forms : UsedOptions → Bool → Lists → List Forms
+default_forms o later ls = map (λ l. list_forms o later (length l.0)) ls
+
+-- ---- counts
+
+-- the number of names of a list so long that are not left out
+abbrev pub shown_count : UsedOptions → Bool → ℕ → ℕ
+shown_count o later len = count_by (λ place. not (is_suppressed o place len later)) (range_with_len 0 len)
+
+-- of all lists together
+abbrev pub count_of : UsedOptions → Bool → Lists → ℕ
+count_of o later [] = 0
+count_of o later (l ∷ ls) = shown_count o later (length l.0) + count_of o later ls
+
+-- names that are counted stop at `usize::MAX`
+abbrev pub counted : ℕ → ℕ
+counted n = min n 18446744073709551615
+
+-- ---- when no name is written
+
+-- names are left out from the first on, in each list
+abbrev pub hides_all : Option ℕ → Option ℕ → Lists → Bool
+hides_all None first ls = false
+hides_all (Some min) None ls = false
+hides_all (Some min) (Some first) ls = (first == 0) && list_all (λ l. nat_le min (length l.0)) ls
+
+abbrev pub name_hides : SetOptions → Lists → NameNode → Bool
+name_hides own ls n = hides_all (options_over n.options own).et_al_min (options_over n.options own).et_al_use_first ls
+
+-- each name child does, or the default one where there is none, by the options of the node alone
+abbrev pub each_hides : SetOptions → Lists → List NameNode → Bool
+each_hides own ls [] = hides_all own.et_al_min own.et_al_use_first ls
+each_hides own ls (n ∷ ns) = list_all (name_hides own ls) (n ∷ ns)
+
+abbrev pub is_void : NamesNode → Lists → Bool
+is_void n ls = all_empty ls || each_hides n.options ls n.name_children

@@ -1,0 +1,12 @@
+-- Lists of persons as code holds them, seen as lists of names.
+use Rattle.std.specs.Prelude.{List, map}
+use Rattle.std.specs.declared.alloc.Global.{Global}
+use Rattle.std.specs.declared.borrow.Cow.{Cow}
+use Rattle.std.specs.declared.vec.Vec.{Vec}
+use Rattle.lit_model.specs.declared.person.Person.{Person}
+use Rattle.lit_model.specs.Person.{Named, named}
+use Rattle.csl_style.specs.declared.taxonomy.NameVariable.{NameVariable}
+use Rattle.csl_entry.specs.Answers.{behind}
+
+abbrev pub list_of : Vec (Cow Person) Global × NameVariable → List Named × NameVariable
+list_of l = (map (behind named) l.0.items, l.1)

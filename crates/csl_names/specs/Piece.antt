@@ -1,0 +1,46 @@
+-- A text that is read from the left: its texts, the gaps between them, and contents that stand as they are (CSL 1.0.2, Name).
+use Rattle.std.specs.Prelude.{ℕ, List, [], ◌∷◌, Option, Some, None}
+use Rattle.csl_style.specs.declared.formatting.Formatting as partial
+use Rattle.csl_tree.specs.Formatting.{over}
+use Rattle.csl_tree.specs.Tokens.{Token}
+use Rattle.csl_tree.specs.Content.{◌++>◌}
+use Rattle.csl_context.specs.State.{Inherited}
+use Rattle.csl_context.specs.Texts.{text_in, gap_after}
+use Rattle.csl_context.specs.Now.{Now}
+
+pub data Piece : Type 0 where
+  -- a text, in a formatting over that of its place
+  word : List ℕ → partial.Formatting → Piece
+  -- a space, unless there is no text yet or white space ends it
+  gap : partial.Formatting → Piece
+  -- a content as it is
+  whole : List Token → Piece
+
+-- what is inherited under a formatting
+abbrev pub under : partial.Formatting → Inherited → Inherited
+under p inh = record inh { formatting = over p inh.formatting }
+
+-- what is written, and then a piece, in a place that inherits this
+abbrev pub then_piece : Inherited → List Token → Piece → List Token
+then_piece inh ts (word bs p) = ts ++> text_in (under p inh) bs
+then_piece inh ts (gap p) = ts ++> text_in (under p inh) (gap_after ts)
+then_piece inh ts (whole more) = ts ++> more
+
+-- pieces behind what is written
+abbrev pub written : Inherited → List Piece → List Token → List Token
+written inh [] ts = ts
+written inh (p ∷ ps) ts = written inh ps (then_piece inh ts p)
+
+-- the context after the pieces
+abbrev pub with_pieces : {T : Type 0} → List Piece → Now T → Now T
+with_pieces ps now = record now { inner = written now.inherited ps now.inner }
+
+-- a text, if there is one
+abbrev pub optional_word : Option (List ℕ) → partial.Formatting → List Piece
+optional_word None p = []
+optional_word (Some bs) p = word bs p ∷ []
+
+-- a text behind a gap, if there is one
+abbrev pub spaced_word : Option (List ℕ) → partial.Formatting → List Piece
+spaced_word None p = []
+spaced_word (Some bs) p = gap p ∷ word bs p ∷ []

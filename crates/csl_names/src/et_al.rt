@@ -1,0 +1,125 @@
+//! What stands for the names that a list leaves out (CSL 1.0.2, Et-al; Name:
+//! delimiter-precedes-et-al, et-al-use-last).
+
+ghost use Rattle.std.specs.Prelude.{◌≡◌, ◌-◌, map, length, slice_get, OnOk, IfErr};
+ghost use Rattle.std.specs.Cow.{cow_value};
+ghost use Rattle.lit_model.specs.Person.{named};
+ghost use Rattle.csl_context.specs.Now.{FailsAs, Leaves};
+ghost use Rattle.csl_names.specs.Piece.{with_pieces};
+ghost use Rattle.csl_names.specs.NameList.{list_how, is_all, others, last_form, kept_last, cut_end};
+
+use crate::join::precedes;
+use crate::list::{ListStyle, form_at};
+use crate::piece::{plain, put, put_gap};
+use csl_context::{Context, RenderError};
+use csl_entry::DisambiguatedNameForm;
+use csl_style::NameAsSortOrder;
+use lit_model::Person;
+use std::borrow::Cow;
+
+/// Whether every name begins with the family name.
+fn is_all(order: Option<NameAsSortOrder>) -> bool
+    ensures { result ≡ is_all order }
+{
+    match order {
+        None => false,
+        Some(NameAsSortOrder::First) => false,
+        Some(NameAsSortOrder::All) => true,
+    }
+}
+
+impl ListStyle<'_> {
+    /// Writes `et al.` behind so many names, of which so many are shown, where the style has a
+    /// text for it.
+    fn put_others<T>(
+        self,
+        ctx: &mut Context<'_, T>,
+        names: usize,
+        shown: usize,
+    ) -> Result<(), RenderError>
+        ensures ok { OnOk result (Leaves (with_pieces (others (list_how self.entry) names shown
+            (list_how self.entry).et_al)) ctx.old ctx.new) }
+        ensures err { IfErr result (λ e. FailsAs e ctx.old ctx.new) }
+    {
+        ctx.nothing()?;
+        match self.et_al {
+            None => Ok(()),
+            Some(term) => {
+                if precedes(self.before_et_al, self.order, names, shown) {
+                    put(ctx, self.delimiter, plain())?;
+                }
+                put_gap(ctx, self.et_al_formatting)?;
+                put(ctx, term, self.et_al_formatting)?;
+                Ok(())
+            }
+        }
+    }
+
+    /// The form of the last name, where that is to be kept.
+    fn last_form(self, forms: &[Option<DisambiguatedNameForm>]) -> Option<DisambiguatedNameForm>
+        ensures { result ≡ last_form (list_how self.entry) forms.now }
+    {
+        if self.use_last && !forms.is_empty() {
+            form_at(forms, forms.len() - 1)
+        } else {
+            None
+        }
+    }
+
+    /// Writes the last name behind an ellipsis.
+    fn put_kept_last<T>(
+        self,
+        ctx: &mut Context<'_, T>,
+        persons: &[Cow<'_, Person>],
+        form: DisambiguatedNameForm,
+    ) -> Result<(), RenderError>
+        ensures ok { OnOk result (Leaves (λ now. with_pieces (kept_last now.inherited
+            (list_how self.entry) (map (λ p. named (cow_value p)) persons.now) form
+            (slice_get (map (λ p. named (cow_value p)) persons.now)
+            (length (map (λ p. named (cow_value p)) persons.now) - 1))) now) ctx.old ctx.new) }
+        ensures err { IfErr result (λ e. FailsAs e ctx.old ctx.new) }
+    {
+        ctx.nothing()?;
+        match persons.last() {
+            None => Ok(()),
+            Some(person) => {
+                put(ctx, self.delimiter, plain())?;
+                put(ctx, "… ", plain())?;
+                let place = persons.len() - 1;
+                self.put_whole(ctx, person.as_ref(), form, is_all(self.order), place)?;
+                Ok(())
+            }
+        }
+    }
+
+    /// Writes what stands behind the names of a list, of which that at the place `names` is the
+    /// first without a form.
+    pub(crate) fn put_cut_end<T>(
+        self,
+        ctx: &mut Context<'_, T>,
+        names: usize,
+        forms: &[Option<DisambiguatedNameForm>],
+        persons: &[Cow<'_, Person>],
+    ) -> Result<(), RenderError>
+        ensures ok { OnOk result (Leaves (λ now. with_pieces (cut_end now.inherited
+            (list_how self.entry) names forms.now (map (λ p. named (cow_value p)) persons.now)
+            (last_form (list_how self.entry) forms.now)) now) ctx.old ctx.new) }
+        ensures err { IfErr result (λ e. FailsAs e ctx.old ctx.new) }
+    {
+        match self.last_form(forms) {
+            Some(form) => {
+                self.put_kept_last(ctx, persons, form)?;
+                Ok(())
+            }
+            None => {
+                if self.name.sorting {
+                    ctx.nothing()?;
+                    Ok(())
+                } else {
+                    self.put_others(ctx, names, names.min(persons.len()))?;
+                    Ok(())
+                }
+            }
+        }
+    }
+}

@@ -1,0 +1,142 @@
+//! Given names, whole or cut down (CSL 1.0.2, Name: initialize-with).
+
+ghost use Rattle.std.specs.Prelude.{◌≡◌, ◌∷◌, [], Some, IfOk, OnOk, IfErr, option_map, string_bytes};
+ghost use Rattle.lit_model.specs.Person.{named};
+ghost use Rattle.lit_model.specs.Initials.{person_initials};
+ghost use Rattle.lit_model.specs.FirstNames.{person_first_name};
+ghost use Rattle.csl_context.specs.Now.{FailsAs, Leaves};
+ghost use Rattle.csl_names.specs.Piece.{word, with_pieces};
+ghost use Rattle.csl_names.specs.OneName.{name_how, shortened, given_word, given_block};
+
+use crate::name::NameStyle;
+use crate::piece::{put, put_optional, put_spaced};
+use csl_context::{Context, RenderError};
+use csl_entry::DisambiguatedNameForm;
+use lit_model::{Memory, Person};
+use std::alloc::Global;
+
+/// The initials of a person.
+fn initials_of(alloc: Global, person: &Person, text: &str, hyphen: bool) -> Result<String, Memory>
+    ensures { IfOk result (λ short. string_bytes short
+        ≡ person_initials (Some text.now) hyphen (named person.now)) }
+{
+    let mut short = String::new(alloc);
+    match person.initials(&mut short, Some(text), hyphen) {
+        Ok(()) => Ok(short),
+        Err(_) => Err(Memory),
+    }
+}
+
+/// The given name of a person, with its letters marked.
+fn lettered_name(alloc: Global, person: &Person, text: &str) -> Result<String, Memory>
+    ensures { IfOk result (λ short. string_bytes short
+        ≡ person_first_name (Some text.now) (named person.now)) }
+{
+    let mut short = String::new(alloc);
+    match person.first_name_with_delimiter(&mut short, Some(text)) {
+        Ok(()) => Ok(short),
+        Err(_) => Err(Memory),
+    }
+}
+
+/// The given name, cut down: to its initials in the one long form, in the others with its letters
+/// marked.
+fn shorten(
+    alloc: Global,
+    person: &Person,
+    given: &str,
+    form: DisambiguatedNameForm,
+    text: &str,
+    hyphen: bool,
+) -> Result<String, Memory>
+    requires given_name { option_map string_bytes person.now.given_name ≡ Some given.now }
+    ensures { IfOk result (λ short. string_bytes short
+        ≡ shortened text.now hyphen form given.now) }
+{
+    match form {
+        DisambiguatedNameForm::LongInitialized => {
+            let short = initials_of(alloc, person, text, hyphen)?;
+            Ok(short)
+        }
+        DisambiguatedNameForm::Count
+        | DisambiguatedNameForm::ShortInitialized
+        | DisambiguatedNameForm::ShortFull
+        | DisambiguatedNameForm::LongFull => {
+            let name = lettered_name(alloc, person, text)?;
+            Ok(name)
+        }
+    }
+}
+
+impl NameStyle<'_> {
+    /// Writes the given name, if there is one.
+    fn put_given<T>(
+        self,
+        ctx: &mut Context<'_, T>,
+        person: &Person,
+        form: DisambiguatedNameForm,
+    ) -> Result<(), RenderError>
+        ensures ok { OnOk result (Leaves
+            (with_pieces (given_word (name_how self.entry) form (named person.now)))
+            ctx.old ctx.new) }
+        ensures err { IfErr result (λ e. FailsAs e ctx.old ctx.new) }
+    {
+        match &person.given_name {
+            None => ctx.nothing(),
+            Some(given) => match self.initialize_with {
+                None => put(ctx, given.as_str(), self.given.formatting),
+                Some(text) => self.put_short(ctx, person, given.as_str(), form, text),
+            },
+        }
+    }
+
+    /// Writes the given name, cut down.
+    fn put_short<T>(
+        self,
+        ctx: &mut Context<'_, T>,
+        person: &Person,
+        given: &str,
+        form: DisambiguatedNameForm,
+        text: &str,
+    ) -> Result<(), RenderError>
+        requires given_name { option_map string_bytes person.now.given_name ≡ Some given.now }
+        ensures ok { OnOk result (Leaves
+            (with_pieces (word (shortened text.now (name_how self.entry).hyphen form given.now)
+            (name_how self.entry).given.formatting ∷ [])) ctx.old ctx.new) }
+        ensures err { IfErr result (λ e. FailsAs e ctx.old ctx.new) }
+    {
+        if ctx.has_failed() {
+            return Err(RenderError::Failed);
+        }
+        match shorten(ctx.alloc(), person, given, form, text, self.hyphen) {
+            Ok(short) => put(ctx, short.as_str(), self.given.formatting),
+            Err(_) => {
+                ctx.fail();
+                Err(RenderError::Memory)
+            }
+        }
+    }
+
+    /// Writes the given name and what stands before the family name, in the given part's
+    /// formatting.
+    ///
+    /// # Errors
+    /// [`RenderError::Memory`]: there was no memory left. The context has failed.
+    /// [`RenderError::Failed`]: the context had failed before.
+    pub(crate) fn put_given_block<T>(
+        self,
+        ctx: &mut Context<'_, T>,
+        person: &Person,
+        form: DisambiguatedNameForm,
+    ) -> Result<(), RenderError>
+        ensures ok { OnOk result (Leaves
+            (with_pieces (given_block (name_how self.entry) form (named person.now)))
+            ctx.old ctx.new) }
+        ensures err { IfErr result (λ e. FailsAs e ctx.old ctx.new) }
+    {
+        put_optional(ctx, self.given.prefix, self.given.formatting)?;
+        self.put_given(ctx, person, form)?;
+        put_spaced(ctx, person.prefix.as_deref(), self.given.formatting)?;
+        Ok(())
+    }
+}

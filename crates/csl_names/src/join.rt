@@ -1,0 +1,90 @@
+//! What stands before a name of a list (CSL 1.0.2, Name: and, delimiter,
+//! delimiter-precedes-last).
+
+ghost use Rattle.std.specs.Prelude.{◌≡◌, ◌<◌, OnOk, IfErr};
+ghost use Rattle.csl_context.specs.Now.{FailsAs, Leaves};
+ghost use Rattle.csl_names.specs.Piece.{with_pieces};
+ghost use Rattle.csl_names.specs.NameList.{list_how, precedes, last_join, join};
+
+use crate::list::{ListStyle, is_reversed};
+use crate::piece::{plain, put, put_gap};
+use csl_context::{Context, RenderError};
+use csl_style::{DelimiterBehavior, NameAsSortOrder};
+
+/// Whether a delimiter stands behind so many names, of which so many are shown.
+pub(crate) fn precedes(
+    behavior: DelimiterBehavior,
+    order: Option<NameAsSortOrder>,
+    names: usize,
+    shown: usize,
+) -> bool
+    ensures { result ≡ precedes behavior order names shown }
+{
+    match behavior {
+        DelimiterBehavior::Contextual => 2 <= names,
+        DelimiterBehavior::AfterInvertedName => 0 < shown && is_reversed(order, shown - 1),
+        DelimiterBehavior::Always => true,
+        DelimiterBehavior::Never => false,
+    }
+}
+
+impl ListStyle<'_> {
+    /// Writes what stands before the last name at a place: the word behind a delimiter or a
+    /// space, or the delimiter alone.
+    fn put_last_join<T>(self, ctx: &mut Context<'_, T>, place: usize) -> Result<(), RenderError>
+        ensures ok { OnOk result (Leaves (with_pieces (last_join (list_how self.entry) place
+            (list_how self.entry).and_word)) ctx.old ctx.new) }
+        ensures err { IfErr result (λ e. FailsAs e ctx.old ctx.new) }
+    {
+        match self.and_word {
+            None => {
+                put(ctx, self.delimiter, plain())?;
+                Ok(())
+            }
+            Some(and) => {
+                let before = if precedes(self.before_last, self.order, place, place) {
+                    self.delimiter
+                } else {
+                    " "
+                };
+                put(ctx, before, plain())?;
+                put(ctx, and, plain())?;
+                put_gap(ctx, plain())?;
+                Ok(())
+            }
+        }
+    }
+
+    /// Writes what stands before the name at a place: nothing before the first. `ends` is the
+    /// number of names, where all are shown.
+    pub(crate) fn put_join<T>(
+        self,
+        ctx: &mut Context<'_, T>,
+        ends: Option<usize>,
+        place: usize,
+    ) -> Result<(), RenderError>
+        requires { place < usize.MAX }
+        ensures ok { OnOk result
+            (Leaves (with_pieces (join (list_how self.entry) ends place)) ctx.old ctx.new) }
+        ensures err { IfErr result (λ e. FailsAs e ctx.old ctx.new) }
+    {
+        if place == 0 {
+            ctx.nothing()?;
+            return Ok(());
+        }
+        match ends {
+            Some(count) if place + 1 == count => {
+                self.put_last_join(ctx, place)?;
+                Ok(())
+            }
+            Some(_) => {
+                put(ctx, self.delimiter, plain())?;
+                Ok(())
+            }
+            None => {
+                put(ctx, self.delimiter, plain())?;
+                Ok(())
+            }
+        }
+    }
+}

@@ -1,0 +1,147 @@
+//! A list of names (CSL 1.0.2, Name: delimiter, name-as-sort-order): the names that are shown,
+//! each behind what stands before it.
+
+ghost use Rattle.std.specs.Prelude.{◌≡◌, map, OnOk, IfErr};
+ghost use Rattle.std.specs.Cow.{cow_value};
+ghost use Rattle.lit_model.specs.Person.{named};
+ghost use Rattle.csl_context.specs.Now.{FailsAs, Leaves};
+ghost use Rattle.csl_names.specs.Piece.{with_pieces};
+ghost use Rattle.csl_names.specs.NameList.{list_how, form_at, first_absent, is_reversed, names_from, with_whole, with_names};
+
+use crate::name::NameStyle;
+use csl_context::{Context, RenderError};
+use csl_entry::DisambiguatedNameForm;
+use csl_style::{DelimiterBehavior, Formatting, NameAsSortOrder, NameVariable};
+use csl_tree::ElemMeta;
+use lit_model::Person;
+use std::borrow::Cow;
+
+/// How a list of names is written, with the style, its terms and the options weighed.
+#[derive(Clone, Copy)]
+pub(crate) struct ListStyle<'n> {
+    pub(crate) variable: NameVariable,
+    pub(crate) name: NameStyle<'n>,
+    /// What stands between two names.
+    pub(crate) delimiter: &'n str,
+    /// The word before the last name, where there is to be one.
+    pub(crate) and_word: Option<&'n str>,
+    /// When a delimiter stands before that word.
+    pub(crate) before_last: DelimiterBehavior,
+    /// When a delimiter stands before `et al.`.
+    pub(crate) before_et_al: DelimiterBehavior,
+    /// Whether the last name is kept where others are left out.
+    pub(crate) use_last: bool,
+    /// Which names begin with the family name.
+    pub(crate) order: Option<NameAsSortOrder>,
+    /// The text of `et al.`, where the style has one.
+    pub(crate) et_al: Option<&'n str>,
+    pub(crate) et_al_formatting: Formatting,
+}
+
+/// The form of the name at a place, if it has one.
+pub(crate) fn form_at(
+    forms: &[Option<DisambiguatedNameForm>],
+    place: usize,
+) -> Option<DisambiguatedNameForm>
+    ensures { result ≡ form_at forms.now place }
+{
+    match forms.get(place) {
+        Some(form) => *form,
+        None => None,
+    }
+}
+
+/// The place of the first name that is said to be left out.
+fn first_absent(forms: &[Option<DisambiguatedNameForm>]) -> Option<usize>
+    ensures { result ≡ first_absent forms.now }
+{
+    forms.iter().position(|form| form.is_none())
+}
+
+/// Whether the name at a place begins with the family name.
+pub(crate) fn is_reversed(order: Option<NameAsSortOrder>, place: usize) -> bool
+    ensures { result ≡ is_reversed order place }
+{
+    match order {
+        None => false,
+        Some(NameAsSortOrder::First) => place == 0,
+        Some(NameAsSortOrder::All) => true,
+    }
+}
+
+impl ListStyle<'_> {
+    /// Writes one name in an element of its own.
+    pub(crate) fn put_whole<T>(
+        self,
+        ctx: &mut Context<'_, T>,
+        person: &Person,
+        form: DisambiguatedNameForm,
+        reversed: bool,
+        place: usize,
+    ) -> Result<(), RenderError>
+        ensures ok { OnOk result (Leaves
+            (with_whole (list_how self.entry) form reversed place (named person.now))
+            ctx.old ctx.new) }
+        ensures err { IfErr result (λ e. FailsAs e ctx.old ctx.new) }
+    {
+        let element = ctx.push_elem()?;
+        self.name.put_name(ctx, person, form, reversed)?;
+        ctx.commit_elem(element, None, Some(ElemMeta::Name(self.variable, place)))?;
+        Ok(())
+    }
+
+    /// Writes the names up to the first without a form. `ends` is their number, where all are
+    /// shown.
+    fn put_names<T>(
+        self,
+        ctx: &mut Context<'_, T>,
+        ends: Option<usize>,
+        forms: &[Option<DisambiguatedNameForm>],
+        persons: &[Cow<'_, Person>],
+    ) -> Result<(), RenderError>
+        ensures ok { OnOk result (Leaves (λ now. with_pieces (names_from now.inherited
+            (list_how self.entry) ends forms.now 0
+            (map (λ p. named (cow_value p)) persons.now)) now) ctx.old ctx.new) }
+        ensures err { IfErr result (λ e. FailsAs e ctx.old ctx.new) }
+    {
+        ctx.nothing()?;
+        let mut place: usize = 0;
+        for person in persons {
+            match form_at(forms, place) {
+                None => return Ok(()),
+                Some(form) => {
+                    self.put_join(ctx, ends, place)?;
+                    let reversed = is_reversed(self.order, place);
+                    self.put_whole(ctx, person.as_ref(), form, reversed, place)?;
+                }
+            }
+            place += 1;
+        }
+        Ok(())
+    }
+
+    /// Writes a list of names.
+    #[tactic(auto, using(crate::proofs::Pieces::written_append))]
+    pub(crate) fn put_list<T>(
+        self,
+        ctx: &mut Context<'_, T>,
+        persons: &[Cow<'_, Person>],
+        forms: &[Option<DisambiguatedNameForm>],
+    ) -> Result<(), RenderError>
+        ensures ok { OnOk result (Leaves (with_names (list_how self.entry)
+            (map (λ p. named (cow_value p)) persons.now) forms.now) ctx.old ctx.new) }
+        ensures err { IfErr result (λ e. FailsAs e ctx.old ctx.new) }
+    {
+        match first_absent(forms) {
+            None => {
+                self.put_names(ctx, Some(persons.len()), forms, persons)?;
+                Ok(())
+            }
+            Some(names) => {
+                self.put_names(ctx, None, forms, persons)?;
+                self.put_cut_end(ctx, names, forms, persons)?;
+                Ok(())
+            }
+        }
+    }
+}

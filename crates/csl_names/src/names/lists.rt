@@ -1,0 +1,230 @@
+//! The lists of persons of a names node, one for each of its variables (CSL 1.0.2, Names;
+//! Name Variables: editortranslator).
+
+ghost use Rattle.std.specs.Prelude.{◌≡◌, [], ◌∷◌, ◌++◌, map, IfOk, OnOk, IfErr};
+ghost use Rattle.lit_model.specs.Person.{Named, named};
+ghost use Rattle.csl_entry.specs.Answers.{behind};
+ghost use Rattle.csl_context.specs.World.{name_look};
+ghost use Rattle.csl_context.specs.Now.{FailsAs, Leaves, same, world};
+ghost use Rattle.csl_names.specs.NamesLists.{has_none, all_empty, is_pair, merges, merged, each_found, found_lists, each_printed, all_looked, printed_lists, lists_state};
+ghost use Rattle.csl_names.specs.PersonLists.{list_of};
+
+use csl_context::{Context, RenderError};
+use csl_entry::{EntryLike, same_people};
+use csl_style::{NameVariable, Term, TermForm};
+use lit_model::{Memory, Person};
+use std::alloc::Global;
+use std::borrow::Cow;
+
+/// The persons of a variable.
+pub type PersonList<'a> = (Vec<Cow<'a, Person>>, NameVariable);
+
+/// Whether no list has a person.
+pub fn all_empty(lists: &[PersonList<'_>]) -> bool
+    ensures { result ≡ all_empty (map list_of lists.now) }
+{
+    for list in lists {
+        if !list.0.is_empty() {
+            return false;
+        }
+    }
+    true
+}
+
+/// Whether the variables are the editors and the translators alone.
+fn is_pair(variables: &[NameVariable]) -> bool
+    ensures { result ≡ is_pair variables.now }
+{
+    variables == [NameVariable::Editor, NameVariable::Translator].as_slice()
+        || variables == [NameVariable::Translator, NameVariable::Editor].as_slice()
+}
+
+/// Whether the persons of these variables may be one list: editors and translators, where the style
+/// has a term for who is both.
+fn merges<T>(ctx: &Context<'_, T>, variables: &[NameVariable]) -> bool
+    ensures { result ≡ merges ctx.now.style variables.now }
+{
+    let both = Term::Name(NameVariable::EditorTranslator);
+    ctx.term(both, TermForm::Long, false).is_some() && is_pair(variables)
+}
+
+/// The lists of editors and translators: an empty one is dropped, and two of the same persons are
+/// one.
+fn merged<'a>(
+    alloc: Global,
+    editors: Vec<Cow<'a, Person>>,
+    translators: Vec<Cow<'a, Person>>,
+) -> Result<Vec<PersonList<'a>>, Memory>
+    ensures { IfOk result (λ lists. map list_of lists.items
+        ≡ merged (map (behind named) editors.entry.items)
+        (map (behind named) translators.entry.items)) }
+{
+    let mut lists = Vec::with_capacity(alloc, 2)?;
+    if editors.is_empty() {
+        if !translators.is_empty() {
+            lists.push((translators, NameVariable::Translator))?;
+        }
+        return Ok(lists);
+    }
+    if translators.is_empty() {
+        lists.push((editors, NameVariable::Editor))?;
+        return Ok(lists);
+    }
+    if same_people(&editors, &translators) {
+        lists.push((editors, NameVariable::EditorTranslator))?;
+        return Ok(lists);
+    }
+    lists.push((editors, NameVariable::Editor))?;
+    lists.push((translators, NameVariable::Translator))?;
+    Ok(lists)
+}
+
+/// The merged lists, or the failure of the context.
+fn merged_in<'a, 's, T>(
+    ctx: &mut Context<'s, T>,
+    editors: Vec<Cow<'a, Person>>,
+    translators: Vec<Cow<'a, Person>>,
+) -> Result<Vec<PersonList<'a>>, RenderError>
+    ensures value { IfOk result (λ lists. map list_of lists.items
+        ≡ merged (map (behind named) editors.entry.items)
+        (map (behind named) translators.entry.items)) }
+    ensures ok { OnOk result (Leaves same ctx.old ctx.new) }
+    ensures err { IfErr result (λ e. FailsAs e ctx.old ctx.new) }
+{
+    ctx.nothing()?;
+    match merged(ctx.alloc(), editors, translators) {
+        Ok(lists) => Ok(lists),
+        Err(_) => {
+            ctx.fail();
+            Err(RenderError::Memory)
+        }
+    }
+}
+
+/// A silent look, after whose failure the context has failed.
+fn peek<'s, T: EntryLike>(
+    ctx: &mut Context<'s, T>,
+    variable: NameVariable,
+) -> Result<Vec<Cow<'s, Person>>, RenderError>
+    ensures value { IfOk result (λ found. map (behind named) found.items
+        ≡ name_look (world T.answers ctx.old) ctx.old.state variable) }
+    ensures ok { OnOk result (Leaves same ctx.old ctx.new) }
+    ensures err { IfErr result (λ e. FailsAs e ctx.old ctx.new) }
+{
+    match ctx.peek_name_variable(variable) {
+        Ok(found) => Ok(found),
+        Err(error) => {
+            ctx.fail();
+            Err(error)
+        }
+    }
+}
+
+/// One list behind others.
+fn pushed<'a, 's, T>(
+    ctx: &mut Context<'s, T>,
+    lists: &mut Vec<PersonList<'a>>,
+    persons: Vec<Cow<'a, Person>>,
+    variable: NameVariable,
+) -> Result<(), RenderError>
+    ensures value { OnOk result (map list_of lists.new.items ≡ map list_of lists.old.items
+        ++ (map (behind named) persons.entry.items, variable) ∷ []) }
+    ensures ok { OnOk result (Leaves same ctx.old ctx.new) }
+    ensures err { IfErr result (λ e. FailsAs e ctx.old ctx.new) }
+{
+    ctx.nothing()?;
+    match lists.push((persons, variable)) {
+        Ok(()) => Ok(()),
+        Err(_) => {
+            ctx.fail();
+            Err(RenderError::Memory)
+        }
+    }
+}
+
+/// The list of each variable, by silent looks.
+fn each_found<'s, T: EntryLike>(
+    ctx: &mut Context<'s, T>,
+    variables: &[NameVariable],
+) -> Result<Vec<PersonList<'s>>, RenderError>
+    ensures value { IfOk result (λ lists. map list_of lists.items
+        ≡ each_found (world T.answers ctx.old) ctx.old.state variables.now) }
+    ensures ok { OnOk result (Leaves same ctx.old ctx.new) }
+    ensures err { IfErr result (λ e. FailsAs e ctx.old ctx.new) }
+{
+    ctx.nothing()?;
+    let mut lists = Vec::new(ctx.alloc());
+    for variable in variables {
+        let persons = peek(ctx, *variable)?;
+        pushed(ctx, &mut lists, persons, *variable)?;
+    }
+    Ok(lists)
+}
+
+/// The list of each variable, by looks for printing.
+fn each_printed<'s, T: EntryLike>(
+    ctx: &mut Context<'s, T>,
+    variables: &[NameVariable],
+) -> Result<Vec<PersonList<'s>>, RenderError>
+    ensures value { IfOk result (λ lists. map list_of lists.items
+        ≡ each_printed (world T.answers ctx.old) ctx.old.state variables.now) }
+    ensures ok { OnOk result (Leaves (λ now. record now {
+      state = all_looked (world T.answers now) now.state variables.now;
+    }) ctx.old ctx.new) }
+    ensures err { IfErr result (λ e. FailsAs e ctx.old ctx.new) }
+{
+    ctx.nothing()?;
+    let mut lists = Vec::new(ctx.alloc());
+    for variable in variables {
+        let persons = ctx.resolve_name_variable(*variable)?;
+        pushed(ctx, &mut lists, persons, *variable)?;
+    }
+    Ok(lists)
+}
+
+/// The lists that a names node of these variables has in a dry run. The looks are silent.
+///
+/// # Errors
+/// [`RenderError::Memory`]: there was no memory left, or the entry said so. The context has failed.
+/// [`RenderError::Failed`]: the context had failed before.
+pub fn found_lists<'s, T: EntryLike>(
+    ctx: &mut Context<'s, T>,
+    variables: &[NameVariable],
+) -> Result<Vec<PersonList<'s>>, RenderError>
+    ensures value { IfOk result (λ lists. map list_of lists.items
+        ≡ found_lists (world T.answers ctx.old) ctx.old.state variables.now) }
+    ensures ok { OnOk result (Leaves same ctx.old ctx.new) }
+    ensures err { IfErr result (λ e. FailsAs e ctx.old ctx.new) }
+{
+    ctx.nothing()?;
+    if merges(ctx, variables) {
+        let editors = peek(ctx, NameVariable::Editor)?;
+        let translators = peek(ctx, NameVariable::Translator)?;
+        return merged_in(ctx, editors, translators);
+    }
+    each_found(ctx, variables)
+}
+
+/// The lists that a names node of these variables prints. Each look may suppress its variable.
+///
+/// # Errors
+/// As [`found_lists`].
+pub fn printed_lists<'s, T: EntryLike>(
+    ctx: &mut Context<'s, T>,
+    variables: &[NameVariable],
+) -> Result<Vec<PersonList<'s>>, RenderError>
+    ensures value { IfOk result (λ lists. map list_of lists.items
+        ≡ printed_lists (world T.answers ctx.old) ctx.old.state variables.now) }
+    ensures ok { OnOk result (Leaves (λ now. record now {
+      state = lists_state (world T.answers now) now.state variables.now;
+    }) ctx.old ctx.new) }
+    ensures err { IfErr result (λ e. FailsAs e ctx.old ctx.new) }
+{
+    ctx.nothing()?;
+    if merges(ctx, variables) {
+        let editors = ctx.resolve_name_variable(NameVariable::Editor)?;
+        let translators = ctx.resolve_name_variable(NameVariable::Translator)?;
+        return merged_in(ctx, editors, translators);
+    }
+    each_printed(ctx, variables)
+}

@@ -1,0 +1,195 @@
+//! The box of a names node that has persons (CSL 1.0.2, Names; Affixes; Display; Name: form).
+
+ghost use Rattle.std.specs.Prelude.{◌≡◌, [], Some, true, map, is_some, not, decimal, IfOk, OnOk, IfErr};
+ghost use Rattle.std.specs.Bool.{OnFalse};
+ghost use Rattle.lit_model.specs.Person.{named};
+ghost use Rattle.csl_style.specs.NameOptions.{inherited_options};
+ghost use Rattle.csl_style.specs.Names.{view_name, view_et_al};
+ghost use Rattle.csl_style.specs.NamesParts.{parts_node, default_name, default_et_al};
+ghost use Rattle.csl_tree.specs.Content.{boxed};
+ghost use Rattle.csl_tree.specs.Tokens.{meta_of};
+ghost use Rattle.csl_entry.specs.Answers.{behind};
+ghost use Rattle.csl_context.specs.Texts.{text_in};
+ghost use Rattle.csl_context.specs.Now.{FailsAs, Leaves, IsInnermost, closed_by, with_content};
+ghost use Rattle.csl_names.specs.NamesForms.{default_forms};
+ghost use Rattle.csl_names.specs.NamesContent.{names_how, with_lists, written_by, names_content, lists_meta};
+ghost use Rattle.csl_names.specs.NamesStyles.{names_of};
+ghost use Rattle.csl_names.specs.PersonLists.{list_of};
+
+use crate::names::forms::{count_of, default_forms};
+use crate::names::lists::PersonList;
+use crate::names::options::options_over;
+use crate::names::written::NamesStyle;
+use csl_context::{Context, Mark, RenderError};
+use csl_style::{Display, EtAl, InheritedNameOptions, Name, NameForm, NameVariable, NamesParts};
+use csl_tree::ElemMeta;
+use lit_model::{Memory, Person};
+use std::alloc::Global;
+use std::borrow::Cow;
+
+/// Copies of the persons.
+fn persons_of(alloc: Global, persons: &[Cow<'_, Person>]) -> Result<Vec<Person>, Memory>
+    ensures { IfOk result (λ copies. map named copies.items ≡ map (behind named) persons.now) }
+{
+    let mut copies = Vec::with_capacity(alloc, persons.len())?;
+    for person in persons {
+        copies.push(person.as_ref().clone(alloc)?)?;
+    }
+    Ok(copies)
+}
+
+/// What the box of a names node says of it: its persons with their variables.
+fn lists_meta(alloc: Global, lists: &[PersonList<'_>]) -> Result<ElemMeta, Memory>
+    ensures { IfOk result (λ meta. Some (meta_of meta)
+        ≡ lists_meta (map list_of lists.now)) }
+{
+    let mut copies: Vec<(Vec<Person>, NameVariable)> = Vec::with_capacity(alloc, lists.len())?;
+    for list in lists {
+        let persons = persons_of(alloc, &list.0)?;
+        copies.push((persons, list.1))?;
+    }
+    Ok(ElemMeta::Names(copies))
+}
+
+/// How a names node writes its lists: by the name, which may be a missing one, and what is
+/// inherited.
+fn names_style<'n>(
+    parts: NamesParts<'n>,
+    inherited: InheritedNameOptions<'n>,
+    missing_name: &'n Name,
+    missing_et_al: &'n EtAl,
+) -> NamesStyle<'n>
+    requires name { view_name missing_name.now ≡ default_name }
+    requires et_al { view_et_al missing_et_al.now ≡ default_et_al }
+    ensures { names_of result ≡ names_how (parts_node parts.entry)
+        (inherited_options inherited.entry) }
+{
+    let name = parts.name().unwrap_or(missing_name);
+    let base = options_over(parts.options, inherited);
+    let own_delimiter = name.options.names_delimiter.as_deref().or(parts.delimiter);
+    NamesStyle {
+        name,
+        options: name.options.apply(base).name_options(),
+        et_al: parts.et_al().unwrap_or(missing_et_al),
+        label: parts.label(),
+        delimiter: own_delimiter.unwrap_or(base.names_delimiter()),
+    }
+}
+
+/// Writes a number.
+fn put_count<T>(ctx: &mut Context<'_, T>, count: usize) -> Result<(), RenderError>
+    ensures ok { OnOk result (Leaves (with_content (λ inh. text_in inh (decimal count)))
+        ctx.old ctx.new) }
+    ensures err { IfErr result (λ e. FailsAs e ctx.old ctx.new) }
+{
+    ctx.nothing()?;
+    match format!(in ctx.alloc(); "{count}") {
+        Ok(text) => ctx.push_str(text.as_str()),
+        Err(_) => {
+            ctx.fail();
+            Err(RenderError::Memory)
+        }
+    }
+}
+
+/// Writes the lists, each name in the form that the options give it.
+fn put_all<T>(
+    ctx: &mut Context<'_, T>,
+    style: NamesStyle<'_>,
+    later: bool,
+    lists: &[PersonList<'_>],
+) -> Result<(), RenderError>
+    ensures ok { OnOk result (Leaves (λ now. record now {
+      inner = with_lists now.style
+          (is_some now.sorting) (names_of style.entry) now.inherited true 0
+          (default_forms (names_of style.entry).options later (map list_of lists.now))
+          (map list_of lists.now) now.inner;
+    }) ctx.old ctx.new) }
+    ensures err { IfErr result (λ e. FailsAs e ctx.old ctx.new) }
+{
+    ctx.nothing()?;
+    match default_forms(ctx.alloc(), style.options, later, lists) {
+        Ok(forms) => style.put_lists(ctx, lists, &forms),
+        Err(_) => {
+            ctx.fail();
+            Err(RenderError::Memory)
+        }
+    }
+}
+
+/// Writes how many names there are, or the names, into a part in which nothing is written.
+fn put_body<T>(
+    ctx: &mut Context<'_, T>,
+    style: NamesStyle<'_>,
+    later: bool,
+    lists: &[PersonList<'_>],
+) -> Result<(), RenderError>
+    requires { OnFalse ctx.old.failed (ctx.old.inner ≡ []) }
+    ensures ok { OnOk result (Leaves (λ now. record now {
+      inner =
+          written_by (names_of style.entry).options.form now.style (is_some now.sorting) later
+          (names_of style.entry) (map list_of lists.now) now.inherited;
+    }) ctx.old ctx.new) }
+    ensures err { IfErr result (λ e. FailsAs e ctx.old ctx.new) }
+{
+    match style.options.form {
+        NameForm::Count => put_count(ctx, count_of(style.options, later, lists)),
+        NameForm::Short | NameForm::Long => put_all(ctx, style, later, lists),
+    }
+}
+
+/// Closes the box of a names node that has these lists.
+///
+/// # Errors
+/// [`RenderError::Memory`]: there was no memory left. The context has failed.
+/// [`RenderError::Failed`]: the context had failed before.
+pub fn commit_names<T>(
+    ctx: &mut Context<'_, T>,
+    mark: Mark,
+    display: Option<Display>,
+    lists: &[PersonList<'_>],
+) -> Result<(), RenderError>
+    requires innermost { IsInnermost mark ctx.old }
+    ensures ok { OnOk result (Leaves (closed_by (λ _ c. boxed display
+        (lists_meta (map list_of lists.now)) c)) ctx.old ctx.new) }
+    ensures err { IfErr result (λ e. FailsAs e ctx.old ctx.new) }
+{
+    ctx.nothing()?;
+    match lists_meta(ctx.alloc(), lists) {
+        Ok(meta) => ctx.commit_elem(mark, display, Some(meta)),
+        Err(_) => {
+            ctx.fail();
+            Err(RenderError::Memory)
+        }
+    }
+}
+
+/// Writes a names node that has persons: its box around the affixed lists.
+///
+/// # Errors
+/// [`RenderError::Memory`]: there was no memory left. The context has failed.
+/// [`RenderError::Failed`]: the context had failed before.
+pub fn write_names<T>(
+    ctx: &mut Context<'_, T>,
+    parts: NamesParts<'_>,
+    lists: &[PersonList<'_>],
+) -> Result<(), RenderError>
+    ensures ok { OnOk result (Leaves (λ now. with_content (names_content now.style
+        (is_some now.sorting) (not now.cite.is_first) (parts_node parts.entry)
+        (map list_of lists.now)) now) ctx.old ctx.new) }
+    ensures err { IfErr result (λ e. FailsAs e ctx.old ctx.new) }
+{
+    ctx.nothing()?;
+    let missing_name = Name::new(ctx.alloc());
+    let missing_et_al = EtAl::default();
+    let style = names_style(parts, ctx.name_options(), &missing_name, &missing_et_al);
+    let later = !ctx.instance().cite_props.certain.is_first;
+    ctx.push_format(parts.formatting)?;
+    let element = ctx.push_elem()?;
+    let middle = ctx.push_elem()?;
+    put_body(ctx, style, later, lists)?;
+    ctx.splice_affixed(middle, parts.prefix, parts.suffix)?;
+    commit_names(ctx, element, parts.display, lists)?;
+    ctx.pop_format();
+    Ok(())
+}

@@ -1,0 +1,242 @@
+//! The lists of a names node, each with its label, and delimiters between them (CSL 1.0.2, Names;
+//! Label in Names).
+
+ghost use Rattle.std.specs.Prelude.{◌≡◌, map, length, slice_get, option_map, is_some, true, OnOk, IfErr};
+ghost use Rattle.lit_model.specs.Person.{named};
+ghost use Rattle.csl_style.specs.Names.{view_label, view_name, view_et_al};
+ghost use Rattle.csl_style.specs.NameOptions.{used_options};
+ghost use Rattle.csl_style.specs.NamesParts.{placed_label};
+ghost use Rattle.csl_style.specs.declared.term.Term.TheVariants.{Name as name_term};
+ghost use Rattle.csl_entry.specs.Answers.{behind};
+ghost use Rattle.csl_context.specs.World.{term_in};
+ghost use Rattle.csl_context.specs.Now.{FailsAs, Leaves, with_content};
+ghost use Rattle.csl_names.specs.NamesContent.{label_content, label_on, with_label, with_list, with_one, with_one_if, is_skipped, with_lists};
+ghost use Rattle.csl_names.specs.NamesStyles.{names_of};
+ghost use Rattle.csl_names.specs.PersonLists.{list_of};
+
+use crate::list_ways::write_name_list;
+use crate::names::lists::PersonList;
+use csl_context::{Context, RenderError};
+use csl_entry::DisambiguatedNameForm;
+use csl_style::{EtAl, Name, NameOptions, NameVariable, PlacedLabel, Term, VariablelessLabel};
+use lit_model::Person;
+use std::borrow::Cow;
+
+/// How the lists of a names node are written.
+#[derive(Clone, Copy)]
+pub(crate) struct NamesStyle<'n> {
+    pub(crate) name: &'n Name,
+    pub(crate) options: NameOptions<'n>,
+    pub(crate) et_al: &'n EtAl,
+    pub(crate) label: Option<PlacedLabel<'n>>,
+    /// What stands between two lists.
+    pub(crate) delimiter: &'n str,
+}
+
+/// The label, where it stands on that side and no sort key is made.
+fn label_on(
+    label: Option<PlacedLabel<'_>>,
+    sorting: bool,
+    behind: bool,
+) -> Option<&VariablelessLabel>
+    ensures { option_map (λ l. view_label l.now) result
+        ≡ label_on sorting behind (option_map placed_label label.entry) }
+{
+    match label {
+        None => None,
+        Some(placed) => {
+            if !sorting && placed.is_behind == behind {
+                Some(placed.label)
+            } else {
+                None
+            }
+        }
+    }
+}
+
+/// Writes the affixed term of a label, of which the term alone loses its periods.
+fn put_term<T>(
+    ctx: &mut Context<'_, T>,
+    label: &VariablelessLabel,
+    term: &str,
+) -> Result<(), RenderError>
+    ensures ok { OnOk result (Leaves (with_content (label_content (view_label label.now)
+        term.now)) ctx.old ctx.new) }
+    ensures err { IfErr result (λ e. FailsAs e ctx.old ctx.new) }
+{
+    ctx.push_format(label.formatting)?;
+    let middle = ctx.apply_prefix()?;
+    let stripping = ctx.may_strip_periods(label.strip_periods);
+    ctx.push_str(term)?;
+    ctx.stop_stripping_periods(stripping);
+    ctx.apply_suffix(&label.affixes, middle, false)?;
+    ctx.pop_format();
+    Ok(())
+}
+
+impl NamesStyle<'_> {
+    /// Writes the label of a list, where it stands on that side.
+    fn put_label<T>(
+        self,
+        ctx: &mut Context<'_, T>,
+        behind: bool,
+        variable: NameVariable,
+        count: usize,
+    ) -> Result<(), RenderError>
+        ensures ok { OnOk result (Leaves (λ now. record now {
+          inner = with_label now.style
+              (label_on (is_some now.sorting) behind (names_of self.entry).label) variable count
+              now.inherited now.inner;
+        }) ctx.old ctx.new) }
+        ensures err { IfErr result (λ e. FailsAs e ctx.old ctx.new) }
+    {
+        ctx.nothing()?;
+        let sorting = ctx.sorting().is_some();
+        match label_on(self.label, sorting, behind) {
+            None => Ok(()),
+            Some(label) => match ctx.term(Term::Name(variable), label.form, count != 1) {
+                None => Ok(()),
+                Some(term) => {
+                    put_term(ctx, label, term)?;
+                    Ok(())
+                }
+            },
+        }
+    }
+
+    /// Writes the names of a list in the formatting of the name.
+    fn put_names<T>(
+        self,
+        ctx: &mut Context<'_, T>,
+        persons: &[Cow<'_, Person>],
+        variable: NameVariable,
+        forms: &[Option<DisambiguatedNameForm>],
+    ) -> Result<(), RenderError>
+        ensures ok { OnOk result (Leaves (λ now. record now {
+          inner = with_list now.style
+              (is_some now.sorting) (names_of self.entry) now.inherited
+              (map (behind named) persons.now) variable forms.now now.inner;
+        }) ctx.old ctx.new) }
+        ensures err { IfErr result (λ e. FailsAs e ctx.old ctx.new) }
+    {
+        ctx.push_format(self.name.formatting)?;
+        write_name_list(
+            ctx,
+            self.name,
+            self.options,
+            self.et_al,
+            variable,
+            persons,
+            forms,
+        )?;
+        ctx.pop_format();
+        Ok(())
+    }
+
+    /// Writes a list: the delimiter, unless it is the first; label, names, label.
+    #[tactic(auto, unfolding(crate::specs::NamesContent::with_one))]
+    fn put_one<T>(
+        self,
+        ctx: &mut Context<'_, T>,
+        first: bool,
+        persons: &[Cow<'_, Person>],
+        variable: NameVariable,
+        forms: &[Option<DisambiguatedNameForm>],
+    ) -> Result<(), RenderError>
+        ensures ok { OnOk result (Leaves (λ now. record now {
+          inner = with_one now.style
+              (is_some now.sorting) (names_of self.entry) now.inherited first
+              (map (behind named) persons.now) variable forms.now now.inner;
+        }) ctx.old ctx.new) }
+        ensures err { IfErr result (λ e. FailsAs e ctx.old ctx.new) }
+    {
+        if !first {
+            ctx.push_str(self.delimiter)?;
+        }
+        self.put_label(ctx, false, variable, persons.len())?;
+        self.put_names(ctx, persons, variable, forms)?;
+        self.put_label(ctx, true, variable, persons.len())?;
+        Ok(())
+    }
+
+    /// Writes a list, unless it is empty or has no forms.
+    fn put_one_if<T>(
+        self,
+        ctx: &mut Context<'_, T>,
+        first: bool,
+        persons: &[Cow<'_, Person>],
+        variable: NameVariable,
+        forms: Option<&[Option<DisambiguatedNameForm>]>,
+    ) -> Result<(), RenderError>
+        ensures ok { OnOk result (Leaves (λ now. record now {
+          inner = with_one_if now.style
+              (is_some now.sorting) (names_of self.entry) now.inherited first
+              (map (behind named) persons.now) variable (option_map (λ f. f.now) forms.entry)
+              now.inner;
+        }) ctx.old ctx.new) }
+        ensures err { IfErr result (λ e. FailsAs e ctx.old ctx.new) }
+    {
+        ctx.nothing()?;
+        match forms {
+            None => Ok(()),
+            Some(forms) => {
+                if !persons.is_empty() {
+                    self.put_one(ctx, first, persons, variable, forms)?;
+                }
+                Ok(())
+            }
+        }
+    }
+
+    /// Writes the lists that have persons and forms.
+    pub(crate) fn put_lists<T>(
+        self,
+        ctx: &mut Context<'_, T>,
+        lists: &[PersonList<'_>],
+        forms: &[Vec<Option<DisambiguatedNameForm>>],
+    ) -> Result<(), RenderError>
+        ensures ok { OnOk result (Leaves (λ now. record now {
+          inner = with_lists now.style
+              (is_some now.sorting) (names_of self.entry) now.inherited true 0
+              (map (λ f. f.items) forms.now) (map list_of lists.now) now.inner;
+        })
+            ctx.old ctx.new) }
+        ensures err { IfErr result (λ e. FailsAs e ctx.old ctx.new) }
+    {
+        ctx.nothing()?;
+        let mut first = true;
+        let mut place: usize = 0;
+        for list in lists {
+            let own = forms_at(forms, place);
+            let skipped = is_skipped(&list.0, own);
+            self.put_one_if(ctx, first, &list.0, list.1, own)?;
+            first = first && skipped;
+            place += 1;
+        }
+        Ok(())
+    }
+}
+
+/// The forms of the list at a place.
+fn forms_at(
+    forms: &[Vec<Option<DisambiguatedNameForm>>],
+    place: usize,
+) -> Option<&[Option<DisambiguatedNameForm>]>
+    ensures { option_map (λ f. f.now) result ≡ slice_get (map (λ f. f.items) forms.now) place }
+{
+    match forms.get(place) {
+        Some(forms) => Some(forms.as_slice()),
+        None => None,
+    }
+}
+
+/// Whether a list is left out: it is empty, or has no forms.
+fn is_skipped(persons: &[Cow<'_, Person>], forms: Option<&[Option<DisambiguatedNameForm>]>) -> bool
+    ensures { result ≡ is_skipped (map (behind named) persons.now)
+        (option_map (λ f. f.now) forms.entry) }
+{
+    match forms {
+        None => true,
+        Some(_) => persons.is_empty(),
+    }
+}

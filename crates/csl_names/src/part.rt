@@ -1,0 +1,60 @@
+//! The parts of a name (CSL 1.0.2, Name-part).
+
+ghost use Rattle.std.specs.Prelude.{◌≡◌, OnOk, IfErr, option_map};
+ghost use Rattle.csl_context.specs.Now.{FailsAs, Leaves};
+ghost use Rattle.csl_names.specs.Piece.{with_pieces};
+ghost use Rattle.csl_names.specs.OneName.{part_how, part_text, separated_word};
+
+use crate::piece::{plain, put, put_optional};
+use csl_context::{Context, RenderError};
+use csl_style::Formatting;
+
+/// How a part of a name is written.
+#[derive(Clone, Copy)]
+pub(crate) struct PartStyle<'s> {
+    pub(crate) formatting: Formatting,
+    pub(crate) prefix: Option<&'s str>,
+    pub(crate) suffix: Option<&'s str>,
+}
+
+impl PartStyle<'_> {
+    /// Writes a text as this part of a name: the suffix stands outside the part's formatting.
+    ///
+    /// # Errors
+    /// [`RenderError::Memory`]: there was no memory left. The context has failed.
+    /// [`RenderError::Failed`]: the context had failed before.
+    pub(crate) fn put<T>(self, ctx: &mut Context<'_, T>, text: &str) -> Result<(), RenderError>
+        ensures ok { OnOk result (Leaves (with_pieces (part_text (part_how self.entry) text.now))
+            ctx.old ctx.new) }
+        ensures err { IfErr result (λ e. FailsAs e ctx.old ctx.new) }
+    {
+        put_optional(ctx, self.prefix, self.formatting)?;
+        put(ctx, text, self.formatting)?;
+        put_optional(ctx, self.suffix, plain())?;
+        Ok(())
+    }
+}
+
+/// Writes a text behind the separator, if there is one.
+///
+/// # Errors
+/// As [`PartStyle::put`].
+pub(crate) fn put_separated<T>(
+    ctx: &mut Context<'_, T>,
+    separator: &str,
+    text: Option<&str>,
+) -> Result<(), RenderError>
+    ensures ok { OnOk result (Leaves
+        (with_pieces (separated_word separator.now (option_map (λ t. t.now) text.entry)))
+        ctx.old ctx.new) }
+    ensures err { IfErr result (λ e. FailsAs e ctx.old ctx.new) }
+{
+    match text {
+        Some(text) => {
+            put(ctx, separator, plain())?;
+            put(ctx, text, plain())?;
+            Ok(())
+        }
+        None => ctx.nothing(),
+    }
+}

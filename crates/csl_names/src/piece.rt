@@ -1,0 +1,92 @@
+//! Texts and gaps, written from the left.
+
+ghost use Rattle.std.specs.Prelude.{◌≡◌, ◌∷◌, [], OnOk, IfErr, option_map};
+ghost use Rattle.csl_style.specs.NamesParts.{plain};
+ghost use Rattle.csl_context.specs.Now.{FailsAs, Leaves};
+ghost use Rattle.csl_names.specs.Piece.{word, gap, with_pieces, optional_word, spaced_word};
+
+use csl_context::{Context, RenderError};
+use csl_style::Formatting;
+
+/// The formatting that says nothing.
+pub(crate) fn plain() -> Formatting
+    ensures { result ≡ plain }
+{
+    Formatting::default()
+}
+
+/// Writes a text in a formatting over that of the place.
+///
+/// # Errors
+/// [`RenderError::Memory`]: there was no memory left. The context has failed.
+/// [`RenderError::Failed`]: the context had failed before.
+pub(crate) fn put<T>(
+    ctx: &mut Context<'_, T>,
+    text: &str,
+    format: Formatting,
+) -> Result<(), RenderError>
+    ensures ok { OnOk result (Leaves (with_pieces (word text.now format ∷ [])) ctx.old ctx.new) }
+    ensures err { IfErr result (λ e. FailsAs e ctx.old ctx.new) }
+{
+    ctx.push_format(format)?;
+    ctx.push_str(text)?;
+    ctx.pop_format();
+    Ok(())
+}
+
+/// Writes a text as [`put`] does, if there is one.
+///
+/// # Errors
+/// As [`put`].
+pub(crate) fn put_optional<T>(
+    ctx: &mut Context<'_, T>,
+    text: Option<&str>,
+    format: Formatting,
+) -> Result<(), RenderError>
+    ensures ok { OnOk result (Leaves
+        (with_pieces (optional_word (option_map (λ t. t.now) text.entry) format))
+        ctx.old ctx.new) }
+    ensures err { IfErr result (λ e. FailsAs e ctx.old ctx.new) }
+{
+    match text {
+        Some(text) => put(ctx, text, format),
+        None => ctx.nothing(),
+    }
+}
+
+/// Writes a space, unless there is no text yet or white space ends it.
+///
+/// # Errors
+/// As [`put`].
+pub(crate) fn put_gap<T>(ctx: &mut Context<'_, T>, format: Formatting) -> Result<(), RenderError>
+    ensures ok { OnOk result (Leaves (with_pieces (gap format ∷ [])) ctx.old ctx.new) }
+    ensures err { IfErr result (λ e. FailsAs e ctx.old ctx.new) }
+{
+    ctx.push_format(format)?;
+    ctx.ensure_space()?;
+    ctx.pop_format();
+    Ok(())
+}
+
+/// Writes a text behind a gap, if there is one.
+///
+/// # Errors
+/// As [`put`].
+pub(crate) fn put_spaced<T>(
+    ctx: &mut Context<'_, T>,
+    text: Option<&str>,
+    format: Formatting,
+) -> Result<(), RenderError>
+    ensures ok { OnOk result (Leaves
+        (with_pieces (spaced_word (option_map (λ t. t.now) text.entry) format)) ctx.old ctx.new) }
+    ensures err { IfErr result (λ e. FailsAs e ctx.old ctx.new) }
+{
+    match text {
+        Some(text) => {
+            put_gap(ctx, format)?;
+            put(ctx, text, format)?;
+            Ok(())
+        }
+        None => ctx.nothing(),
+    }
+}

@@ -1,0 +1,154 @@
+//! Lists of persons, and how they are written, from words.
+//!
+//! | Word | Meaning |
+//! |---|---|
+//! | `and`, `&` | the word before the last name: the term, an ampersand |
+//! | `last-always`, `last-never`, `last-inverted` | when a delimiter stands before that word |
+//! | `others-always`, `others-never`, `others-inverted` | when one stands before `et al.` |
+//! | `first`, `all` | which names begin with the family name |
+//! | `use-last` | the last name is kept |
+//! | `sorting` | a sort key is made |
+//! | `italic` | `et al.` stands in italics |
+//! | `no-terms` | the style has no terms |
+//!
+//! Persons are said one behind the other, with `; ` between them. Their forms are letters: `L` the
+//! whole name, `S` and `1` the short form and that of a count, and `.` none.
+
+use crate::made::{person, says};
+use csl_entry::DisambiguatedNameForm;
+use csl_style::{
+    DelimiterBehavior, EtAl, FontStyle, Formatting, InheritedNameOptions, Layout, Locale, NameAnd,
+    NameAsSortOrder, NameOptions, OtherTerm, Style, StyleSettings, Term, TermEntry, TermForm,
+};
+use lit_model::{Memory, Person};
+use std::alloc::Global;
+use std::borrow::Cow;
+use std::test::Fail;
+
+/// When a delimiter stands there: by the first of these words that is said.
+fn behavior(words: &str, always: &str, never: &str, inverted: &str) -> DelimiterBehavior {
+    if says(words, always) {
+        DelimiterBehavior::Always
+    } else if says(words, never) {
+        DelimiterBehavior::Never
+    } else if says(words, inverted) {
+        DelimiterBehavior::AfterInvertedName
+    } else {
+        DelimiterBehavior::Contextual
+    }
+}
+
+fn order(words: &str) -> Option<NameAsSortOrder> {
+    if says(words, "first") {
+        Some(NameAsSortOrder::First)
+    } else if says(words, "all") {
+        Some(NameAsSortOrder::All)
+    } else {
+        None
+    }
+}
+
+fn and(words: &str) -> Option<NameAnd> {
+    if says(words, "and") {
+        Some(NameAnd::Text)
+    } else if says(words, "&") {
+        Some(NameAnd::Symbol)
+    } else {
+        None
+    }
+}
+
+/// The options of these words.
+pub(crate) fn options(words: &str) -> NameOptions<'static> {
+    let before_et_al = behavior(words, "others-always", "others-never", "others-inverted");
+    NameOptions {
+        and: and(words),
+        delimiter_precedes_last: behavior(words, "last-always", "last-never", "last-inverted"),
+        delimiter_precedes_et_al: before_et_al,
+        et_al_use_last: says(words, "use-last"),
+        name_as_sort_order: order(words),
+        ..InheritedNameOptions::default().name_options()
+    }
+}
+
+/// How `et al.` is written by these words.
+pub(crate) fn et_al(words: &str) -> EtAl {
+    let font_style = if says(words, "italic") {
+        Some(FontStyle::Italic)
+    } else {
+        None
+    };
+    EtAl {
+        term: OtherTerm::EtAl,
+        formatting: Formatting {
+            font_style,
+            ..Formatting::default()
+        },
+    }
+}
+
+fn term(alloc: Global, term: OtherTerm, text: &str) -> Result<TermEntry, Memory> {
+    Ok(TermEntry {
+        term: Term::Other(term),
+        form: TermForm::Long,
+        single: String::from_str(alloc, text)?,
+        multiple: None,
+        gender: None,
+    })
+}
+
+/// The one locale: `and` and `et al.`, or no terms.
+fn locales(alloc: Global, words: &str) -> Result<Vec<Locale>, Memory> {
+    let mut terms = Vec::new(alloc);
+    if !says(words, "no-terms") {
+        terms.push(term(alloc, OtherTerm::And, "and")?)?;
+        terms.push(term(alloc, OtherTerm::EtAl, "et al.")?)?;
+    }
+    let locale = Locale {
+        terms,
+        ordinals: Vec::new(alloc),
+        dates: Vec::new(alloc),
+        punctuation_in_quote: false,
+        limit_day_ordinals_to_day_1: false,
+    };
+    Ok(vec![in alloc; locale]?)
+}
+
+/// The style of these words, without nodes.
+pub(crate) fn style_with_terms(alloc: Global, words: &str) -> Result<Style, Fail> {
+    let locales = locales(alloc, words)?;
+    let citation = Layout {
+        elements: Vec::new(alloc),
+        delimiter: None,
+        formatting: Formatting::default(),
+    };
+    let (settings, macros) = (StyleSettings::default(), Vec::new(alloc));
+    Ok(Style::new(alloc, settings, macros, citation, None, locales)?)
+}
+
+/// The persons of these words.
+pub(crate) fn persons(alloc: Global, words: &str) -> Result<Vec<Cow<'static, Person>>, Fail> {
+    let mut persons = Vec::new(alloc);
+    for words in words.split("; ") {
+        persons.push(Cow::Owned(person(alloc, words)?))?;
+    }
+    Ok(persons)
+}
+
+fn form(letter: char) -> Option<DisambiguatedNameForm> {
+    match letter {
+        'L' => Some(DisambiguatedNameForm::LongFull),
+        'S' => Some(DisambiguatedNameForm::ShortFull),
+        '1' => Some(DisambiguatedNameForm::Count),
+        _ => None,
+    }
+}
+
+/// The form that each letter says.
+pub(crate) fn forms(
+    alloc: Global,
+    letters: &str,
+) -> Result<Vec<Option<DisambiguatedNameForm>>, Memory> {
+    let forms = letters.chars().map(form).collect(alloc)?;
+    Ok(forms)
+}

@@ -1,0 +1,175 @@
+//! Persons, names and styles from words.
+//!
+//! | Word | Of a person |
+//! |---|---|
+//! | `f=a`, `g=a`, `p=a`, `s=a` | name, given name, what stands before the name, suffix |
+//! | `comma` | a comma stands before the suffix |
+//!
+//! | Word | Of how it is written |
+//! |---|---|
+//! | `never`, `sort-only` | when a particle goes behind |
+//! | `no-hyphen` | initials lose it |
+//! | `sorting`, `reversed` | a sort key is made, the family name comes first |
+//! | `short`, `count`, `initialized` | the form, else the whole name |
+//! | `with=a`, `sep=a` | what follows an initial, and a family name that comes first |
+//! | `G<a`, `G>a`, `G/` | the given part's prefix and suffix, and that it is in italics |
+//! | `F<a`, `F>a`, `F/` | the same of the family part |
+//!
+//! In a text `~` says a blank.
+
+use csl_entry::{
+    CertainCiteProperties, CitationNumber, CiteProperties, DisambiguateState,
+    DisambiguatedNameForm, IbidState, SpeculativeCiteProperties,
+};
+use csl_style::{
+    Affixes, DemoteNonDroppingParticle, FontStyle, Formatting, InheritableNameOptions, Layout,
+    Name, NamePart, NamePartName, Style, StyleSettings,
+};
+use lit_model::{Memory, Person};
+use std::alloc::Global;
+use std::test::Fail;
+
+/// The text of a word.
+fn unblank(alloc: Global, word: &str) -> Result<String, Memory> {
+    let mut text = String::new(alloc);
+    for c in word.chars() {
+        text.push(if c == '~' { ' ' } else { c })?;
+    }
+    Ok(text)
+}
+
+/// The text behind a mark, of the first word that begins with it.
+fn text_of(alloc: Global, words: &str, mark: &str) -> Result<Option<String>, Memory> {
+    for word in words.split(' ') {
+        if let Some(text) = word.strip_prefix(mark) {
+            return Ok(Some(unblank(alloc, text)?));
+        }
+    }
+    Ok(None)
+}
+
+/// Whether a word is said.
+pub(crate) fn says(words: &str, said: &str) -> bool {
+    for word in words.split(' ') {
+        if word == said {
+            return true;
+        }
+    }
+    false
+}
+
+/// The person of these words.
+pub(crate) fn person(alloc: Global, words: &str) -> Result<Person, Fail> {
+    let name = text_of(alloc, words, "f=")?.ok_or("a name")?;
+    let given_name = text_of(alloc, words, "g=")?;
+    let prefix = text_of(alloc, words, "p=")?;
+    let suffix = text_of(alloc, words, "s=")?;
+    Ok(Person {
+        name,
+        given_name,
+        prefix,
+        suffix,
+        alias: None,
+        comma_suffix: says(words, "comma"),
+    })
+}
+
+/// A part, by its marks.
+fn part(
+    alloc: Global,
+    words: &str,
+    name: NamePartName,
+    marks: (&str, &str, &str),
+) -> Result<NamePart, Memory> {
+    let prefix = text_of(alloc, words, marks.0)?;
+    let suffix = text_of(alloc, words, marks.1)?;
+    let font_style = if says(words, marks.2) {
+        Some(FontStyle::Italic)
+    } else {
+        None
+    };
+    Ok(NamePart {
+        name,
+        formatting: Formatting {
+            font_style,
+            ..Formatting::default()
+        },
+        affixes: Affixes { prefix, suffix },
+    })
+}
+
+/// The Name of these words.
+pub(crate) fn name(alloc: Global, words: &str) -> Result<Name, Fail> {
+    let given = part(alloc, words, NamePartName::Given, ("G<", "G>", "G/"))?;
+    let family = part(alloc, words, NamePartName::Family, ("F<", "F>", "F/"))?;
+    let initialize_with = text_of(alloc, words, "with=")?;
+    let sort_separator = text_of(alloc, words, "sep=")?;
+    Ok(Name {
+        options: InheritableNameOptions {
+            initialize_with,
+            sort_separator,
+            ..InheritableNameOptions::default()
+        },
+        formatting: Formatting::default(),
+        parts: vec![in alloc; given, family]?,
+    })
+}
+
+/// The form of these words.
+pub(crate) fn form(words: &str) -> DisambiguatedNameForm {
+    if says(words, "short") {
+        DisambiguatedNameForm::ShortFull
+    } else if says(words, "count") {
+        DisambiguatedNameForm::Count
+    } else if says(words, "initialized") {
+        DisambiguatedNameForm::LongInitialized
+    } else {
+        DisambiguatedNameForm::LongFull
+    }
+}
+
+/// When a particle goes behind, by these words.
+fn demotion(words: &str) -> DemoteNonDroppingParticle {
+    if says(words, "never") {
+        DemoteNonDroppingParticle::Never
+    } else if says(words, "sort-only") {
+        DemoteNonDroppingParticle::SortOnly
+    } else {
+        DemoteNonDroppingParticle::DisplayAndSort
+    }
+}
+
+/// The style of these words, without nodes.
+pub(crate) fn style(alloc: Global, words: &str) -> Result<Style, Fail> {
+    let settings = StyleSettings {
+        demote_non_dropping_particle: demotion(words),
+        initialize_with_hyphen: !says(words, "no-hyphen"),
+        ..StyleSettings::default()
+    };
+    let citation = Layout {
+        elements: Vec::new(alloc),
+        delimiter: None,
+        formatting: Formatting::default(),
+    };
+    let macros = Vec::new(alloc);
+    Ok(Style::new(alloc, settings, macros, citation, None, Vec::new(alloc))?)
+}
+
+/// The first cite of an entry.
+pub(crate) fn first_cite() -> Result<CiteProperties<'static>, Fail> {
+    let citation_number = CitationNumber::new(0).ok_or("a citation number")?;
+    Ok(CiteProperties {
+        certain: CertainCiteProperties {
+            first_note_number: None,
+            is_first: true,
+            is_near_note: false,
+            initial_idx: 0,
+        },
+        speculative: SpeculativeCiteProperties {
+            locator: None,
+            citation_number,
+            disambiguation: DisambiguateState::None,
+            ibid: IbidState::Different,
+        },
+    })
+}

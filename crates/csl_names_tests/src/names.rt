@@ -1,0 +1,184 @@
+//! One name each, behind a text.
+
+ghost use Rattle.std.specs.Prelude.{◌≡◌, OnOk};
+
+use crate::made::{first_cite, form, name, person, says, style};
+use crate::said::say;
+use csl_context::{Context, RenderError};
+use csl_entry::{DisambiguatedNameForm, InstanceContext, Sorting};
+use csl_names::write_name;
+use csl_style::{Name, Scope};
+use lit_model::Person;
+use std::alloc::Global;
+use std::process::Abort;
+use std::test::Fail;
+
+/// How a name is written, the person, and what is written behind a `=`.
+type NameRow = (&'static str, &'static str, &'static str);
+
+static ROWS: [NameRow; 42] = [
+    // a particle in each demotion and order
+    ("", "f=van~Gogh g=Vincent", "=Vincent~van~Gogh"),
+    ("reversed", "f=van~Gogh g=Vincent", "=Gogh,~Vincent~van"),
+    (
+        "never reversed",
+        "f=van~Gogh g=Vincent",
+        "=van~Gogh,~Vincent",
+    ),
+    (
+        "sort-only reversed",
+        "f=van~Gogh g=Vincent",
+        "=van~Gogh,~Vincent",
+    ),
+    (
+        "sort-only sorting",
+        "f=van~Gogh g=Vincent",
+        "=Gogh,~Vincent~van",
+    ),
+    (
+        "never sorting",
+        "f=van~Gogh g=Vincent",
+        "=van~Gogh,~Vincent",
+    ),
+    ("sorting", "f=van~Gogh g=Vincent", "=Gogh,~Vincent~van"),
+    ("short", "f=van~Gogh g=Vincent", "=van~Gogh"),
+    ("count reversed", "f=van~Gogh g=Vincent", "=van~Gogh"),
+    // without a given name the particle is dropped
+    ("reversed", "f=van~Gogh s=Jr.", "=Gogh,~Jr."),
+    // words are cut at each blank, so an empty one counts
+    ("reversed", "f=van~~Gogh g=Vincent", "=~Gogh,~Vincent~van"),
+    ("reversed", "f=van~ g=Vincent", "=,~Vincent~van"),
+    ("reversed", "f=van~der~Berg g=Jan", "=Berg,~Jan~van~der"),
+    // what stands before and behind a name
+    (
+        "",
+        "f=Humboldt g=Alexander p=von",
+        "=Alexander~von~Humboldt",
+    ),
+    (
+        "reversed",
+        "f=Humboldt g=Alexander p=von",
+        "=Humboldt,~Alexander~von",
+    ),
+    ("", "f=Humboldt p=von", "=von~Humboldt"),
+    (
+        "",
+        "f=King g=Martin~Luther s=Jr.",
+        "=Martin~Luther~King~Jr.",
+    ),
+    (
+        "",
+        "f=King g=Martin~Luther s=Jr. comma",
+        "=Martin~Luther~King,~Jr.",
+    ),
+    (
+        "sep=;~",
+        "f=King g=Martin~Luther s=Jr. comma",
+        "=Martin~Luther~King;~Jr.",
+    ),
+    (
+        "reversed",
+        "f=King g=Martin~Luther s=Jr.",
+        "=King,~Martin~Luther,~Jr.",
+    ),
+    (
+        "sep=;~ reversed",
+        "f=King g=Martin~Luther s=Jr.",
+        "=King;~Martin~Luther;~Jr.",
+    ),
+    // an empty text is there
+    ("reversed", "f=X g=K p=", "=X,~K~"),
+    ("sorting", "f=The~Group p=", "=The~Group"),
+    // initials, with a hyphen and without
+    ("initialized with=.~", "f=X g=Jean-Luc~Marie", "=J.-L.~M.~X"),
+    (
+        "initialized with=.~ no-hyphen",
+        "f=X g=Jean-Luc~Marie",
+        "=J.~L.~M.~X",
+    ),
+    ("initialized with=.", "f=X g=Jean-Luc~Marie", "=J.-L.M.~X"),
+    ("initialized with=~", "f=X g=Marie", "=M~X"),
+    (
+        "initialized with=.~ reversed",
+        "f=Gross g=Eugene~P.",
+        "=Gross,~E.~P.",
+    ),
+    ("initialized", "f=van~Gogh g=Vincent", "=Vincent~van~Gogh"),
+    // letters of a name that is written out
+    ("with=.~", "f=Gross g=E~P", "=E.~P.~Gross"),
+    ("with=.~", "f=Gross g=Eugene~P.", "=Eugene~P.~Gross"),
+    // scripts without a gap
+    ("", "f=毛 g=泽东", "=毛泽东"),
+    ("reversed F<( G>)", "f=毛 g=泽东", "=(毛泽东)"),
+    ("short", "f=毛 g=泽东", "=毛"),
+    // institutions
+    ("F<( F>)", "f=The~Group", "=(The~Group)"),
+    ("F<( F>) sorting", "f=The~Group", "=Group"),
+    ("sorting", "f=The", "=The"),
+    // parts: the suffix stands outside the formatting
+    ("F/", "f=van~Gogh g=Vincent", "=Vincent~ /van~Gogh"),
+    (
+        "F/ F<( F>)",
+        "f=van~Gogh g=Vincent",
+        "=Vincent~ /(van~Gogh )",
+    ),
+    (
+        "G/",
+        "f=Humboldt g=Alexander p=von",
+        "= /Alexander~von ~Humboldt",
+    ),
+    ("G<[ G>]", "f=X s=Jr.", "=[]~X~Jr."),
+    ("G<[ G>] reversed", "f=X s=Jr.", "=X,~Jr."),
+];
+
+/// Writes `=`, and then the name.
+fn write_behind(
+    ctx: &mut Context<'_, bool>,
+    name: &Name,
+    person: &Person,
+    form: DisambiguatedNameForm,
+    reversed: bool,
+) -> Result<(), RenderError>
+    ensures { OnOk result (ctx.new.outer ≡ ctx.old.outer) }
+{
+    ctx.push_str("=")?;
+    let options = name.options.as_inherited().name_options();
+    write_name(ctx, name, options, person, form, reversed)
+}
+
+/// What is written of a row, in words.
+fn written(alloc: Global, row: NameRow) -> Result<String, Fail> {
+    let (how, who, _) = row;
+    let style = style(alloc, how)?;
+    let cite_props = first_cite()?;
+    let sorting = if says(how, "sorting") {
+        Some(Sorting::Macro)
+    } else {
+        None
+    };
+    let instance = InstanceContext {
+        entry: &true,
+        cite_props: &cite_props,
+        sorting,
+        kind: None,
+    };
+    let name = name(alloc, how)?;
+    let person = person(alloc, who)?;
+    let mut ctx = Context::new(alloc, &style, instance, Scope::Citation)?;
+    write_behind(&mut ctx, &name, &person, form(how), says(how, "reversed"))?;
+    let rendered = ctx.finish()?;
+    Ok(say(alloc, &rendered.content)?)
+}
+
+fn assert_all(rt: &impl Abort, alloc: Global, rows: &[NameRow]) -> Result<(), Fail> {
+    for row in rows {
+        let said = written(alloc, *row)?;
+        assert_eq!(rt; said.as_str(), row.2);
+    }
+    Ok(())
+}
+
+#[test]
+fn a_name_is_written_by_its_style(rt: HostRuntime) -> Result<(), Fail> {
+    assert_all(&rt, rt.alloc(), &ROWS)
+}

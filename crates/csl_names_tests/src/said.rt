@@ -1,0 +1,51 @@
+//! What was written, in words, with one space between them. In a text `~` says a blank, and `/`
+//! before it says italics. `[ a ]2` is an element around what `a` says, of the name at place 2.
+
+use csl_style::FontStyle;
+use csl_tree::{Elem, ElemChild, ElemChildren, ElemMeta, Formatted};
+use lit_model::Memory;
+use std::alloc::Global;
+
+/// Says a text in a word.
+fn say_text(text: &Formatted, said: &mut String) -> Result<(), Memory> {
+    if text.formatting.font_style == FontStyle::Italic {
+        said.push('/')?;
+    }
+    for c in text.text.chars() {
+        said.push(if c == ' ' { '~' } else { c })?;
+    }
+    Ok(())
+}
+
+/// Says an element, and the place of its name.
+#[cycle(say)]
+fn say_elem(elem: &Elem, said: &mut String) -> Result<(), Memory> {
+    said.push('[')?;
+    say_children(&elem.children, said)?;
+    said.push_str(" ]")?;
+    match &elem.meta {
+        Some(ElemMeta::Name(_, place)) => Ok(write!(said, "{}", *place).map_err(|_| Memory)?),
+        _ => Ok(said.push('?')?),
+    }
+}
+
+/// Says children, each behind a blank.
+#[cycle(say)]
+fn say_children(children: &ElemChildren, said: &mut String) -> Result<(), Memory> {
+    for child in &children.0 {
+        said.push(' ')?;
+        match child {
+            ElemChild::Text(text) => say_text(text, said)?,
+            ElemChild::Elem(elem) => say_elem(elem, said)?,
+            _ => said.push('?')?,
+        }
+    }
+    Ok(())
+}
+
+/// What was written, in words. What is neither text nor element is `?`.
+pub(crate) fn say(alloc: Global, children: &ElemChildren) -> Result<String, Memory> {
+    let mut said = String::new(alloc);
+    say_children(children, &mut said)?;
+    Ok(String::from_str(alloc, said.as_str().trim_start_matches(' '))?)
+}
