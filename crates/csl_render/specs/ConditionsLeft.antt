@@ -1,6 +1,8 @@
 -- The conditions of a branch that are still to be read, and what one reading gives.
-use Rattle.std.specs.Prelude.{◌≡◌, ℕ, Bool, true, false, List, [], ◌∷◌, ◌++◌, drop, Option, Some, None, option_map, Result, MatchOption, MatchResult, if◌then◌else◌}
+use Rattle.std.specs.Prelude.{◌≡◌, ℕ, Bool, true, false, not, List, [], ◌∷◌, ◌++◌, drop, Option, Some, None, option_map, Result, MatchOption, MatchResult, if◌then◌else◌}
 use Rattle.csl_style.specs.Node.{Tests}
+use Rattle.csl_style.specs.declared.element.ChooseMatch.{ChooseMatch}
+use Rattle.csl_style.specs.declared.element.ChooseMatch.TheVariants as matched
 use Rattle.csl_style.specs.declared.element.ChooseBranch.{ChooseBranch, out-ChooseBranch}
 use Rattle.csl_entry.specs.Answers.{Answers}
 use Rattle.csl_context.specs.State.{State}
@@ -75,6 +77,17 @@ abbrev pub conditions_left : {T : Type 0} → (T → Answers) → BranchConditio
 conditions_left answers it =
     if it.ended then []
     else conditions_from (world answers it.ctx.now) it.ctx.now.state (tests_of it.branch.now) it.pos it.index
+
+-- what is left behind the first that is so: nothing where none is
+abbrev pub behind_first : (Bool → Bool) → List Bool → List Bool
+behind_first p [] = []
+behind_first p (b ∷ bs) = if p b then bs else behind_first p bs
+
+-- A match reads up to the condition that decides it: for All the first that does not hold, for Any and None the first that does.
+abbrev pub behind_deciding : ChooseMatch → List Bool → List Bool
+behind_deciding matched.All bs = behind_first not bs
+behind_deciding matched.Any bs = behind_first (λ b. b) bs
+behind_deciding matched.None bs = behind_first (λ b. b) bs
 
 -- a look failed: the context stays as it is
 abbrev pub FailsSilently : {T : Type 0} → RenderError → Now T → Type 0

@@ -1,14 +1,14 @@
 //! Choices (CSL 1.0.2, Choose).
 
-ghost use Rattle.std.specs.Prelude.{◌≡◌, ◌<◌, IfOk, OnOk, IfErr, IfSome, option_map};
+ghost use Rattle.std.specs.Prelude.{◌≡◌, ◌<◌, not, IfOk, OnOk, IfErr, IfSome, option_map};
 ghost use Rattle.std.specs.List.{list_all, list_any};
 ghost use Rattle.csl_style.specs.declared.taxonomy.Variable.{Variable};
 ghost use Rattle.csl_style.specs.Node.{fill, fills, size, sizes};
 ghost use Rattle.csl_style.specs.View.{views, view_branch, view_choose};
 ghost use Rattle.csl_context.specs.World.{env};
 ghost use Rattle.csl_context.specs.Now.{FailsAs, Leaves, same, world};
-ghost use Rattle.csl_render.specs.Conditions.{holds, chosen_of};
-ghost use Rattle.csl_render.specs.ConditionsLeft.{conditions_left, FailsSilently};
+ghost use Rattle.csl_render.specs.Conditions.{holds, satisfies, chosen_of};
+ghost use Rattle.csl_render.specs.ConditionsLeft.{conditions_left, behind_first, behind_deciding, FailsSilently};
 ghost use Rattle.csl_render.specs.Rendering.{part};
 ghost use Rattle.csl_render.specs.Tree.{info, shows, tree, choice_info, choice_shows, choice_tree};
 
@@ -22,13 +22,15 @@ use csl_style::{Choose, ChooseBranch, ChooseMatch, LayoutRenderingElement, Varia
 
 /// Whether each condition holds. It reads them up to the first that does not.
 fn all_hold<'a, 's, T: EntryLike>(
-    conditions: BranchConditionIter<'a, 's, T>,
+    conditions: &mut BranchConditionIter<'a, 's, T>,
 ) -> Result<bool, RenderError>
     ensures value { IfOk result (λ holds. holds
-        ≡ list_all (λ b. b) (conditions_left T.answers conditions.entry)) }
-    ensures err { IfErr result (λ e. FailsSilently e conditions.entry.ctx.now) }
+        ≡ list_all (λ b. b) (conditions_left T.answers conditions.old)) }
+    ensures read { OnOk result (conditions_left T.answers conditions.new
+        ≡ behind_first not (conditions_left T.answers conditions.old)) }
+    ensures err { IfErr result (λ e. FailsSilently e conditions.old.ctx.now) }
 {
-    for condition in conditions {
+    while let Some(condition) = conditions.next() {
         if !condition? {
             return Ok(false);
         }
@@ -38,13 +40,15 @@ fn all_hold<'a, 's, T: EntryLike>(
 
 /// Whether a condition holds. It reads them up to the first that does.
 fn any_holds<'a, 's, T: EntryLike>(
-    conditions: BranchConditionIter<'a, 's, T>,
+    conditions: &mut BranchConditionIter<'a, 's, T>,
 ) -> Result<bool, RenderError>
     ensures value { IfOk result (λ holds. holds
-        ≡ list_any (λ b. b) (conditions_left T.answers conditions.entry)) }
-    ensures err { IfErr result (λ e. FailsSilently e conditions.entry.ctx.now) }
+        ≡ list_any (λ b. b) (conditions_left T.answers conditions.old)) }
+    ensures read { OnOk result (conditions_left T.answers conditions.new
+        ≡ behind_first (λ b. b) (conditions_left T.answers conditions.old)) }
+    ensures err { IfErr result (λ e. FailsSilently e conditions.old.ctx.now) }
 {
-    for condition in conditions {
+    while let Some(condition) = conditions.next() {
         if condition? {
             return Ok(true);
         }
@@ -52,15 +56,18 @@ fn any_holds<'a, 's, T: EntryLike>(
     Ok(false)
 }
 
-/// Whether the branch is taken, where none before it is.
-#[tactic(auto, unfolding(crate::specs::Conditions::holds))]
-fn holds<'s, T: EntryLike>(branch: &ChooseBranch, ctx: &Context<'s, T>) -> Result<bool, RenderError>
+/// Whether the conditions satisfy the match. Those behind the one that decides it are left.
+fn satisfied<'a, 's, T: EntryLike>(
+    match_: ChooseMatch,
+    conditions: &mut BranchConditionIter<'a, 's, T>,
+) -> Result<bool, RenderError>
     ensures value { IfOk result (λ taken. taken
-        ≡ holds (world T.answers ctx.now) ctx.now.state (view_branch branch.now).tests) }
-    ensures err { IfErr result (λ e. FailsSilently e ctx.now) }
+        ≡ satisfies match_ (conditions_left T.answers conditions.old)) }
+    ensures read { OnOk result (conditions_left T.answers conditions.new
+        ≡ behind_deciding match_ (conditions_left T.answers conditions.old)) }
+    ensures err { IfErr result (λ e. FailsSilently e conditions.old.ctx.now) }
 {
-    let conditions = BranchConditionIter::from_branch(branch, ctx);
-    match branch.match_ {
+    match match_ {
         ChooseMatch::All => {
             let all = all_hold(conditions)?;
             Ok(all)
@@ -74,6 +81,17 @@ fn holds<'s, T: EntryLike>(branch: &ChooseBranch, ctx: &Context<'s, T>) -> Resul
             Ok(!any)
         }
     }
+}
+
+/// Whether the branch is taken, where none before it is.
+#[tactic(auto, unfolding(crate::specs::Conditions::holds))]
+fn holds<'s, T: EntryLike>(branch: &ChooseBranch, ctx: &Context<'s, T>) -> Result<bool, RenderError>
+    ensures value { IfOk result (λ taken. taken
+        ≡ holds (world T.answers ctx.now) ctx.now.state (view_branch branch.now).tests) }
+    ensures err { IfErr result (λ e. FailsSilently e ctx.now) }
+{
+    let mut conditions = BranchConditionIter::from_branch(branch, ctx);
+    satisfied(branch.match_, &mut conditions)
 }
 
 /// The same, where a failure fails the context.

@@ -1,11 +1,15 @@
-use Rattle.std.proofs.Common.{◌≡◌}
+use Rattle.std.proofs.Common.{◌≡◌, length, not}
 use Rattle.std.specs.List.{list_all}
-use Rattle.csl_render.specs.ConditionsLeft.{conditions_left}
+use Rattle.csl_render.specs.ConditionsLeft.{conditions_left, behind_first}
 use Rattle.csl_render.proofs.choose.all_hold.Given as goal
 
--- those that are left answer what all do
+-- those that are left answer what all do, and the one that decides is among them
 abbrev pub invariant-loop-condition : goal.invariant-loop-condition
 invariant-loop-condition g l = record {
-  context : l.condition-iterator.ctx ≡ l.fn.conditions.ctx;
-  left : list_all (λ b. b) (conditions_left g.T.EntryLike.answers l.condition-iterator) ≡ list_all (λ b. b) (conditions_left g.T.EntryLike.answers l.fn.conditions);
+  context : l.conditions.ctx ≡ l.fn.conditions.ctx;
+  left : list_all (λ b. b) (conditions_left g.T.EntryLike.answers l.conditions) ≡ list_all (λ b. b) (conditions_left g.T.EntryLike.answers l.fn.conditions);
+  deciding : behind_first not (conditions_left g.T.EntryLike.answers l.conditions) ≡ behind_first not (conditions_left g.T.EntryLike.answers l.fn.conditions);
 }
+
+abbrev pub decreases-loop-condition : goal.decreases-loop-condition
+decreases-loop-condition g l = length (conditions_left g.T.EntryLike.answers l.conditions)
