@@ -8,3 +8,7 @@ pub mod Called
 pub mod SpelledNumbers
 pub mod Readings
 pub mod Chosen
+mod PaddedNumbers
+mod DigitOrder
+mod KeyOrder
+pub mod JoinedParts

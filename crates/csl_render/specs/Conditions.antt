@@ -109,7 +109,7 @@ is_disambiguated w false = not (is_choose w.instance.cite.disambiguation)
 -- ---- the tests of a branch
 
 -- the one thing that is asked, or all of several
-abbrev one_if : {A : Type 0} → Option A → List A
+abbrev pub one_if : {A : Type 0} → Option A → List A
 one_if None = []
 one_if (Some x) = x ∷ []
 

@@ -6,7 +6,11 @@ pub mod Text
 pub mod Boxes
 pub mod Bodies
 pub mod Numbers
+pub mod DateText
+pub mod DateKey
 pub mod Labels
+pub mod Dates
+pub mod WrittenDates
 pub mod Conditions
 pub mod ConditionsLeft
 pub mod Tree

@@ -1,5 +1,5 @@
 -- What a node says in a dry run, what it shows, and what it makes (CSL 1.0.2, Rendering Elements; Group; Layout; Macro; Choose).
--- A date and names say, show and make nothing yet.
+-- Names say, show and make nothing yet.
 use Rattle.std.specs.Prelude.{ℕ, Bool, true, false, ◌||◌, List, [], Option, Some, None, if◌then◌else◌}
 use Rattle.csl_style.specs.declared.taxonomy.Variable.{Variable}
 use Rattle.csl_style.specs.Dressing.{AffixTexts, Dressing, TextDressing}
@@ -13,6 +13,7 @@ use Rattle.csl_render.specs.Conditions.{holds}
 use Rattle.csl_render.specs.Flags.{rule, Info, nothing_said, either, counted, but_groups, group_info, macro_info}
 use Rattle.csl_render.specs.Numbers.{number_info, number_shows, number_tree}
 use Rattle.csl_render.specs.Labels.{label_info, label_tree}
+use Rattle.csl_render.specs.Dates.{date_info, date_shows, date_tree}
 use Rattle.csl_render.specs.Text.{Made, made, then_made, within, in_body, text_box, no_affixes, target_info, target_shows, target_tree, shows_macro_affixes}
 
 abbrev pub is_group : Full → Bool
@@ -74,7 +75,7 @@ module _ (w : World) where
     info s lacking = nothing_said
     info s (numbered n) = number_info w s n
     info s (labelled v l) = label_info w s v l
-    info s (dated n) = nothing_said
+    info s (dated n) = date_info w s n
     info s (named n is) = nothing_said
     info s (shorthand written n) = nothing_said
     info s (chosen cs) = cases_info s cs
@@ -97,7 +98,7 @@ module _ (w : World) where
     shows s v lacking = false
     shows s v (numbered n) = number_shows w v n
     shows s v (labelled u l) = false
-    shows s v (dated n) = false
+    shows s v (dated n) = date_shows w s v n
     shows s v (named n is) = false
     shows s v (shorthand written n) = false
     shows s v (chosen cs) = cases_show s v cs
@@ -119,7 +120,7 @@ module _ (w : World) where
     tree lacking inh s = made [] s
     tree (numbered n) inh s = number_tree w n inh s
     tree (labelled v l) inh s = label_tree w v l inh s
-    tree (dated n) inh s = made [] s
+    tree (dated n) inh s = date_tree w n inh s
     tree (named n is) inh s = made [] s
     tree (shorthand written n) inh s = made [] s
     tree (chosen cs) inh s = cases_tree cs inh s

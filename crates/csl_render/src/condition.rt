@@ -40,7 +40,7 @@ fn is_number(alloc: Global, text: &ChunkedString) -> Result<bool, Memory>
 }
 
 /// What was found, wherever it lies.
-fn lent<'a, T: Drop>(found: &'a Option<Cow<'_, T>>) -> Option<&'a T>
+pub(crate) fn lent<'a, T: Drop>(found: &'a Option<Cow<'_, T>>) -> Option<&'a T>
     ensures { option_copied result ≡ option_map cow_value found.now }
 {
     match found {

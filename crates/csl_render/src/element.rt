@@ -28,7 +28,7 @@ impl RenderCsl for LayoutRenderingElement {
             LayoutRenderingElement::Group(group) => group.will_have_info(ctx),
             LayoutRenderingElement::Number(number) => number.will_have_info(ctx),
             LayoutRenderingElement::Label(label) => label.will_have_info(ctx),
-            LayoutRenderingElement::Date(_) => nothing_said(ctx),
+            LayoutRenderingElement::Date(date) => date.will_have_info(ctx),
             LayoutRenderingElement::Names(_) => nothing_said(ctx),
             LayoutRenderingElement::Choose(choose) => choose.will_have_info(ctx),
         }
@@ -45,7 +45,7 @@ impl RenderCsl for LayoutRenderingElement {
             LayoutRenderingElement::Group(group) => group.will_render(ctx, var),
             LayoutRenderingElement::Number(number) => number.will_render(ctx, var),
             LayoutRenderingElement::Label(label) => label.will_render(ctx, var),
-            LayoutRenderingElement::Date(_) => nothing_shown(ctx),
+            LayoutRenderingElement::Date(date) => date.will_render(ctx, var),
             LayoutRenderingElement::Names(_) => nothing_shown(ctx),
             LayoutRenderingElement::Choose(choose) => choose.will_render(ctx, var),
         }
@@ -58,7 +58,7 @@ impl RenderCsl for LayoutRenderingElement {
             LayoutRenderingElement::Group(group) => group.render(ctx),
             LayoutRenderingElement::Number(number) => number.render(ctx),
             LayoutRenderingElement::Label(label) => label.render(ctx),
-            LayoutRenderingElement::Date(_) => nothing(ctx),
+            LayoutRenderingElement::Date(date) => date.render(ctx),
             LayoutRenderingElement::Names(_) => nothing(ctx),
             LayoutRenderingElement::Choose(choose) => choose.render(ctx),
         }

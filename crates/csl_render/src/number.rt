@@ -77,7 +77,7 @@ fn is_shown(form: Option<SpecialForm>, own: Variable, asked: Variable) -> bool
 }
 
 /// What a number says, by whether it finds its variable.
-fn number_said(found: bool) -> (bool, UsageInfo)
+pub(crate) fn number_said(found: bool) -> (bool, UsageInfo)
     ensures { told result ≡ number_said found }
 {
     (found, UsageInfo::of_variable(true, found))

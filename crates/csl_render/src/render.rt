@@ -73,6 +73,17 @@ pub(crate) fn nothing<'s, T: EntryLike>(ctx: &mut Context<'s, T>) -> Result<(), 
     Ok(())
 }
 
+/// The error where there was no memory for what is to be written. The context has failed then.
+pub(crate) fn out_of_memory<'s, T: EntryLike>(ctx: &mut Context<'s, T>) -> RenderError
+    ensures { FailsAs result ctx.old ctx.new }
+{
+    if ctx.has_failed() {
+        return RenderError::Failed;
+    }
+    ctx.fail();
+    RenderError::Memory
+}
+
 /// Says nothing.
 ///
 /// # Errors

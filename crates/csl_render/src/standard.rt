@@ -28,7 +28,11 @@ use std::alloc::Global;
 use std::borrow::Cow;
 
 /// A silent look, after whose failure the context has failed.
-fn peek_standard<'s, T: EntryLike>(
+///
+/// # Errors
+/// [`RenderError::Memory`]: there was no memory left, or the entry said so. The context has failed.
+/// [`RenderError::Failed`]: the context had failed before.
+pub(crate) fn peek_standard<'s, T: EntryLike>(
     ctx: &mut Context<'s, T>,
     form: LongShortForm,
     variable: StandardVariable,
