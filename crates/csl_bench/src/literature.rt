@@ -30,14 +30,20 @@ pub fn numeric(alloc: Global, size: usize) -> Result<usize> {
     }
 }
 
-/// Reads a list of page ranges, and counts its parts.
-pub fn pages(alloc: Global, size: usize) -> Result<usize> {
+/// Many page ranges, and a page.
+pub fn page_ranges(alloc: Global, size: usize) -> Result<PageRanges> {
     let text = repetition(alloc, "321-328, ", size, "7")?;
     match PageRanges::parse(alloc, text.as_str()) {
-        Ok(pages) => Ok(pages.ranges.len()),
+        Ok(pages) => Ok(pages),
         Err(NumericError::Memory) => bail!("out of memory"),
         Err(NumericError::NotNumeric) => bail!("no pages"),
     }
+}
+
+/// Reads a list of page ranges, and counts its parts.
+pub fn pages(alloc: Global, size: usize) -> Result<usize> {
+    let pages = page_ranges(alloc, size)?;
+    Ok(pages.ranges.len())
 }
 
 fn person(name: String, given_name: String) -> Person {

@@ -6,6 +6,7 @@
 
 mod entry;
 mod literature;
+mod pair;
 mod render;
 mod style;
 mod tree;
@@ -19,7 +20,7 @@ use std::rt::Env;
 const SMALL: usize = 10;
 
 /// The works, by name.
-const WORKS: [&str; 17] = [
+const WORKS: [&str; 20] = [
     "numeric",
     "pages",
     "initials",
@@ -37,6 +38,9 @@ const WORKS: [&str; 17] = [
     "answers",
     "labels",
     "render",
+    "pages_rendered",
+    "named",
+    "pair",
 ];
 
 /// Does a work, and answers its checksum.
@@ -59,6 +63,9 @@ fn checksum(alloc: Global, work: &str, size: usize) -> Result<usize> {
         "answers" => entry::answers(alloc, size),
         "labels" => entry::labels(alloc, size),
         "render" => render::render(alloc, size),
+        "pages_rendered" => render::pages_rendered(alloc, size),
+        "named" => pair::named(alloc, size),
+        "pair" => pair::pair(alloc, size),
         _ => bail!("no such work: {work}"),
     }
 }

@@ -1,19 +1,21 @@
-//! A work over the nodes of a style.
+//! Works over the nodes of a style.
 
 use crate::entry::article;
+use crate::literature::page_ranges;
 use crate::style::{text, with_layout};
 use anyhow::{Result, bail};
-use csl_context::Context;
+use csl_context::{Context, Rendered};
 use csl_entry::{
     CertainCiteProperties, CitationNumber, CiteProperties, DisambiguateState, EntryLike, IbidState,
     InstanceContext, SpeculativeCiteProperties,
 };
 use csl_render::RenderCsl;
 use csl_style::{
-    Affixes, CslMacro, Formatting, Group, Layout, LayoutRenderingElement, Scope, StandardVariable,
-    Style, TextTarget, Variable,
+    Affixes, CslMacro, Formatting, Group, Layout, LayoutRenderingElement, PageRangeFormat,
+    PageVariable, Scope, StandardVariable, Style, StyleSettings, TextTarget, Variable,
 };
-use lit_model::LongShortForm;
+use csl_tree::BufWriteFormat;
+use lit_model::{LongShortForm, MaybeTyped};
 use std::alloc::Global;
 
 /// The name of the one macro.
@@ -55,7 +57,7 @@ fn nodes(alloc: Global, size: usize) -> Result<Vec<LayoutRenderingElement>> {
 }
 
 /// A style of one macro, whose layout has so many groups and texts of the macro.
-fn style(alloc: Global, size: usize) -> Result<Style> {
+pub fn style(alloc: Global, size: usize) -> Result<Style> {
     let children = vec![in alloc; title()]?;
     let name = String::from_str(alloc, MACRO)?;
     let macros = vec![in alloc; CslMacro { name, children }]?;
@@ -64,11 +66,11 @@ fn style(alloc: Global, size: usize) -> Result<Style> {
         delimiter: None,
         formatting: Formatting::default(),
     };
-    with_layout(alloc, macros, citation)
+    with_layout(alloc, StyleSettings::default(), macros, citation)
 }
 
 /// A cite that no other one stands before.
-fn first_cite<'s>() -> Option<CiteProperties<'s>> {
+pub fn first_cite<'s>() -> Option<CiteProperties<'s>> {
     Some(CiteProperties {
         certain: CertainCiteProperties {
             first_note_number: None,
@@ -85,8 +87,8 @@ fn first_cite<'s>() -> Option<CiteProperties<'s>> {
     })
 }
 
-/// Renders the citation layout of a style for an entry, and counts the children of the content.
-fn child_count<T: EntryLike>(alloc: Global, style: &Style, entry: &T) -> Result<usize> {
+/// Renders the citation layout of a style for an entry.
+fn rendered<T: EntryLike>(alloc: Global, style: &Style, entry: &T) -> Result<Rendered> {
     let Some(cite) = first_cite() else {
         bail!("no such number");
     };
@@ -101,14 +103,47 @@ fn child_count<T: EntryLike>(alloc: Global, style: &Style, entry: &T) -> Result<
         bail!("out of memory");
     }
     match ctx.finish() {
-        Ok(rendered) => Ok(rendered.content.0.len()),
+        Ok(rendered) => Ok(rendered),
         Err(_) => bail!("out of memory"),
     }
 }
 
-/// Renders groups of a title and texts of a macro for one article.
+/// Renders groups of a title and texts of a macro for one article, and counts the children of the
+/// content.
 pub fn render(alloc: Global, size: usize) -> Result<usize> {
     let style = style(alloc, size)?;
     let entry = article(alloc, 1)?;
-    child_count(alloc, &style, &entry)
+    let rendered = rendered(alloc, &style, &entry)?;
+    Ok(rendered.content.0.len())
+}
+
+/// A style that writes pages in the minimal format, and nothing else.
+fn paged(alloc: Global) -> Result<Style> {
+    let pages = text(TextTarget::Variable {
+        var: Variable::Page(PageVariable::Page),
+        form: LongShortForm::Long,
+    });
+    let citation = Layout {
+        elements: vec![in alloc; pages]?,
+        delimiter: None,
+        formatting: Formatting::default(),
+    };
+    let settings = StyleSettings {
+        page_range_format: Some(PageRangeFormat::Minimal),
+        ..StyleSettings::default()
+    };
+    with_layout(alloc, settings, Vec::new(alloc), citation)
+}
+
+/// Renders many page ranges of an article, and counts the bytes of the plain text.
+pub fn pages_rendered(alloc: Global, size: usize) -> Result<usize> {
+    let style = paged(alloc)?;
+    let mut entry = article(alloc, 1)?;
+    entry.page_range = Some(MaybeTyped::Typed(page_ranges(alloc, size)?));
+    let rendered = rendered(alloc, &style, &entry)?;
+    let mut text = String::new(alloc);
+    rendered
+        .content
+        .write_buf(&mut text, BufWriteFormat::Plain)?;
+    Ok(text.len())
 }

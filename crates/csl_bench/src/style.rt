@@ -47,9 +47,13 @@ fn layout(alloc: Global) -> Layout {
 }
 
 /// A style of the macros and of a layout of the citation.
-pub fn with_layout(alloc: Global, macros: Vec<CslMacro>, citation: Layout) -> Result<Style> {
+pub fn with_layout(
+    alloc: Global,
+    settings: StyleSettings,
+    macros: Vec<CslMacro>,
+    citation: Layout,
+) -> Result<Style> {
     let locales = Vec::new(alloc);
-    let settings = StyleSettings::default();
     match Style::new(alloc, settings, macros, citation, None, locales) {
         Ok(style) => Ok(style),
         Err(StyleError::Memory) => bail!("out of memory"),
@@ -60,7 +64,8 @@ pub fn with_layout(alloc: Global, macros: Vec<CslMacro>, citation: Layout) -> Re
 
 /// Makes a style of the macros, and counts them.
 fn macro_count(alloc: Global, macros: Vec<CslMacro>) -> Result<usize> {
-    let style = with_layout(alloc, macros, layout(alloc))?;
+    let settings = StyleSettings::default();
+    let style = with_layout(alloc, settings, macros, layout(alloc))?;
     Ok(style.macros().len())
 }
 

@@ -8,6 +8,9 @@ pub mod Called
 pub mod SpelledNumbers
 pub mod Readings
 pub mod Chosen
+pub mod Looks
+pub mod AlikeNodes
+pub mod Pairs
 mod PaddedNumbers
 mod DigitOrder
 mod KeyOrder

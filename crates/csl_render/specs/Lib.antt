@@ -16,3 +16,4 @@ pub mod ConditionsLeft
 pub mod Tree
 pub mod Rendering
 pub mod Cited
+pub mod Printed

@@ -85,7 +85,7 @@ pub fn house_style(alloc: Global) -> Result<Style, UseError>
 }
 
 /// What a citation says of a cite that no other one stands before.
-fn first_cite<'s>() -> Option<CiteProperties<'s>>
+pub fn first_cite<'s>() -> Option<CiteProperties<'s>>
     ensures { IfSome result (λ cite. cite_state cite ≡ first_cite) }
 {
     Some(CiteProperties {

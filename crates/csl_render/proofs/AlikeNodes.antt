@@ -1,0 +1,284 @@
+-- Two entries that answer alike what a node names: the node says, shows and makes the same of both.
+use Rattle.std.proofs.Common.{◌≡◌, Bool, true, false, ℕ, List, [], ◌∷◌, map, Option, Some, None, refl, ap, ap₂, ◌∙◌, if◌then◌else◌}
+use Rattle.std.specs.Prelude.{◌||◌, ◌&&◌, not, ◌==◌, length, option_map, is_some, unwrap_or}
+use Rattle.lit_model.specs.Date.{Parts}
+use Rattle.lit_model.specs.Chunks.{is_white_space}
+use Rattle.lit_model.specs.declared.text.LongShortForm.{LongShortForm}
+use Rattle.lit_model.specs.declared.text.LongShortForm.TheVariants.{Long}
+use Rattle.csl_style.specs.declared.taxonomy.DateVariable.{DateVariable}
+use Rattle.csl_style.specs.declared.taxonomy.NumberOrPageVariable.{NumberOrPageVariable}
+use Rattle.csl_style.specs.declared.taxonomy.NumberOrPageVariable.TheVariants as number_or_page
+use Rattle.csl_style.specs.declared.taxonomy.Variable.{Variable}
+use Rattle.csl_style.specs.declared.taxonomy.Variable.TheVariants as variable
+use Rattle.csl_style.specs.declared.term.Term.{Term}
+use Rattle.csl_style.specs.Dressing.{TextDressing}
+use Rattle.csl_style.specs.Named.{NamedSet, joined, the_variable, the_date, the_kind, each_of, each_if, the_number_or_page, date_if, of_target, of_tests, of_full, of_fulls, of_cases}
+use Rattle.csl_style.specs.Names.{LabelNode}
+use Rattle.csl_style.specs.Node.{Target, of_variable, of_term, of_value, NumberNode, DateNode, Tests, Full, printed, called, lacking, numbered, labelled, dated, named, shorthand, chosen, grouped, Fulls, none, more, Cases, no_cases, else_case, case, FullLayout}
+use Rattle.csl_style.specs.Taxonomy.{variable_of}
+use Rattle.csl_style.proofs.Sets.{or_left, or_right}
+use Rattle.csl_tree.specs.Tokens.{Token}
+use Rattle.csl_entry.specs.Alike.{Alike}
+use Rattle.csl_entry.specs.Answers.{Answers}
+use Rattle.csl_entry.specs.declared.cite.Sorting.{Sorting}
+use Rattle.csl_entry.specs.NumberResult.{NumberOrPageView}
+use Rattle.csl_context.specs.State.{State, Inherited, looked}
+use Rattle.csl_context.specs.World.{World, date_look}
+use Rattle.csl_render.specs.Answered.{number_or_page_look}
+use Rattle.csl_render.specs.Conditions.{is_some_and, is_number, is_typed, is_typed_result, is_numeric, is_uncertain, is_disambiguated, is_of_kind, is_present, one_if, all_if, holds}
+use Rattle.csl_render.specs.Dates.{shows_date, variable_info, written_as, printed_date, date_or_key, found_date, variable_tree}
+use Rattle.csl_render.specs.Flags.{info_of, no_flags, nothing_said, rule, either, counted, but_groups, group_info, macro_info}
+use Rattle.csl_render.specs.Labels.{is_plural, label_term, term_if, text_beside, label_text, label_info, label_box, label_tree, said_by_form}
+use Rattle.csl_render.specs.Numbers.{shows_own, number_said, number_info, sort_text_if, number_content, found_content, number_tree}
+use Rattle.csl_render.specs.Printed.{answered_by}
+use Rattle.csl_render.specs.Text.{made, then_made, within, shows_variable, answer, numeral, Found, variable_found, found, calls, found_info, is_of, found_tree, variable_state, target_state, target_tree}
+use Rattle.csl_render.specs.Tree.{is_group, info, infos, cases_info, shows, any_shows, cases_show, tree, sum_of, delimited, cases_tree, admitted_made, macro_made, in_macro, group_made, in_group, layout_tree}
+use Rattle.csl_render.proofs.Looks.{kind_alike, number_look_alike, page_look_alike, number_or_page_look_alike, standard_look_alike, name_look_alike, date_look_alike}
+
+module _ (a b : Answers) where
+  -- alike in both of two sets, alike in each
+  on_left : (p r : NamedSet) → Alike (joined p r) a b → Alike p a b
+  unfolding joined
+  on_left p r h q e = h q (or_left (p q) (r q) e)
+
+  on_right : (p r : NamedSet) → Alike (joined p r) a b → Alike r a b
+  unfolding joined
+  on_right p r h q e = h q (or_right (p q) (r q) e)
+
+  module _ (w : World) where
+    abbrev v : World
+    v = answered_by a w
+
+    abbrev u : World
+    u = answered_by b w
+
+    -- ---- texts
+
+    variable_found_alike : (s : State) (form : LongShortForm) (x : Variable) → Alike (the_variable x) a b → variable_found v s form x ≡ variable_found u s form x
+    variable_found_alike s form (variable.Standard x) h = ap (option_map (answer x)) (standard_look_alike a b w s form x h)
+    variable_found_alike s form (variable.Number x) h = ap (option_map (numeral (number_or_page.Number x))) (number_or_page_look_alike a b w s (number_or_page.Number x) h)
+    variable_found_alike s form (variable.Page x) h = ap (option_map (numeral (number_or_page.Page x))) (number_or_page_look_alike a b w s (number_or_page.Page x) h)
+    variable_found_alike s form (variable.Name x) h = refl
+    variable_found_alike s form (variable.Date x) h = refl
+
+    found_alike : (s : State) (t : Target) → Alike (of_target t) a b → found v s t ≡ found u s t
+    found_alike s (of_variable x form) h = ap (λ o. if shows_variable w.instance.special x then o else None) (variable_found_alike s form x h)
+    found_alike s (of_term t form plural) h = refl
+    found_alike s (of_value bs) h = refl
+
+    variable_state_alike : (x : Variable) (s : State) → variable_state v x s ≡ variable_state u x s
+    variable_state_alike (variable.Standard x) s = refl
+    variable_state_alike (variable.Number x) s = refl
+    variable_state_alike (variable.Page x) s = refl
+    variable_state_alike (variable.Name x) s = refl
+    variable_state_alike (variable.Date x) s = refl
+
+    target_state_alike : (t : Target) (s : State) → target_state v t s ≡ target_state u t s
+    target_state_alike (of_variable x form) s = variable_state_alike x s
+    target_state_alike (of_term t form plural) s = refl
+    target_state_alike (of_value bs) s = refl
+
+    found_tree_alike : (d : TextDressing) (inh : Inherited) (o : Option Found) → found_tree v d inh o ≡ found_tree u d inh o
+    found_tree_alike d inh None = refl
+    found_tree_alike d inh (Some f) = refl
+
+    target_tree_alike : (t : Target) (d : TextDressing) (inh : Inherited) (s : State) → Alike (of_target t) a b → target_tree v t d inh s ≡ target_tree u t d inh s
+    target_tree_alike t d inh s h = ap₂ made (ap (found_tree v d inh) (found_alike s t h) ∙ found_tree_alike d inh (found u s t)) (target_state_alike t s)
+
+    -- ---- numbers
+
+    number_info_alike : (s : State) (n : NumberNode) → Alike (the_number_or_page n.variable) a b → number_info v s n ≡ number_info u s n
+    number_info_alike s n h = ap (λ o. number_said (if shows_own w n then is_some o else false)) (number_or_page_look_alike a b w s n.variable h)
+
+    content_alike : (n : NumberNode) (found : NumberOrPageView) (key : Option (List ℕ)) (inh : Inherited) → number_content v n found key inh ≡ number_content u n found key inh
+    content_alike n found (Some key) inh = refl
+    content_alike n found None inh = refl
+
+    found_content_alike : (n : NumberNode) (o : Option NumberOrPageView) (inh : Inherited) → found_content v n o inh ≡ found_content u n o inh
+    found_content_alike n None inh = refl
+    found_content_alike n (Some found) inh = content_alike n found (sort_text_if w.instance.sorting found) inh
+
+    number_tree_alike : (n : NumberNode) (inh : Inherited) (s : State) → Alike (the_number_or_page n.variable) a b → number_tree v n inh s ≡ number_tree u n inh s
+    number_tree_alike n inh s h =
+        let content = ap (λ o. found_content v n o inh) (number_or_page_look_alike a b w s n.variable h) ∙ found_content_alike n (number_or_page_look u s n.variable) inh in
+        ap (λ (c : List Token). if shows_own w n then made c (looked (variable_of n.variable) s) else made [] s) content
+
+    -- ---- labels
+
+    term_alike : (l : LabelNode) (o : Option Term) (several : Bool) → term_if v l o several ≡ term_if u l o several
+    term_alike l None several = refl
+    term_alike l (Some t) several = refl
+
+    beside_alike : (x : NumberOrPageVariable) (l : LabelNode) (o : Option NumberOrPageView) → text_beside v x l o ≡ text_beside u x l o
+    beside_alike x l None = refl
+    beside_alike x l (Some found) = term_alike l (label_term w.instance.cite x) (is_plural l.plural x found)
+
+    label_text_alike : (s : State) (x : NumberOrPageVariable) (l : LabelNode) → Alike (the_number_or_page x) a b → label_text v s x l ≡ label_text u s x l
+    label_text_alike s x l h = ap (text_beside v x l) (number_or_page_look_alike a b w s x h) ∙ beside_alike x l (number_or_page_look u s x)
+
+    label_info_alike : (s : State) (x : NumberOrPageVariable) (l : LabelNode) → Alike (the_number_or_page x) a b → label_info v s x l ≡ label_info u s x l
+    label_info_alike s x l h = ap (λ (o : Option (List ℕ)). info_of (unwrap_or (said_by_form w.instance.special x) (is_some o)) no_flags) (label_text_alike s x l h)
+
+    label_tree_alike : (x : NumberOrPageVariable) (l : LabelNode) (inh : Inherited) (s : State) → Alike (the_number_or_page x) a b → label_tree v x l inh s ≡ label_tree u x l inh s
+    label_tree_alike x l inh s h = ap (λ (o : Option (List ℕ)). made (if unwrap_or (said_by_form w.instance.special x) (is_some o) then label_box l o inh else []) s) (label_text_alike s x l h)
+
+    -- ---- dates
+
+    variable_info_alike : (s : State) (o : Option DateVariable) → Alike (date_if o) a b → variable_info v s o ≡ variable_info u s o
+    variable_info_alike s None h = refl
+    variable_info_alike s (Some x) h = ap (λ d. if shows_date w s x then number_said (is_some d) else nothing_said) (date_look_alike a b w s x h)
+
+    printed_date_alike : (o : Option DateNode) (d : Parts) (inh : Inherited) (s : State) → printed_date v o d inh s ≡ printed_date u o d inh s
+    printed_date_alike None d inh s = refl
+    printed_date_alike (Some n) d inh s = refl
+
+    date_or_key_alike : (n : DateNode) (o : Option Sorting) (d : Parts) (inh : Inherited) (s : State) → date_or_key v n o d inh s ≡ date_or_key u n o d inh s
+    date_or_key_alike n None d inh s = printed_date_alike (written_as w.style n n.form) d inh s
+    date_or_key_alike n (Some sorting) d inh s = refl
+
+    found_date_alike : (n : DateNode) (o : Option Parts) (inh : Inherited) (s : State) → found_date v n o inh s ≡ found_date u n o inh s
+    found_date_alike n None inh s = refl
+    found_date_alike n (Some d) inh s = date_or_key_alike n w.instance.sorting d inh s
+
+    variable_tree_alike : (n : DateNode) (o : Option DateVariable) (inh : Inherited) (s : State) → Alike (date_if o) a b → variable_tree v n o inh s ≡ variable_tree u n o inh s
+    variable_tree_alike n None inh s h = refl
+    variable_tree_alike n (Some x) inh s h =
+        let after = looked (variable.Date x) s in
+        let content = ap (λ o. found_date v n o inh after) (date_look_alike a b w s x h) ∙ found_date_alike n (date_look u s x) inh after in
+        ap (λ m. if shows_date w s x then m else made [] s) content
+
+    -- ---- tests
+
+    numeric_alike : (s : State) (x : Variable) → Alike (the_variable x) a b → is_numeric v s x ≡ is_numeric u s x
+    numeric_alike s (variable.Standard x) h = ap (is_some_and is_number) (standard_look_alike a b w s Long x h)
+    numeric_alike s (variable.Number x) h = ap (is_some_and is_typed_result) (number_look_alike a b w s x h)
+    numeric_alike s (variable.Page x) h = ap (is_some_and is_typed) (page_look_alike a b w s x h)
+    numeric_alike s (variable.Name x) h = refl
+    numeric_alike s (variable.Date x) h = refl
+
+    uncertain_alike : (s : State) (x : DateVariable) → Alike (the_date x) a b → is_uncertain v s x ≡ is_uncertain u s x
+    uncertain_alike s x h = ap (is_some_and (λ d. d.approximate)) (date_look_alike a b w s x h)
+
+    present_alike : (s : State) (x : Variable) → Alike (the_variable x) a b → is_present v s x ≡ is_present u s x
+    present_alike s (variable.Standard x) h = ap (is_some_and (λ cs. not (is_white_space cs))) (standard_look_alike a b w s Long x h)
+    present_alike s (variable.Number x) h = ap is_some (number_look_alike a b w s x h)
+    present_alike s (variable.Page x) h = ap is_some (page_look_alike a b w s x h)
+    present_alike s (variable.Name x) h = ap (λ l. not (length l == 0)) (name_look_alike a b w s x h)
+    present_alike s (variable.Date x) h = ap is_some (date_look_alike a b w s x h)
+
+    disambiguated_alike : (o : Option Bool) → map (is_disambiguated v) (one_if o) ≡ map (is_disambiguated u) (one_if o)
+    disambiguated_alike None = refl
+    disambiguated_alike (Some true) = refl
+    disambiguated_alike (Some false) = refl
+
+    -- each of a list, where each one is alike
+    module _ {A : Type 0} (names : A → NamedSet) (f g : A → Bool) (one : (x : A) → Alike (names x) a b → f x ≡ g x) where
+      each_alike : (xs : List A) → Alike (each_of names xs) a b → map f xs ≡ map g xs
+      each_alike [] h = refl
+      each_alike (x ∷ xs) h = ap₂ (λ y ys. y ∷ ys) (one x (on_left _ _ h)) (each_alike xs (on_right _ _ h))
+
+      each_if_alike : (o : Option (List A)) → Alike (each_if names o) a b → map f (all_if o) ≡ map g (all_if o)
+      each_if_alike None h = refl
+      each_if_alike (Some xs) h = each_alike xs h
+
+    holds_alike : (s : State) (ts : Tests) → Alike (of_tests ts) a b → holds v s ts ≡ holds u s ts
+    unfolding holds
+    holds_alike s ts h =
+        let past_numbers = on_right _ _ h in
+        let past_dates = on_right _ _ past_numbers in
+        let numbers = each_if_alike the_variable (is_numeric v s) (is_numeric u s) (numeric_alike s) ts.is_numeric (on_left _ _ h) in
+        let dates = each_if_alike the_date (is_uncertain v s) (is_uncertain u s) (uncertain_alike s) ts.is_uncertain_date (on_left _ _ past_numbers) in
+        let kinds = each_if_alike the_kind (is_of_kind v) (is_of_kind u) (kind_alike a b) ts.type_ (on_left _ _ past_dates) in
+        let present = each_if_alike the_variable (is_present v s) (is_present u s) (present_alike s) ts.variable (on_right _ _ past_dates) in
+        rw (disambiguated_alike ts.disambiguate, numbers, dates, kinds, present) refl
+
+    -- ---- what is said
+
+    mutual
+      pub info_alike : (s : State) (f : Full) → Alike (of_full f) a b → info v s f ≡ info u s f
+      info_alike s (printed t d) h = ap (found_info (calls t)) (found_alike s t h)
+      info_alike s (called fs d) h = ap (λ i. macro_info (but_groups i)) (infos_alike s fs h)
+      info_alike s lacking h = refl
+      info_alike s (numbered n) h = number_info_alike s n h
+      info_alike s (labelled x l) h = label_info_alike s x l h
+      info_alike s (dated n) h = variable_info_alike s n.variable h
+      info_alike s (named n is) h = refl
+      info_alike s (shorthand written n) h = refl
+      info_alike s (chosen cs) h = cases_info_alike s cs h
+      info_alike s (grouped delimiter d fs) h = ap group_info (infos_alike s fs h)
+
+      pub infos_alike : (s : State) (fs : Fulls) → Alike (of_fulls fs) a b → infos v s fs ≡ infos u s fs
+      infos_alike s none h = refl
+      infos_alike s (more f fs) h = ap₂ (λ i j. either (counted (is_group f) i) j) (info_alike s f (on_left _ _ h)) (infos_alike s fs (on_right _ _ h))
+
+      cases_info_alike : (s : State) (cs : Cases) → Alike (of_cases cs) a b → cases_info v s cs ≡ cases_info u s cs
+      cases_info_alike s no_cases h = refl
+      cases_info_alike s (else_case fs) h = ap but_groups (infos_alike s fs h)
+      cases_info_alike s (case ts fs cs) h =
+          rw (holds_alike s ts (on_left _ _ h), infos_alike s fs (on_left _ _ (on_right _ _ h)), cases_info_alike s cs (on_right _ _ (on_right _ _ h))) refl
+
+    -- ---- what is shown
+
+    mutual
+      pub shows_alike : (s : State) (x : Variable) (f : Full) → Alike (of_full f) a b → shows v s x f ≡ shows u s x f
+      shows_alike s x (printed t d) h = ap (λ o. is_some o && is_of x t) (found_alike s t h)
+      shows_alike s x (called fs d) h = any_shows_alike s x fs h
+      shows_alike s x lacking h = refl
+      shows_alike s x (numbered n) h = refl
+      shows_alike s x (labelled y l) h = refl
+      shows_alike s x (dated n) h = refl
+      shows_alike s x (named n is) h = refl
+      shows_alike s x (shorthand written n) h = refl
+      shows_alike s x (chosen cs) h = cases_show_alike s x cs h
+      shows_alike s x (grouped delimiter d fs) h = any_shows_alike s x fs h
+
+      pub any_shows_alike : (s : State) (x : Variable) (fs : Fulls) → Alike (of_fulls fs) a b → any_shows v s x fs ≡ any_shows u s x fs
+      any_shows_alike s x none h = refl
+      any_shows_alike s x (more f fs) h = ap₂ (λ i j. i || j) (shows_alike s x f (on_left _ _ h)) (any_shows_alike s x fs (on_right _ _ h))
+
+      cases_show_alike : (s : State) (x : Variable) (cs : Cases) → Alike (of_cases cs) a b → cases_show v s x cs ≡ cases_show u s x cs
+      cases_show_alike s x no_cases h = refl
+      cases_show_alike s x (else_case fs) h = any_shows_alike s x fs h
+      cases_show_alike s x (case ts fs cs) h =
+          rw (holds_alike s ts (on_left _ _ h), any_shows_alike s x fs (on_left _ _ (on_right _ _ h)), cases_show_alike s x cs (on_right _ _ (on_right _ _ h))) refl
+
+    -- ---- what is made
+
+    mutual
+      pub tree_alike : (f : Full) (inh : Inherited) (s : State) → Alike (of_full f) a b → tree v f inh s ≡ tree u f inh s
+      tree_alike (printed t d) inh s h = target_tree_alike t d inh s h
+      tree_alike (called fs d) inh s h = ap₂ (λ i m. macro_made (rule (macro_info (but_groups i)).flags) w d inh m s) (infos_alike s fs h) (sum_of_alike fs (in_macro d inh) s h)
+      tree_alike lacking inh s h = refl
+      tree_alike (numbered n) inh s h = number_tree_alike n inh s h
+      tree_alike (labelled x l) inh s h = label_tree_alike x l inh s h
+      tree_alike (dated n) inh s h = variable_tree_alike n n.variable inh s h
+      tree_alike (named n is) inh s h = refl
+      tree_alike (shorthand written n) inh s h = refl
+      tree_alike (chosen cs) inh s h = cases_tree_alike cs inh s h
+      tree_alike (grouped delimiter d fs) inh s h = ap₂ (λ i m. group_made (rule i.flags) d inh m) (infos_alike s fs h) (delimited_alike fs (in_group delimiter d inh) true s h)
+
+      pub sum_of_alike : (fs : Fulls) (inh : Inherited) (s : State) → Alike (of_fulls fs) a b → sum_of v fs inh s ≡ sum_of u fs inh s
+      sum_of_alike none inh s h = refl
+      sum_of_alike (more f fs) inh s h =
+          let first = tree_alike f inh s (on_left _ _ h) in
+          let rest = sum_of_alike fs inh (tree v f inh s).state (on_right _ _ h) in
+          ap (then_made (tree v f inh s).content) rest ∙ ap (λ m. then_made m.content (sum_of u fs inh m.state)) first
+
+      delimited_alike : (fs : Fulls) (inh : Inherited) (first : Bool) (s : State) → Alike (of_fulls fs) a b → delimited v fs inh first s ≡ delimited u fs inh first s
+      delimited_alike none inh first s h = refl
+      delimited_alike (more f fs) inh first s h =
+          let said = info_alike s f (on_left _ _ h) in
+          let one = tree_alike f inh s (on_left _ _ h) in
+          let behind = delimited_alike fs inh false (tree v f inh s).state (on_right _ _ h) in
+          let skipped = delimited_alike fs inh first s (on_right _ _ h) in
+          ap₂ (λ m k. if (info v s f).prints then m else k) (ap (then_made (admitted_made first inh (tree v f inh s)).content) behind ∙ ap (λ m. then_made (admitted_made first inh m).content (delimited u fs inh false m.state)) one) skipped
+          ∙ ap (λ i. if i.prints then then_made (admitted_made first inh (tree u f inh s)).content (delimited u fs inh false (tree u f inh s).state) else delimited u fs inh first s) said
+
+      cases_tree_alike : (cs : Cases) (inh : Inherited) (s : State) → Alike (of_cases cs) a b → cases_tree v cs inh s ≡ cases_tree u cs inh s
+      cases_tree_alike no_cases inh s h = refl
+      cases_tree_alike (else_case fs) inh s h = delimited_alike fs inh true s h
+      cases_tree_alike (case ts fs cs) inh s h =
+          rw (holds_alike s ts (on_left _ _ h), delimited_alike fs inh true s (on_left _ _ (on_right _ _ h)), cases_tree_alike cs inh s (on_right _ _ (on_right _ _ h))) refl
+
+    pub layout_alike : (l : FullLayout) (inh : Inherited) (s : State) → Alike (of_fulls l.elements) a b → layout_tree v l inh s ≡ layout_tree u l inh s
+    layout_alike l inh s h = sum_of_alike l.elements (record (within l.formatting inh) { delimiter = l.delimiter }) s h

@@ -1,0 +1,12 @@
+use Rattle.csl_entry.specs.Cite.{cite_state}
+use Rattle.csl_context.specs.Left.{state_left}
+use Rattle.csl_render.specs.Printed.{citing}
+use Rattle.csl_render.proofs.Pairs.{printed_same}
+use Rattle.csl_render.proofs.pair.render_pair.Goals as goal
+
+pub returns-clause-same : goal.returns-clause-same
+returns-clause-same g c e =
+    let a = g.T.EntryLike.answers c.args.left.now in
+    let b = g.U.EntryLike.answers c.args.right.now in
+    let w = citing c.args.style.now c.args.scope (cite_state c.args.cite_props.now) c.args.sorting c.args.kind a in
+    printed_same (state_left c.args.start.now) w c.args.layout.now a b (c.in_ok-alike.ensures.ok.0 e) _ _ _ _ c.in_ok-first.ensures.ok c.in_ok-second.ensures.ok

@@ -1,0 +1,48 @@
+-- What a layout makes of a cite, whatever its entry, that begins with what another rendering left (CSL 1.0.2, Layout).
+use Rattle.std.specs.Prelude.{◌≡◌, ℕ, List, Option}
+use Rattle.csl_style.specs.declared.element.Layout.{Layout}
+use Rattle.csl_style.specs.declared.style.settings.Scope.{Scope}
+use Rattle.csl_style.specs.Node.{fill_layout}
+use Rattle.csl_style.specs.Style.{StyleParts}
+use Rattle.csl_style.specs.View.{view_layout}
+use Rattle.csl_tree.specs.Tokens.{tokens}
+use Rattle.csl_tree.specs.Writing.{written}
+use Rattle.csl_tree.specs.declared.elem.BufWriteFormat.TheVariants.{Html}
+use Rattle.csl_entry.specs.Answers.{Answers}
+use Rattle.csl_entry.specs.Cite.{CiteState}
+use Rattle.csl_entry.specs.declared.cite.Sorting.{Sorting}
+use Rattle.csl_entry.specs.declared.cite.SpecialForm.{SpecialForm}
+use Rattle.csl_context.specs.declared.context.Rendered.{Rendered}
+use Rattle.csl_context.specs.Left.{state_left}
+use Rattle.csl_context.specs.Now.{base_inherited}
+use Rattle.csl_context.specs.State.{State}
+use Rattle.csl_context.specs.World.{World, env}
+use Rattle.csl_render.specs.Text.{Made}
+use Rattle.csl_render.specs.Tree.{layout_tree}
+
+-- a cite of an entry that answers so
+abbrev pub citing : StyleParts → Scope → CiteState → Option Sorting → Option SpecialForm → Answers → World
+citing style scope cite sorting special answers = record {
+  style = style;
+  scope = scope;
+  instance = record { answers = answers; cite = cite; sorting = sorting; special = special };
+}
+
+-- the same cite of another entry
+abbrev pub answered_by : Answers → World → World
+answered_by answers w = record w { instance = record w.instance { answers = answers } }
+
+abbrev pub printed_from : State → World → Layout → Made
+printed_from s w l = layout_tree w (fill_layout (env w.style) (view_layout l)) (base_inherited w.style w.scope) s
+
+-- a rendering of that content and that state, with its HTML
+pub record Prints (m : Made) (r : Rendered) (bytes : List ℕ) : Type 0 where
+  pub content : tokens r.content ≡ m.content
+  pub state : state_left r.state ≡ m.state
+  pub html : bytes ≡ written Html m.content
+
+-- two renderings, each with its HTML, that are the same in all three
+pub record PrintsSame (r : Rendered) (bytes : List ℕ) (other : Rendered) (others : List ℕ) : Type 0 where
+  pub content : tokens r.content ≡ tokens other.content
+  pub state : state_left r.state ≡ state_left other.state
+  pub html : bytes ≡ others

@@ -1,0 +1,162 @@
+//! What a layout makes of two entries, and whether they answer alike all that it names.
+
+ghost use Rattle.std.specs.Prelude.{◌≡◌, true, IfOk, IfErr, string_bytes};
+ghost use Rattle.std.specs.Bool.{Decides};
+ghost use Rattle.csl_style.specs.Named.{of_fulls};
+ghost use Rattle.csl_style.specs.Node.{fill_layout};
+ghost use Rattle.csl_style.specs.Reached.{env};
+ghost use Rattle.csl_style.specs.View.{view_layout};
+ghost use Rattle.csl_tree.specs.Tokens.{tokens};
+ghost use Rattle.csl_tree.specs.Writing.{written};
+ghost use Rattle.csl_tree.specs.declared.elem.BufWriteFormat.TheVariants.{Html};
+ghost use Rattle.csl_entry.specs.Alike.{Alike};
+ghost use Rattle.csl_entry.specs.Cite.{cite_state};
+ghost use Rattle.csl_context.specs.Left.{state_left};
+ghost use Rattle.csl_render.specs.Printed.{citing, printed_from, Prints, PrintsSame};
+
+use crate::render::RenderCsl;
+use csl_context::{Context, LeftState, RenderError, Rendered};
+use csl_entry::{CiteProperties, EntryLike, InstanceContext, Sorting, SpecialForm, same_answers};
+use csl_style::{Layout, Scope, Style, named_by};
+use csl_tree::{BufWriteFormat, ElemChildren};
+use std::alloc::Global;
+
+/// What a layout makes of two entries.
+#[derive(Drop)]
+pub struct Pair {
+    /// What it makes of the one.
+    pub left: Rendered,
+    /// What it makes of the other.
+    pub right: Rendered,
+    /// The HTML of the one.
+    pub left_html: String,
+    /// The HTML of the other.
+    pub right_html: String,
+    /// Whether both answer alike all that the layout names.
+    pub alike: bool,
+}
+
+/// The HTML of a content.
+///
+/// # Errors
+/// [`RenderError::Memory`]: there was no memory left.
+fn html(alloc: Global, content: &ElemChildren) -> Result<String, RenderError>
+    ensures ok { IfOk result (λ text. string_bytes text ≡ written Html (tokens content.now)) }
+    ensures err { IfErr result (λ e. e ≡ RenderError.Memory) }
+{
+    let mut text = String::new(alloc);
+    match content.write_buf(&mut text, BufWriteFormat::Html) {
+        Ok(()) => Ok(text),
+        Err(_) => Err(RenderError::Memory),
+    }
+}
+
+/// What the layout makes of a cite that begins with what another rendering left, and its HTML.
+///
+/// # Errors
+/// [`RenderError::Memory`]: there was no memory left, or the entry said so.
+#[tactic(auto, using(crate::proofs::Pairs::rendering_wants_memory, crate::proofs::Pairs::end_wants_memory))]
+fn print_from<'s, T: EntryLike>(
+    alloc: Global,
+    style: &'s Style,
+    layout: &'s Layout,
+    instance: InstanceContext<'s, T>,
+    scope: Scope,
+    start: &LeftState,
+) -> Result<(Rendered, String), RenderError>
+    ensures ok { IfOk result (λ p. Prints (printed_from (state_left start.now)
+        (citing style.now scope (cite_state instance.entry.cite_props.now) instance.entry.sorting
+        instance.entry.kind (T.answers instance.entry.entry.now)) layout.now)
+        p.0 (string_bytes p.1)) }
+    ensures err { IfErr result (λ e. e ≡ RenderError.Memory) }
+{
+    let Ok(mut ctx) = Context::resume(alloc, style, instance, scope, start) else {
+        return Err(RenderError::Memory);
+    };
+    layout.render(&mut ctx)?;
+    let rendered = ctx.finish()?;
+    let text = html(alloc, &rendered.content)?;
+    Ok((rendered, text))
+}
+
+/// Whether both answer alike all that the layout names.
+///
+/// # Errors
+/// [`RenderError::Memory`]: there was no memory left, or an entry said so.
+fn are_alike<T: EntryLike, U: EntryLike>(
+    alloc: Global,
+    style: &Style,
+    layout: &Layout,
+    left: &T,
+    right: &U,
+) -> Result<bool, RenderError>
+    ensures ok { IfOk result (λ alike. Decides alike (Alike
+        (of_fulls (fill_layout (env style.now) (view_layout layout.now)).elements)
+        (T.answers left.now) (U.answers right.now))) }
+    ensures err { IfErr result (λ e. e ≡ RenderError.Memory) }
+{
+    let Ok(named) = named_by(alloc, style, layout) else {
+        return Err(RenderError::Memory);
+    };
+    match same_answers(alloc, left, right, &named) {
+        Ok(alike) => Ok(alike),
+        Err(_) => Err(RenderError::Memory),
+    }
+}
+
+/// What the layout makes of two entries, of whatever types, in the same cite and from the same
+/// state, and whether they answer alike all the variables and kinds that the layout and the macros
+/// it reaches name. Where they do, it makes the same of both.
+///
+/// # Errors
+/// [`RenderError::Memory`]: there was no memory left, or an entry said so.
+pub fn render_pair<'s, T: EntryLike, U: EntryLike>(
+    alloc: Global,
+    style: &'s Style,
+    layout: &'s Layout,
+    scope: Scope,
+    cite_props: &'s CiteProperties<'s>,
+    sorting: Option<Sorting>,
+    kind: Option<SpecialForm>,
+    start: &LeftState,
+    left: &'s T,
+    right: &'s U,
+) -> Result<Pair, RenderError>
+    ensures left { IfOk result (λ p. Prints (printed_from (state_left start.now)
+        (citing style.now scope (cite_state cite_props.now) sorting kind (T.answers left.now))
+        layout.now) p.left (string_bytes p.left_html)) }
+    ensures right { IfOk result (λ p. Prints (printed_from (state_left start.now)
+        (citing style.now scope (cite_state cite_props.now) sorting kind (U.answers right.now))
+        layout.now) p.right (string_bytes p.right_html)) }
+    ensures alike { IfOk result (λ p. Decides p.alike (Alike
+        (of_fulls (fill_layout (env style.now) (view_layout layout.now)).elements)
+        (T.answers left.now) (U.answers right.now))) }
+    ensures same { IfOk result (λ p. p.alike ≡ true
+        → PrintsSame p.left (string_bytes p.left_html) p.right (string_bytes p.right_html)) }
+    ensures err { IfErr result (λ e. e ≡ RenderError.Memory) }
+{
+    let alike = are_alike(alloc, style, layout, left, right)?;
+    let one = InstanceContext {
+        entry: left,
+        cite_props,
+        sorting,
+        kind,
+    };
+    let other = InstanceContext {
+        entry: right,
+        cite_props,
+        sorting,
+        kind,
+    };
+    let first = print_from(alloc, style, layout, one, scope, start)?;
+    let second = print_from(alloc, style, layout, other, scope, start)?;
+    let (left, left_html) = first;
+    let (right, right_html) = second;
+    Ok(Pair {
+        left,
+        right,
+        left_html,
+        right_html,
+        alike,
+    })
+}
