@@ -1,18 +1,12 @@
 //! The program `csl_cite`: it prints what a built-in style makes of an entry.
 //!
-//! All of its work is [`run::run`], over any two writers; `main` hands it the arguments and the
-//! standard streams.
+//! All of its work is [`csl_answers::run::run`], over any two writers; `main` hands it the arguments
+//! and the standard streams.
 #![tactic(auto)]
 
-mod answers;
-mod entries;
-mod run;
 mod streams;
-#[cfg(test)]
-mod tests;
-mod title;
-mod words;
 
+use csl_answers::run;
 use std::env;
 use std::io::{self, ErrorKind};
 use std::process::ExitCode;

@@ -1,0 +1,62 @@
+-- What the program writes for its words.
+use Rattle.std.specs.Prelude.{◌≡◌, ◌⊎◌, ℕ, Bool, true, false, List, ◌++◌, Option, Some, None, IsSomeAnd, codes, string_bytes}
+use Rattle.std.specs.Fmt.{WritesInCalls}
+use Rattle.csl_tree.specs.Tokens.{Token, tokens}
+use Rattle.csl_tree.specs.Writing.{written}
+use Rattle.csl_built_in.specs.Entries.{label_text, is_built_in_kind}
+use Rattle.csl_answers.specs.Cites.{IsTitleContent}
+use Rattle.csl_answers.specs.Words.{Verdict, title_in, label_of, kind_of, missing, unknown}
+use Rattle.csl_answers.specs.declared.answers.Answer.{Answer}
+use Rattle.csl_answers.specs.declared.answers.Answer.TheVariants.{Content, Text, Truth}
+
+abbrev pub newline : List ℕ
+newline = codes "\n"
+
+abbrev pub line : List ℕ → List ℕ
+line text = text ++ newline
+
+abbrev pub truth_text : Bool → List ℕ
+truth_text true = codes "true"
+truth_text false = codes "false"
+
+-- The text answers the words: what the style of the command makes of the title, as it is written; the label, with three letters, of the built-in entry; whether that entry is of the kind.
+abbrev pub IsAnswer : Verdict → List ℕ → Type 0
+IsAnswer (title_in title format) text = (content : List Token) × IsTitleContent title content × (text ≡ written format content)
+IsAnswer (label_of entry) text = text ≡ label_text entry
+IsAnswer (kind_of entry kind) text = text ≡ truth_text (is_built_in_kind kind entry)
+IsAnswer missing text = ⊥
+IsAnswer (unknown word) text = ⊥
+
+-- what the code's answer writes
+abbrev pub text_of : Answer → List ℕ
+text_of (Content content format) = written format (tokens content)
+text_of (Text text) = string_bytes text
+text_of (Truth truth) = truth_text truth
+
+-- what is said of words that were refused, without the newline
+abbrev pub complaint : Verdict → Option (List ℕ)
+complaint (title_in title format) = None
+complaint (label_of entry) = None
+complaint (kind_of entry kind) = None
+complaint missing = Some (codes "missing word")
+complaint (unknown word) = Some (codes "unknown: " ++ word)
+
+-- what is said where memory ran out, without the newline
+abbrev pub out_of_memory : List ℕ
+out_of_memory = codes "out of memory"
+
+-- ---- what a writer took that takes a text by `gives`: a line, the answer, what is said of words that were refused
+
+abbrev pub TakesLine : {W : Type 0} → (W → List ℕ → W → Type 0) → W → List ℕ → W → Type 0
+TakesLine gives old text new = WritesInCalls gives old (line text) new
+
+abbrev pub Replies : {W : Type 0} → (W → List ℕ → W → Type 0) → Verdict → W → W → Type 0
+Replies gives verdict old new = (text : List ℕ) × IsAnswer verdict text × TakesLine gives old text new
+
+abbrev pub Complains : {W : Type 0} → (W → List ℕ → W → Type 0) → Verdict → W → W → Type 0
+Complains gives verdict old new = IsSomeAnd (complaint verdict) (λ text. TakesLine gives old text new)
+
+-- where neither of two writers had refused a text, one of them has now
+abbrev pub OneRefuses : {W F : Type 0} → (W → Bool) → W → W → (F → Bool) → F → F → Type 0
+OneRefuses out_refused out out_after fault_refused fault fault_after =
+    out_refused out ≡ false → fault_refused fault ≡ false → (out_refused out_after ≡ true) ⊎ (fault_refused fault_after ≡ true)

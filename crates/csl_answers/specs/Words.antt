@@ -1,0 +1,98 @@
+-- The words of the program, and the verdict on them, from the left.
+use Rattle.std.specs.Prelude.{ℕ, List, [], ◌∷◌, Option, Some, None, find, map, Result, Ok, Err, String, codes, string_bytes, if◌then◌else◌}
+use Rattle.std.specs.Str.{bytes_eq}
+use Rattle.std.specs.declared.alloc.Global.{Global}
+use Rattle.csl_style.specs.Taxonomy.{name_of}
+use Rattle.csl_style.specs.declared.taxonomy.Kind.{Kind}
+use Rattle.csl_style.specs.declared.taxonomy.Kind.TheVariants as kinds
+use Rattle.csl_tree.specs.declared.elem.BufWriteFormat.{BufWriteFormat}
+use Rattle.csl_tree.specs.declared.elem.BufWriteFormat.TheVariants.{Plain, Html}
+use Rattle.csl_built_in.specs.Entries.{named_built_in}
+use Rattle.csl_built_in.specs.declared.entries.BuiltIn.{BuiltIn}
+use Rattle.csl_answers.specs.declared.words.Command.{Command}
+use Rattle.csl_answers.specs.declared.words.Command.TheVariants as commands
+use Rattle.csl_answers.specs.declared.words.WordsError.{WordsError}
+use Rattle.csl_answers.specs.declared.words.WordsError.TheVariants.{Missing, Unknown}
+
+-- What is asked for: a title in a format, the label of an entry, whether an entry is of a kind. Or a word is missing, or unknown.
+pub data Verdict : Type 0 where
+  title_in : List ℕ → BufWriteFormat → Verdict
+  label_of : BuiltIn → Verdict
+  kind_of : BuiltIn → Kind → Verdict
+  missing : Verdict
+  unknown : List ℕ → Verdict
+
+-- no word may follow
+abbrev pub when_last : Verdict → List (List ℕ) → Verdict
+when_last v [] = v
+when_last v (word ∷ words) = unknown word
+
+-- what a word names, else it is unknown
+abbrev pub or_unknown : {T : Type 0} → List ℕ → Option T → (T → Verdict) → Verdict
+or_unknown word None next = unknown word
+or_unknown word (Some x) next = next x
+
+abbrev pub format_verdict : List ℕ → List ℕ → List (List ℕ) → Verdict
+format_verdict title format words =
+    if bytes_eq format (codes "plain") then when_last (title_in title Plain) words
+    else (if bytes_eq format (codes "html") then when_last (title_in title Html) words else unknown format)
+
+-- the words after `title`: the title and its format
+abbrev pub title_verdict : List (List ℕ) → Verdict
+title_verdict [] = missing
+title_verdict (title ∷ []) = missing
+title_verdict (title ∷ format ∷ words) = format_verdict title format words
+
+-- the words after `label`: the entry
+abbrev pub label_verdict : List (List ℕ) → Verdict
+label_verdict [] = missing
+label_verdict (key ∷ words) = or_unknown key (named_built_in key) (λ entry. when_last (label_of entry) words)
+
+-- the kind of a name
+abbrev pub all_kinds : List Kind
+all_kinds =
+    kinds.Article ∷ kinds.ArticleJournal ∷ kinds.ArticleMagazine ∷ kinds.ArticleNewspaper ∷ kinds.Bill ∷ kinds.Book ∷ kinds.Broadcast ∷ kinds.Chapter
+    ∷ kinds.Classic ∷ kinds.Collection ∷ kinds.Dataset ∷ kinds.Document ∷ kinds.Entry ∷ kinds.EntryDictionary ∷ kinds.EntryEncyclopedia ∷ kinds.Event
+    ∷ kinds.Figure ∷ kinds.Graphic ∷ kinds.Hearing ∷ kinds.Interview ∷ kinds.LegalCase ∷ kinds.Legislation ∷ kinds.Manuscript ∷ kinds.Map
+    ∷ kinds.MotionPicture ∷ kinds.MusicalScore ∷ kinds.Pamphlet ∷ kinds.PaperConference ∷ kinds.Patent ∷ kinds.Performance ∷ kinds.Periodical
+    ∷ kinds.PersonalCommunication ∷ kinds.Post ∷ kinds.PostWeblog ∷ kinds.Regulation ∷ kinds.Report ∷ kinds.Review ∷ kinds.ReviewBook
+    ∷ kinds.Software ∷ kinds.Song ∷ kinds.Speech ∷ kinds.Standard ∷ kinds.Thesis ∷ kinds.Treaty ∷ kinds.Webpage ∷ []
+
+abbrev pub named_kind : List ℕ → Option Kind
+named_kind name = find (λ kind. bytes_eq name (name_of kind)) all_kinds
+
+-- the word after an entry: the kind
+abbrev pub kind_verdict_of : BuiltIn → List (List ℕ) → Verdict
+kind_verdict_of entry [] = missing
+kind_verdict_of entry (name ∷ words) = or_unknown name (named_kind name) (λ kind. when_last (kind_of entry kind) words)
+
+-- the words after `kind`: the entry and the kind
+abbrev pub kind_verdict : List (List ℕ) → Verdict
+kind_verdict [] = missing
+kind_verdict (key ∷ words) = or_unknown key (named_built_in key) (λ entry. kind_verdict_of entry words)
+
+-- what the words ask for; no words ask for the title `Nature` in HTML
+abbrev pub verdict_on : List (List ℕ) → Verdict
+verdict_on [] = title_in (codes "Nature") Html
+verdict_on (name ∷ words) =
+    if bytes_eq name (codes "title") then title_verdict words
+    else (if bytes_eq name (codes "label") then label_verdict words
+    else (if bytes_eq name (codes "kind") then kind_verdict words else unknown name))
+
+-- what the code's answer says
+abbrev pub refusal : WordsError → Verdict
+refusal Missing = missing
+refusal (Unknown word) = unknown word.now
+
+abbrev pub command_verdict : Command → Verdict
+command_verdict (commands.Title title format) = title_in title.now format
+command_verdict (commands.Label entry) = label_of entry
+command_verdict (commands.Kind entry kind) = kind_of entry kind
+
+abbrev pub verdict_of : Result Command WordsError → Verdict
+verdict_of (Ok command) = command_verdict command
+verdict_of (Err error) = refusal error
+
+-- what the program takes its words to ask for
+abbrev pub meaning : List (String Global) → Verdict
+meaning words = verdict_on (map string_bytes words)

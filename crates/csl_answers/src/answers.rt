@@ -1,0 +1,68 @@
+//! The answers to words that were understood.
+
+ghost use Rattle.std.specs.Prelude.{◌≡◌, true, OnOk, OnErr, IfOk};
+ghost use Rattle.csl_answers.specs.Answers.{IsAnswer, TakesLine, text_of, truth_text};
+ghost use Rattle.csl_answers.specs.Words.{command_verdict};
+
+use crate::cites::title_content;
+use crate::words::Command;
+use csl_tree::{BufWriteFormat, ElemChildren};
+use lit_model::{Memory, Sink};
+use std::alloc::Global;
+use std::fmt;
+
+/// An answer, whole before anything of it is written.
+#[derive(Drop)]
+pub enum Answer {
+    /// A content, to be written in a format.
+    Content(ElemChildren, BufWriteFormat),
+    /// A text.
+    Text(String),
+    /// A truth value.
+    Truth(bool),
+}
+
+/// The answer to a command.
+///
+/// # Errors
+/// [`Memory`]: there was no memory left.
+pub fn answer_to(alloc: Global, command: Command<'_>) -> Result<Answer, Memory>
+    ensures { IfOk result (λ answer. IsAnswer (command_verdict command.entry) (text_of answer)) }
+{
+    match command {
+        Command::Title { title, format } => {
+            let content = title_content(alloc, title)?;
+            Ok(Answer::Content(content, format))
+        }
+        Command::Label(entry) => {
+            let label = entry.label(alloc)?;
+            Ok(Answer::Text(label))
+        }
+        Command::Kind { entry, kind } => {
+            let truth = entry.is_of_kind(alloc, kind)?;
+            Ok(Answer::Truth(truth))
+        }
+    }
+}
+
+fn truth_text(truth: bool) -> &'static str
+    ensures { result.now ≡ truth_text truth }
+{
+    if truth { "true" } else { "false" }
+}
+
+/// Writes an answer and a newline.
+#[tactic(auto, using(lit_model::proofs::Writes::two_writes))]
+pub fn write_answer<S: Sink>(answer: &Answer, out: &mut S) -> fmt::Result
+    ensures ok { OnOk result (TakesLine S.write_str_gives out.old (text_of answer.now) out.new) }
+    ensures kept { OnOk result (S.refused out.new ≡ S.refused out.old) }
+    ensures err { OnErr result (S.refused out.new ≡ true) }
+{
+    match answer {
+        Answer::Content(content, format) => content.write_into(out, *format)?,
+        Answer::Text(text) => out.put(text.as_str())?,
+        Answer::Truth(truth) => out.put(truth_text(*truth))?,
+    }
+    out.put("\n")?;
+    Ok(())
+}

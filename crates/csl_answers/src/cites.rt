@@ -1,0 +1,79 @@
+//! What a built-in style makes of a cite.
+
+ghost use Rattle.std.specs.Prelude.{◌≡◌, IfOk};
+ghost use Rattle.csl_tree.specs.Tokens.{tokens};
+ghost use Rattle.csl_entry.specs.Cite.{cite_state};
+ghost use Rattle.csl_render.specs.Cited.{first_cite, cited};
+ghost use Rattle.csl_answers.specs.Cites.{IsTitleContent};
+
+use csl_built_in::{TitleOnly, one_piece, title_style};
+use csl_context::{Context, RenderError, Rendered};
+use csl_entry::{
+    CertainCiteProperties, CitationNumber, CiteProperties, DisambiguateState, EntryLike, IbidState,
+    InstanceContext, SpeculativeCiteProperties,
+};
+use csl_render::RenderCsl;
+use csl_style::{Scope, Style};
+use csl_tree::ElemChildren;
+use lit_model::Memory;
+use std::alloc::Global;
+
+/// A cite that is the first of its entry, without a note and without a locator.
+fn first_cite() -> CiteProperties<'static>
+    ensures { cite_state result ≡ first_cite }
+{
+    let Some(citation_number) = CitationNumber::new(0) else {
+        unreachable!()
+    };
+    CiteProperties {
+        certain: CertainCiteProperties {
+            first_note_number: None,
+            is_first: true,
+            is_near_note: false,
+            initial_idx: 0,
+        },
+        speculative: SpeculativeCiteProperties {
+            locator: None,
+            citation_number,
+            disambiguation: DisambiguateState::None,
+            ibid: IbidState::Different,
+        },
+    }
+}
+
+/// What a style makes of the first cite of an entry.
+///
+/// # Errors
+/// [`RenderError::Memory`]: there was no memory left, or the entry said so.
+fn cite<T: EntryLike>(alloc: Global, style: &Style, entry: &T) -> Result<Rendered, RenderError>
+    ensures { IfOk result (λ made. tokens made.content ≡ cited style.now (T.answers entry.now)) }
+{
+    let cite_props = first_cite();
+    let instance = InstanceContext {
+        entry,
+        cite_props: &cite_props,
+        sorting: None,
+        kind: None,
+    };
+    let Ok(mut ctx) = Context::new(alloc, style, instance, Scope::Citation) else {
+        return Err(RenderError::Memory);
+    };
+    style.citation().render(&mut ctx)?;
+    ctx.finish()
+}
+
+/// What the built-in style makes of a title.
+///
+/// # Errors
+/// [`Memory`]: there was no memory left.
+pub fn title_content(alloc: Global, title: &str) -> Result<ElemChildren, Memory>
+    ensures { IfOk result (λ content. IsTitleContent title.now (tokens content)) }
+{
+    let style = title_style(alloc)?;
+    let title = one_piece(alloc, title)?;
+    match cite(alloc, &style, &TitleOnly { title }) {
+        Ok(made) => Ok(made.content),
+        // A context that is new has not failed: what is missing is memory.
+        Err(_) => Err(Memory),
+    }
+}

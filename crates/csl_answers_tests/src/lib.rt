@@ -1,0 +1,9 @@
+//! What the program answers to its words, and what its built-in entries answer.
+#![tactic(auto)]
+
+#[cfg(test)]
+mod entries;
+#[cfg(test)]
+mod refused;
+#[cfg(test)]
+mod words;

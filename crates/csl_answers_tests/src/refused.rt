@@ -1,0 +1,64 @@
+//! The status where a writer refuses a text.
+
+use crate::words::owned;
+use csl_answers::run::run;
+use std::alloc::Global;
+use std::fmt;
+use std::test::Fail;
+
+/// A writer that takes some texts and refuses the next.
+#[derive(Drop)]
+struct Refusing {
+    left: usize,
+}
+
+impl fmt::Write for Refusing {
+    fn write_str(&mut self, _s: &str) -> fmt::Result {
+        if self.left == 0 {
+            return Err(fmt::Error);
+        }
+        self.left -= 1;
+        Ok(())
+    }
+}
+
+/// Runs the words over writers that refuse a text after so many. The status.
+fn status_refusing(alloc: Global, words: &[&str], out: usize, fault: usize) -> Result<u8, Fail> {
+    let words = owned(alloc, words)?;
+    let mut out = Refusing { left: out };
+    let mut fault = Refusing { left: fault };
+    Ok(run(alloc, words.as_slice(), &mut out, &mut fault))
+}
+
+#[test]
+fn a_refused_answer_is_status_four(rt: HostRuntime) -> Result<(), Fail> {
+    let words = ["title", "Nature", "html"];
+    let mut taken = 0;
+    for out in 0..100 {
+        let status = status_refusing(rt.alloc(), &words, out, 0)?;
+        if status == 0 {
+            taken = out;
+            break;
+        }
+        assert_eq!(rt; status, 4, "after {out} texts");
+    }
+    // The answer has at least the label, the three parts of the span, the title and the newline.
+    assert!(rt; taken >= 6, "all was taken after {taken} texts");
+    Ok(())
+}
+
+#[test]
+fn a_refused_fault_is_status_four(rt: HostRuntime) -> Result<(), Fail> {
+    for (words, fault, wanted) in [
+        (["title"], 0, 4),
+        (["title"], 1, 2),
+        (["labels"], 0, 4),
+        (["labels"], 1, 4),
+        (["labels"], 2, 4),
+        (["labels"], 3, 2),
+    ] {
+        let status = status_refusing(rt.alloc(), &words, 0, fault)?;
+        assert_eq!(rt; status, wanted, "{words:?} after {fault} texts");
+    }
+    Ok(())
+}

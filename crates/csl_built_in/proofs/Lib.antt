@@ -1,0 +1,2 @@
+pub mod Essay
+pub mod BuiltIns

@@ -1,0 +1,76 @@
+-- An entry that has a title and nothing else, and the style that it is cited in.
+use Rattle.std.specs.Prelude.{◌≡◌, ℕ, List, [], ◌∷◌, Option, Some, None, false, codes}
+use Rattle.lit_model.specs.Text.{Chunk}
+use Rattle.lit_model.specs.declared.text.ChunkKind.TheVariants.{Normal}
+use Rattle.lit_model.specs.declared.text.LongShortForm.TheVariants.{Long}
+use Rattle.csl_style.specs.declared.formatting.Formatting.{Formatting}
+use Rattle.csl_style.specs.declared.formatting.FontStyle.TheVariants.{Italic}
+use Rattle.csl_style.specs.declared.taxonomy.StandardVariable.{StandardVariable}
+use Rattle.csl_style.specs.declared.taxonomy.StandardVariable.TheVariants.{Title}
+use Rattle.csl_style.specs.declared.taxonomy.Variable.TheVariants.{Standard}
+use Rattle.csl_style.specs.Dressing.{Dressing, TextDressing}
+use Rattle.csl_style.specs.Node.{Target, of_variable, of_value, Node, text, group, Nodes, no_nodes, node, LayoutNode}
+use Rattle.csl_style.specs.Style.{StyleParts}
+use Rattle.csl_style.specs.View.{view_layout}
+use Rattle.csl_entry.specs.Answers.{Answers}
+
+-- ---- the entry
+
+abbrev pub title_of : List Chunk → StandardVariable → Option (List Chunk)
+title_of title Title = Some title
+title_of title _ = None
+
+abbrev pub title_answers : List Chunk → Answers
+title_answers title = record {
+  numbers = λ _. None;
+  pages = λ _. None;
+  standards = λ _ variable. title_of title variable;
+  names = λ _. [];
+  dates = λ _. None;
+  kinds = λ _. false;
+}
+
+-- a text in one piece
+abbrev pub one_piece : List ℕ → List Chunk
+one_piece bs = record { value = bs; kind = Normal } ∷ []
+
+-- ---- the style
+
+-- a node says nothing of its formatting
+abbrev pub no_formatting : Formatting
+no_formatting = record { font_style = None; font_variant = None; font_weight = None; text_decoration = None; vertical_align = None }
+
+abbrev pub italic : Formatting
+italic = record no_formatting { font_style = Some Italic }
+
+abbrev pub undressed : Formatting → Dressing
+undressed f = record { formatting = f; affixes = record { prefix = None; suffix = None }; display = None }
+
+abbrev pub bare : Formatting → TextDressing
+bare f = record { dressing = undressed f; quotes = false; strip_periods = false }
+
+-- the word `Title`
+abbrev pub label : Node
+label = text (of_value (codes "Title")) (bare no_formatting)
+
+-- the title in italics
+abbrev pub title_text : Node
+title_text = text (of_variable (Standard Title) Long) (bare italic)
+
+abbrev pub label_and_title : Nodes
+label_and_title = node label (node title_text no_nodes)
+
+-- these two in parentheses
+abbrev pub title_group : Node
+title_group =
+    group (Some (codes ": "))
+    (record (undressed no_formatting) { affixes = record { prefix = Some (codes "("); suffix = Some (codes ")") } })
+    label_and_title
+
+abbrev pub title_layout : LayoutNode
+title_layout = record { delimiter = None; formatting = no_formatting; elements = node title_group no_nodes }
+
+pub record CitesTitles (style : StyleParts) : Type 0 where
+  pub citation : view_layout style.citation ≡ title_layout
+  pub macros : style.macros ≡ []
+  pub locales : style.locales ≡ []

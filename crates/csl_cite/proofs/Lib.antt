@@ -1,4 +1,0 @@
-pub mod Essay
-pub mod Taken
-pub mod KindNames
-pub mod BuiltIns

@@ -1,4 +1,0 @@
-pub mod Entries
-pub mod Answers
-pub mod Title
-pub mod Words
