@@ -9,23 +9,37 @@ use csl_context::{Context, RenderError};
 use csl_style::{DateVariable, NameVariable, NumberVariable, PageVariable, StandardVariable};
 use lit_model::LongShortForm;
 
-/// Writes which of five variables are found by silent looks.
+/// Which of five variables are found by silent looks.
+fn found(ctx: &Context<'_, Film>) -> Result<[bool; 5], RenderError> {
+    let title = ctx.peek_standard_variable(LongShortForm::Short, StandardVariable::Title)?;
+    let number = ctx.peek_number_variable(NumberVariable::Volume)?;
+    let page = ctx.peek_page_variable(PageVariable::Page)?;
+    let date = ctx.peek_date_variable(DateVariable::Issued)?;
+    let names = ctx.peek_name_variable(NameVariable::Director)?;
+    Ok([
+        title.is_some(),
+        number.is_some(),
+        page.is_some(),
+        date.is_some(),
+        !names.is_empty(),
+    ])
+}
+
+/// Writes them. A silent look that is refused memory leaves the context as it was, so the context
+/// is failed here.
 fn peek_all(ctx: &mut Context<'_, Film>) -> Result<(), RenderError>
     ensures { OnOk result (ctx.new.outer ≡ ctx.old.outer) }
 {
-    let title = StandardVariable::Title;
-    let found = ctx
-        .peek_standard_variable(LongShortForm::Short, title)?
-        .is_some();
-    put(ctx, yes(found))?;
-    let found = ctx.peek_number_variable(NumberVariable::Volume)?.is_some();
-    put(ctx, yes(found))?;
-    let found = ctx.peek_page_variable(PageVariable::Page)?.is_some();
-    put(ctx, yes(found))?;
-    let found = ctx.peek_date_variable(DateVariable::Issued)?.is_some();
-    put(ctx, yes(found))?;
-    let found = !ctx.peek_name_variable(NameVariable::Director)?.is_empty();
-    put(ctx, yes(found))
+    let found = found(ctx);
+    if found.is_err() {
+        ctx.fail();
+    }
+    let [title, number, page, date, names] = found?;
+    put(ctx, yes(title))?;
+    put(ctx, yes(number))?;
+    put(ctx, yes(page))?;
+    put(ctx, yes(date))?;
+    put(ctx, yes(names))
 }
 
 /// Writes which of them are found by looks for printing.

@@ -1,6 +1,6 @@
 //! The tests: what is done in a context, and what it makes and leaves.
 
-ghost use Rattle.std.specs.Prelude.{◌≡◌, OnOk};
+ghost use Rattle.std.specs.Prelude.{◌≡◌, [], OnOk, IfOk};
 
 use crate::asked::{
     ask_cite, ask_locale, ask_terms, delimit, inherit_options, keep_names, mark_dates,
@@ -15,7 +15,7 @@ use crate::written::{
 use csl_context::{Context, RenderError, Rendered};
 use csl_entry::{CiteProperties, InstanceContext, Sorting, SpecialForm};
 use csl_style::{Affixes, Scope, Style};
-use lit_model::LongShortForm;
+use lit_model::{LongShortForm, Memory};
 use std::alloc::Global;
 use std::process::Abort;
 use std::test::Fail;
@@ -94,31 +94,62 @@ fn instance<'s>(world: World<'s>) -> InstanceContext<'s, Film> {
     }
 }
 
-/// What an act makes and leaves in a new context.
-fn first<'s>(world: World<'s>, act: Act) -> Result<Rendered, Fail> {
-    let cite = instance(world);
-    let mut ctx = Context::new(world.alloc, world.style, cite, Scope::Citation)?;
-    perform(&mut ctx, world.affixes, act)?;
-    ctx.nothing()?;
-    Ok(ctx.finish()?)
+/// What a call of the context answered, where the context answers from then on that it has failed.
+/// Where it does not, the answer is that it had failed before.
+fn refused(ctx: &mut Context<'_, Film>, error: RenderError) -> RenderError {
+    let written = ctx.push_str("a").err();
+    let nothing = ctx.nothing().err();
+    let failed = Some(RenderError::Failed);
+    if ctx.has_failed() && written == failed && nothing == failed {
+        return error;
+    }
+    RenderError::Failed
 }
 
-/// What an act makes and leaves behind another.
-fn second<'s>(world: World<'s>, before: &Rendered, act: Act) -> Result<Rendered, Fail> {
+/// Where an act begins: in a new context, or with what another one left.
+fn begun<'s>(world: World<'s>, before: Option<&Rendered>) -> Result<Context<'s, Film>, RenderError>
+    ensures { IfOk result (λ ctx. ctx.outer ≡ []) }
+{
     let (cite, scope) = (instance(world), Scope::Citation);
-    let mut ctx = Context::resume(world.alloc, world.style, cite, scope, &before.state)?;
-    perform(&mut ctx, world.affixes, act)?;
-    ctx.nothing()?;
-    Ok(ctx.finish()?)
+    let begun = match before {
+        None => Context::new(world.alloc, world.style, cite, scope),
+        Some(before) => Context::resume(world.alloc, world.style, cite, scope, &before.state),
+    };
+    match begun {
+        Ok(ctx) => Ok(ctx),
+        Err(Memory) => Err(RenderError::Memory),
+    }
+}
+
+/// What an act makes and leaves behind another, if there is one.
+fn made<'s>(
+    world: World<'s>,
+    before: Option<&Rendered>,
+    act: Act,
+) -> Result<Rendered, RenderError> {
+    let mut ctx = begun(world, before)?;
+    match perform(&mut ctx, world.affixes, act) {
+        Ok(()) => ctx.finish(),
+        Err(error) => Err(refused(&mut ctx, error)),
+    }
+}
+
+/// What is made. Where a context is refused memory, another one makes it.
+fn rendered<'s>(world: World<'s>, before: Option<&Rendered>, act: Act) -> Result<Rendered, Fail> {
+    match made(world, before, act) {
+        Ok(rendered) => Ok(rendered),
+        Err(RenderError::Memory) => Ok(made(world, before, act)?),
+        Err(RenderError::Failed) => Err(Fail::from("a refusal is forgotten")),
+    }
 }
 
 /// The last of one act or two, in words.
 fn said_in<'s>(world: World<'s>, act: Act, next: Option<Act>) -> Result<String, Fail> {
-    let rendered = first(world, act)?;
+    let first = rendered(world, None, act)?;
     match next {
-        None => say(world.alloc, &rendered),
+        None => say(world.alloc, &first),
         Some(act) => {
-            let next = second(world, &rendered, act)?;
+            let next = rendered(world, Some(&first), act)?;
             say(world.alloc, &next)
         }
     }

@@ -1,9 +1,10 @@
 //! What is asked of some nodes, and the answer in words.
 
-ghost use Rattle.std.specs.Prelude.{◌≡◌, OnOk};
+ghost use Rattle.std.specs.Prelude.{◌≡◌, [], OnOk, IfOk};
 
-use crate::made::style;
+use crate::made::{PLAIN, style};
 use crate::nodes::element;
+use crate::refused::refused;
 use crate::said::say;
 use crate::work::{Work, described, first_cite};
 use csl_context::{Context, RenderError, Rendered};
@@ -11,6 +12,7 @@ use csl_entry::{CiteProperties, InstanceContext, SpecialForm};
 use csl_render::{RenderCsl, UsageInfo};
 use csl_style::{RenderingElement, Scope, StandardVariable, Style, Variable};
 use csl_tree::BufWriteFormat;
+use lit_model::Memory;
 use std::alloc::Global;
 use std::test::Fail;
 
@@ -105,34 +107,68 @@ fn begin(ctx: &mut Context<'_, Work>) -> Result<(), RenderError>
     Ok(())
 }
 
-/// What is made in a new context.
-fn render<'s>(world: World<'s>) -> Result<Rendered, Fail> {
-    let cite = instance(world);
-    let mut ctx = Context::new(world.alloc, world.style, cite, Scope::Citation)?;
-    world.element.render(&mut ctx)?;
-    Ok(ctx.finish()?)
+/// Where a rendering begins.
+#[derive(Clone, Copy)]
+enum Start<'s> {
+    /// In a new context.
+    New,
+    /// Behind a text, where looks for printing suppress their variable.
+    Behind,
+    /// With what another one left.
+    With(&'s Rendered),
 }
 
-/// What is made behind a text.
-fn render_behind<'s>(world: World<'s>) -> Result<Rendered, Fail> {
-    let cite = instance(world);
-    let mut ctx = Context::new(world.alloc, world.style, cite, Scope::Citation)?;
-    begin(&mut ctx)?;
-    world.element.render(&mut ctx)?;
-    Ok(ctx.finish()?)
-}
-
-/// What is made from what another rendering left.
-fn render_again<'s>(world: World<'s>, before: &Rendered) -> Result<Rendered, Fail> {
+/// A context of the cite.
+fn context<'s>(world: World<'s>, start: Start<'_>) -> Result<Context<'s, Work>, RenderError>
+    ensures { IfOk result (λ ctx. ctx.outer ≡ []) }
+{
     let (cite, scope) = (instance(world), Scope::Citation);
-    let mut ctx = Context::resume(world.alloc, world.style, cite, scope, &before.state)?;
-    world.element.render(&mut ctx)?;
-    Ok(ctx.finish()?)
+    let begun = match start {
+        Start::New | Start::Behind => Context::new(world.alloc, world.style, cite, scope),
+        Start::With(before) => {
+            Context::resume(world.alloc, world.style, cite, scope, &before.state)
+        }
+    };
+    match begun {
+        Ok(ctx) => Ok(ctx),
+        Err(Memory) => Err(RenderError::Memory),
+    }
+}
+
+fn write<'s>(
+    ctx: &mut Context<'s, Work>,
+    world: World<'s>,
+    start: Start<'_>,
+) -> Result<(), RenderError>
+    ensures { OnOk result (ctx.new.outer ≡ ctx.old.outer) }
+{
+    if let Start::Behind = start {
+        begin(ctx)?;
+    }
+    world.element.render(ctx)
+}
+
+/// What a context makes.
+fn made<'s>(world: World<'s>, start: Start<'_>) -> Result<Rendered, RenderError> {
+    let mut ctx = context(world, start)?;
+    match write(&mut ctx, world, start) {
+        Ok(()) => ctx.finish(),
+        Err(error) => Err(refused(&mut ctx, world.element, error)),
+    }
+}
+
+/// What is made. Where a context is refused memory, another one makes it.
+fn render<'s>(world: World<'s>, start: Start<'_>) -> Result<Rendered, Fail> {
+    match made(world, start) {
+        Ok(rendered) => Ok(rendered),
+        Err(RenderError::Memory) => Ok(made(world, start)?),
+        Err(RenderError::Failed) => Err(Fail::from("a refusal is forgotten")),
+    }
 }
 
 fn twice<'s>(world: World<'s>) -> Result<String, Fail> {
-    let first = render_behind(world)?;
-    let second = render_again(world, &first)?;
+    let first = render(world, Start::Behind)?;
+    let second = render(world, Start::With(&first))?;
     let first = say(world.alloc, &first)?;
     let second = say(world.alloc, &second)?;
     Ok(format!(in world.alloc; "{}; then {}", first.as_str(), second.as_str())?)
@@ -149,19 +185,39 @@ pub(crate) fn flags((prints, usage): (bool, UsageInfo)) -> [(bool, &'static str)
     ]
 }
 
-/// What dry runs say, and what they leave.
-fn run_dry<'s>(world: World<'s>) -> Result<((bool, UsageInfo), bool, Rendered), Fail> {
-    let cite = instance(world);
+/// What dry runs say, and whether the title would be shown.
+type Dry = ((bool, UsageInfo), bool);
+
+fn ask<'s>(ctx: &mut Context<'s, Work>, world: World<'s>) -> Result<Dry, RenderError>
+    ensures { OnOk result (ctx.new.outer ≡ ctx.old.outer) }
+{
+    begin(ctx)?;
+    let said = world.element.will_have_info(ctx)?;
     let title = Variable::Standard(StandardVariable::Title);
-    let mut ctx = Context::new(world.alloc, world.style, cite, Scope::Citation)?;
-    begin(&mut ctx)?;
-    let said = world.element.will_have_info(&mut ctx)?;
-    let shows = world.element.will_render(&mut ctx, title)?;
-    Ok((said, shows, ctx.finish()?))
+    let shows = world.element.will_render(ctx, title)?;
+    Ok((said, shows))
+}
+
+/// What dry runs say, and what they leave, in a new context.
+fn told<'s>(world: World<'s>) -> Result<(Dry, Rendered), RenderError> {
+    let mut ctx = context(world, Start::New)?;
+    match ask(&mut ctx, world) {
+        Ok(told) => Ok((told, ctx.finish()?)),
+        Err(error) => Err(refused(&mut ctx, world.element, error)),
+    }
+}
+
+/// What they say and leave. Where a context is refused memory, another one says it.
+fn run_dry<'s>(world: World<'s>) -> Result<(Dry, Rendered), Fail> {
+    match told(world) {
+        Ok(told) => Ok(told),
+        Err(RenderError::Memory) => Ok(told(world)?),
+        Err(RenderError::Failed) => Err(Fail::from("a refusal is forgotten")),
+    }
 }
 
 fn dry<'s>(world: World<'s>) -> Result<String, Fail> {
-    let (said, shows, rendered) = run_dry(world)?;
+    let ((said, shows), rendered) = run_dry(world)?;
     let mut words = say(world.alloc, &rendered)?;
     words.push(';')?;
     for (is_so, word) in flags(said) {
@@ -208,11 +264,11 @@ fn written(alloc: Global, rendered: &Rendered, format: BufWriteFormat) -> Result
 fn answer<'s>(world: World<'s>, asked: Asked) -> Result<String, Fail> {
     let alloc = world.alloc;
     match asked {
-        Asked::Tree => say(alloc, &render(world)?),
-        Asked::Behind => say(alloc, &render_behind(world)?),
+        Asked::Tree => say(alloc, &render(world, Start::New)?),
+        Asked::Behind => say(alloc, &render(world, Start::Behind)?),
         Asked::Twice => twice(world),
-        Asked::Plain => written(alloc, &render(world)?, BufWriteFormat::Plain),
-        Asked::Html => written(alloc, &render(world)?, BufWriteFormat::Html),
+        Asked::Plain => written(alloc, &render(world, Start::New)?, BufWriteFormat::Plain),
+        Asked::Html => written(alloc, &render(world, Start::New)?, BufWriteFormat::Html),
         Asked::Dry => dry(world),
         Asked::Errors => errors(world),
     }
@@ -225,7 +281,7 @@ pub(crate) fn answered(
     cite: Cite,
     asked: Asked,
 ) -> Result<String, Fail> {
-    let style = style(alloc, None)?;
+    let style = style(alloc, PLAIN)?;
     let element = element(alloc, words)?;
     let work = described(alloc, cite.entry())?;
     let props = first_cite(cite.suffix())?;

@@ -107,7 +107,7 @@ const ALL_SORTS: &str = "( ( 'A ) )?all:variable=title,volume:type=book:position
                          :is-uncertain-date=issued:is-numeric=volume:disambiguate=true";
 
 /// What the tests of a branch answer, 1 where they hold.
-static CONDITIONS: [Row; 15] = [
+static CONDITIONS: [Row; 17] = [
     ("( ( 'A ) )?all", "book", ""),
     (
         "( ( 'A ) )?all:position=ibid,ibid-with-locator",
@@ -125,6 +125,12 @@ static CONDITIONS: [Row; 15] = [
         "00",
     ),
     ("( ( 'A ) )?all:position=first,near-note", "book", "10"),
+    (
+        "( ( 'A ) )?all:position=near-note,subsequent",
+        "book @ near subsequent",
+        "11",
+    ),
+    ("( ( 'A ) )?all:position=near-note", "book @ near", "1"),
     ("( ( 'A ) )?all:locator=page", "book @ page:7", "1"),
     ("( ( 'A ) )?all:locator=page", "book @ chapter:3", "0"),
     ("( ( 'A ) )?all:locator=page", "book", "0"),

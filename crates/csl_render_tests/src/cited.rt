@@ -1,18 +1,21 @@
 //! What is asked of some nodes in a cite of an entry, and the answer in words.
 
+ghost use Rattle.std.specs.Prelude.{◌≡◌, [], OnOk, IfOk};
+
 use crate::answered::flags;
 use crate::entries::{Setting, entries, properties, set_by};
 use crate::made::style;
 use crate::nodes::element;
+use crate::refused::refused;
 use crate::said::say;
-use csl_context::{Context, Rendered};
+use csl_context::{Context, RenderError, Rendered};
 use csl_entry::{CiteProperties, InstanceContext};
 use csl_render::{BranchConditionIter, RenderCsl, UsageInfo, choose_children};
 use csl_style::{
     Choose, LayoutRenderingElement, NumberVariable, RenderingElement, Style, Variable,
 };
 use csl_tree::BufWriteFormat;
-use lit_model::Entry;
+use lit_model::{Entry, Memory};
 use std::alloc::Global;
 use std::process::Abort;
 use std::test::Fail;
@@ -52,13 +55,55 @@ fn instance<'s>(scene: Scene<'s>) -> InstanceContext<'s, Entry> {
     }
 }
 
-/// What is made behind what was written before.
-fn render<'s>(scene: Scene<'s>) -> Result<Rendered, Fail> {
+/// A new context of the cite.
+fn context<'s>(scene: Scene<'s>) -> Result<Context<'s, Entry>, RenderError>
+    ensures { IfOk result (λ ctx. ctx.outer ≡ []) }
+{
     let (cite, scope) = (instance(scene), scene.setting.scope);
-    let mut ctx = Context::new(scene.alloc, scene.style, cite, scope)?;
-    ctx.push_str(scene.setting.before)?;
-    scene.element.render(&mut ctx)?;
-    Ok(ctx.finish()?)
+    match Context::new(scene.alloc, scene.style, cite, scope) {
+        Ok(ctx) => Ok(ctx),
+        Err(Memory) => Err(RenderError::Memory),
+    }
+}
+
+/// What was written before.
+fn begin(ctx: &mut Context<'_, Entry>, setting: Setting) -> Result<(), RenderError>
+    ensures { OnOk result (ctx.new.outer ≡ ctx.old.outer) }
+{
+    ctx.push_str(setting.before)?;
+    if setting.is_dated {
+        let _was_first = ctx.is_first_date();
+    }
+    if setting.is_suppressing {
+        let _before = ctx.start_suppressing_queried_variables();
+    }
+    Ok(())
+}
+
+/// Renders behind what was written before.
+fn write<'s>(ctx: &mut Context<'s, Entry>, scene: Scene<'s>) -> Result<(), RenderError>
+    ensures { OnOk result (ctx.new.outer ≡ ctx.old.outer) }
+{
+    begin(ctx, scene.setting)?;
+    scene.element.render(ctx)
+}
+
+/// What a new context makes behind what was written before.
+fn made<'s>(scene: Scene<'s>) -> Result<Rendered, RenderError> {
+    let mut ctx = context(scene)?;
+    match write(&mut ctx, scene) {
+        Ok(()) => ctx.finish(),
+        Err(error) => Err(refused(&mut ctx, scene.element, error)),
+    }
+}
+
+/// What is made. Where a context is refused memory, another one makes it.
+fn render<'s>(scene: Scene<'s>) -> Result<Rendered, Fail> {
+    match made(scene) {
+        Ok(rendered) => Ok(rendered),
+        Err(RenderError::Memory) => Ok(made(scene)?),
+        Err(RenderError::Failed) => Err(Fail::from("a refusal is forgotten")),
+    }
 }
 
 fn plain<'s>(scene: Scene<'s>) -> Result<String, Fail> {
@@ -70,14 +115,34 @@ fn plain<'s>(scene: Scene<'s>) -> Result<String, Fail> {
     Ok(text)
 }
 
-/// What dry runs say.
-fn run_dry<'s>(scene: Scene<'s>) -> Result<((bool, UsageInfo), bool), Fail> {
-    let (cite, scope) = (instance(scene), scene.setting.scope);
-    let mut ctx = Context::new(scene.alloc, scene.style, cite, scope)?;
-    let said = scene.element.will_have_info(&mut ctx)?;
+/// What dry runs say, and whether the volume would be shown.
+type Dry = ((bool, UsageInfo), bool);
+
+/// Runs dry behind what was written before.
+fn ask<'s>(ctx: &mut Context<'s, Entry>, scene: Scene<'s>) -> Result<Dry, RenderError> {
+    begin(ctx, scene.setting)?;
+    let said = scene.element.will_have_info(ctx)?;
     let volume = Variable::Number(NumberVariable::Volume);
-    let shows = scene.element.will_render(&mut ctx, volume)?;
+    let shows = scene.element.will_render(ctx, volume)?;
     Ok((said, shows))
+}
+
+/// What dry runs say in a new context.
+fn told<'s>(scene: Scene<'s>) -> Result<Dry, RenderError> {
+    let mut ctx = context(scene)?;
+    match ask(&mut ctx, scene) {
+        Ok(told) => Ok(told),
+        Err(error) => Err(refused(&mut ctx, scene.element, error)),
+    }
+}
+
+/// What dry runs say. Where a context is refused memory, another one says it.
+fn run_dry<'s>(scene: Scene<'s>) -> Result<Dry, Fail> {
+    match told(scene) {
+        Ok(told) => Ok(told),
+        Err(RenderError::Memory) => Ok(told(scene)?),
+        Err(RenderError::Failed) => Err(Fail::from("a refusal is forgotten")),
+    }
 }
 
 fn dry<'s>(scene: Scene<'s>) -> Result<String, Fail> {
@@ -145,7 +210,7 @@ fn answered(
 ) -> Result<String, Fail> {
     let (entry, said) = cite.split_once(" @ ").unwrap_or((cite, ""));
     let setting = set_by(said)?;
-    let style = style(alloc, setting.format)?;
+    let style = style(alloc, setting.manner)?;
     let element = element(alloc, words)?;
     let works = entries(alloc, entry)?;
     let cite = properties(setting)?;

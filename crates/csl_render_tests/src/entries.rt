@@ -3,11 +3,14 @@
 //! An entry is a book. It has clauses with `; ` between them: `article` makes it an article, and
 //! `title T`, `volume 20`, `edition 2`, `pages 7-8` and `date 2014` say the rest. Behind `'` a
 //! number or pages are a text, behind a backslash pages are an escaped range, and behind `~` a date
-//! is about right. In a title `~` says a blank.
+//! is about right. In a title `~` says a blank, and behind a bar stands its short form. A date may
+//! go on with strokes before its month, its day, which both count from 0, and its season, as
+//! `2014/4/-/summer`: `-` says nothing.
 //!
 //! What the citation says has one space between its words, which are read in [`set`].
 
 use crate::choice_nodes::locator_named;
+use crate::made::{Manner, PLAIN};
 use crate::nodes::{read, variable_named};
 use csl_entry::{
     CertainCiteProperties, CitationNumber, CiteProperties, DisambiguateState, IbidState,
@@ -16,7 +19,7 @@ use csl_entry::{
 use csl_style::{PageRangeFormat, Scope};
 use lit_model::{
     ChunkKind, ChunkedString, Date, Entry, EntryType, FormatString, MaybeTyped, Memory, Numeric,
-    PageRanges, PageRangesPart, StringChunk,
+    PageRanges, PageRangesPart, Season, StringChunk,
 };
 use std::alloc::{AllocError, Global};
 use std::test::Fail;
@@ -28,14 +31,24 @@ fn book(alloc: Global) -> Result<Vec<Entry>, Memory> {
     Ok(works)
 }
 
-fn title(alloc: Global, text: &str) -> Result<FormatString, AllocError> {
+fn piece(alloc: Global, text: &str) -> Result<ChunkedString, AllocError> {
     let value = read(alloc, text)?;
     let kind = ChunkKind::Normal;
     let chunks = vec![in alloc; StringChunk { value, kind }]?;
-    Ok(FormatString {
-        value: ChunkedString(chunks),
-        short: None,
-    })
+    Ok(ChunkedString(chunks))
+}
+
+fn title(alloc: Global, text: &str) -> Result<FormatString, AllocError> {
+    match text.split_once('|') {
+        Some((whole, short)) => Ok(FormatString {
+            value: piece(alloc, whole)?,
+            short: Some(piece(alloc, short)?),
+        }),
+        None => Ok(FormatString {
+            value: piece(alloc, text)?,
+            short: None,
+        }),
+    }
 }
 
 fn number(alloc: Global, value: &str) -> Result<MaybeTyped<Numeric>, Fail> {
@@ -64,13 +77,39 @@ fn escaped(alloc: Global, range: &str) -> Result<PageRanges, Fail> {
     Ok(PageRanges { ranges })
 }
 
-/// The date of a year.
-fn date(value: &str) -> Result<Option<Date>, Fail> {
-    let (year, approximate) = match value.strip_prefix('~') {
-        Some(year) => (year, true),
+/// A month or a day, from 0.
+fn counted(word: Option<&str>) -> Result<Option<u8>, Fail> {
+    match word {
+        None | Some("-") => Ok(None),
+        Some(number) => Ok(Some(number.parse::<u8>()?)),
+    }
+}
+
+fn season_named(name: &str) -> Result<Season, Fail> {
+    match name {
+        "spring" => Ok(Season::Spring),
+        "summer" => Ok(Season::Summer),
+        "autumn" => Ok(Season::Autumn),
+        "winter" => Ok(Season::Winter),
+        _ => Err(Fail::from("no season")),
+    }
+}
+
+/// The date of a year and what stands behind it.
+pub(crate) fn date(value: &str) -> Result<Option<Date>, Fail> {
+    let (value, approximate) = match value.strip_prefix('~') {
+        Some(value) => (value, true),
         None => (value, false),
     };
-    Ok(Date::new(year.parse::<i32>()?, None, None, None, approximate))
+    let mut words = value.split('/');
+    let year = words.next().unwrap_or("").parse::<i32>()?;
+    let month = counted(words.next())?;
+    let day = counted(words.next())?;
+    let season = match words.next() {
+        Some(name) => Some(season_named(name)?),
+        None => None,
+    };
+    Ok(Date::new(year, month, day, season, approximate))
 }
 
 /// Says one thing of the work.
@@ -103,29 +142,42 @@ pub(crate) fn entries(alloc: Global, words: &str) -> Result<Vec<Entry>, Fail> {
 /// What a citation and its style say.
 #[derive(Clone, Copy)]
 pub(crate) struct Setting {
-    pub(crate) format: Option<PageRangeFormat>,
+    pub(crate) manner: Manner,
     pub(crate) scope: Scope,
     pub(crate) sorting: Option<Sorting>,
     /// The part of the cite that is shown.
     pub(crate) form: Option<SpecialForm>,
     /// What was written before.
     pub(crate) before: &'static str,
+    /// A date was written before.
+    pub(crate) is_dated: bool,
+    /// Looks for printing suppress their variable.
+    pub(crate) is_suppressing: bool,
     is_first: bool,
+    is_near_note: bool,
     ibid: IbidState,
     locator: Option<SpecificLocator<'static>>,
     /// The branches that ask for it tell the cite from others.
     is_told: bool,
+    /// The place of its year suffix, if it has one.
+    suffix: Option<u8>,
 }
 
 /// Sets what the word says.
 fn set(setting: &mut Setting, word: &'static str) -> Result<(), Fail> {
     match word {
-        "expanded" => setting.format = Some(PageRangeFormat::Expanded),
-        "minimal" => setting.format = Some(PageRangeFormat::Minimal),
-        "minimal-two" => setting.format = Some(PageRangeFormat::MinimalTwo),
+        "expanded" => setting.manner.format = Some(PageRangeFormat::Expanded),
+        "minimal" => setting.manner.format = Some(PageRangeFormat::Minimal),
+        "minimal-two" => setting.manner.format = Some(PageRangeFormat::MinimalTwo),
+        "limited" => setting.manner.is_limited = true,
+        "eras" => setting.manner.has_eras = true,
         "bibliography" => setting.scope = Scope::Bibliography,
         "sorted" => setting.sorting = Some(Sorting::Macro),
+        "sorted-by-variable" => setting.sorting = Some(Sorting::Variable),
+        "dated" => setting.is_dated = true,
+        "suppressing" => setting.is_suppressing = true,
         "subsequent" => setting.is_first = false,
+        "near" => setting.is_near_note = true,
         "ibid" => setting.ibid = IbidState::Ibid,
         "ibid-with-locator" => setting.ibid = IbidState::IbidWithLocator,
         "told" => setting.is_told = true,
@@ -147,12 +199,17 @@ fn payload(text: &'static str) -> LocatorPayload<'static> {
 }
 
 /// Sets what was written before, as in `after:k`, the variable that is shown alone, as in
-/// `only:volume`, or where the cite points, as in `page:7`.
+/// `only:volume`, the place of the year suffix, as in `letter:0`, the localized date or the layout
+/// of the style, as in `locale::text+year` and `layout:=suffix`, or where the cite points, as in
+/// `page:7`.
 fn set_text(setting: &mut Setting, word: &'static str) -> Result<(), Fail> {
     let (name, text) = word.split_once(':').ok_or("a word that no citation has")?;
     match name {
         "after" => setting.before = text,
         "only" => setting.form = Some(SpecialForm::VarOnly(variable_named(text)?)),
+        "letter" => setting.suffix = Some(text.parse::<u8>()?),
+        "locale" => setting.manner.date = Some(text),
+        "layout" => setting.manner.layout = text,
         _ => {
             let kind = locator_named(name)?;
             setting.locator = Some(SpecificLocator(kind, payload(text)));
@@ -164,15 +221,19 @@ fn set_text(setting: &mut Setting, word: &'static str) -> Result<(), Fail> {
 /// What these words say.
 pub(crate) fn set_by(words: &'static str) -> Result<Setting, Fail> {
     let mut setting = Setting {
-        format: None,
+        manner: PLAIN,
         scope: Scope::Citation,
         sorting: None,
         form: None,
         before: "",
+        is_dated: false,
+        is_suppressing: false,
         is_first: true,
+        is_near_note: false,
         ibid: IbidState::Different,
         locator: None,
         is_told: false,
+        suffix: None,
     };
     for word in words.split(' ') {
         if !word.is_empty() {
@@ -182,6 +243,15 @@ pub(crate) fn set_by(words: &'static str) -> Result<Setting, Fail> {
     Ok(setting)
 }
 
+/// What tells the cite from others.
+fn told_by(setting: Setting) -> DisambiguateState {
+    match setting.suffix {
+        Some(place) => DisambiguateState::YearSuffix(place),
+        None if setting.is_told => DisambiguateState::Choose,
+        None => DisambiguateState::None,
+    }
+}
+
 /// The first cite in the list of entries, of which that is said.
 pub(crate) fn properties(setting: Setting) -> Result<CiteProperties<'static>, Fail> {
     let citation_number = CitationNumber::new(0).ok_or("a citation number")?;
@@ -189,17 +259,13 @@ pub(crate) fn properties(setting: Setting) -> Result<CiteProperties<'static>, Fa
         certain: CertainCiteProperties {
             first_note_number: None,
             is_first: setting.is_first,
-            is_near_note: false,
+            is_near_note: setting.is_near_note,
             initial_idx: 0,
         },
         speculative: SpeculativeCiteProperties {
             locator: setting.locator,
             citation_number,
-            disambiguation: if setting.is_told {
-                DisambiguateState::Choose
-            } else {
-                DisambiguateState::None
-            },
+            disambiguation: told_by(setting),
             ibid: setting.ibid,
         },
     })

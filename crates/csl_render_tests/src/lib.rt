@@ -11,7 +11,13 @@ mod choice_rows;
 #[cfg(test)]
 mod cited;
 #[cfg(test)]
+mod date_nodes;
+#[cfg(test)]
+mod date_rows;
+#[cfg(test)]
 mod entries;
+#[cfg(test)]
+mod key_rows;
 #[cfg(test)]
 mod made;
 #[cfg(test)]
@@ -20,6 +26,10 @@ mod nodes;
 mod number_nodes;
 #[cfg(test)]
 mod number_rows;
+#[cfg(test)]
+mod pair;
+#[cfg(test)]
+mod refused;
 #[cfg(test)]
 mod rows;
 #[cfg(test)]

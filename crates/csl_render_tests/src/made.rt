@@ -1,17 +1,19 @@
 //! The style of these tests.
 
+use crate::date_nodes::date;
 use crate::nodes::{PAGE, layout, nodes};
 use csl_style::{
-    CslMacro, Locale, Locator, NumberVariable, OrdinalSlot, OrdinalTerm, OtherTerm,
+    CslMacro, Date, Locale, Locator, NumberVariable, OrdinalSlot, OrdinalTerm, OtherTerm,
     PageRangeFormat, Style, StyleSettings, Term, TermEntry, TermForm,
 };
-use lit_model::GrammarGender;
+use lit_model::{GrammarGender, Season};
 use std::alloc::{AllocError, Global};
 use std::test::Fail;
 
 /// A macro a line: its name, and the words of its nodes.
-static MACROS: [&str; 8] = [
+static MACROS: [&str; 9] = [
     "both 'w title",
+    "choice ( ( 'v ) ( =suffix ) )?all",
     "genre genre",
     "group genre ( 'v )",
     "pair 'A 'B",
@@ -34,9 +36,17 @@ fn macros(alloc: Global, lines: &[&'static str]) -> Result<Vec<CslMacro>, Fail> 
 
 const EDITION: Term = Term::Number(NumberVariable::Edition);
 
-/// An edition is feminine.
+const MAY: Term = Term::Other(OtherTerm::Month(4));
+
+const JUNE: Term = Term::Other(OtherTerm::Month(5));
+
+const SUMMER: Term = Term::Other(OtherTerm::Season(Season::Summer));
+
+const AUTUMN: Term = Term::Other(OtherTerm::Season(Season::Autumn));
+
+/// An edition is feminine, and so is May.
 fn gender_of(term: Term) -> Option<GrammarGender> {
-    if term == EDITION {
+    if term == EDITION || term == MAY {
         Some(GrammarGender::Feminine)
     } else {
         None
@@ -46,7 +56,7 @@ fn gender_of(term: Term) -> Option<GrammarGender> {
 /// A term, its form, its text for one and that for several.
 type TermRow = (Term, TermForm, &'static str, &'static str);
 
-static TERMS: [TermRow; 12] = [
+static TERMS: [TermRow; 18] = [
     (Term::Other(OtherTerm::OpenQuote), TermForm::Long, "“", "“"),
     (Term::Other(OtherTerm::CloseQuote), TermForm::Long, "”", "”"),
     (
@@ -79,10 +89,25 @@ static TERMS: [TermRow; 12] = [
         "chap",
         "chaps",
     ),
+    (MAY, TermForm::Long, "May", "May"),
+    (MAY, TermForm::Short, "M.", "M."),
+    (JUNE, TermForm::Long, "June", "June"),
+    (SUMMER, TermForm::Long, "Summer", "Summer"),
+    (SUMMER, TermForm::Short, "Su.", "Su."),
+    (AUTUMN, TermForm::Long, "Autumn", "Autumn"),
 ];
 
-fn terms(alloc: Global, rows: &[TermRow]) -> Result<Vec<TermEntry>, AllocError> {
-    let mut terms = Vec::new(alloc);
+/// The words for the eras.
+static ERAS: [TermRow; 2] = [
+    (Term::Other(OtherTerm::Ad), TermForm::Long, " A.D.", " A.D."),
+    (Term::Other(OtherTerm::Bc), TermForm::Long, " bc", " bc"),
+];
+
+fn add_terms(
+    alloc: Global,
+    rows: &[TermRow],
+    terms: &mut Vec<TermEntry>,
+) -> Result<(), AllocError> {
     for (term, form, single, multiple) in rows {
         let single = String::from_str(alloc, *single)?;
         terms.push(TermEntry {
@@ -92,6 +117,15 @@ fn terms(alloc: Global, rows: &[TermRow]) -> Result<Vec<TermEntry>, AllocError> 
             multiple: Some(String::from_str(alloc, *multiple)?),
             gender: gender_of(*term),
         })?;
+    }
+    Ok(())
+}
+
+fn terms(alloc: Global, manner: Manner) -> Result<Vec<TermEntry>, AllocError> {
+    let mut terms = Vec::new(alloc);
+    add_terms(alloc, &TERMS, &mut terms)?;
+    if manner.has_eras {
+        add_terms(alloc, &ERAS, &mut terms)?;
     }
     Ok(terms)
 }
@@ -120,27 +154,60 @@ fn ordinals(alloc: Global, rows: &[OrdinalRow]) -> Result<Vec<OrdinalTerm>, Allo
     Ok(ordinals)
 }
 
+/// What a style says beside its macros, its terms and its ordinals.
+#[derive(Clone, Copy)]
+pub(crate) struct Manner {
+    /// How it writes pages.
+    pub(crate) format: Option<PageRangeFormat>,
+    /// The words of its localized date, if it has one.
+    pub(crate) date: Option<&'static str>,
+    /// The words of its layout of citations.
+    pub(crate) layout: &'static str,
+    /// Only the first day of a month is an ordinal.
+    pub(crate) is_limited: bool,
+    /// It has words for the eras.
+    pub(crate) has_eras: bool,
+}
+
+/// The manner of a style that says nothing.
+pub(crate) const PLAIN: Manner = Manner {
+    format: None,
+    date: None,
+    layout: "",
+    is_limited: false,
+    has_eras: false,
+};
+
+fn dates(alloc: Global, manner: Manner) -> Result<Vec<Date>, Fail> {
+    let mut dates = Vec::new(alloc);
+    if let Some(words) = manner.date {
+        dates.push(date(alloc, words)?)?;
+    }
+    Ok(dates)
+}
+
 /// The one locale. A comma or period behind a closing quote goes before it.
-fn locales(alloc: Global) -> Result<Vec<Locale>, AllocError> {
-    let terms = terms(alloc, &TERMS)?;
+fn locales(alloc: Global, manner: Manner) -> Result<Vec<Locale>, Fail> {
+    let terms = terms(alloc, manner)?;
+    let ordinals = ordinals(alloc, &ORDINALS)?;
     let locale = Locale {
         terms,
-        ordinals: ordinals(alloc, &ORDINALS)?,
-        dates: Vec::new(alloc),
+        ordinals,
+        dates: dates(alloc, manner)?,
         punctuation_in_quote: true,
-        limit_day_ordinals_to_day_1: false,
+        limit_day_ordinals_to_day_1: manner.is_limited,
     };
     Ok(vec![in alloc; locale]?)
 }
 
-/// The style of these macros and this locale, which writes pages in that format.
-pub(crate) fn style(alloc: Global, format: Option<PageRangeFormat>) -> Result<Style, Fail> {
+/// The style of these macros and this locale, of that manner.
+pub(crate) fn style(alloc: Global, manner: Manner) -> Result<Style, Fail> {
     let macros = macros(alloc, &MACROS)?;
-    let locales = locales(alloc)?;
-    let empty = layout(alloc, "")?;
+    let locales = locales(alloc, manner)?;
+    let citation = layout(alloc, manner.layout)?;
     let settings = StyleSettings {
-        page_range_format: format,
+        page_range_format: manner.format,
         ..StyleSettings::default()
     };
-    Ok(Style::new(alloc, settings, macros, empty, None, locales)?)
+    Ok(Style::new(alloc, settings, macros, citation, None, locales)?)
 }

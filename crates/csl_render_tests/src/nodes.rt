@@ -2,7 +2,8 @@
 //!
 //! The words of some nodes have one space between them. A node `( .. )` is a group of what stands
 //! inside, a node `( .. )?` a choice, as `choice_nodes` says, a word with `#` or `&` a number or a
-//! label, as `number_nodes` says, and each other word a text. It begins with what the text prints:
+//! label, as `number_nodes` says, a word with `@` a date, as `date_nodes` says, and each other word
+//! a text. It begins with what the text prints:
 //!
 //! | Word | Text of |
 //! |---|---|
@@ -18,6 +19,7 @@
 //! `~` says a blank.
 
 use crate::choice_nodes::choice;
+use crate::date_nodes::date;
 use crate::number_nodes::{label, number};
 use crate::work::UNANSWERED;
 use csl_style::{
@@ -90,7 +92,11 @@ pub(crate) fn option<'w>(options: &'w str, mark: &str) -> Option<&'w str> {
 }
 
 /// The text behind a mark among the options.
-fn text_of(alloc: Global, options: &str, mark: &str) -> Result<Option<String>, AllocError> {
+pub(crate) fn text_of(
+    alloc: Global,
+    options: &str,
+    mark: &str,
+) -> Result<Option<String>, AllocError> {
     match option(options, mark) {
         Some(text) => Ok(Some(read(alloc, text)?)),
         None => Ok(None),
@@ -171,6 +177,9 @@ fn text(alloc: Global, word: &str, options: &str) -> Result<LayoutRenderingEleme
 
 /// The node of a word.
 fn node(alloc: Global, word: &str) -> Result<LayoutRenderingElement, Fail> {
+    if let Some(word) = word.strip_prefix('@') {
+        return Ok(LayoutRenderingElement::Date(date(alloc, word)?));
+    }
     let (word, options) = word.split_once('|').unwrap_or((word, ""));
     if let Some(word) = word.strip_prefix('#') {
         return number(alloc, word, options);

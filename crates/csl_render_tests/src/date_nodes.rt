@@ -1,0 +1,107 @@
+//! Dates from words.
+//!
+//! `@issued+month+year` is a date of that variable with these parts, and `@+year` one without a
+//! variable. `@issued:text` and `@issued:numeric` stand for the date of the locale of that form,
+//! `@issued:text:year-month` for the same without its day, and `@issued::year+month+year` for a
+//! date without its month. A part has a form behind it, as `+month:short`. Options stand behind the
+//! names of a date and behind each part.
+
+use crate::nodes::{affixes, display, formatting, option, text_of, variable_named};
+use csl_style::{
+    Date, DateAnyForm, DateForm, DatePart, DatePartName, DateParts, DateVariable, Variable,
+};
+use std::alloc::Global;
+use std::test::Fail;
+
+/// What stands before and behind a mark, where it stands there.
+fn split<'w>(word: &'w str, mark: &str) -> (&'w str, &'w str) {
+    word.split_once(mark).unwrap_or((word, ""))
+}
+
+fn dated_named(name: &str) -> Result<Option<DateVariable>, Fail> {
+    if name.is_empty() {
+        return Ok(None);
+    }
+    match variable_named(name)? {
+        Variable::Date(variable) => Ok(Some(variable)),
+        _ => Err(Fail::from("a variable that holds no date")),
+    }
+}
+
+fn form_named(name: &str) -> Result<Option<DateForm>, Fail> {
+    match name {
+        "" => Ok(None),
+        "text" => Ok(Some(DateForm::Text)),
+        "numeric" => Ok(Some(DateForm::Numeric)),
+        _ => Err(Fail::from("no form of a date")),
+    }
+}
+
+fn parts_named(name: &str) -> Result<Option<DateParts>, Fail> {
+    match name {
+        "" => Ok(None),
+        "year" => Ok(Some(DateParts::Year)),
+        "year-month" => Ok(Some(DateParts::YearMonth)),
+        "year-month-day" => Ok(Some(DateParts::YearMonthDay)),
+        _ => Err(Fail::from("no parts of a date")),
+    }
+}
+
+fn part_named(name: &str) -> Result<DatePartName, Fail> {
+    match name {
+        "day" => Ok(DatePartName::Day),
+        "month" => Ok(DatePartName::Month),
+        "year" => Ok(DatePartName::Year),
+        _ => Err(Fail::from("no part of a date")),
+    }
+}
+
+fn part_form_named(name: &str) -> Result<Option<DateAnyForm>, Fail> {
+    match name {
+        "" => Ok(None),
+        "numeric" => Ok(Some(DateAnyForm::Numeric)),
+        "zeros" => Ok(Some(DateAnyForm::NumericLeadingZeros)),
+        "ordinal" => Ok(Some(DateAnyForm::Ordinal)),
+        "long" => Ok(Some(DateAnyForm::Long)),
+        "short" => Ok(Some(DateAnyForm::Short)),
+        _ => Err(Fail::from("no form of a part")),
+    }
+}
+
+/// The part of these words.
+fn part(alloc: Global, words: &str) -> Result<DatePart, Fail> {
+    let (names, options) = split(words, "|");
+    let (name, form) = split(names, ":");
+    let affixes = affixes(alloc, options)?;
+    Ok(DatePart {
+        name: part_named(name)?,
+        form: part_form_named(form)?,
+        formatting: formatting(options),
+        affixes,
+        strip_periods: option(options, "s").is_some(),
+    })
+}
+
+/// The date of a word, behind its mark.
+pub(crate) fn date(alloc: Global, word: &str) -> Result<Date, Fail> {
+    let mut pieces = word.split('+');
+    let (names, options) = split(pieces.next().unwrap_or(""), "|");
+    let (variable, rest) = split(names, ":");
+    let (form, parts) = split(rest, ":");
+    let mut date_part = Vec::new(alloc);
+    for piece in pieces {
+        date_part.push(part(alloc, piece)?)?;
+    }
+    let delimiter = text_of(alloc, options, ",")?;
+    let affixes = affixes(alloc, options)?;
+    Ok(Date {
+        variable: dated_named(variable)?,
+        form: form_named(form)?,
+        parts: parts_named(parts)?,
+        date_part,
+        delimiter,
+        formatting: formatting(options),
+        affixes,
+        display: display(options),
+    })
+}

@@ -1,0 +1,45 @@
+//! The test of sort keys by all parts.
+
+use crate::entries::date;
+use csl_render::full_sort_key;
+use std::alloc::Global;
+use std::process::Abort;
+use std::test::Fail;
+
+/// A date in words, and its key.
+type Row = (&'static str, &'static str);
+
+static KEYS: [Row; 5] = [
+    ("2014/4", "P0000020140500"),
+    ("2014/4/1", "P0000020140502"),
+    ("0", "P0000000000000"),
+    // From the least year that is in order.
+    ("-1", "N21474836460000"),
+    ("-2147483647", "N0000000000000"),
+];
+
+/// The key of a date in words.
+fn key(alloc: Global, words: &str) -> Result<String, Fail> {
+    match date(words)? {
+        Some(date) => Ok(full_sort_key(alloc, &date)?),
+        None => Err(Fail::from("no such date")),
+    }
+}
+
+fn assert_key(rt: &impl Abort, answer: &str, row: Row) {
+    let (words, wanted) = row;
+    assert_eq!(rt; answer, wanted, "of {words}");
+}
+
+fn assert_keys(rt: &impl Abort, alloc: Global, rows: &[Row]) -> Result<(), Fail> {
+    for row in rows {
+        let answer = key(alloc, row.0)?;
+        assert_key(rt, answer.as_str(), *row);
+    }
+    Ok(())
+}
+
+#[test]
+fn keys_are_in_the_order_of_time(rt: HostRuntime) -> Result<(), Fail> {
+    assert_keys(&rt, rt.alloc(), &KEYS)
+}
