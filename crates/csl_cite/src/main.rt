@@ -1,7 +1,7 @@
 //! The program `csl_cite`: it prints what a built-in style makes of an entry.
 //!
-//! All of its work is [`csl_answers::run::run`], over any two writers; `main` hands it the arguments
-//! and the standard streams.
+//! All of its work is [`csl_answers::run::run`], over any two writers; `main` hands it the
+//! arguments and the standard streams.
 #![tactic(auto)]
 
 mod streams;
