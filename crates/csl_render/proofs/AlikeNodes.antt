@@ -24,14 +24,14 @@ use Rattle.csl_entry.specs.declared.cite.Sorting.{Sorting}
 use Rattle.csl_entry.specs.NumberResult.{NumberOrPageView}
 use Rattle.csl_context.specs.State.{State, Inherited, looked}
 use Rattle.csl_context.specs.World.{World, date_look}
-use Rattle.csl_render.specs.Answered.{number_or_page_look}
-use Rattle.csl_render.specs.Conditions.{is_some_and, is_number, is_typed, is_typed_result, is_numeric, is_uncertain, is_disambiguated, is_of_kind, is_present, one_if, all_if, holds}
-use Rattle.csl_render.specs.Dates.{shows_date, variable_info, written_as, printed_date, date_or_key, found_date, variable_tree}
-use Rattle.csl_render.specs.Flags.{info_of, no_flags, nothing_said, rule, either, counted, but_groups, group_info, macro_info}
-use Rattle.csl_render.specs.Labels.{is_plural, label_term, term_if, text_beside, label_text, label_info, label_box, label_tree, said_by_form}
-use Rattle.csl_render.specs.Numbers.{shows_own, number_said, number_info, sort_text_if, number_content, found_content, number_tree}
+use Rattle.csl_leaves.specs.Answered.{number_or_page_look}
+use Rattle.csl_leaves.specs.Conditions.{is_some_and, is_number, is_typed, is_typed_result, is_numeric, is_uncertain, is_disambiguated, is_of_kind, is_present, one_if, all_if, holds}
+use Rattle.csl_leaves.specs.Dates.{shows_date, variable_info, written_as, printed_date, date_or_key, found_date, variable_tree}
+use Rattle.csl_leaves.specs.Flags.{info_of, no_flags, nothing_said, rule, either, counted, but_groups, group_info, macro_info}
+use Rattle.csl_leaves.specs.Labels.{is_plural, label_term, term_if, text_beside, label_text, label_info, label_box, label_tree, said_by_form}
+use Rattle.csl_leaves.specs.Numbers.{shows_own, number_said, number_info, sort_text_if, number_content, found_content, number_tree}
 use Rattle.csl_render.specs.Printed.{answered_by}
-use Rattle.csl_render.specs.Text.{made, then_made, within, shows_variable, answer, numeral, Found, variable_found, found, calls, found_info, is_of, found_tree, variable_state, target_state, target_tree}
+use Rattle.csl_leaves.specs.Text.{made, then_made, within, shows_variable, answer, numeral, Found, variable_found, found, calls, found_info, is_of, found_tree, variable_state, target_state, target_tree}
 use Rattle.csl_render.specs.Tree.{is_group, info, infos, cases_info, shows, any_shows, cases_show, tree, sum_of, delimited, cases_tree, admitted_made, macro_made, in_macro, group_made, in_group, layout_tree}
 use Rattle.csl_render.proofs.Looks.{kind_alike, number_look_alike, page_look_alike, number_or_page_look_alike, standard_look_alike, name_look_alike, date_look_alike}
 

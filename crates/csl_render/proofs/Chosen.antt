@@ -7,7 +7,7 @@ use Rattle.csl_style.specs.Node.{Node, choose, Nodes, Branches, no_branches, oth
 use Rattle.csl_style.specs.View.{view_choose, Child, Part, element_step, child_step, choose_step, branch_step, group_step, names_step, substitute_step}
 use Rattle.csl_context.specs.State.{State, Inherited}
 use Rattle.csl_context.specs.World.{World}
-use Rattle.csl_render.specs.Conditions.{holds, chosen_nodes, chosen_of}
+use Rattle.csl_leaves.specs.Conditions.{holds, chosen_nodes, chosen_of}
 use Rattle.csl_render.specs.Tree.{info, shows, tree, cases_info, cases_show, cases_tree, choice_info, choice_shows, choice_tree}
 
 abbrev IsChoice : Node → Type 0

@@ -10,7 +10,7 @@ use Rattle.csl_context.specs.Now.{Now, world, with_part, closed_by, with_format,
 use Rattle.csl_context.specs.Quotes.{affixed_after}
 use Rattle.csl_context.specs.World.{env}
 use Rattle.csl_render.specs.Tree.{shown_if, delimited}
-use Rattle.csl_render.specs.Rendering.{with_made}
+use Rattle.csl_leaves.specs.Text.{with_made}
 
 module _ {T : Type 0} (answers : T → Answers) where
   -- the children of a group, in the context that they are lent

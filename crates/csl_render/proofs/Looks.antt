@@ -21,7 +21,7 @@ use Rattle.csl_entry.specs.NumberResult.{number, page}
 use Rattle.csl_entry.proofs.Looks.{number_alike, standard_alike}
 use Rattle.csl_context.specs.State.{State, is_suppressed}
 use Rattle.csl_context.specs.World.{World, number_look, page_look, standard_look, name_look, date_look}
-use Rattle.csl_render.specs.Answered.{number_or_page_look}
+use Rattle.csl_leaves.specs.Answered.{number_or_page_look}
 use Rattle.csl_render.specs.Printed.{answered_by}
 
 module _ (a b : Answers) where

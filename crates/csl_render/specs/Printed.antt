@@ -17,7 +17,7 @@ use Rattle.csl_context.specs.Left.{state_left}
 use Rattle.csl_context.specs.Now.{base_inherited}
 use Rattle.csl_context.specs.State.{State}
 use Rattle.csl_context.specs.World.{World, env}
-use Rattle.csl_render.specs.Text.{Made}
+use Rattle.csl_leaves.specs.Text.{Made}
 use Rattle.csl_render.specs.Tree.{layout_tree}
 
 -- a cite of an entry that answers so

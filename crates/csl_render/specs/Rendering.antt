@@ -6,13 +6,12 @@ use Rattle.csl_style.specs.Node as node
 use Rattle.csl_style.specs.Style.{StyleParts}
 use Rattle.csl_style.specs.View as view
 use Rattle.csl_style.specs.declared.element.RenderingElement.{RenderingElement}
-use Rattle.csl_tree.specs.Content.{◌++>◌}
 use Rattle.csl_entry.specs.Answers.{Answers}
 use Rattle.csl_context.specs.State.{State, Inherited}
 use Rattle.csl_context.specs.World.{World, env}
 use Rattle.csl_context.specs.Now.{Now, world}
-use Rattle.csl_render.specs.Flags.{Info, but_groups}
-use Rattle.csl_render.specs.Text.{Made}
+use Rattle.csl_leaves.specs.Flags.{Info, but_groups}
+use Rattle.csl_leaves.specs.Text.{Made, with_made}
 use Rattle.csl_render.specs.Tree.{info, infos, shows, any_shows, tree, layout_tree}
 
 -- a layout, or a node that stands in one
@@ -35,10 +34,6 @@ shows_in w s v (part f) = shows w s v f
 abbrev pub tree_in : World → Rendering → Inherited → State → Made
 tree_in w (whole l) inh s = layout_tree w l inh s
 tree_in w (part f) inh s = tree w f inh s
-
--- a context after what was made
-abbrev pub with_made : {T : Type 0} → Made → Now T → Now T
-with_made m now = record now { inner = now.inner ++> m.content; state = m.state }
 
 -- a context after a rendering: the innermost open part and the state change, and nothing else
 abbrev pub rendered : {T : Type 0} → (T → Answers) → Rendering → Now T → Now T

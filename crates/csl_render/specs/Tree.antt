@@ -9,12 +9,12 @@ use Rattle.csl_tree.specs.Content.{◌++>◌, boxed}
 use Rattle.csl_context.specs.State.{State, Inherited}
 use Rattle.csl_context.specs.World.{World}
 use Rattle.csl_context.specs.Texts.{text_in, affixed_in}
-use Rattle.csl_render.specs.Conditions.{holds}
-use Rattle.csl_render.specs.Flags.{rule, Info, nothing_said, either, counted, but_groups, group_info, macro_info}
-use Rattle.csl_render.specs.Numbers.{number_info, number_shows, number_tree}
-use Rattle.csl_render.specs.Labels.{label_info, label_tree}
-use Rattle.csl_render.specs.Dates.{date_info, date_shows, date_tree}
-use Rattle.csl_render.specs.Text.{Made, made, then_made, within, in_body, text_box, no_affixes, target_info, target_shows, target_tree, shows_macro_affixes}
+use Rattle.csl_leaves.specs.Conditions.{holds}
+use Rattle.csl_leaves.specs.Flags.{rule, Info, nothing_said, either, counted, but_groups, group_info, macro_info}
+use Rattle.csl_leaves.specs.Numbers.{number_info, number_shows, number_tree}
+use Rattle.csl_leaves.specs.Labels.{label_info, label_tree}
+use Rattle.csl_leaves.specs.Dates.{date_info, date_shows, date_tree}
+use Rattle.csl_leaves.specs.Text.{Made, made, then_made, within, in_body, text_box, no_affixes, target_info, target_shows, target_tree, shows_macro_affixes}
 
 abbrev pub is_group : Full → Bool
 is_group (printed t d) = false

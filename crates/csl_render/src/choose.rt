@@ -7,17 +7,18 @@ ghost use Rattle.csl_style.specs.Node.{fill, fills, size, sizes};
 ghost use Rattle.csl_style.specs.View.{views, view_branch, view_choose};
 ghost use Rattle.csl_context.specs.World.{env};
 ghost use Rattle.csl_context.specs.Now.{FailsAs, Leaves, same, world};
-ghost use Rattle.csl_render.specs.Conditions.{holds, satisfies, chosen_of};
-ghost use Rattle.csl_render.specs.ConditionsLeft.{conditions_left, behind_first, behind_deciding, FailsSilently};
+ghost use Rattle.csl_leaves.specs.Conditions.{holds, satisfies, chosen_of};
+ghost use Rattle.csl_leaves.specs.ConditionsLeft.{conditions_left, behind_first, behind_deciding, FailsSilently};
 ghost use Rattle.csl_render.specs.Rendering.{part};
 ghost use Rattle.csl_render.specs.Tree.{info, shows, tree, choice_info, choice_shows, choice_tree};
 
-use crate::conditions::BranchConditionIter;
 use crate::element::{any_shows, infos, render_with_delimiter};
-use crate::render::{RenderCsl, nothing, nothing_said, nothing_shown};
-use crate::usage::{UsageInfo, but_groups};
+use crate::render::RenderCsl;
 use csl_context::{Context, RenderError};
 use csl_entry::EntryLike;
+use csl_leaves::{
+    BranchConditionIter, UsageInfo, but_groups, nothing, nothing_said, nothing_shown,
+};
 use csl_style::{Choose, ChooseBranch, ChooseMatch, LayoutRenderingElement, Variable};
 
 /// Whether each condition holds. It reads them up to the first that does not.
@@ -84,7 +85,7 @@ fn satisfied<'a, 's, T: EntryLike>(
 }
 
 /// Whether the branch is taken, where none before it is.
-#[tactic(auto, unfolding(crate::specs::Conditions::holds))]
+#[tactic(auto, unfolding(csl_leaves::specs::Conditions::holds))]
 fn holds<'s, T: EntryLike>(branch: &ChooseBranch, ctx: &Context<'s, T>) -> Result<bool, RenderError>
     ensures value { IfOk result (λ taken. taken
         ≡ holds (world T.answers ctx.now) ctx.now.state (view_branch branch.now).tests) }

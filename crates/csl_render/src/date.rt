@@ -1,29 +1,15 @@
-//! Dates (CSL 1.0.2, Date; Localized Date Formats; Sorting).
+//! Dates (CSL 1.0.2, Date). What they make stands in `csl_leaves`.
 
-ghost use Rattle.std.specs.Prelude.{◌≡◌, Some, IfOk, OnOk, IfErr, option_map};
-ghost use Rattle.lit_model.specs.Date.{date_parts};
 ghost use Rattle.csl_style.specs.Node.{fill, date};
 ghost use Rattle.csl_style.specs.View.{view_date};
-ghost use Rattle.csl_entry.specs.Answers.{behind};
-ghost use Rattle.csl_context.specs.World.{env, date_look};
-ghost use Rattle.csl_context.specs.Now.{FailsAs, Leaves, same, world};
-ghost use Rattle.csl_render.specs.Dates.{is_own, date_shown, is_first, shows_date, printed_date, date_or_key, found_date};
-ghost use Rattle.csl_render.specs.Rendering.{part, with_made};
-ghost use Rattle.csl_render.specs.WrittenDates.{written_node};
+ghost use Rattle.csl_context.specs.World.{env};
+ghost use Rattle.csl_render.specs.Rendering.{part};
 
-use crate::condition::lent;
-use crate::date_key::sort_key;
-use crate::date_parts::{Found, Written, render_parts};
-use crate::date_suffix::{first_suffix, implicit_suffix};
-use crate::number::number_said;
-use crate::render::{RenderCsl, nothing, nothing_said, out_of_memory};
-use crate::usage::UsageInfo;
+use crate::render::RenderCsl;
 use csl_context::{Context, RenderError};
-use csl_entry::{EntryLike, Sorting, SpecialForm};
-use csl_style::{Date, DateVariable, Variable};
-use csl_tree::ElemMeta;
-use lit_model::Date as Given;
-use std::borrow::Cow;
+use csl_entry::EntryLike;
+use csl_leaves::{UsageInfo, date_info, date_shown, render_date};
+use csl_style::{Date, Variable};
 
 impl RenderCsl for Date {
     ghost rendering = { λ style d. part (fill (env style) (date (view_date d))) };
@@ -32,15 +18,7 @@ impl RenderCsl for Date {
         &'s self,
         ctx: &mut Context<'s, T>,
     ) -> Result<(bool, UsageInfo), RenderError> {
-        nothing(ctx)?;
-        let Some(own) = self.variable else {
-            return Ok(number_said(false));
-        };
-        if !shows_date(ctx, own) {
-            return nothing_said(ctx);
-        }
-        let found = peek_date(ctx, own)?;
-        Ok(number_said(lent(&found).is_some()))
+        date_info(ctx, self)
     }
 
     fn will_render<'s, T: EntryLike>(
@@ -48,149 +26,10 @@ impl RenderCsl for Date {
         ctx: &mut Context<'s, T>,
         var: Variable,
     ) -> Result<bool, RenderError> {
-        nothing(ctx)?;
-        let first = ctx.peek_is_first_date();
-        Ok(is_shown(ctx.special_form(), first, self.variable, var))
+        date_shown(ctx, self, var)
     }
 
     fn render<'s, T: EntryLike>(&'s self, ctx: &mut Context<'s, T>) -> Result<(), RenderError> {
-        let Some(own) = self.variable else {
-            return nothing(ctx);
-        };
-        if !shows_date(ctx, own) {
-            return nothing(ctx);
-        }
-        let found = ctx.resolve_date_variable(own)?;
-        match lent(&found) {
-            Some(date) => render_found(self, ctx, date),
-            None => nothing(ctx),
-        }
-    }
-}
-
-/// Whether the variable is that of the date.
-fn is_own(own: Option<DateVariable>, asked: Variable) -> bool
-    ensures { result ≡ is_own own asked }
-{
-    match own {
-        Some(own) => Variable::Date(own) == asked,
-        None => false,
-    }
-}
-
-/// Whether a date of a variable shows the one that is asked for. `first` says that no date was
-/// printed before.
-fn is_shown(
-    form: Option<SpecialForm>,
-    first: bool,
-    own: Option<DateVariable>,
-    asked: Variable,
-) -> bool
-    ensures { result ≡ date_shown form first own asked }
-{
-    match form {
-        None => is_own(own, asked),
-        Some(SpecialForm::VarOnly(only)) => is_own(own, asked) && is_own(own, only),
-        Some(SpecialForm::OnlyFirstDate) => first,
-        Some(SpecialForm::OnlyYearSuffix) => first,
-        Some(SpecialForm::SuppressAuthor) => is_own(own, asked),
-    }
-}
-
-/// Whether a date shows its own variable.
-fn shows_date<'s, T: EntryLike>(ctx: &Context<'s, T>, own: DateVariable) -> bool
-    ensures { result ≡ shows_date (world T.answers ctx.now) ctx.now.state own }
-{
-    let first = ctx.peek_is_first_date();
-    is_shown(ctx.special_form(), first, Some(own), Variable::Date(own))
-}
-
-/// A silent look, after whose failure the context has failed.
-fn peek_date<'s, T: EntryLike>(
-    ctx: &mut Context<'s, T>,
-    variable: DateVariable,
-) -> Result<Option<Cow<'s, Given>>, RenderError>
-    ensures value { IfOk result (λ found. option_map (behind date_parts) found
-        ≡ date_look (world T.answers ctx.old) ctx.old.state variable) }
-    ensures ok { OnOk result (Leaves same ctx.old ctx.new) }
-    ensures err { IfErr result (λ e. FailsAs e ctx.old ctx.new) }
-{
-    match ctx.peek_date_variable(variable) {
-        Ok(found) => Ok(found),
-        Err(error) => {
-            ctx.fail();
-            Err(error)
-        }
-    }
-}
-
-/// Appends the sort key of a date.
-fn render_key<'s, T: EntryLike>(
-    node: &Date,
-    ctx: &mut Context<'s, T>,
-    sorting: Sorting,
-    date: &Given,
-) -> Result<(), RenderError>
-    ensures ok { OnOk result (Leaves (λ now. with_made (date_or_key (world T.answers now)
-        (view_date node.now) (Some sorting) (date_parts date.now) now.inherited now.state) now)
-        ctx.old ctx.new) }
-    ensures err { IfErr result (λ e. FailsAs e ctx.old ctx.new) }
-{
-    let suffix = implicit_suffix(ctx)?;
-    match sort_key(ctx.alloc(), node, sorting, suffix.as_str(), date) {
-        Ok(key) => ctx.push_str(key.as_str()),
-        Err(_) => Err(out_of_memory(ctx)),
-    }
-}
-
-/// Appends the box of a date.
-fn render_box<'s, T: EntryLike>(
-    written: Written<'_>,
-    ctx: &mut Context<'s, T>,
-    date: &Given,
-) -> Result<(), RenderError>
-    ensures ok { OnOk result (Leaves (λ now. with_made (printed_date (world T.answers now)
-        (Some (written_node written.entry)) (date_parts date.now) now.inherited now.state) now)
-        ctx.old ctx.new) }
-    ensures err { IfErr result (λ e. FailsAs e ctx.old ctx.new) }
-{
-    let suffix = first_suffix(ctx)?;
-    let found = Found {
-        date,
-        suffix: suffix.as_str(),
-    };
-    ctx.push_format(written.formatting())?;
-    let element = ctx.push_elem()?;
-    let middle = ctx.apply_prefix()?;
-    render_parts(written, ctx, found)?;
-    ctx.apply_suffix(&written.node.affixes, middle, false)?;
-    ctx.commit_elem(element, written.node.display, Some(ElemMeta::Date))?;
-    ctx.pop_format();
-    Ok(())
-}
-
-/// Appends a date that was found: its sort key, where the cite is rendered to be sorted, else its
-/// box, unless it asks for a localized date that the style lacks.
-fn render_found<'s, T: EntryLike>(
-    node: &Date,
-    ctx: &mut Context<'s, T>,
-    date: &Given,
-) -> Result<(), RenderError>
-    ensures ok { OnOk result (Leaves (λ now. with_made (found_date (world T.answers now)
-        (view_date node.now) (Some (date_parts date.now)) now.inherited now.state) now)
-        ctx.old ctx.new) }
-    ensures err { IfErr result (λ e. FailsAs e ctx.old ctx.new) }
-{
-    if let Some(sorting) = ctx.sorting() {
-        return render_key(node, ctx, sorting, date);
-    }
-    let Some(form) = node.form else {
-        let localized = None;
-        return render_box(Written { node, localized }, ctx, date);
-    };
-    let localized = ctx.localized_date(form);
-    match localized {
-        Some(_) => render_box(Written { node, localized }, ctx, date),
-        None => nothing(ctx),
+        render_date(self, ctx)
     }
 }

@@ -5,14 +5,15 @@ ghost use Rattle.csl_style.specs.Node.{fill, fills};
 ghost use Rattle.csl_style.specs.View.{view, views, view_rendering};
 ghost use Rattle.csl_context.specs.World.{env};
 ghost use Rattle.csl_context.specs.Now.{FailsAs, Leaves, same, world};
-ghost use Rattle.csl_render.specs.Usages.{told};
+ghost use Rattle.csl_leaves.specs.Usages.{told};
 ghost use Rattle.csl_render.specs.Tree.{infos, any_shows, is_group, tree, sum_of, delimited, admitted_made};
-ghost use Rattle.csl_render.specs.Rendering.{part, element_rendering, with_made};
+ghost use Rattle.csl_render.specs.Rendering.{part, element_rendering};
+ghost use Rattle.csl_leaves.specs.Text.{with_made};
 
-use crate::render::{RenderCsl, nothing, nothing_said, nothing_shown};
-use crate::usage::{UsageInfo, with_child};
+use crate::render::RenderCsl;
 use csl_context::{Context, RenderError};
 use csl_entry::EntryLike;
+use csl_leaves::{UsageInfo, nothing, nothing_said, nothing_shown, with_child};
 use csl_style::{LayoutRenderingElement, RenderingElement, Variable};
 
 impl RenderCsl for LayoutRenderingElement {

@@ -10,10 +10,10 @@ ghost use Rattle.csl_render.specs.Tree.{shown_if};
 ghost use Rattle.csl_render.specs.Rendering.{part};
 
 use crate::element::{any_shows, infos, render_with_delimiter};
-use crate::render::{RenderCsl, nothing};
-use crate::usage::{UsageInfo, group_said};
+use crate::render::RenderCsl;
 use csl_context::{Context, Mark, RenderError};
 use csl_entry::EntryLike;
+use csl_leaves::{UsageInfo, group_said, nothing};
 use csl_style::{Display, Group, Variable};
 
 impl RenderCsl for Group {

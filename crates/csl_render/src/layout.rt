@@ -7,9 +7,9 @@ ghost use Rattle.csl_render.specs.Rendering.{whole};
 
 use crate::element::{any_shows, infos, render_all};
 use crate::render::RenderCsl;
-use crate::usage::{UsageInfo, but_groups};
 use csl_context::{Context, RenderError};
 use csl_entry::EntryLike;
+use csl_leaves::{UsageInfo, but_groups};
 use csl_style::{Layout, Variable};
 
 impl RenderCsl for Layout {

@@ -1,30 +1,15 @@
-//! Numbers (CSL 1.0.2, Number; Sorting).
+//! Numbers (CSL 1.0.2, Number). What they make stands in `csl_leaves`.
 
-ghost use Rattle.std.specs.Prelude.{◌≡◌, true, Some, None, IfOk, OnOk, IfErr, option_map, string_bytes};
-ghost use Rattle.lit_model.specs.Numeric.{value_view};
-ghost use Rattle.lit_model.specs.NumericText.{integer_text, value_text};
 ghost use Rattle.csl_style.specs.Node.{fill, number};
 ghost use Rattle.csl_style.specs.View.{view_number};
-ghost use Rattle.csl_tree.specs.Tokens.{meta_of};
-ghost use Rattle.csl_entry.specs.NumberResult.{number_or_page_view};
 ghost use Rattle.csl_context.specs.World.{env};
-ghost use Rattle.csl_context.specs.Now.{FailsAs, Leaves, world, with_content};
-ghost use Rattle.csl_render.specs.Numbers.{is_shown, number_said, sort_text_if, number_meta, number_content, found_content};
 ghost use Rattle.csl_render.specs.Rendering.{part};
-ghost use Rattle.csl_render.specs.Usages.{told};
 
-use crate::answered::{peek_number_or_page, resolve_number_or_page, shown_by_number};
-use crate::boxes::{Around, render_plain};
-use crate::dressing::Body;
-use crate::render::{RenderCsl, nothing};
-use crate::special::is_left_by_only;
-use crate::usage::UsageInfo;
+use crate::render::RenderCsl;
 use csl_context::{Context, RenderError};
-use csl_entry::{EntryLike, NumberOrPageVariableResult, NumberVariableResult, SpecialForm};
-use csl_style::{Number, NumberOrPageVariable, NumberVariable, Term, Variable};
-use csl_tree::ElemMeta;
-use lit_model::{MaybeTyped, Memory, Numeric};
-use std::alloc::Global;
+use csl_entry::EntryLike;
+use csl_leaves::{UsageInfo, number_info, number_shown, render_number};
+use csl_style::{Number, Variable};
 
 impl RenderCsl for Number {
     ghost rendering = { λ style n. part (fill (env style) (number (view_number n))) };
@@ -33,13 +18,7 @@ impl RenderCsl for Number {
         &'s self,
         ctx: &mut Context<'s, T>,
     ) -> Result<(bool, UsageInfo), RenderError> {
-        nothing(ctx)?;
-        let own = Variable::from(self.variable);
-        if !is_shown(ctx.special_form(), own, own) {
-            return Ok(number_said(false));
-        }
-        let found = peek_number_or_page(ctx, self.variable)?;
-        Ok(number_said(found.is_some()))
+        number_info(ctx, self)
     }
 
     fn will_render<'s, T: EntryLike>(
@@ -47,147 +26,10 @@ impl RenderCsl for Number {
         ctx: &mut Context<'s, T>,
         var: Variable,
     ) -> Result<bool, RenderError> {
-        nothing(ctx)?;
-        Ok(is_shown(ctx.special_form(), Variable::from(self.variable), var))
+        number_shown(ctx, self, var)
     }
 
     fn render<'s, T: EntryLike>(&'s self, ctx: &mut Context<'s, T>) -> Result<(), RenderError> {
-        let own = Variable::from(self.variable);
-        if !is_shown(ctx.special_form(), own, own) {
-            return nothing(ctx);
-        }
-        match resolve_number_or_page(ctx, self.variable)? {
-            Some(found) => render_found(self, ctx, &found),
-            None => nothing(ctx),
-        }
-    }
-}
-
-/// Whether a number of a variable shows the one that is asked for.
-fn is_shown(form: Option<SpecialForm>, own: Variable, asked: Variable) -> bool
-    ensures { result ≡ is_shown form own asked }
-{
-    match form {
-        None => own == asked,
-        Some(SpecialForm::VarOnly(only)) => own == asked && only == own,
-        Some(SpecialForm::OnlyFirstDate) => is_left_by_only(own),
-        Some(SpecialForm::OnlyYearSuffix) => is_left_by_only(own),
-        Some(SpecialForm::SuppressAuthor) => own == asked,
-    }
-}
-
-/// What a number says, by whether it finds its variable.
-pub(crate) fn number_said(found: bool) -> (bool, UsageInfo)
-    ensures { told result ≡ number_said found }
-{
-    (found, UsageInfo::of_variable(true, found))
-}
-
-/// The text by which a number is sorted.
-fn key_of(alloc: Global, number: &Numeric) -> Result<String, Memory>
-    ensures { IfOk result (λ s. string_bytes s
-        ≡ value_text (integer_text true) (value_view number.now.value)) }
-{
-    let mut key = String::new(alloc);
-    match number.fmt_value(&mut key, true) {
-        Ok(()) => Ok(key),
-        Err(_) => Err(Memory),
-    }
-}
-
-/// The text by which an answer is sorted, where the cite is rendered to be sorted and the answer is
-/// a number or pages.
-fn sort_text_if<T>(
-    ctx: &Context<'_, T>,
-    found: &NumberOrPageVariableResult<'_>,
-) -> Result<Option<String>, Memory>
-    ensures { IfOk result (λ key. option_map string_bytes key
-        ≡ sort_text_if ctx.now.sorting (number_or_page_view found.now)) }
-{
-    if ctx.sorting().is_none() {
-        return Ok(None);
-    }
-    match found {
-        NumberOrPageVariableResult::Number(
-            NumberVariableResult::Regular(MaybeTyped::Typed(number)),
-        ) => {
-            let key = key_of(ctx.alloc(), number.as_ref())?;
-            Ok(Some(key))
-        }
-        NumberOrPageVariableResult::Number(NumberVariableResult::Regular(MaybeTyped::String(_))) =>
-            Ok(None),
-        NumberOrPageVariableResult::Number(NumberVariableResult::Transparent(_)) => Ok(None),
-        NumberOrPageVariableResult::Page(MaybeTyped::Typed(pages)) => {
-            let key = pages.to_string(ctx.alloc())?;
-            Ok(Some(key))
-        }
-        NumberOrPageVariableResult::Page(MaybeTyped::String(_)) => Ok(None),
-    }
-}
-
-/// Which node a number of the variable is said to be.
-fn number_meta(variable: NumberOrPageVariable) -> ElemMeta
-    ensures { meta_of result ≡ number_meta variable }
-{
-    match variable {
-        NumberOrPageVariable::Number(variable) => {
-            if variable == NumberVariable::CitationNumber {
-                ElemMeta::CitationNumber
-            } else {
-                ElemMeta::Number
-            }
-        }
-        NumberOrPageVariable::Page(_) => ElemMeta::Number,
-    }
-}
-
-/// Appends the box of a number that has this answer.
-fn render_box<'s, T: EntryLike>(
-    number: &Number,
-    ctx: &mut Context<'s, T>,
-    found: &NumberOrPageVariableResult<'_>,
-) -> Result<(), RenderError>
-    ensures ok { OnOk result (Leaves (λ now. with_content (number_content (world T.answers now)
-        (view_number number.now) (number_or_page_view found.now) None) now) ctx.old ctx.new) }
-    ensures err { IfErr result (λ e. FailsAs e ctx.old ctx.new) }
-{
-    nothing(ctx)?;
-    let gender = ctx.gender(Term::from(number.variable));
-    let around = Around {
-        formatting: number.formatting,
-        affixes: &number.affixes,
-        display: number.display,
-        strip_periods: false,
-    };
-    match shown_by_number(ctx, number.form, gender, found) {
-        Ok(shown) => {
-            let meta = number_meta(number.variable);
-            render_plain(around, ctx, meta, Body::Answered(&shown))
-        }
-        Err(_) => {
-            ctx.fail();
-            Err(RenderError::Memory)
-        }
-    }
-}
-
-/// Appends a number that has this answer: its sort text as it is, or its box.
-fn render_found<'s, T: EntryLike>(
-    number: &Number,
-    ctx: &mut Context<'s, T>,
-    found: &NumberOrPageVariableResult<'_>,
-) -> Result<(), RenderError>
-    ensures ok { OnOk result (Leaves (λ now. with_content (found_content (world T.answers now)
-        (view_number number.now) (Some (number_or_page_view found.now))) now) ctx.old ctx.new) }
-    ensures err { IfErr result (λ e. FailsAs e ctx.old ctx.new) }
-{
-    nothing(ctx)?;
-    match sort_text_if(ctx, found) {
-        Ok(Some(key)) => ctx.push_str(key.as_str()),
-        Ok(None) => render_box(number, ctx, found),
-        Err(_) => {
-            ctx.fail();
-            Err(RenderError::Memory)
-        }
+        render_number(self, ctx)
     }
 }

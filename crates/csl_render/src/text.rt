@@ -6,19 +6,19 @@ ghost use Rattle.csl_style.specs.View.{view_text, views, text_dressing};
 ghost use Rattle.csl_context.specs.World.{env};
 ghost use Rattle.csl_context.specs.Now.{FailsAs, Leaves, world};
 ghost use Rattle.csl_style.specs.Dressing.{affix_texts};
-ghost use Rattle.csl_render.specs.Text.{no_affixes};
+ghost use Rattle.csl_leaves.specs.Text.{no_affixes, with_made};
 ghost use Rattle.csl_render.specs.Tree.{tree, macro_affixes};
-ghost use Rattle.csl_render.specs.Rendering.{part, with_made};
+ghost use Rattle.csl_render.specs.Rendering.{part};
 
-use crate::dressing::{close_quotes, open_quotes};
 use crate::element::{any_shows, infos, render_all};
-use crate::render::{RenderCsl, nothing, nothing_said, nothing_shown};
-use crate::special::shows_macro_affixes;
-use crate::usage::{UsageInfo, but_groups, macro_said};
-use crate::variable::{render_variable, variable_info, variable_shown};
-use crate::words::{render_term, render_value, term_info, value_info};
+use crate::render::RenderCsl;
 use csl_context::{Context, RenderError};
 use csl_entry::EntryLike;
+use csl_leaves::{
+    UsageInfo, but_groups, close_quotes, macro_said, nothing, nothing_said, nothing_shown,
+    open_quotes, render_term, render_value, render_variable, shows_macro_affixes, term_info,
+    value_info, variable_info, variable_shown,
+};
 use csl_style::{Affixes, LayoutRenderingElement, Text, TextTarget, Variable};
 
 impl RenderCsl for Text {

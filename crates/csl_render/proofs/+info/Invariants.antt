@@ -3,8 +3,8 @@ use Rattle.csl_style.specs.Node.{size, sizes, fill, fills}
 use Rattle.csl_style.specs.View.{view, view_text, view_group, view_choose, views}
 use Rattle.csl_context.specs.World.{env}
 use Rattle.csl_context.specs.Now.{world}
-use Rattle.csl_render.specs.Flags.{either}
-use Rattle.csl_render.specs.Usages.{told}
+use Rattle.csl_leaves.specs.Flags.{either}
+use Rattle.csl_leaves.specs.Usages.{told}
 use Rattle.csl_render.specs.Tree.{infos}
 use Rattle.csl_render.proofs.+info.Given as goal
 

@@ -9,13 +9,12 @@ use Rattle.std.specs.Prelude.{◌||◌}
 use Rattle.csl_context.specs.Now.{world, without_format, without_delimiter, with_stripping}
 use Rattle.csl_tree.specs.Content.{boxed}
 use Rattle.csl_context.specs.Quotes.{affixed_after}
-use Rattle.csl_render.specs.Text.{turned, moved_if, within}
-use Rattle.csl_render.specs.Text.{made as made_of}
-use Rattle.csl_render.specs.Flags.{rule, but_groups, macro_info}
-use Rattle.csl_render.specs.Usages.{told}
+use Rattle.csl_leaves.specs.Text.{turned, moved_if, within, made as made_of, with_made}
+use Rattle.csl_leaves.specs.Flags.{rule, but_groups, macro_info}
+use Rattle.csl_leaves.specs.Usages.{told}
 use Rattle.csl_render.specs.Tree.{infos, macro_affixes, macro_made, in_macro, sum_of}
-use Rattle.csl_render.specs.Rendering.{part, rendered, with_made}
-use Rattle.csl_render.proofs.Dressings.{turned_back, undelimited}
+use Rattle.csl_render.specs.Rendering.{part, rendered}
+use Rattle.csl_leaves.proofs.Dressings.{turned_back, undelimited}
 use Rattle.csl_render.proofs.Grouped.{grouped_by}
 use Rattle.csl_render.proofs.GroupView.{group_out}
 use Rattle.csl_render.proofs.Called.{called_inside, called_by}

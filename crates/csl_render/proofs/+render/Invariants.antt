@@ -4,7 +4,7 @@ use Rattle.csl_style.specs.View.{view, view_text, view_group, view_choose, views
 use Rattle.csl_context.specs.World.{env}
 use Rattle.csl_context.specs.Now.{world}
 use Rattle.csl_render.specs.Tree.{sum_of, delimited}
-use Rattle.csl_render.specs.Rendering.{with_made}
+use Rattle.csl_leaves.specs.Text.{with_made}
 use Rattle.csl_render.proofs.+render.Given as goal
 
 abbrev pub decreases-element::LayoutRenderingElementRenderCsl::render : goal.decreases-element::LayoutRenderingElementRenderCsl::render

@@ -1,6 +1,6 @@
 use Rattle.std.proofs.Common.{◌≡◌, length, not}
 use Rattle.std.specs.List.{list_all}
-use Rattle.csl_render.specs.ConditionsLeft.{conditions_left, behind_first}
+use Rattle.csl_leaves.specs.ConditionsLeft.{conditions_left, behind_first}
 use Rattle.csl_render.proofs.choose.all_hold.Given as goal
 
 -- those that are left answer what all do, and the one that decides is among them

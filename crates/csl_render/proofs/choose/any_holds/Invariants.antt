@@ -1,6 +1,6 @@
 use Rattle.std.proofs.Common.{◌≡◌, length}
 use Rattle.std.specs.List.{list_any}
-use Rattle.csl_render.specs.ConditionsLeft.{conditions_left, behind_first}
+use Rattle.csl_leaves.specs.ConditionsLeft.{conditions_left, behind_first}
 use Rattle.csl_render.proofs.choose.any_holds.Given as goal
 
 -- those that are left answer what all do, and the one that decides is among them

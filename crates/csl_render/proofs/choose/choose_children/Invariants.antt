@@ -2,7 +2,7 @@ use Rattle.std.proofs.Common.{◌≡◌, false, drop, map, option_map}
 use Rattle.csl_style.specs.declared.element.Choose.{out-Choose}
 use Rattle.csl_style.specs.View.{views, view_branch, view_choose, branches_of}
 use Rattle.csl_context.specs.Now.{world}
-use Rattle.csl_render.specs.Conditions.{chosen_nodes, chosen_of}
+use Rattle.csl_leaves.specs.Conditions.{chosen_nodes, chosen_of}
 use Rattle.csl_render.proofs.choose.choose_children.Given as goal
 
 -- the branches from this one on choose what all choose

@@ -1,0 +1,8 @@
+pub mod Nothing
+pub mod Dressings
+pub mod SpelledNumbers
+pub mod Readings
+mod PaddedNumbers
+mod DigitOrder
+mod KeyOrder
+pub mod JoinedParts

@@ -1,0 +1,15 @@
+-- The content of a body, as it is written.
+use Rattle.std.specs.Prelude.{List}
+use Rattle.lit_model.specs.Text.{chunks}
+use Rattle.csl_tree.specs.Tokens.{Token}
+use Rattle.csl_context.specs.State.{Inherited}
+use Rattle.csl_context.specs.Texts.{text_in, chunks_in, link_in}
+use Rattle.csl_leaves.specs.Answered.{shown_view, shown_in}
+use Rattle.csl_leaves.specs.declared.dressing.Body.{Body}
+use Rattle.csl_leaves.specs.declared.dressing.Body.TheVariants as body
+
+abbrev pub body_in : Inherited → Body → List Token
+body_in inh (body.Words words) = text_in inh words.now
+body_in inh (body.Pieces pieces) = chunks_in inh (chunks pieces.now)
+body_in inh (body.Link text url) = link_in inh text.now url.now
+body_in inh (body.Answered shown) = shown_in inh (shown_view shown.now)

@@ -1,0 +1,20 @@
+-- What stands around the body of a node that has no quotes (CSL 1.0.2, Formatting, Affixes, Display, Strip-periods).
+use Rattle.std.specs.Prelude.{Bool, ◌||◌, List, Option, Some}
+use Rattle.csl_style.specs.Dressing.{Dressing}
+use Rattle.csl_tree.specs.Content.{boxed}
+use Rattle.csl_tree.specs.Tokens.{Token, Meta}
+use Rattle.csl_context.specs.State.{Inherited}
+use Rattle.csl_context.specs.Texts.{affixed_in}
+use Rattle.csl_leaves.specs.Text.{within}
+
+-- what the body inherits: its periods are stripped, those of the affixes are not
+abbrev pub in_plain : Dressing → Bool → Inherited → Inherited
+in_plain d strip inh = record (within d.formatting inh) { stripping = strip || inh.stripping }
+
+-- a body in its affixes
+abbrev pub plain_between : Dressing → Inherited → List Token → List Token
+plain_between d inh c = affixed_in (within d.formatting inh) d.affixes c
+
+-- a node's box around its body
+abbrev pub plain_box : Dressing → Meta → Inherited → List Token → List Token
+plain_box d meta inh c = boxed d.display (Some meta) (plain_between d inh c)

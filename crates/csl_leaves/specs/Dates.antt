@@ -1,0 +1,228 @@
+-- Dates (CSL 1.0.2, Date; Date-part; Localized Date Formats; Sorting; Disambiguation: disambiguate-add-year-suffix): what a date says, shows
+-- and makes.
+use Rattle.std.specs.Prelude.{ℕ, Bool, true, false, not, ◌&&◌, ◌==◌, List, [], ◌∷◌, ◌++◌, map, Option, Some, None, option_map, is_some, unwrap_or, find, if◌then◌else◌}
+use Rattle.std.specs.Option.{option_or}
+use denote.Enum.Bare.{sameb}
+use Rattle.lit_model.specs.declared.text.LongShortForm.TheVariants as text_form
+use Rattle.lit_model.specs.Chunks.{text_of}
+use Rattle.lit_model.specs.Date.{Parts}
+use Rattle.lit_model.specs.Text.{Chunk}
+use Rattle.csl_style.specs.contracts.date.DatePartName.{the_type}
+use Rattle.csl_style.specs.declared.date.DateAnyForm.{DateAnyForm}
+use Rattle.csl_style.specs.declared.date.DateForm.{DateForm}
+use Rattle.csl_style.specs.declared.date.DatePartName.{DatePartName}
+use Rattle.csl_style.specs.declared.date.DatePartName.TheVariants.{Day, Month, Year}
+use Rattle.csl_style.specs.declared.date.DateParts.{DateParts}
+use Rattle.csl_style.specs.declared.date.DateParts.TheVariants.{YearMonthDay}
+use Rattle.csl_style.specs.declared.formatting.Formatting as partial
+use Rattle.csl_style.specs.declared.taxonomy.DateVariable.{DateVariable}
+use Rattle.csl_style.specs.declared.taxonomy.StandardVariable.TheVariants.{YearSuffix}
+use Rattle.csl_style.specs.declared.taxonomy.Variable.{Variable}
+use Rattle.csl_style.specs.declared.taxonomy.Variable.TheVariants as variable
+use Rattle.csl_style.specs.Dressing.{AffixTexts, Dressing}
+use Rattle.csl_style.specs.Formatting.{over}
+use Rattle.csl_style.specs.Node.{DateNode, DatePartNode}
+use Rattle.csl_style.specs.Reached.{reached_layout, is_year_suffix_implicit}
+use Rattle.csl_style.specs.Style.{StyleParts}
+use Rattle.csl_tree.specs.Content.{◌++>◌}
+use Rattle.csl_tree.specs.Tokens.{Token, of_date, has_children}
+use Rattle.csl_entry.specs.declared.cite.Sorting.{Sorting}
+use Rattle.csl_entry.specs.declared.cite.SpecialForm.{SpecialForm}
+use Rattle.csl_entry.specs.declared.cite.SpecialForm.TheVariants.{VarOnly, OnlyFirstDate, OnlyYearSuffix, SuppressAuthor}
+use Rattle.csl_context.specs.State.{State, Inherited, looked}
+use Rattle.csl_context.specs.Texts.{text_in, between_in}
+use Rattle.csl_context.specs.World.{World, standard_look, date_look, localized}
+use Rattle.csl_leaves.specs.Boxes.{in_plain, plain_between, plain_box}
+use Rattle.csl_leaves.specs.DateText.{is_written, part_text}
+use Rattle.csl_leaves.specs.DateKey.{sort_key}
+use Rattle.csl_leaves.specs.Flags.{flags, Info, info_of, nothing_said}
+use Rattle.csl_leaves.specs.Numbers.{number_said}
+use Rattle.csl_leaves.specs.Text.{Made, made, same_variable, no_affixes}
+
+-- ---- dry runs
+
+abbrev pub is_own : Option DateVariable → Variable → Bool
+is_own None asked = false
+is_own (Some v) asked = same_variable (variable.Date v) asked
+
+-- A date shows the variable that is asked for where it is its own, and where no other one alone is to be shown. Under the two forms
+-- for dates and for suffixes the first date of a cite shows every variable, and no later one shows any.
+abbrev pub date_shown : Option SpecialForm → Bool → Option DateVariable → Variable → Bool
+date_shown None first own asked = is_own own asked
+date_shown (Some (VarOnly only)) first own asked = is_own own asked && is_own own only
+date_shown (Some OnlyFirstDate) first own asked = first
+date_shown (Some OnlyYearSuffix) first own asked = first
+date_shown (Some SuppressAuthor) first own asked = is_own own asked
+
+-- no date was printed before
+abbrev pub is_first : State → Bool
+is_first s = not s.first_date_seen
+
+abbrev pub date_shows : World → State → Variable → DateNode → Bool
+date_shows w s v n = date_shown w.instance.special (is_first s) n.variable v
+
+abbrev pub shows_date : World → State → DateVariable → Bool
+shows_date w s v = date_shown w.instance.special (is_first s) (Some v) (variable.Date v)
+
+abbrev pub variable_info : World → State → Option DateVariable → Info
+variable_info w s None = number_said false
+variable_info w s (Some v) = if shows_date w s v then number_said (is_some (date_look w s v)) else nothing_said
+
+-- it is called, unless it is not shown, and non-empty where it is found
+abbrev pub date_info : World → State → DateNode → Info
+date_info w s n = variable_info w s n.variable
+
+-- ---- the year suffix behind the first year
+
+abbrev pub suffix_text : Option (List Chunk) → List ℕ
+suffix_text None = []
+suffix_text (Some cs) = text_of cs
+
+-- it stands there only where the style has no other place for it
+abbrev pub implicit_suffix : World → State → List ℕ
+implicit_suffix w s =
+    if is_year_suffix_implicit (reached_layout w.scope w.style) then suffix_text (standard_look w s text_form.Long YearSuffix) else []
+
+abbrev pub first_suffix : World → State → List ℕ
+first_suffix w s = if is_first s then implicit_suffix w s else []
+
+-- the parts lose all but this suffix under the form that is for it
+abbrev pub is_suffix_alone : Option SpecialForm → Bool
+is_suffix_alone None = false
+is_suffix_alone (Some (VarOnly only)) = false
+is_suffix_alone (Some OnlyFirstDate) = false
+is_suffix_alone (Some OnlyYearSuffix) = true
+is_suffix_alone (Some SuppressAuthor) = false
+
+-- ---- a localized date with the node over it
+
+-- the node's own part of that name
+abbrev pub own_part : List DatePartNode → DatePartName → Option DatePartNode
+own_part own name = find (λ p. sameb the_type p.name name) own
+
+abbrev pub form_over : Option DatePartNode → Option DateAnyForm → Option DateAnyForm
+form_over None form = form
+form_over (Some own) form = own.form
+
+abbrev pub formatting_over : Option DatePartNode → partial.Formatting → partial.Formatting
+formatting_over None f = f
+formatting_over (Some own) f = over own.formatting f
+
+-- The node's own part, where it has one of that name, gives the form, set or not, and its formatting over that of the localized one,
+-- whose affixes and stripping stay.
+abbrev pub part_over : List DatePartNode → DatePartNode → DatePartNode
+part_over own p = record p {
+  form = form_over (own_part own p.name) p.form;
+  formatting = formatting_over (own_part own p.name) p.formatting;
+}
+
+abbrev pub parts_over : Option DateParts → Option DateNode → Option DateParts
+parts_over own None = own
+parts_over own (Some l) = option_or own l.parts
+
+abbrev pub date_part_over : List DatePartNode → Option DateNode → List DatePartNode
+date_part_over own None = own
+date_part_over own (Some l) = map (part_over own) l.date_part
+
+abbrev pub delimiter_over : Option (List ℕ) → Option DateNode → Option (List ℕ)
+delimiter_over own None = own
+delimiter_over own (Some l) = l.delimiter
+
+abbrev pub whole_formatting : partial.Formatting → Option DateNode → partial.Formatting
+whole_formatting own None = own
+whole_formatting own (Some l) = over own l.dressing.formatting
+
+abbrev pub dressing_over : Dressing → Option DateNode → Dressing
+dressing_over own l = record own { formatting = whole_formatting own.formatting l }
+
+-- The localized date gives the parts in order and the delimiter between them; the node its affixes and its place on the page. Which parts
+-- are written, and the formatting, are the node's over those of the localized date.
+abbrev pub date_over : DateNode → Option DateNode → DateNode
+date_over n l = record n {
+  parts = parts_over n.parts l;
+  date_part = date_part_over n.date_part l;
+  delimiter = delimiter_over n.delimiter l;
+  dressing = dressing_over n.dressing l;
+}
+
+-- the date as it is written: a form asks for the localized date of the style, which may lack it
+abbrev pub written_as : StyleParts → DateNode → Option DateForm → Option DateNode
+written_as style n None = Some n
+written_as style n (Some form) = option_map (λ l. date_over n (Some l)) (localized style form)
+
+-- ---- a part
+
+-- the suffix comes with the year
+abbrev pub suffix_with : DatePartName → List ℕ → List ℕ
+suffix_with Day suffix = []
+suffix_with Month suffix = []
+suffix_with Year suffix = suffix
+
+-- what a part says
+abbrev pub part_value : StyleParts → Bool → DateParts → List ℕ → Parts → DatePartName → Option DateAnyForm → List ℕ
+part_value style alone parts suffix d name form =
+    (if not alone && is_written parts d name then part_text style name form d else []) ++ suffix_with name suffix
+
+-- a month alone loses its periods
+abbrev pub is_stripped : DatePartName → Bool → Bool
+is_stripped Day strip = false
+is_stripped Month strip = strip
+is_stripped Year strip = false
+
+-- no affixes stand around the suffix alone
+abbrev pub part_dressing : Bool → DatePartNode → Dressing
+part_dressing alone p = record { formatting = p.formatting; affixes = if alone then no_affixes else p.affixes; display = None }
+
+abbrev pub part_content : World → DateParts → List ℕ → Parts → Inherited → DatePartNode → List Token
+part_content w parts suffix d inh p =
+    let alone = is_suffix_alone w.instance.special in
+    plain_between (part_dressing alone p) inh (text_in (in_plain (part_dressing alone p) (is_stripped p.name p.strip_periods) inh)
+    (part_value w.style alone parts suffix d p.name p.form))
+
+-- ---- the parts that print something, with the delimiter between them
+
+abbrev pub behind_delimiter : Inherited → Option (List ℕ) → Bool → List Token → List Token
+behind_delimiter inh delimiter true c = c
+behind_delimiter inh delimiter false c = between_in inh delimiter None c
+
+-- `first` until one prints something
+abbrev pub joined_parts : Inherited → Option (List ℕ) → Bool → List (List Token) → List Token
+joined_parts inh delimiter first [] = []
+joined_parts inh delimiter first (c ∷ cs) =
+    behind_delimiter inh delimiter first c ++> joined_parts inh delimiter (first && not (has_children c)) cs
+
+abbrev pub date_body : World → DateNode → List ℕ → Parts → Inherited → List Token
+date_body w n suffix d inh =
+    joined_parts inh n.delimiter true (map (part_content w (unwrap_or n.parts YearMonthDay) suffix d inh) n.date_part)
+
+-- ---- rendering
+
+-- from now on a date was printed, whether it printed something or not
+abbrev pub date_seen : State → State
+date_seen s = record s { first_date_seen = true }
+
+abbrev pub date_box : World → DateNode → List ℕ → Parts → Inherited → List Token
+date_box w n suffix d inh = plain_box n.dressing of_date inh (date_body w n suffix d (in_plain n.dressing false inh))
+
+-- nothing where the style lacks the localized date
+abbrev pub printed_date : World → Option DateNode → Parts → Inherited → State → Made
+printed_date w None d inh s = made [] s
+printed_date w (Some n) d inh s = made (date_box w n (first_suffix w s) d inh) (date_seen s)
+
+-- a sort key is one text without a box, and no date is printed
+abbrev pub date_or_key : World → DateNode → Option Sorting → Parts → Inherited → State → Made
+date_or_key w n None d inh s = printed_date w (written_as w.style n n.form) d inh s
+date_or_key w n (Some sorting) d inh s = made (text_in inh (sort_key n sorting (implicit_suffix w s) d)) s
+
+abbrev pub found_date : World → DateNode → Option Parts → Inherited → State → Made
+found_date w n None inh s = made [] s
+found_date w n (Some d) inh s = date_or_key w n w.instance.sorting d inh s
+
+-- the variable is looked up for printing where the date shows it
+abbrev pub variable_tree : World → DateNode → Option DateVariable → Inherited → State → Made
+variable_tree w n None inh s = made [] s
+variable_tree w n (Some v) inh s =
+    if shows_date w s v then found_date w n (date_look w s v) inh (looked (variable.Date v) s) else made [] s
+
+abbrev pub date_tree : World → DateNode → Inherited → State → Made
+date_tree w n inh s = variable_tree w n n.variable inh s

@@ -1,0 +1,15 @@
+pub mod Flags
+pub mod Usages
+pub mod Pages
+pub mod Answered
+pub mod Text
+pub mod Boxes
+pub mod Bodies
+pub mod Numbers
+pub mod DateText
+pub mod DateKey
+pub mod Labels
+pub mod Dates
+pub mod WrittenDates
+pub mod Conditions
+pub mod ConditionsLeft

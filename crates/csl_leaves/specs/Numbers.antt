@@ -1,0 +1,88 @@
+-- Numbers (CSL 1.0.2, Number; Sorting): what a number says, shows and makes.
+use Rattle.std.specs.Prelude.{ℕ, Bool, true, false, ◌&&◌, List, [], Option, Some, None, is_some, if◌then◌else◌}
+use denote.Enum.Bare.{sameb}
+use Rattle.lit_model.specs.MaybeTyped.{typed, text}
+use Rattle.lit_model.specs.NumericText.{integer_text, value_text}
+use Rattle.lit_model.specs.PageText.{pages_text}
+use Rattle.csl_style.specs.contracts.taxonomy.NumberVariable.{the_type as the_number}
+use Rattle.csl_style.specs.declared.taxonomy.NumberVariable.TheVariants.{CitationNumber}
+use Rattle.csl_style.specs.declared.taxonomy.NumberOrPageVariable.{NumberOrPageVariable}
+use Rattle.csl_style.specs.declared.taxonomy.NumberOrPageVariable.TheVariants as number_or_page
+use Rattle.csl_style.specs.declared.taxonomy.Variable.{Variable}
+use Rattle.csl_style.specs.Node.{NumberNode}
+use Rattle.csl_style.specs.Taxonomy.{variable_of, term_of}
+use Rattle.csl_tree.specs.Tokens.{Token, Meta, of_number, of_citation_number}
+use Rattle.csl_entry.specs.declared.cite.Sorting.{Sorting}
+use Rattle.csl_entry.specs.declared.cite.SpecialForm.{SpecialForm}
+use Rattle.csl_entry.specs.declared.cite.SpecialForm.TheVariants.{VarOnly, OnlyFirstDate, OnlyYearSuffix, SuppressAuthor}
+use Rattle.csl_entry.specs.NumberResult.{regular, transparent, NumberOrPageView, number, page}
+use Rattle.csl_context.specs.State.{State, Inherited, looked}
+use Rattle.csl_context.specs.Texts.{text_in}
+use Rattle.csl_context.specs.World.{World, gender_in}
+use Rattle.csl_leaves.specs.Answered.{number_or_page_look, shown_in, shown_by_number}
+use Rattle.csl_leaves.specs.Boxes.{in_plain, plain_box}
+use Rattle.csl_leaves.specs.Flags.{flags, Info, info_of}
+use Rattle.csl_leaves.specs.Text.{Made, made, same_variable, is_left_by_only}
+
+-- ---- dry runs
+
+-- A number of a variable shows the one that is asked for where it is that one, and where no other one alone is to be shown. The two
+-- forms for dates and for suffixes show each number of a locator, and no other.
+abbrev pub is_shown : Option SpecialForm → Variable → Variable → Bool
+is_shown None own asked = same_variable own asked
+is_shown (Some (VarOnly only)) own asked = same_variable own asked && same_variable only own
+is_shown (Some OnlyFirstDate) own asked = is_left_by_only own
+is_shown (Some OnlyYearSuffix) own asked = is_left_by_only own
+is_shown (Some SuppressAuthor) own asked = same_variable own asked
+
+abbrev pub number_shows : World → Variable → NumberNode → Bool
+number_shows w v n = is_shown w.instance.special (variable_of n.variable) v
+
+abbrev pub shows_own : World → NumberNode → Bool
+shows_own w n = number_shows w (variable_of n.variable) n
+
+-- it is called, and non-empty where it is found
+abbrev pub number_said : Bool → Info
+number_said found = info_of found (flags true found false false)
+
+abbrev pub number_info : World → State → NumberNode → Info
+number_info w s n = number_said (if shows_own w n then is_some (number_or_page_look w s n.variable) else false)
+
+-- ---- rendering
+
+-- the text by which an answer is sorted, unless it is no number and no pages: each number in four places at least, with nothing
+-- around it; pages in full
+abbrev pub sort_text : NumberOrPageView → Option (List ℕ)
+sort_text (number (regular (typed n))) = Some (value_text (integer_text true) n.value)
+sort_text (number (regular (text bs))) = None
+sort_text (number (transparent index)) = None
+sort_text (page (typed parts)) = Some (pages_text parts)
+sort_text (page (text bs)) = None
+
+-- only what is rendered to be sorted has one
+abbrev pub sort_text_if : Option Sorting → NumberOrPageView → Option (List ℕ)
+sort_text_if None found = None
+sort_text_if (Some sorting) found = sort_text found
+
+abbrev pub number_meta : NumberOrPageVariable → Meta
+number_meta (number_or_page.Number v) = if sameb the_number v CitationNumber then of_citation_number else of_number
+number_meta (number_or_page.Page v) = of_number
+
+-- an answer in the number's form, and in the gender of what its variable is called
+abbrev pub number_body : World → NumberNode → NumberOrPageView → Inherited → List Token
+number_body w n found inh = shown_in inh (shown_by_number w.style n.form (gender_in w.style (term_of n.variable)) found)
+
+-- a sort text is one text without a box
+abbrev pub number_content : World → NumberNode → NumberOrPageView → Option (List ℕ) → Inherited → List Token
+number_content w n found (Some key) inh = text_in inh key
+number_content w n found None inh = plain_box n.dressing (number_meta n.variable) inh (number_body w n found (in_plain n.dressing false inh))
+
+abbrev pub found_content : World → NumberNode → Option NumberOrPageView → Inherited → List Token
+found_content w n None inh = []
+found_content w n (Some found) inh = number_content w n found (sort_text_if w.instance.sorting found) inh
+
+-- the variable is looked up for printing where the number shows it
+abbrev pub number_tree : World → NumberNode → Inherited → State → Made
+number_tree w n inh s = if shows_own w n
+    then made (found_content w n (number_or_page_look w s n.variable) inh) (looked (variable_of n.variable) s)
+    else made [] s

@@ -1,0 +1,293 @@
+-- Texts (CSL 1.0.2, Text; Affixes; Quotes; Strip-periods): what a text that calls no macro finds, says, shows and makes.
+use Rattle.std.specs.Prelude.{ℕ, Bool, true, false, not, ◌&&◌, ◌||◌, ◌==◌, List, [], ◌++◌, length, Option, Some, None, option_map, is_some, codes, bytes_eq, if◌then◌else◌}
+use denote.Enum.Bare.{sameb}
+use Rattle.lit_model.specs.Text.{Chunk}
+use Rattle.lit_model.specs.Chunks.{text_of, is_empty}
+use Rattle.lit_model.specs.declared.text.LongShortForm.{LongShortForm}
+use Rattle.csl_style.specs.declared.taxonomy.Variable.{Variable}
+use Rattle.csl_style.specs.declared.taxonomy.Variable.TheVariants as variable
+use Rattle.csl_style.specs.declared.taxonomy.StandardVariable.{StandardVariable}
+use Rattle.csl_style.specs.declared.taxonomy.StandardVariable.TheVariants as standard
+use Rattle.csl_style.specs.declared.taxonomy.NumberVariable.{NumberVariable}
+use Rattle.csl_style.specs.declared.taxonomy.NumberVariable.TheVariants.{CitationNumber, Locator}
+use Rattle.csl_style.specs.declared.taxonomy.NumberOrPageVariable.{NumberOrPageVariable}
+use Rattle.csl_style.specs.declared.taxonomy.NumberOrPageVariable.TheVariants as number_or_page
+use Rattle.csl_style.specs.contracts.taxonomy.StandardVariable.{the_type as the_standard}
+use Rattle.csl_style.specs.contracts.taxonomy.NumberVariable.{the_type as the_number}
+use Rattle.csl_style.specs.contracts.taxonomy.VariablePartialEq.TheImpl.{eq-value}
+use Rattle.csl_style.specs.declared.formatting.Formatting as partial
+use Rattle.csl_style.specs.declared.term.Term.{Term}
+use Rattle.csl_style.specs.declared.term.TermForm.{TermForm}
+use Rattle.csl_style.specs.Dressing.{AffixTexts, TextDressing}
+use Rattle.csl_style.specs.Node.{Target, of_variable, of_term, of_value}
+use Rattle.csl_style.specs.Style.{StyleParts}
+use Rattle.csl_tree.specs.Formatting.{over}
+use Rattle.csl_tree.specs.Tokens.{Token, Meta, of_text, of_citation_label, of_citation_number}
+use Rattle.csl_tree.specs.Content.{◌++>◌, boxed}
+use Rattle.csl_entry.specs.declared.cite.SpecialForm.{SpecialForm}
+use Rattle.csl_entry.specs.declared.cite.SpecialForm.TheVariants.{VarOnly, OnlyFirstDate, OnlyYearSuffix, SuppressAuthor}
+use Rattle.csl_entry.specs.NumberResult.{NumberOrPageView}
+use Rattle.csl_context.specs.State.{State, Inherited, looked}
+use Rattle.csl_context.specs.World.{World, standard_look, term_in}
+use Rattle.csl_context.specs.Texts.{text_in, chunks_in, link_in}
+use Rattle.csl_context.specs.Now.{Now}
+use Rattle.csl_context.specs.Quotes.{quoted_in, has_moved, affixed_after}
+use Rattle.csl_leaves.specs.Answered.{number_or_page_look, shown_in, shown_by_text}
+use Rattle.csl_leaves.specs.Flags.{flags, no_flags, Info, info_of}
+
+-- what a node makes: a content, and the state that it leaves
+pub record Made : Type 0 where
+  pub content : List Token
+  pub state : State
+
+abbrev pub made : List Token → State → Made
+made c s = record { content = c; state = s }
+
+-- behind a content
+abbrev pub then_made : List Token → Made → Made
+then_made c m = made (c ++> m.content) m.state
+
+-- a context after what was made
+abbrev pub with_made : {T : Type 0} → Made → Now T → Now T
+with_made m now = record now { inner = now.inner ++> m.content; state = m.state }
+
+abbrev pub same_variable : Variable → Variable → Bool
+same_variable = eq-value.it
+
+abbrev pub is_standard : StandardVariable → StandardVariable → Bool
+is_standard u v = sameb the_standard v u
+
+-- ---- what a special form leaves
+
+-- the two forms for dates and for suffixes leave the year suffix and the locator
+abbrev pub is_left_by_only : Variable → Bool
+is_left_by_only (variable.Standard v) = is_standard standard.YearSuffix v
+is_left_by_only (variable.Number v) = sameb the_number v Locator
+is_left_by_only (variable.Page v) = false
+is_left_by_only (variable.Name v) = false
+is_left_by_only (variable.Date v) = false
+
+-- a text of the variable is left
+abbrev pub shows_variable : Option SpecialForm → Variable → Bool
+shows_variable None v = true
+shows_variable (Some (VarOnly u)) v = same_variable u v
+shows_variable (Some OnlyFirstDate) v = is_left_by_only v
+shows_variable (Some OnlyYearSuffix) v = is_left_by_only v
+shows_variable (Some SuppressAuthor) v = true
+
+-- a text of a term or of a value is left
+abbrev pub shows_words : Option SpecialForm → Bool
+shows_words None = true
+shows_words (Some (VarOnly u)) = false
+shows_words (Some OnlyFirstDate) = false
+shows_words (Some OnlyYearSuffix) = false
+shows_words (Some SuppressAuthor) = true
+
+-- a text of a macro always is, without its affixes where one variable alone is shown
+abbrev pub shows_macro_affixes : Option SpecialForm → Bool
+shows_macro_affixes None = true
+shows_macro_affixes (Some (VarOnly u)) = false
+shows_macro_affixes (Some OnlyFirstDate) = true
+shows_macro_affixes (Some OnlyYearSuffix) = true
+shows_macro_affixes (Some SuppressAuthor) = true
+
+-- ---- what a text finds
+
+-- the answer to a standard variable, the answer to one that holds a number or pages, the text of a term, the value that the style
+-- gives
+pub data Found : Type 0 where
+  answer : StandardVariable → List Chunk → Found
+  numeral : NumberOrPageVariable → NumberOrPageView → Found
+  term : List ℕ → Found
+  value : List ℕ → Found
+
+abbrev pub numeral_found : World → State → NumberOrPageVariable → Option Found
+numeral_found w s v = option_map (numeral v) (number_or_page_look w s v)
+
+-- A name or a date variable finds nothing.
+abbrev pub variable_found : World → State → LongShortForm → Variable → Option Found
+variable_found w s form (variable.Standard v) = option_map (answer v) (standard_look w s form v)
+variable_found w s form (variable.Number v) = numeral_found w s (number_or_page.Number v)
+variable_found w s form (variable.Page v) = numeral_found w s (number_or_page.Page v)
+variable_found w s form (variable.Name v) = None
+variable_found w s form (variable.Date v) = None
+
+abbrev pub term_found : World → Term → TermForm → Bool → Option Found
+term_found w t form plural = option_map term (term_in w.style t form plural)
+
+abbrev pub found : World → State → Target → Option Found
+found w s (of_variable v form) = if shows_variable w.instance.special v then variable_found w s form v else None
+found w s (of_term t form plural) = if shows_words w.instance.special then term_found w t form plural else None
+found w s (of_value bs) = if shows_words w.instance.special then Some (value bs) else None
+
+-- ---- dry runs
+
+-- a text calls its variable also where it finds nothing, but for the year suffix
+abbrev pub calls_variable : Variable → Bool
+calls_variable (variable.Standard v) = not (is_standard standard.YearSuffix v)
+calls_variable (variable.Number v) = true
+calls_variable (variable.Page v) = true
+calls_variable (variable.Name v) = true
+calls_variable (variable.Date v) = true
+
+abbrev pub calls : Target → Bool
+calls (of_variable v form) = calls_variable v
+calls (of_term t form plural) = false
+calls (of_value bs) = false
+
+abbrev pub found_info : Bool → Option Found → Info
+found_info called None = info_of false (flags called false false false)
+found_info called (Some (answer v cs)) = info_of (not (is_empty cs)) (flags true (not (is_empty cs)) false false)
+found_info called (Some (numeral v n)) = info_of true (flags true true false false)
+found_info called (Some (term bs)) = info_of true no_flags
+found_info called (Some (value bs)) = info_of (not (length bs == 0)) no_flags
+
+abbrev pub target_info : World → State → Target → Info
+target_info w s t = found_info (calls t) (found w s t)
+
+-- it is a text of the variable
+abbrev pub is_of : Variable → Target → Bool
+is_of v (of_variable u form) = same_variable u v
+is_of v (of_term t form plural) = false
+is_of v (of_value bs) = false
+
+abbrev pub target_shows : World → State → Variable → Target → Bool
+target_shows w s v t = is_some (found w s t) && is_of v t
+
+-- ---- links (CSL 1.0.2, Appendix VI: Links)
+
+abbrev pub doi_prefix : List ℕ
+doi_prefix = codes "https://doi.org/"
+
+abbrev pub pmid_prefix : List ℕ
+pmid_prefix = codes "https://www.ncbi.nlm.nih.gov/pubmed/"
+
+abbrev pub pmcid_prefix : List ℕ
+pmcid_prefix = codes "https://www.ncbi.nlm.nih.gov/pmc/articles/"
+
+-- what stands before the answer in the address that it links to
+abbrev pub url_prefix : StandardVariable → Option (List ℕ)
+url_prefix v =
+    if is_standard standard.DOI v then Some doi_prefix
+    else if is_standard standard.PMID v then Some pmid_prefix
+    else if is_standard standard.PMCID v then Some pmcid_prefix
+    else None
+
+-- the address itself has no prefix: it is the answer
+abbrev pub address_prefix : StandardVariable → Option (List ℕ)
+address_prefix v = if is_standard standard.URL v then Some [] else url_prefix v
+
+abbrev is_prefix : Option (List ℕ) → List ℕ → Bool
+is_prefix None bs = false
+is_prefix (Some p) bs = bytes_eq p bs
+
+-- the node's prefix is that of the address
+abbrev is_address_prefix : Option (List ℕ) → Option (List ℕ) → Bool
+is_address_prefix None prefix = false
+is_address_prefix (Some bs) prefix = is_prefix prefix bs
+
+-- Then it begins the text of the link, and no affixes stand.
+abbrev pub begins_link : TextDressing → StandardVariable → Bool
+begins_link d v = is_address_prefix (url_prefix v) d.dressing.affixes.prefix
+
+-- ---- rendering
+
+-- what is inherited inside a node's formatting
+abbrev pub within : partial.Formatting → Inherited → Inherited
+within f inh = record inh { formatting = over f inh.formatting }
+
+-- within quotes those inside are of the other kind
+abbrev pub turned : Bool → Bool → Bool
+turned true depth = not depth
+turned false depth = depth
+
+-- a context on the other side of quotes, where there are any
+abbrev pub turned_if : {T : Type 0} → Bool → Now T → Now T
+turned_if quotes now = record now { inherited = record now.inherited { in_quotes = turned quotes now.inherited.in_quotes } }
+
+-- what the body of a text inherits
+abbrev pub in_body : TextDressing → Inherited → Inherited
+in_body d inh = record inh {
+  formatting = over d.dressing.formatting inh.formatting;
+  in_quotes = turned d.quotes inh.in_quotes;
+  stripping = d.strip_periods || inh.stripping;
+}
+
+-- a body in quotes, where the text has them
+abbrev pub in_quotes_if : Bool → StyleParts → Inherited → Option (List ℕ) → List Token → List Token
+in_quotes_if true style inh suffix c = quoted_in style inh suffix c
+in_quotes_if false style inh suffix c = c
+
+-- the front of the suffix went into them
+abbrev pub moved_if : Bool → StyleParts → Option (List ℕ) → List Token → Bool
+moved_if true style suffix c = has_moved style suffix c
+moved_if false style suffix c = false
+
+-- a body in quotes and affixes
+abbrev pub quoted_between : Bool → StyleParts → AffixTexts → Inherited → List Token → List Token
+quoted_between quotes style a inh c =
+    affixed_after (moved_if quotes style a.suffix c) inh a (in_quotes_if quotes style inh a.suffix c)
+
+-- a text's box around its body
+abbrev pub text_box : StyleParts → AffixTexts → TextDressing → Option Meta → Inherited → List Token → List Token
+text_box style a d meta inh c =
+    boxed d.dressing.display meta (quoted_between d.quotes style a (within d.dressing.formatting inh) c)
+
+abbrev pub no_affixes : AffixTexts
+no_affixes = record { prefix = None; suffix = None }
+
+-- the affixes that stand
+abbrev pub found_affixes : TextDressing → Found → AffixTexts
+found_affixes d (answer v cs) = if begins_link d v then no_affixes else d.dressing.affixes
+found_affixes d (numeral v n) = d.dressing.affixes
+found_affixes d (term bs) = d.dressing.affixes
+found_affixes d (value bs) = d.dressing.affixes
+
+-- which node the box is said to be of
+abbrev pub standard_meta : StandardVariable → Meta
+standard_meta v = if is_standard standard.CitationLabel v then of_citation_label else of_text
+
+abbrev pub numeral_meta : NumberOrPageVariable → Meta
+numeral_meta (number_or_page.Number v) = if sameb the_number v CitationNumber then of_citation_number else of_text
+numeral_meta (number_or_page.Page v) = of_text
+
+abbrev pub found_meta : Found → Option Meta
+found_meta (answer v cs) = Some (standard_meta v)
+found_meta (numeral v n) = Some (numeral_meta v)
+found_meta (term bs) = None
+found_meta (value bs) = None
+
+-- an answer with an address is a link to it, any other stands as it is
+abbrev pub answer_body : Option (List ℕ) → Bool → Inherited → List Chunk → List Token
+answer_body (Some p) begins inh cs = link_in inh (if begins then p ++ text_of cs else text_of cs) (p ++ text_of cs)
+answer_body None begins inh cs = chunks_in inh cs
+
+abbrev pub found_body : StyleParts → TextDressing → Inherited → Found → List Token
+found_body style d inh (answer v cs) = answer_body (address_prefix v) (begins_link d v) inh cs
+found_body style d inh (numeral v n) = shown_in inh (shown_by_text style n)
+found_body style d inh (term bs) = text_in inh bs
+found_body style d inh (value bs) = text_in inh bs
+
+abbrev pub found_tree : World → TextDressing → Inherited → Option Found → List Token
+found_tree w d inh None = []
+found_tree w d inh (Some f) = text_box w.style (found_affixes d f) d (found_meta f) inh (found_body w.style d (in_body d inh) f)
+
+-- a text of the variable that is left looks it up for printing, whatever is found
+abbrev pub state_after_look : World → Variable → State → State
+state_after_look w v s = if shows_variable w.instance.special v then looked v s else s
+
+-- no name and no date is looked up
+abbrev pub variable_state : World → Variable → State → State
+variable_state w (variable.Standard v) s = state_after_look w (variable.Standard v) s
+variable_state w (variable.Number v) s = state_after_look w (variable.Number v) s
+variable_state w (variable.Page v) s = state_after_look w (variable.Page v) s
+variable_state w (variable.Name v) s = s
+variable_state w (variable.Date v) s = s
+
+abbrev pub target_state : World → Target → State → State
+target_state w (of_variable v form) s = variable_state w v s
+target_state w (of_term t form plural) s = s
+target_state w (of_value bs) s = s
+
+abbrev pub target_tree : World → Target → TextDressing → Inherited → State → Made
+target_tree w t d inh s = made (found_tree w d inh (found w s t)) (target_state w t s)

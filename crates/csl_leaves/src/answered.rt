@@ -1,0 +1,177 @@
+//! Answers to variables that hold numbers or pages, and what a text or a number prints of them
+//! (CSL 1.0.2, Number Variables; Text: variable; Number).
+
+ghost use Rattle.std.specs.Prelude.{◌≡◌, IfOk, OnOk, IfErr, option_map, string_bytes};
+ghost use Rattle.lit_model.specs.Numeric.{numeric_view};
+ghost use Rattle.csl_style.specs.Taxonomy.{variable_of};
+ghost use Rattle.csl_entry.specs.NumberResult.{result_view, number_or_page_view};
+ghost use Rattle.csl_context.specs.World.{number_text};
+ghost use Rattle.csl_context.specs.Now.{FailsAs, Leaves, same, world, after_look};
+ghost use Rattle.csl_leaves.specs.Answered.{number_or_page_look, shown_view, number_shown, shown_by_number, shown_by_text};
+
+use crate::pages::{pages_in_style, with_dashes};
+use csl_context::{Context, RenderError};
+use csl_entry::{EntryLike, NumberOrPageVariableResult, NumberVariableResult};
+use csl_style::NumberOrPageVariable;
+use lit_model::{GrammarGender, MaybeTyped, Memory, NumberForm, Numeric};
+
+/// What an answer prints.
+#[derive(Drop)]
+pub(crate) enum Shown {
+    /// A text.
+    Words(String),
+    /// What the caller writes for the cite of that index.
+    Place(usize),
+}
+
+/// A silent look, after whose failure the context has failed.
+///
+/// # Errors
+/// [`RenderError::Memory`]: there was no memory left, or the entry said so. The context has failed.
+/// [`RenderError::Failed`]: the context had failed before.
+pub(crate) fn peek_number_or_page<'s, T: EntryLike>(
+    ctx: &mut Context<'s, T>,
+    variable: NumberOrPageVariable,
+) -> Result<Option<NumberOrPageVariableResult<'s>>, RenderError>
+    ensures value { IfOk result (λ found. option_map number_or_page_view found
+        ≡ number_or_page_look (world T.answers ctx.old) ctx.old.state variable) }
+    ensures ok { OnOk result (Leaves same ctx.old ctx.new) }
+    ensures err { IfErr result (λ e. FailsAs e ctx.old ctx.new) }
+{
+    match variable {
+        NumberOrPageVariable::Number(variable) => match ctx.peek_number_variable(variable) {
+            Ok(Some(number)) => Ok(Some(NumberOrPageVariableResult::Number(number))),
+            Ok(None) => Ok(None),
+            Err(error) => {
+                ctx.fail();
+                Err(error)
+            }
+        },
+        NumberOrPageVariable::Page(variable) => match ctx.peek_page_variable(variable) {
+            Ok(Some(pages)) => Ok(Some(NumberOrPageVariableResult::Page(pages))),
+            Ok(None) => Ok(None),
+            Err(error) => {
+                ctx.fail();
+                Err(error)
+            }
+        },
+    }
+}
+
+/// A look for printing.
+///
+/// # Errors
+/// As [`peek_number_or_page`].
+pub(crate) fn resolve_number_or_page<'s, T: EntryLike>(
+    ctx: &mut Context<'s, T>,
+    variable: NumberOrPageVariable,
+) -> Result<Option<NumberOrPageVariableResult<'s>>, RenderError>
+    ensures value { IfOk result (λ found. option_map number_or_page_view found
+        ≡ number_or_page_look (world T.answers ctx.old) ctx.old.state variable) }
+    ensures ok { OnOk result (Leaves (after_look (variable_of variable)) ctx.old ctx.new) }
+    ensures err { IfErr result (λ e. FailsAs e ctx.old ctx.new) }
+{
+    match variable {
+        NumberOrPageVariable::Number(variable) => match ctx.resolve_number_variable(variable)? {
+            Some(number) => Ok(Some(NumberOrPageVariableResult::Number(number))),
+            None => Ok(None),
+        },
+        NumberOrPageVariable::Page(variable) => match ctx.resolve_page_variable(variable)? {
+            Some(pages) => Ok(Some(NumberOrPageVariableResult::Page(pages))),
+            None => Ok(None),
+        },
+    }
+}
+
+/// A number in a form, with the ordinals of the style.
+fn number_text<T>(
+    ctx: &Context<'_, T>,
+    number: &Numeric,
+    form: NumberForm,
+    gender: Option<GrammarGender>,
+) -> Result<String, Memory>
+    ensures { IfOk result (λ s. string_bytes s
+        ≡ number_text ctx.now.style form gender (numeric_view number.now)) }
+{
+    let mut text = String::new(ctx.alloc());
+    match number.with_form(&mut text, form, gender, &ctx.ordinal_lookup()) {
+        Ok(()) => Ok(text),
+        Err(_) => Err(Memory),
+    }
+}
+
+/// What is printed of an answer to a number variable: a number in a form, a text as it stands.
+fn number_shown<T>(
+    ctx: &Context<'_, T>,
+    form: NumberForm,
+    gender: Option<GrammarGender>,
+    found: &NumberVariableResult<'_>,
+) -> Result<Shown, Memory>
+    ensures { IfOk result (λ shown. shown_view shown
+        ≡ number_shown ctx.now.style form gender (result_view found.now)) }
+{
+    match found {
+        NumberVariableResult::Regular(MaybeTyped::Typed(number)) => {
+            let words = number_text(ctx, number.as_ref(), form, gender)?;
+            Ok(Shown::Words(words))
+        }
+        NumberVariableResult::Regular(MaybeTyped::String(words)) => {
+            let words = String::from_str(ctx.alloc(), words.as_str())?;
+            Ok(Shown::Words(words))
+        }
+        NumberVariableResult::Transparent(index) => Ok(Shown::Place(*index)),
+    }
+}
+
+/// What a number prints of an answer: pages in the format of the style, a text as it stands.
+///
+/// # Errors
+/// [`Memory`]: there was no memory left.
+pub(crate) fn shown_by_number<T>(
+    ctx: &Context<'_, T>,
+    form: NumberForm,
+    gender: Option<GrammarGender>,
+    found: &NumberOrPageVariableResult<'_>,
+) -> Result<Shown, Memory>
+    ensures { IfOk result (λ shown. shown_view shown
+        ≡ shown_by_number ctx.now.style form gender (number_or_page_view found.now)) }
+{
+    match found {
+        NumberOrPageVariableResult::Number(number) => number_shown(ctx, form, gender, number),
+        NumberOrPageVariableResult::Page(MaybeTyped::Typed(pages)) => {
+            let words = pages_in_style(ctx, pages)?;
+            Ok(Shown::Words(words))
+        }
+        NumberOrPageVariableResult::Page(MaybeTyped::String(words)) => {
+            let words = String::from_str(ctx.alloc(), words.as_str())?;
+            Ok(Shown::Words(words))
+        }
+    }
+}
+
+/// What a text prints of an answer: numbers plainly, pages in the format of the style, a text in
+/// the place of pages with an en dash for each hyphen.
+///
+/// # Errors
+/// [`Memory`]: there was no memory left.
+pub(crate) fn shown_by_text<T>(
+    ctx: &Context<'_, T>,
+    found: &NumberOrPageVariableResult<'_>,
+) -> Result<Shown, Memory>
+    ensures { IfOk result (λ shown. shown_view shown
+        ≡ shown_by_text ctx.now.style (number_or_page_view found.now)) }
+{
+    match found {
+        NumberOrPageVariableResult::Number(number) => {
+            number_shown(ctx, NumberForm::Numeric, None, number)
+        }
+        NumberOrPageVariableResult::Page(MaybeTyped::Typed(pages)) => {
+            let words = pages_in_style(ctx, pages)?;
+            Ok(Shown::Words(words))
+        }
+        NumberOrPageVariableResult::Page(MaybeTyped::String(words)) => {
+            let words = with_dashes(ctx.alloc(), words.as_str())?;
+            Ok(Shown::Words(words))
+        }
+    }
+}

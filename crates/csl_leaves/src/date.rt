@@ -1,0 +1,222 @@
+//! Dates (CSL 1.0.2, Date; Localized Date Formats; Sorting).
+
+ghost use Rattle.std.specs.Prelude.{◌≡◌, Some, IfOk, OnOk, IfErr, option_map};
+ghost use Rattle.lit_model.specs.Date.{date_parts};
+ghost use Rattle.csl_style.specs.View.{view_date};
+ghost use Rattle.csl_entry.specs.Answers.{behind};
+ghost use Rattle.csl_context.specs.World.{date_look};
+ghost use Rattle.csl_context.specs.Now.{FailsAs, Leaves, same, world};
+ghost use Rattle.csl_leaves.specs.Dates.{date_info, date_shows, date_tree, is_own, date_shown, is_first, shows_date, printed_date, date_or_key, found_date};
+ghost use Rattle.csl_leaves.specs.Text.{with_made};
+ghost use Rattle.csl_leaves.specs.Usages.{told};
+ghost use Rattle.csl_leaves.specs.WrittenDates.{written_node};
+
+use crate::condition::lent;
+use crate::date_key::sort_key;
+use crate::date_parts::{Found, Written, render_parts};
+use crate::date_suffix::{first_suffix, implicit_suffix};
+use crate::nothing::{nothing, nothing_said, out_of_memory};
+use crate::number::number_said;
+use crate::usage::UsageInfo;
+use csl_context::{Context, RenderError};
+use csl_entry::{EntryLike, Sorting, SpecialForm};
+use csl_style::{Date, DateVariable, Variable};
+use csl_tree::ElemMeta;
+use lit_model::Date as Given;
+use std::borrow::Cow;
+
+/// What a date says.
+///
+/// # Errors
+/// [`RenderError::Memory`]: there was no memory left, or the entry said so. The context has failed.
+/// [`RenderError::Failed`]: the context had failed before.
+pub fn date_info<'s, T: EntryLike>(
+    ctx: &mut Context<'s, T>,
+    node: &Date,
+) -> Result<(bool, UsageInfo), RenderError>
+    ensures value { IfOk result (λ answer. told answer ≡ date_info (world T.answers ctx.old)
+        ctx.old.state (view_date node.now)) }
+    ensures ok { OnOk result (Leaves same ctx.old ctx.new) }
+    ensures err { IfErr result (λ e. FailsAs e ctx.old ctx.new) }
+{
+    nothing(ctx)?;
+    let Some(own) = node.variable else {
+        return Ok(number_said(false));
+    };
+    if !shows_date(ctx, own) {
+        return nothing_said(ctx);
+    }
+    let found = peek_date(ctx, own)?;
+    Ok(number_said(lent(&found).is_some()))
+}
+
+/// Whether a date shows the variable that is asked for.
+///
+/// # Errors
+/// [`RenderError::Failed`]: the context had failed before.
+pub fn date_shown<'s, T: EntryLike>(
+    ctx: &mut Context<'s, T>,
+    node: &Date,
+    asked: Variable,
+) -> Result<bool, RenderError>
+    ensures value { IfOk result (λ answer. answer ≡ date_shows (world T.answers ctx.old)
+        ctx.old.state asked (view_date node.now)) }
+    ensures ok { OnOk result (Leaves same ctx.old ctx.new) }
+    ensures err { IfErr result (λ e. FailsAs e ctx.old ctx.new) }
+{
+    nothing(ctx)?;
+    let first = ctx.peek_is_first_date();
+    Ok(is_shown(ctx.special_form(), first, node.variable, asked))
+}
+
+/// Appends a date, whose variable is looked up for printing where the date shows it.
+///
+/// # Errors
+/// As [`date_info`].
+pub fn render_date<'s, T: EntryLike>(
+    node: &Date,
+    ctx: &mut Context<'s, T>,
+) -> Result<(), RenderError>
+    ensures ok { OnOk result (Leaves (λ now. with_made (date_tree (world T.answers now)
+        (view_date node.now) now.inherited now.state) now) ctx.old ctx.new) }
+    ensures err { IfErr result (λ e. FailsAs e ctx.old ctx.new) }
+{
+    let Some(own) = node.variable else {
+        return nothing(ctx);
+    };
+    if !shows_date(ctx, own) {
+        return nothing(ctx);
+    }
+    let found = ctx.resolve_date_variable(own)?;
+    match lent(&found) {
+        Some(date) => render_found(node, ctx, date),
+        None => nothing(ctx),
+    }
+}
+
+/// Whether the variable is that of the date.
+fn is_own(own: Option<DateVariable>, asked: Variable) -> bool
+    ensures { result ≡ is_own own asked }
+{
+    match own {
+        Some(own) => Variable::Date(own) == asked,
+        None => false,
+    }
+}
+
+/// Whether a date of a variable shows the one that is asked for. `first` says that no date was
+/// printed before.
+fn is_shown(
+    form: Option<SpecialForm>,
+    first: bool,
+    own: Option<DateVariable>,
+    asked: Variable,
+) -> bool
+    ensures { result ≡ date_shown form first own asked }
+{
+    match form {
+        None => is_own(own, asked),
+        Some(SpecialForm::VarOnly(only)) => is_own(own, asked) && is_own(own, only),
+        Some(SpecialForm::OnlyFirstDate) => first,
+        Some(SpecialForm::OnlyYearSuffix) => first,
+        Some(SpecialForm::SuppressAuthor) => is_own(own, asked),
+    }
+}
+
+/// Whether a date shows its own variable.
+fn shows_date<'s, T: EntryLike>(ctx: &Context<'s, T>, own: DateVariable) -> bool
+    ensures { result ≡ shows_date (world T.answers ctx.now) ctx.now.state own }
+{
+    let first = ctx.peek_is_first_date();
+    is_shown(ctx.special_form(), first, Some(own), Variable::Date(own))
+}
+
+/// A silent look, after whose failure the context has failed.
+fn peek_date<'s, T: EntryLike>(
+    ctx: &mut Context<'s, T>,
+    variable: DateVariable,
+) -> Result<Option<Cow<'s, Given>>, RenderError>
+    ensures value { IfOk result (λ found. option_map (behind date_parts) found
+        ≡ date_look (world T.answers ctx.old) ctx.old.state variable) }
+    ensures ok { OnOk result (Leaves same ctx.old ctx.new) }
+    ensures err { IfErr result (λ e. FailsAs e ctx.old ctx.new) }
+{
+    match ctx.peek_date_variable(variable) {
+        Ok(found) => Ok(found),
+        Err(error) => {
+            ctx.fail();
+            Err(error)
+        }
+    }
+}
+
+/// Appends the sort key of a date.
+fn render_key<'s, T: EntryLike>(
+    node: &Date,
+    ctx: &mut Context<'s, T>,
+    sorting: Sorting,
+    date: &Given,
+) -> Result<(), RenderError>
+    ensures ok { OnOk result (Leaves (λ now. with_made (date_or_key (world T.answers now)
+        (view_date node.now) (Some sorting) (date_parts date.now) now.inherited now.state) now)
+        ctx.old ctx.new) }
+    ensures err { IfErr result (λ e. FailsAs e ctx.old ctx.new) }
+{
+    let suffix = implicit_suffix(ctx)?;
+    match sort_key(ctx.alloc(), node, sorting, suffix.as_str(), date) {
+        Ok(key) => ctx.push_str(key.as_str()),
+        Err(_) => Err(out_of_memory(ctx)),
+    }
+}
+
+/// Appends the box of a date.
+fn render_box<'s, T: EntryLike>(
+    written: Written<'_>,
+    ctx: &mut Context<'s, T>,
+    date: &Given,
+) -> Result<(), RenderError>
+    ensures ok { OnOk result (Leaves (λ now. with_made (printed_date (world T.answers now)
+        (Some (written_node written.entry)) (date_parts date.now) now.inherited now.state) now)
+        ctx.old ctx.new) }
+    ensures err { IfErr result (λ e. FailsAs e ctx.old ctx.new) }
+{
+    let suffix = first_suffix(ctx)?;
+    let found = Found {
+        date,
+        suffix: suffix.as_str(),
+    };
+    ctx.push_format(written.formatting())?;
+    let element = ctx.push_elem()?;
+    let middle = ctx.apply_prefix()?;
+    render_parts(written, ctx, found)?;
+    ctx.apply_suffix(&written.node.affixes, middle, false)?;
+    ctx.commit_elem(element, written.node.display, Some(ElemMeta::Date))?;
+    ctx.pop_format();
+    Ok(())
+}
+
+/// Appends a date that was found: its sort key, where the cite is rendered to be sorted, else its
+/// box, unless it asks for a localized date that the style lacks.
+fn render_found<'s, T: EntryLike>(
+    node: &Date,
+    ctx: &mut Context<'s, T>,
+    date: &Given,
+) -> Result<(), RenderError>
+    ensures ok { OnOk result (Leaves (λ now. with_made (found_date (world T.answers now)
+        (view_date node.now) (Some (date_parts date.now)) now.inherited now.state) now)
+        ctx.old ctx.new) }
+    ensures err { IfErr result (λ e. FailsAs e ctx.old ctx.new) }
+{
+    if let Some(sorting) = ctx.sorting() {
+        return render_key(node, ctx, sorting, date);
+    }
+    let Some(form) = node.form else {
+        let localized = None;
+        return render_box(Written { node, localized }, ctx, date);
+    };
+    let localized = ctx.localized_date(form);
+    match localized {
+        Some(_) => render_box(Written { node, localized }, ctx, date),
+        None => nothing(ctx),
+    }
+}

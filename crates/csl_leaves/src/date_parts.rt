@@ -1,0 +1,279 @@
+//! The parts of a date (CSL 1.0.2, Date-part; Localized Date Formats; Affixes, Delimiter).
+
+ghost use Rattle.std.specs.Prelude.{◌≡◌, ◌&&◌, not, true, map, unwrap_or, option_map, IfOk, OnOk, IfErr, string_bytes};
+ghost use Rattle.lit_model.specs.Date.{date_parts};
+ghost use Rattle.csl_style.specs.declared.date.DateParts.TheVariants.{YearMonthDay};
+ghost use Rattle.csl_style.specs.Dressing.{dressing_of};
+ghost use Rattle.csl_style.specs.View.{view_date_part};
+ghost use Rattle.csl_tree.specs.Tokens.{has_children};
+ghost use Rattle.csl_context.specs.Now.{FailsAs, Leaves, world, with_content};
+ghost use Rattle.csl_context.specs.Texts.{text_in};
+ghost use Rattle.csl_leaves.specs.Boxes.{in_plain, plain_between};
+ghost use Rattle.csl_leaves.specs.Dates.{is_suffix_alone, own_part, form_over, formatting_over, part_over, suffix_with, part_value, is_stripped, part_content, behind_delimiter, date_body};
+ghost use Rattle.csl_leaves.specs.WrittenDates.{written_node, own_parts};
+
+use crate::boxes::Around;
+use crate::date_suffix::is_suffix_alone;
+use crate::date_text::{is_written, part_text};
+use crate::nothing::{nothing, out_of_memory};
+use csl_context::{Context, RenderError};
+use csl_entry::EntryLike;
+use csl_style::{Affixes, Date, DateAnyForm, DatePart, DatePartName, DateParts, Formatting};
+use lit_model::{Date as Given, Memory};
+
+/// A date as it is written: the node and, where it asks for one, the localized date that it is
+/// over.
+#[derive(Clone, Copy)]
+pub(crate) struct Written<'d> {
+    pub(crate) node: &'d Date,
+    pub(crate) localized: Option<&'d Date>,
+}
+
+/// What is written: the date that the cite answers, and the suffix that comes with its year.
+#[derive(Clone, Copy)]
+pub(crate) struct Found<'d> {
+    pub(crate) date: &'d Given,
+    pub(crate) suffix: &'d str,
+}
+
+/// The first part of that name.
+fn part_named(parts: &[DatePart], name: DatePartName) -> Option<&DatePart>
+    ensures { option_map (λ part. view_date_part part.now) result
+        ≡ own_part (map view_date_part parts.now) name }
+{
+    for part in parts {
+        if part.name == name {
+            return Some(part);
+        }
+    }
+    None
+}
+
+impl<'d> Written<'d> {
+    /// Which parts are written.
+    fn parts(self) -> DateParts
+        ensures { result ≡ unwrap_or (written_node self.entry).parts YearMonthDay }
+    {
+        match self.localized {
+            None => self.node.parts.unwrap_or(DateParts::YearMonthDay),
+            Some(localized) => self
+                .node
+                .parts
+                .or(localized.parts)
+                .unwrap_or(DateParts::YearMonthDay),
+        }
+    }
+
+    /// What stands between two parts that print something.
+    fn delimiter(self) -> Option<&'d str>
+        ensures { option_map (λ t. t.now) result ≡ (written_node self.entry).delimiter }
+    {
+        match self.localized {
+            None => self.node.delimiter.as_deref(),
+            Some(localized) => localized.delimiter.as_deref(),
+        }
+    }
+
+    /// The formatting of the whole.
+    pub(crate) fn formatting(self) -> Formatting
+        ensures { result ≡ (written_node self.entry).dressing.formatting }
+    {
+        match self.localized {
+            None => self.node.formatting,
+            Some(localized) => self.node.formatting.apply(localized.formatting),
+        }
+    }
+
+    /// The parts in order, over which those of the node are still to be put.
+    fn date_part(self) -> &'d [DatePart]
+        ensures { map (part_over (own_parts self.entry)) (map view_date_part result.now)
+            ≡ (written_node self.entry).date_part }
+    {
+        match self.localized {
+            None => &self.node.date_part,
+            Some(localized) => &localized.date_part,
+        }
+    }
+
+    /// The node's own part of that name, if it stands over one of a localized date.
+    fn own_part(self, name: DatePartName) -> Option<&'d DatePart>
+        ensures { option_map (λ part. view_date_part part.now) result
+            ≡ own_part (own_parts self.entry) name }
+    {
+        match self.localized {
+            None => None,
+            Some(_) => part_named(&self.node.date_part, name),
+        }
+    }
+}
+
+/// The form of a part.
+fn form_over(own: Option<&DatePart>, form: Option<DateAnyForm>) -> Option<DateAnyForm>
+    ensures { result ≡ form_over (option_map (λ part. view_date_part part.now) own.entry) form }
+{
+    match own {
+        Some(own) => own.form,
+        None => form,
+    }
+}
+
+/// The formatting of a part.
+fn formatting_over(own: Option<&DatePart>, formatting: Formatting) -> Formatting
+    ensures { result
+        ≡ formatting_over (option_map (λ part. view_date_part part.now) own.entry) formatting }
+{
+    match own {
+        Some(own) => own.formatting.apply(formatting),
+        None => formatting,
+    }
+}
+
+/// Whether a part loses its periods.
+fn is_stripped(name: DatePartName, strip: bool) -> bool
+    ensures { result ≡ is_stripped name strip }
+{
+    match name {
+        DatePartName::Day => false,
+        DatePartName::Month => strip,
+        DatePartName::Year => false,
+    }
+}
+
+/// The suffix, if it comes with that part.
+fn suffix_with(name: DatePartName, suffix: &str) -> &str
+    ensures { result.now ≡ suffix_with name suffix.now }
+{
+    match name {
+        DatePartName::Day => "",
+        DatePartName::Month => "",
+        DatePartName::Year => suffix,
+    }
+}
+
+/// What a part says.
+fn part_value<T>(
+    ctx: &Context<'_, T>,
+    found: Found<'_>,
+    parts: DateParts,
+    name: DatePartName,
+    form: Option<DateAnyForm>,
+) -> Result<String, Memory>
+    ensures { IfOk result (λ text. string_bytes text ≡ part_value ctx.now.style
+        (is_suffix_alone ctx.now.special) parts found.entry.suffix.now
+        (date_parts found.entry.date.now) name form) }
+{
+    let alone = is_suffix_alone(ctx.special_form());
+    let mut text = if !alone && is_written(parts, found.date, name) {
+        part_text(ctx, name, form, found.date)?
+    } else {
+        String::new(ctx.alloc())
+    };
+    text.push_str(suffix_with(name, found.suffix))?;
+    Ok(text)
+}
+
+/// Appends a text in its affixes, without a box.
+fn write_part<'s, T: EntryLike>(
+    around: Around<'_>,
+    ctx: &mut Context<'s, T>,
+    text: &str,
+) -> Result<(), RenderError>
+    ensures ok { OnOk result (Leaves (with_content (λ inh. plain_between (dressing_of
+        around.entry.formatting around.entry.affixes.now around.entry.display) inh
+        (text_in (in_plain (dressing_of around.entry.formatting around.entry.affixes.now
+        around.entry.display) around.entry.strip_periods inh) text.now))) ctx.old ctx.new) }
+    ensures err { IfErr result (λ e. FailsAs e ctx.old ctx.new) }
+{
+    ctx.push_format(around.formatting)?;
+    let middle = ctx.apply_prefix()?;
+    let stripping = ctx.may_strip_periods(around.strip_periods);
+    ctx.push_str(text)?;
+    ctx.stop_stripping_periods(stripping);
+    ctx.apply_suffix(around.affixes, middle, false)?;
+    ctx.pop_format();
+    Ok(())
+}
+
+/// Appends a part in its affixes.
+fn render_part<'s, T: EntryLike>(
+    written: Written<'_>,
+    ctx: &mut Context<'s, T>,
+    found: Found<'_>,
+    part: &DatePart,
+) -> Result<(), RenderError>
+    ensures ok { OnOk result (Leaves (λ now. with_content (λ inh. part_content (world T.answers now)
+        (unwrap_or (written_node written.entry).parts YearMonthDay) found.entry.suffix.now
+        (date_parts found.entry.date.now) inh (part_over (own_parts written.entry)
+        (view_date_part part.now))) now) ctx.old ctx.new) }
+    ensures err { IfErr result (λ e. FailsAs e ctx.old ctx.new) }
+{
+    let bare = Affixes::default();
+    let own = written.own_part(part.name);
+    let alone = is_suffix_alone(ctx.special_form());
+    let around = Around {
+        formatting: formatting_over(own, part.formatting),
+        affixes: if alone { &bare } else { &part.affixes },
+        display: None,
+        strip_periods: is_stripped(part.name, part.strip_periods),
+    };
+    let form = form_over(own, part.form);
+    match part_value(ctx, found, written.parts(), part.name, form) {
+        Ok(text) => write_part(around, ctx, text.as_str()),
+        Err(_) => Err(out_of_memory(ctx)),
+    }
+}
+
+/// Appends a part, behind the delimiter unless no part of the date was printed yet. It answers
+/// whether still none was.
+fn render_behind<'s, T: EntryLike>(
+    written: Written<'_>,
+    ctx: &mut Context<'s, T>,
+    found: Found<'_>,
+    part: &DatePart,
+    first: bool,
+) -> Result<bool, RenderError>
+    ensures value { IfOk result (λ still. still ≡ (first && not (has_children (part_content
+        (world T.answers ctx.old) (unwrap_or (written_node written.entry).parts YearMonthDay)
+        found.entry.suffix.now (date_parts found.entry.date.now) ctx.old.inherited (part_over
+        (own_parts written.entry) (view_date_part part.now)))))) }
+    ensures ok { OnOk result (Leaves (λ now. with_content (λ inh. behind_delimiter inh
+        (written_node written.entry).delimiter first (part_content (world T.answers now)
+        (unwrap_or (written_node written.entry).parts YearMonthDay) found.entry.suffix.now
+        (date_parts found.entry.date.now) inh (part_over (own_parts written.entry)
+        (view_date_part part.now)))) now) ctx.old ctx.new) }
+    ensures err { IfErr result (λ e. FailsAs e ctx.old ctx.new) }
+{
+    let mark = ctx.push_elem()?;
+    render_part(written, ctx, found, part)?;
+    let is_empty = ctx.open_part_is_empty();
+    if first {
+        ctx.splice(mark)?;
+        return Ok(is_empty);
+    }
+    ctx.splice_affixed(mark, written.delimiter(), None)?;
+    Ok(false)
+}
+
+/// Appends the parts that print something, with the delimiter between them.
+///
+/// # Errors
+/// [`RenderError::Memory`]: there was no memory left. The context has failed.
+/// [`RenderError::Failed`]: the context had failed before.
+pub(crate) fn render_parts<'s, T: EntryLike>(
+    written: Written<'_>,
+    ctx: &mut Context<'s, T>,
+    found: Found<'_>,
+) -> Result<(), RenderError>
+    ensures ok { OnOk result (Leaves (λ now. with_content (date_body (world T.answers now)
+        (written_node written.entry) found.entry.suffix.now (date_parts found.entry.date.now)) now)
+        ctx.old ctx.new) }
+    ensures err { IfErr result (λ e. FailsAs e ctx.old ctx.new) }
+{
+    nothing(ctx)?;
+    let mut first = true;
+    let parts = written.date_part();
+    for part in parts {
+        first = render_behind(written, ctx, found, part, first)?;
+    }
+    Ok(())
+}

@@ -1,0 +1,77 @@
+//! The year suffix behind the first year (CSL 1.0.2, Disambiguation: disambiguate-add-year-suffix).
+
+ghost use Rattle.std.specs.Prelude.{◌≡◌, IfOk, OnOk, IfErr, string_bytes};
+ghost use Rattle.csl_context.specs.Now.{FailsAs, Leaves, same, world, with_first_date};
+ghost use Rattle.csl_leaves.specs.Dates.{suffix_text, implicit_suffix, first_suffix, is_suffix_alone};
+
+use crate::nothing::nothing;
+use crate::standard::peek_standard;
+use csl_context::{Context, RenderError};
+use csl_entry::{EntryLike, SpecialForm};
+use csl_style::StandardVariable;
+use lit_model::LongShortForm;
+
+/// Whether the parts of a date lose all but the suffix.
+pub(crate) fn is_suffix_alone(form: Option<SpecialForm>) -> bool
+    ensures { result ≡ is_suffix_alone form }
+{
+    match form {
+        None => false,
+        Some(SpecialForm::VarOnly(_)) => false,
+        Some(SpecialForm::OnlyFirstDate) => false,
+        Some(SpecialForm::OnlyYearSuffix) => true,
+        Some(SpecialForm::SuppressAuthor) => false,
+    }
+}
+
+/// The suffix that stands behind the first year: an empty text where the cite has none, and where
+/// the layout has a place of its own for it. The look is silent.
+///
+/// # Errors
+/// [`RenderError::Memory`]: there was no memory left, or the entry said so. The context has failed.
+/// [`RenderError::Failed`]: the context had failed before.
+pub(crate) fn implicit_suffix<'s, T: EntryLike>(
+    ctx: &mut Context<'s, T>,
+) -> Result<String, RenderError>
+    ensures value { IfOk result (λ suffix. string_bytes suffix
+        ≡ implicit_suffix (world T.answers ctx.old) ctx.old.state) }
+    ensures ok { OnOk result (Leaves same ctx.old ctx.new) }
+    ensures err { IfErr result (λ e. FailsAs e ctx.old ctx.new) }
+{
+    nothing(ctx)?;
+    let alloc = ctx.alloc();
+    if !ctx.style().renders_year_suffix_implicitly(ctx.scope()) {
+        return Ok(String::new(alloc));
+    }
+    match peek_standard(ctx, LongShortForm::Long, StandardVariable::YearSuffix)? {
+        Some(found) => match found.as_ref().to_text(alloc) {
+            Ok(suffix) => Ok(suffix),
+            Err(_) => {
+                ctx.fail();
+                Err(RenderError::Memory)
+            }
+        },
+        None => Ok(String::new(alloc)),
+    }
+}
+
+/// The suffix of a date that is printed now: that behind the first year where no date was printed
+/// before, else an empty text. From now on one was.
+///
+/// # Errors
+/// As [`implicit_suffix`].
+pub(crate) fn first_suffix<'s, T: EntryLike>(
+    ctx: &mut Context<'s, T>,
+) -> Result<String, RenderError>
+    ensures value { IfOk result (λ suffix. string_bytes suffix
+        ≡ first_suffix (world T.answers ctx.old) ctx.old.state) }
+    ensures ok { OnOk result (Leaves with_first_date ctx.old ctx.new) }
+    ensures err { IfErr result (λ e. FailsAs e ctx.old ctx.new) }
+{
+    nothing(ctx)?;
+    if ctx.is_first_date() {
+        implicit_suffix(ctx)
+    } else {
+        Ok(String::new(ctx.alloc()))
+    }
+}

@@ -1,0 +1,125 @@
+//! What stands around the body of a text (CSL 1.0.2, Formatting, Affixes, Display, Quotes,
+//! Strip-periods).
+
+ghost use Rattle.std.specs.Prelude.{◌≡◌, ◌+◌, length, IfOk, OnOk, IfErr};
+ghost use Rattle.csl_style.specs.Dressing.{affix_texts};
+ghost use Rattle.csl_style.specs.View.{text_dressing};
+ghost use Rattle.csl_tree.specs.Tokens.{optional_meta};
+ghost use Rattle.csl_context.specs.Now.{FailsAs, Leaves, IsInnermost, with_part, closed_by, with_content};
+ghost use Rattle.csl_leaves.specs.Text.{made, in_body, in_quotes_if, moved_if, turned_if, text_box, with_made};
+ghost use Rattle.csl_leaves.specs.Bodies.{body_in};
+
+use crate::answered::Shown;
+use csl_context::{Context, Mark, RenderError};
+use csl_entry::EntryLike;
+use csl_style::{Affixes, Text};
+use csl_tree::ElemMeta;
+use lit_model::ChunkedString;
+
+/// What stands inside the quotes and affixes of a text that calls no macro.
+#[derive(Clone, Copy)]
+pub(crate) enum Body<'b> {
+    Words(&'b str),
+    Pieces(&'b ChunkedString),
+    Link { text: &'b str, url: &'b str },
+    Answered(&'b Shown),
+}
+
+/// Opens the inside of quotes, or a part without quotes.
+///
+/// # Errors
+/// [`RenderError::Memory`]: there was no memory left. The context has failed.
+/// [`RenderError::Failed`]: the context had failed before.
+pub fn open_quotes<'s, T: EntryLike>(
+    ctx: &mut Context<'s, T>,
+    quotes: bool,
+) -> Result<Mark, RenderError>
+    ensures ok { OnOk result (Leaves (λ now. with_part (turned_if quotes now)) ctx.old ctx.new) }
+    ensures mark { IfOk result (λ mark. length ctx.new.outer ≡ mark.depth + 1) }
+    ensures err { IfErr result (λ e. FailsAs e ctx.old ctx.new) }
+{
+    if quotes {
+        ctx.push_quotes()
+    } else {
+        ctx.push_elem()
+    }
+}
+
+/// Closes the inside of quotes, or a part without quotes. It answers whether the front of the
+/// suffix went into them.
+///
+/// # Errors
+/// As [`open_quotes`].
+pub fn close_quotes<'s, T: EntryLike>(
+    ctx: &mut Context<'s, T>,
+    mark: Mark,
+    quotes: bool,
+    affixes: &Affixes,
+) -> Result<bool, RenderError>
+    requires innermost { IsInnermost mark ctx.old }
+    ensures ok { OnOk result (Leaves (λ now. closed_by (λ inh c. in_quotes_if quotes now.style inh
+        (affix_texts affixes.now).suffix c) (turned_if quotes now)) ctx.old ctx.new) }
+    ensures moved { IfOk result (λ moved. moved ≡ moved_if quotes ctx.old.style
+        (affix_texts affixes.now).suffix ctx.old.inner) }
+    ensures err { IfErr result (λ e. FailsAs e ctx.old ctx.new) }
+{
+    if quotes {
+        let moved = ctx.pop_quotes(mark, affixes.suffix.as_deref())?;
+        Ok(moved)
+    } else {
+        ctx.splice(mark)?;
+        Ok(false)
+    }
+}
+
+/// Appends a body.
+///
+/// # Errors
+/// As [`open_quotes`].
+pub(crate) fn write_body<'s, T: EntryLike>(
+    ctx: &mut Context<'s, T>,
+    body: Body<'_>,
+) -> Result<(), RenderError>
+    ensures ok { OnOk result (Leaves (with_content (λ inh. body_in inh body.entry))
+        ctx.old ctx.new) }
+    ensures err { IfErr result (λ e. FailsAs e ctx.old ctx.new) }
+{
+    match body {
+        Body::Words(words) => ctx.push_str(words),
+        Body::Pieces(pieces) => ctx.push_chunked(pieces),
+        Body::Link { text, url } => ctx.push_link(text, url),
+        Body::Answered(Shown::Words(words)) => ctx.push_str(words.as_str()),
+        Body::Answered(Shown::Place(index)) => ctx.push_transparent(*index),
+    }
+}
+
+/// Appends a text's box around a body.
+///
+/// # Errors
+/// As [`open_quotes`].
+pub(crate) fn render_body<'s, T: EntryLike>(
+    text: &Text,
+    ctx: &mut Context<'s, T>,
+    affixes: &Affixes,
+    meta: Option<ElemMeta>,
+    body: Body<'_>,
+) -> Result<(), RenderError>
+    ensures ok { OnOk result (Leaves (λ now. with_made (made (text_box now.style
+        (affix_texts affixes.now) (text_dressing text.now) (optional_meta meta) now.inherited
+        (body_in (in_body (text_dressing text.now) now.inherited) body.entry)) now.state) now)
+        ctx.old ctx.new) }
+    ensures err { IfErr result (λ e. FailsAs e ctx.old ctx.new) }
+{
+    ctx.push_format(text.formatting)?;
+    let element = ctx.push_elem()?;
+    let middle = ctx.apply_prefix()?;
+    let inside = open_quotes(ctx, text.quotes)?;
+    let stripping = ctx.may_strip_periods(text.strip_periods);
+    write_body(ctx, body)?;
+    ctx.stop_stripping_periods(stripping);
+    let moved = close_quotes(ctx, inside, text.quotes, affixes)?;
+    ctx.apply_suffix(affixes, middle, moved)?;
+    ctx.commit_elem(element, text.display, meta)?;
+    ctx.pop_format();
+    Ok(())
+}

@@ -1,0 +1,209 @@
+//! Labels (CSL 1.0.2, Label; Locators).
+
+ghost use Rattle.std.specs.Prelude.{◌≡◌, IfOk, OnOk, IfErr, option_map};
+ghost use Rattle.csl_style.specs.Names.{view_label};
+ghost use Rattle.csl_entry.specs.NumberResult.{result_view, number_or_page_view};
+ghost use Rattle.csl_context.specs.Now.{FailsAs, Leaves, same, world};
+ghost use Rattle.csl_leaves.specs.Labels.{label_info, label_tree, label_term, is_count, plural_number, is_plural, label_text, is_locator, is_other_number, unless_locator, said_by_form};
+ghost use Rattle.csl_leaves.specs.Text.{with_made};
+ghost use Rattle.csl_leaves.specs.Usages.{told};
+
+use crate::answered::peek_number_or_page;
+use crate::boxes::{Around, render_plain};
+use crate::dressing::Body;
+use crate::nothing::nothing;
+use crate::usage::UsageInfo;
+use csl_context::{Context, RenderError};
+use csl_entry::{EntryLike, NumberOrPageVariableResult, NumberVariableResult, SpecialForm};
+use csl_style::{
+    Label, LabelPluralize, Locator, NumberOrPageVariable, NumberVariable, Term, Variable,
+};
+use csl_tree::ElemMeta;
+use lit_model::MaybeTyped;
+
+/// What a label says.
+///
+/// # Errors
+/// [`RenderError::Memory`]: there was no memory left, or the entry said so. The context has failed.
+/// [`RenderError::Failed`]: the context had failed before.
+pub fn label_info<'s, T: EntryLike>(
+    ctx: &mut Context<'s, T>,
+    label: &Label,
+) -> Result<(bool, UsageInfo), RenderError>
+    ensures value { IfOk result (λ answer. told answer ≡ label_info (world T.answers ctx.old)
+        ctx.old.state label.now.variable (view_label label.now.label)) }
+    ensures ok { OnOk result (Leaves same ctx.old ctx.new) }
+    ensures err { IfErr result (λ e. FailsAs e ctx.old ctx.new) }
+{
+    nothing(ctx)?;
+    match said_by_form(ctx.special_form(), label.variable) {
+        Some(prints) => Ok((prints, UsageInfo::default())),
+        None => {
+            let text = label_text(ctx, label)?;
+            Ok((text.is_some(), UsageInfo::default()))
+        }
+    }
+}
+
+/// Appends a label, whose variable is looked up silently.
+///
+/// # Errors
+/// As [`label_info`].
+pub fn render_label<'s, T: EntryLike>(
+    label: &Label,
+    ctx: &mut Context<'s, T>,
+) -> Result<(), RenderError>
+    ensures ok { OnOk result (Leaves (λ now. with_made (label_tree (world T.answers now)
+        label.now.variable (view_label label.now.label) now.inherited now.state) now)
+        ctx.old ctx.new) }
+    ensures err { IfErr result (λ e. FailsAs e ctx.old ctx.new) }
+{
+    if let Some(false) = said_by_form(ctx.special_form(), label.variable) {
+        return nothing(ctx);
+    }
+    match label_text(ctx, label)? {
+        Some(text) => {
+            let around = Around {
+                formatting: label.label.formatting,
+                affixes: &label.label.affixes,
+                display: None,
+                strip_periods: label.label.strip_periods,
+            };
+            render_plain(around, ctx, ElemMeta::Label, Body::Words(text))
+        }
+        None => nothing(ctx),
+    }
+}
+
+/// Whether the variable is the locator.
+fn is_locator(variable: NumberOrPageVariable) -> bool
+    ensures { result ≡ is_locator variable }
+{
+    match variable {
+        NumberOrPageVariable::Number(variable) => variable == NumberVariable::Locator,
+        NumberOrPageVariable::Page(_) => false,
+    }
+}
+
+/// Whether the first is a number, and another variable than the second.
+fn is_other_number(only: Variable, variable: NumberOrPageVariable) -> bool
+    ensures { result ≡ is_other_number only variable }
+{
+    match only {
+        Variable::Standard(_) => false,
+        Variable::Number(_) => only != Variable::from(variable),
+        Variable::Page(_) => false,
+        Variable::Name(_) => false,
+        Variable::Date(_) => false,
+    }
+}
+
+/// Any label but that of a locator stays.
+fn unless_locator(variable: NumberOrPageVariable) -> Option<bool>
+    ensures { result ≡ unless_locator variable }
+{
+    if is_locator(variable) {
+        None
+    } else {
+        Some(true)
+    }
+}
+
+/// What a special form says of a label of the variable without a look.
+fn said_by_form(form: Option<SpecialForm>, variable: NumberOrPageVariable) -> Option<bool>
+    ensures { result ≡ said_by_form form variable }
+{
+    match form {
+        None => None,
+        Some(SpecialForm::VarOnly(only)) => {
+            if is_other_number(only, variable) {
+                Some(false)
+            } else {
+                unless_locator(variable)
+            }
+        }
+        Some(SpecialForm::OnlyFirstDate) => unless_locator(variable),
+        Some(SpecialForm::OnlyYearSuffix) => unless_locator(variable),
+        Some(SpecialForm::SuppressAuthor) => None,
+    }
+}
+
+/// The term of a label of the variable: for a locator that of its kind, unless the kind is the
+/// citation's own.
+fn label_term<T>(ctx: &Context<'_, T>, variable: NumberOrPageVariable) -> Option<Term>
+    ensures { result ≡ label_term ctx.now.cite variable }
+{
+    if !is_locator(variable) {
+        return Some(Term::from(variable));
+    }
+    match ctx.instance().cite_props.speculative.locator {
+        Some(place) if place.0 != Locator::Custom => Some(Term::Locator(place.0)),
+        _ => None,
+    }
+}
+
+/// Whether the variable counts pages or volumes.
+fn is_count(variable: NumberOrPageVariable) -> bool
+    ensures { result ≡ is_count variable }
+{
+    match variable {
+        NumberOrPageVariable::Number(variable) => {
+            variable == NumberVariable::NumberOfPages || variable == NumberVariable::NumberOfVolumes
+        }
+        NumberOrPageVariable::Page(_) => false,
+    }
+}
+
+/// Whether a term beside the answer to a number variable is in the plural.
+fn plural_number(counts: bool, found: &NumberVariableResult<'_>) -> bool
+    ensures { result ≡ plural_number counts (result_view found.now) }
+{
+    match found {
+        NumberVariableResult::Regular(MaybeTyped::Typed(number)) => {
+            number.as_ref().is_plural(counts)
+        }
+        NumberVariableResult::Regular(MaybeTyped::String(_)) => false,
+        NumberVariableResult::Transparent(_) => false,
+    }
+}
+
+/// Whether a label is in the plural beside an answer. Beside pages it is where the pages are,
+/// whatever it asks for.
+fn is_plural(label: &Label, found: &NumberOrPageVariableResult<'_>) -> bool
+    ensures { result ≡ is_plural label.now.label.plural label.now.variable
+        (number_or_page_view found.now) }
+{
+    match found {
+        NumberOrPageVariableResult::Number(number) => match label.label.plural {
+            LabelPluralize::Contextual => plural_number(is_count(label.variable), number),
+            LabelPluralize::Always => true,
+            LabelPluralize::Never => false,
+        },
+        NumberOrPageVariableResult::Page(MaybeTyped::Typed(pages)) => pages.is_plural(),
+        NumberOrPageVariableResult::Page(MaybeTyped::String(_)) => false,
+    }
+}
+
+/// The text of a label, where its variable and its term are found. The look is silent.
+///
+/// # Errors
+/// [`RenderError::Memory`]: there was no memory left, or the entry said so. The context has failed.
+/// [`RenderError::Failed`]: the context had failed before.
+fn label_text<'s, T: EntryLike>(
+    ctx: &mut Context<'s, T>,
+    label: &Label,
+) -> Result<Option<&'s str>, RenderError>
+    ensures value { IfOk result (λ text. option_map (λ t. t.now) text
+        ≡ label_text (world T.answers ctx.old) ctx.old.state label.now.variable
+        (view_label label.now.label)) }
+    ensures ok { OnOk result (Leaves same ctx.old ctx.new) }
+    ensures err { IfErr result (λ e. FailsAs e ctx.old ctx.new) }
+{
+    match peek_number_or_page(ctx, label.variable)? {
+        Some(found) => match label_term(ctx, label.variable) {
+            Some(term) => Ok(ctx.term(term, label.label.form, is_plural(label, &found))),
+            None => Ok(None),
+        },
+        None => Ok(None),
+    }
+}

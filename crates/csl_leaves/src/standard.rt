@@ -1,0 +1,221 @@
+//! Texts of a standard variable (CSL 1.0.2, Text: variable; Appendix VI: Links).
+
+ghost use Rattle.std.specs.Prelude.{◌≡◌, ◌++◌, if◌then◌else◌, Some, None, true, false, option_map, string_bytes, IfOk, OnOk, IfErr};
+ghost use Rattle.lit_model.specs.Text.{chunks};
+ghost use Rattle.lit_model.specs.Chunks.{text_of};
+ghost use Rattle.csl_entry.specs.Answers.{behind};
+ghost use Rattle.csl_style.specs.Node.{of_variable};
+ghost use Rattle.csl_style.specs.View.{text_dressing};
+ghost use Rattle.csl_tree.specs.Tokens.{meta_of};
+ghost use Rattle.csl_context.specs.World.{standard_look};
+ghost use Rattle.csl_context.specs.Now.{FailsAs, Leaves, same, world};
+ghost use Rattle.csl_leaves.specs.Flags.{info_of, flags};
+ghost use Rattle.csl_leaves.specs.Text.{answer, made, in_body, text_box, found_affixes, standard_meta, found_meta, found_body, target_info, target_shows, target_tree, with_made};
+ghost use Rattle.csl_leaves.specs.Usages.{told};
+
+use crate::dressing::{Body, render_body};
+use crate::links::{address, address_prefix, begins_link};
+use crate::nothing::{nothing, nothing_shown};
+use crate::special::shows_variable;
+use crate::usage::UsageInfo;
+use csl_context::{Context, RenderError};
+use csl_entry::EntryLike;
+use csl_style::{Affixes, StandardVariable, Text, Variable};
+use csl_tree::ElemMeta;
+use lit_model::{ChunkedString, LongShortForm, Memory};
+use std::alloc::Global;
+use std::borrow::Cow;
+
+/// A silent look, after whose failure the context has failed.
+///
+/// # Errors
+/// [`RenderError::Memory`]: there was no memory left, or the entry said so. The context has failed.
+/// [`RenderError::Failed`]: the context had failed before.
+pub(crate) fn peek_standard<'s, T: EntryLike>(
+    ctx: &mut Context<'s, T>,
+    form: LongShortForm,
+    variable: StandardVariable,
+) -> Result<Option<Cow<'s, ChunkedString>>, RenderError>
+    ensures value { IfOk result (λ found. option_map (behind chunks) found
+        ≡ standard_look (world T.answers ctx.old) ctx.old.state form variable) }
+    ensures ok { OnOk result (Leaves same ctx.old ctx.new) }
+    ensures err { IfErr result (λ e. FailsAs e ctx.old ctx.new) }
+{
+    match ctx.peek_standard_variable(form, variable) {
+        Ok(found) => Ok(found),
+        Err(error) => {
+            ctx.fail();
+            Err(error)
+        }
+    }
+}
+
+/// What a text says of a variable that it calls and finds nothing of.
+///
+/// # Errors
+/// [`RenderError::Failed`]: the context had failed before.
+pub(crate) fn called_in_vain<'s, T: EntryLike>(
+    ctx: &mut Context<'s, T>,
+) -> Result<(bool, UsageInfo), RenderError>
+    ensures value { IfOk result (λ answer. told answer
+        ≡ info_of false (flags true false false false)) }
+    ensures ok { OnOk result (Leaves same ctx.old ctx.new) }
+    ensures err { IfErr result (λ e. FailsAs e ctx.old ctx.new) }
+{
+    nothing(ctx)?;
+    Ok((false, UsageInfo::of_variable(true, false)))
+}
+
+/// What a text of a standard variable says. The year suffix is called only where it is found.
+///
+/// # Errors
+/// [`RenderError::Memory`]: there was no memory left, or the entry said so. The context has failed.
+/// [`RenderError::Failed`]: the context had failed before.
+pub(crate) fn standard_info<'s, T: EntryLike>(
+    ctx: &mut Context<'s, T>,
+    form: LongShortForm,
+    variable: StandardVariable,
+) -> Result<(bool, UsageInfo), RenderError>
+    ensures value { IfOk result (λ answer. told answer ≡ target_info (world T.answers ctx.old)
+        ctx.old.state (of_variable (Variable.Standard variable) form)) }
+    ensures ok { OnOk result (Leaves same ctx.old ctx.new) }
+    ensures err { IfErr result (λ e. FailsAs e ctx.old ctx.new) }
+{
+    nothing(ctx)?;
+    let called = variable != StandardVariable::YearSuffix;
+    if !shows_variable(ctx.special_form(), Variable::Standard(variable)) {
+        return Ok((false, UsageInfo::of_variable(called, false)));
+    }
+    match peek_standard(ctx, form, variable)? {
+        Some(found) => {
+            let prints = !found.as_ref().is_empty();
+            Ok((prints, UsageInfo::of_variable(true, prints)))
+        }
+        None => Ok((false, UsageInfo::of_variable(called, false))),
+    }
+}
+
+/// Whether a text of a standard variable shows the variable that is asked for.
+///
+/// # Errors
+/// As [`standard_info`].
+pub(crate) fn standard_shown<'s, T: EntryLike>(
+    ctx: &mut Context<'s, T>,
+    form: LongShortForm,
+    variable: StandardVariable,
+    asked: Variable,
+) -> Result<bool, RenderError>
+    ensures value { IfOk result (λ answer. answer ≡ target_shows (world T.answers ctx.old)
+        ctx.old.state asked (of_variable (Variable.Standard variable) form)) }
+    ensures ok { OnOk result (Leaves same ctx.old ctx.new) }
+    ensures err { IfErr result (λ e. FailsAs e ctx.old ctx.new) }
+{
+    if !shows_variable(ctx.special_form(), Variable::Standard(variable)) {
+        return nothing_shown(ctx);
+    }
+    match peek_standard(ctx, form, variable)? {
+        Some(_) => Ok(Variable::Standard(variable) == asked),
+        None => Ok(false),
+    }
+}
+
+/// Which node a text of the variable is said to be.
+fn standard_meta(variable: StandardVariable) -> ElemMeta
+    ensures { meta_of result ≡ standard_meta variable }
+{
+    if variable == StandardVariable::CitationLabel {
+        ElemMeta::CitationLabel
+    } else {
+        ElemMeta::Text
+    }
+}
+
+/// The address and the text of a link to an answer behind a prefix.
+///
+/// # Errors
+/// [`Memory`]: there was no memory left.
+fn linked(
+    alloc: Global,
+    prefix: &str,
+    found: &ChunkedString,
+    begins: bool,
+) -> Result<(String, String), Memory>
+    ensures url { IfOk result (λ link. string_bytes link.0
+        ≡ prefix.now ++ text_of (chunks found.now)) }
+    ensures text { IfOk result (λ link. string_bytes link.1 ≡ (if begins
+        then prefix.now ++ text_of (chunks found.now) else text_of (chunks found.now))) }
+{
+    let url = address(alloc, prefix, found)?;
+    let text = if begins {
+        address(alloc, prefix, found)?
+    } else {
+        found.to_text(alloc)?
+    };
+    Ok((url, text))
+}
+
+/// Appends a text of a standard variable that has this answer: as a link, where the variable names
+/// an address, else as it stands.
+///
+/// # Errors
+/// As [`render_standard`].
+fn render_answer<'s, T: EntryLike>(
+    text: &Text,
+    ctx: &mut Context<'s, T>,
+    variable: StandardVariable,
+    found: &ChunkedString,
+) -> Result<(), RenderError>
+    ensures ok { OnOk result (Leaves (λ now. with_made (made (text_box now.style
+        (found_affixes (text_dressing text.now) (answer variable (chunks found.now)))
+        (text_dressing text.now) (found_meta (answer variable (chunks found.now))) now.inherited
+        (found_body now.style (text_dressing text.now) (in_body (text_dressing text.now)
+        now.inherited) (answer variable (chunks found.now)))) now.state) now) ctx.old ctx.new) }
+    ensures err { IfErr result (λ e. FailsAs e ctx.old ctx.new) }
+{
+    nothing(ctx)?;
+    let bare = Affixes::default();
+    let begins = begins_link(text, variable);
+    let affixes = if begins { &bare } else { &text.affixes };
+    let meta = Some(standard_meta(variable));
+    let Some(prefix) = address_prefix(variable) else {
+        return render_body(text, ctx, affixes, meta, Body::Pieces(found));
+    };
+    match linked(ctx.alloc(), prefix, found, begins) {
+        Ok((url, shown)) => {
+            let body = Body::Link {
+                text: shown.as_str(),
+                url: url.as_str(),
+            };
+            render_body(text, ctx, affixes, meta, body)
+        }
+        Err(_) => {
+            ctx.fail();
+            Err(RenderError::Memory)
+        }
+    }
+}
+
+/// Appends a text of a standard variable, which is looked up for printing.
+///
+/// # Errors
+/// [`RenderError::Memory`]: there was no memory left, or the entry said so. The context has failed.
+/// [`RenderError::Failed`]: the context had failed before.
+pub(crate) fn render_standard<'s, T: EntryLike>(
+    text: &Text,
+    ctx: &mut Context<'s, T>,
+    form: LongShortForm,
+    variable: StandardVariable,
+) -> Result<(), RenderError>
+    ensures ok { OnOk result (Leaves (λ now. with_made (target_tree (world T.answers now)
+        (of_variable (Variable.Standard variable) form) (text_dressing text.now) now.inherited
+        now.state) now) ctx.old ctx.new) }
+    ensures err { IfErr result (λ e. FailsAs e ctx.old ctx.new) }
+{
+    if !shows_variable(ctx.special_form(), Variable::Standard(variable)) {
+        return nothing(ctx);
+    }
+    match ctx.resolve_standard_variable(form, variable)? {
+        Some(found) => render_answer(text, ctx, variable, found.as_ref()),
+        None => nothing(ctx),
+    }
+}

@@ -1,0 +1,97 @@
+//! Texts of a variable (CSL 1.0.2, Text: variable). No name and no date is found.
+
+ghost use Rattle.std.specs.Prelude.{◌≡◌, IfOk, OnOk, IfErr};
+ghost use Rattle.csl_style.specs.Node.{of_variable};
+ghost use Rattle.csl_style.specs.View.{text_dressing};
+ghost use Rattle.csl_context.specs.Now.{FailsAs, Leaves, same, world};
+ghost use Rattle.csl_leaves.specs.Text.{target_info, target_shows, target_tree, with_made};
+ghost use Rattle.csl_leaves.specs.Usages.{told};
+
+use crate::nothing::{nothing, nothing_shown};
+use crate::numeral::{numeral_info, numeral_shown, render_numeral};
+use crate::standard::{called_in_vain, render_standard, standard_info, standard_shown};
+use crate::usage::UsageInfo;
+use csl_context::{Context, RenderError};
+use csl_entry::EntryLike;
+use csl_style::{NumberOrPageVariable, Text, Variable};
+use lit_model::LongShortForm;
+
+/// What a text of a variable says.
+///
+/// # Errors
+/// [`RenderError::Memory`]: there was no memory left, or the entry said so. The context has failed.
+/// [`RenderError::Failed`]: the context had failed before.
+pub fn variable_info<'s, T: EntryLike>(
+    ctx: &mut Context<'s, T>,
+    form: LongShortForm,
+    variable: Variable,
+) -> Result<(bool, UsageInfo), RenderError>
+    ensures value { IfOk result (λ answer. told answer ≡ target_info (world T.answers ctx.old)
+        ctx.old.state (of_variable variable form)) }
+    ensures ok { OnOk result (Leaves same ctx.old ctx.new) }
+    ensures err { IfErr result (λ e. FailsAs e ctx.old ctx.new) }
+{
+    match variable {
+        Variable::Standard(variable) => standard_info(ctx, form, variable),
+        Variable::Number(variable) => numeral_info(ctx, NumberOrPageVariable::Number(variable)),
+        Variable::Page(variable) => numeral_info(ctx, NumberOrPageVariable::Page(variable)),
+        Variable::Name(_) => called_in_vain(ctx),
+        Variable::Date(_) => called_in_vain(ctx),
+    }
+}
+
+/// Whether a text of a variable shows the variable that is asked for.
+///
+/// # Errors
+/// As [`variable_info`].
+pub fn variable_shown<'s, T: EntryLike>(
+    ctx: &mut Context<'s, T>,
+    form: LongShortForm,
+    variable: Variable,
+    asked: Variable,
+) -> Result<bool, RenderError>
+    ensures value { IfOk result (λ answer. answer ≡ target_shows (world T.answers ctx.old)
+        ctx.old.state asked (of_variable variable form)) }
+    ensures ok { OnOk result (Leaves same ctx.old ctx.new) }
+    ensures err { IfErr result (λ e. FailsAs e ctx.old ctx.new) }
+{
+    match variable {
+        Variable::Standard(variable) => standard_shown(ctx, form, variable, asked),
+        Variable::Number(variable) => {
+            numeral_shown(ctx, NumberOrPageVariable::Number(variable), asked)
+        }
+        Variable::Page(variable) => {
+            numeral_shown(ctx, NumberOrPageVariable::Page(variable), asked)
+        }
+        Variable::Name(_) => nothing_shown(ctx),
+        Variable::Date(_) => nothing_shown(ctx),
+    }
+}
+
+/// Appends a text of a variable.
+///
+/// # Errors
+/// As [`variable_info`].
+pub fn render_variable<'s, T: EntryLike>(
+    text: &Text,
+    ctx: &mut Context<'s, T>,
+    form: LongShortForm,
+    variable: Variable,
+) -> Result<(), RenderError>
+    ensures ok { OnOk result (Leaves (λ now. with_made (target_tree (world T.answers now)
+        (of_variable variable form) (text_dressing text.now) now.inherited now.state) now)
+        ctx.old ctx.new) }
+    ensures err { IfErr result (λ e. FailsAs e ctx.old ctx.new) }
+{
+    match variable {
+        Variable::Standard(variable) => render_standard(text, ctx, form, variable),
+        Variable::Number(variable) => {
+            render_numeral(text, ctx, NumberOrPageVariable::Number(variable))
+        }
+        Variable::Page(variable) => {
+            render_numeral(text, ctx, NumberOrPageVariable::Page(variable))
+        }
+        Variable::Name(_) => nothing(ctx),
+        Variable::Date(_) => nothing(ctx),
+    }
+}

@@ -1,0 +1,107 @@
+//! Texts of a term and of a value (CSL 1.0.2, Text: term, value; Terms).
+
+ghost use Rattle.std.specs.Prelude.{◌≡◌, IfOk, OnOk, IfErr};
+ghost use Rattle.csl_style.specs.Node.{of_term, of_value};
+ghost use Rattle.csl_style.specs.View.{text_dressing};
+ghost use Rattle.csl_context.specs.Now.{FailsAs, Leaves, same, world};
+ghost use Rattle.csl_leaves.specs.Text.{target_info, target_tree, with_made};
+ghost use Rattle.csl_leaves.specs.Usages.{told};
+
+use crate::dressing::{Body, render_body};
+use crate::nothing::{nothing, nothing_said};
+use crate::special::shows_words;
+use crate::usage::UsageInfo;
+use csl_context::{Context, RenderError};
+use csl_entry::EntryLike;
+use csl_style::{Term, TermForm, Text};
+
+/// What a text of a term says.
+///
+/// # Errors
+/// [`RenderError::Failed`]: the context had failed before.
+pub fn term_info<'s, T: EntryLike>(
+    ctx: &mut Context<'s, T>,
+    term: Term,
+    form: TermForm,
+    plural: bool,
+) -> Result<(bool, UsageInfo), RenderError>
+    ensures value { IfOk result (λ answer. told answer ≡ target_info (world T.answers ctx.old)
+        ctx.old.state (of_term term form plural)) }
+    ensures ok { OnOk result (Leaves same ctx.old ctx.new) }
+    ensures err { IfErr result (λ e. FailsAs e ctx.old ctx.new) }
+{
+    nothing(ctx)?;
+    if !shows_words(ctx.special_form()) {
+        return nothing_said(ctx);
+    }
+    match ctx.style().term(term, form, plural) {
+        Some(_) => Ok((true, UsageInfo::default())),
+        None => nothing_said(ctx),
+    }
+}
+
+/// What a text of a value says.
+///
+/// # Errors
+/// [`RenderError::Failed`]: the context had failed before.
+pub fn value_info<'s, T: EntryLike>(
+    ctx: &mut Context<'s, T>,
+    value: &str,
+) -> Result<(bool, UsageInfo), RenderError>
+    ensures value { IfOk result (λ answer. told answer ≡ target_info (world T.answers ctx.old)
+        ctx.old.state (of_value value.now)) }
+    ensures ok { OnOk result (Leaves same ctx.old ctx.new) }
+    ensures err { IfErr result (λ e. FailsAs e ctx.old ctx.new) }
+{
+    nothing(ctx)?;
+    if !shows_words(ctx.special_form()) {
+        return nothing_said(ctx);
+    }
+    Ok((!value.is_empty(), UsageInfo::default()))
+}
+
+/// Appends a text of a term.
+///
+/// # Errors
+/// [`RenderError::Memory`]: there was no memory left. The context has failed.
+/// [`RenderError::Failed`]: the context had failed before.
+pub fn render_term<'s, T: EntryLike>(
+    text: &Text,
+    ctx: &mut Context<'s, T>,
+    term: Term,
+    form: TermForm,
+    plural: bool,
+) -> Result<(), RenderError>
+    ensures ok { OnOk result (Leaves (λ now. with_made (target_tree (world T.answers now)
+        (of_term term form plural) (text_dressing text.now) now.inherited now.state) now)
+        ctx.old ctx.new) }
+    ensures err { IfErr result (λ e. FailsAs e ctx.old ctx.new) }
+{
+    if !shows_words(ctx.special_form()) {
+        return nothing(ctx);
+    }
+    match ctx.style().term(term, form, plural) {
+        Some(words) => render_body(text, ctx, &text.affixes, None, Body::Words(words)),
+        None => nothing(ctx),
+    }
+}
+
+/// Appends a text of a value.
+///
+/// # Errors
+/// As [`render_term`].
+pub fn render_value<'s, T: EntryLike>(
+    text: &Text,
+    ctx: &mut Context<'s, T>,
+    value: &str,
+) -> Result<(), RenderError>
+    ensures ok { OnOk result (Leaves (λ now. with_made (target_tree (world T.answers now)
+        (of_value value.now) (text_dressing text.now) now.inherited now.state) now)
+        ctx.old ctx.new) }
+    ensures err { IfErr result (λ e. FailsAs e ctx.old ctx.new) }
+{
+    if !shows_words(ctx.special_form()) {
+        return nothing(ctx);
+    }
+    render_body(text, ctx, &text.affixes, None, Body::Words(value))
+}
