@@ -1,4 +1,4 @@
-pub mod Nothing
+pub mod MadeNothing
 pub mod Dressings
 pub mod SpelledNumbers
 pub mod Readings

@@ -15,7 +15,7 @@ use crate::condition::lent;
 use crate::date_key::sort_key;
 use crate::date_parts::{Found, Written, render_parts};
 use crate::date_suffix::{first_suffix, implicit_suffix};
-use crate::nothing::{nothing, nothing_said, out_of_memory};
+use crate::empty::{nothing, nothing_said, out_of_memory};
 use crate::number::number_said;
 use crate::usage::UsageInfo;
 use csl_context::{Context, RenderError};

@@ -15,7 +15,7 @@ ghost use Rattle.csl_leaves.specs.WrittenDates.{written_node, own_parts};
 use crate::boxes::Around;
 use crate::date_suffix::is_suffix_alone;
 use crate::date_text::{is_written, part_text};
-use crate::nothing::{nothing, out_of_memory};
+use crate::empty::{nothing, out_of_memory};
 use csl_context::{Context, RenderError};
 use csl_entry::EntryLike;
 use csl_style::{Affixes, Date, DateAnyForm, DatePart, DatePartName, DateParts, Formatting};

@@ -4,7 +4,7 @@ ghost use Rattle.std.specs.Prelude.{◌≡◌, IfOk, OnOk, IfErr, string_bytes};
 ghost use Rattle.csl_context.specs.Now.{FailsAs, Leaves, same, world, with_first_date};
 ghost use Rattle.csl_leaves.specs.Dates.{suffix_text, implicit_suffix, first_suffix, is_suffix_alone};
 
-use crate::nothing::nothing;
+use crate::empty::nothing;
 use crate::standard::peek_standard;
 use csl_context::{Context, RenderError};
 use csl_entry::{EntryLike, SpecialForm};

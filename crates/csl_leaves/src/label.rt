@@ -11,7 +11,7 @@ ghost use Rattle.csl_leaves.specs.Usages.{told};
 use crate::answered::peek_number_or_page;
 use crate::boxes::{Around, render_plain};
 use crate::dressing::Body;
-use crate::nothing::nothing;
+use crate::empty::nothing;
 use crate::usage::UsageInfo;
 use csl_context::{Context, RenderError};
 use csl_entry::{EntryLike, NumberOrPageVariableResult, NumberVariableResult, SpecialForm};

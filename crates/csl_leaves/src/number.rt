@@ -14,7 +14,7 @@ ghost use Rattle.csl_leaves.specs.Usages.{told};
 use crate::answered::{peek_number_or_page, resolve_number_or_page, shown_by_number};
 use crate::boxes::{Around, render_plain};
 use crate::dressing::Body;
-use crate::nothing::nothing;
+use crate::empty::nothing;
 use crate::special::is_left_by_only;
 use crate::usage::UsageInfo;
 use csl_context::{Context, RenderError};

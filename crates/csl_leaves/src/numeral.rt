@@ -11,7 +11,7 @@ ghost use Rattle.csl_leaves.specs.Usages.{told};
 
 use crate::answered::{peek_number_or_page, resolve_number_or_page, shown_by_text};
 use crate::dressing::{Body, render_body};
-use crate::nothing::{nothing, nothing_shown};
+use crate::empty::{nothing, nothing_shown};
 use crate::special::shows_variable;
 use crate::standard::called_in_vain;
 use crate::usage::UsageInfo;

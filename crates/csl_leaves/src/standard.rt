@@ -14,8 +14,8 @@ ghost use Rattle.csl_leaves.specs.Text.{answer, made, in_body, text_box, found_a
 ghost use Rattle.csl_leaves.specs.Usages.{told};
 
 use crate::dressing::{Body, render_body};
+use crate::empty::{nothing, nothing_shown};
 use crate::links::{address, address_prefix, begins_link};
-use crate::nothing::{nothing, nothing_shown};
 use crate::special::shows_variable;
 use crate::usage::UsageInfo;
 use csl_context::{Context, RenderError};

@@ -7,7 +7,7 @@ ghost use Rattle.csl_context.specs.Now.{FailsAs, Leaves, same, world};
 ghost use Rattle.csl_leaves.specs.Text.{target_info, target_shows, target_tree, with_made};
 ghost use Rattle.csl_leaves.specs.Usages.{told};
 
-use crate::nothing::{nothing, nothing_shown};
+use crate::empty::{nothing, nothing_shown};
 use crate::numeral::{numeral_info, numeral_shown, render_numeral};
 use crate::standard::{called_in_vain, render_standard, standard_info, standard_shown};
 use crate::usage::UsageInfo;

@@ -8,7 +8,7 @@ ghost use Rattle.csl_leaves.specs.Text.{target_info, target_tree, with_made};
 ghost use Rattle.csl_leaves.specs.Usages.{told};
 
 use crate::dressing::{Body, render_body};
-use crate::nothing::{nothing, nothing_said};
+use crate::empty::{nothing, nothing_said};
 use crate::special::shows_words;
 use crate::usage::UsageInfo;
 use csl_context::{Context, RenderError};
