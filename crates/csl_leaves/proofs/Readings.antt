@@ -1,5 +1,5 @@
 -- What is left behind a place, once the test there was read, and where there is none.
-use Rattle.std.proofs.Common.{◌≡◌, ℕ, ◌+◌, ◌<◌, suc, zero, Bool, List, [], ◌∷◌, ◌++◌, drop, length, Option, Some, None, slice_get, refl, sym, ap, ◌∙◌, subst, arith, append-nil}
+use Rattle.std.proofs.Common.{◌≡◌, ℕ, ◌+◌, ◌<◌, suc, zero, Bool, List, [], ◌∷◌, ◌++◌, drop, length, Some, None, slice_get, refl, sym, ap, ◌∙◌, subst, arith, append-nil}
 use Rattle.csl_style.specs.declared.element.ChooseBranch.{ChooseBranch}
 use Rattle.csl_style.specs.declared.element.LayoutRenderingElement.TheFolds.{fold_out-ChooseBranch}
 use Rattle.csl_style.specs.Node.{Node, Nodes, Tests}

@@ -1,5 +1,5 @@
 -- What stands around the body of a node that has no quotes (CSL 1.0.2, Formatting, Affixes, Display, Strip-periods).
-use Rattle.std.specs.Prelude.{Bool, ◌||◌, List, Option, Some}
+use Rattle.std.specs.Prelude.{Bool, ◌||◌, List, Some}
 use Rattle.csl_style.specs.Dressing.{Dressing}
 use Rattle.csl_tree.specs.Content.{boxed}
 use Rattle.csl_tree.specs.Tokens.{Token, Meta}

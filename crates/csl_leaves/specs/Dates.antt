@@ -1,6 +1,6 @@
 -- Dates (CSL 1.0.2, Date; Date-part; Localized Date Formats; Sorting; Disambiguation: disambiguate-add-year-suffix): what a date says, shows
 -- and makes.
-use Rattle.std.specs.Prelude.{ℕ, Bool, true, false, not, ◌&&◌, ◌==◌, List, [], ◌∷◌, ◌++◌, map, Option, Some, None, option_map, is_some, unwrap_or, find, if◌then◌else◌}
+use Rattle.std.specs.Prelude.{ℕ, Bool, true, false, not, ◌&&◌, List, [], ◌∷◌, ◌++◌, map, Option, Some, None, option_map, is_some, unwrap_or, find, if◌then◌else◌}
 use Rattle.std.specs.Option.{option_or}
 use denote.Enum.Bare.{sameb}
 use Rattle.lit_model.specs.declared.text.LongShortForm.TheVariants as text_form
@@ -19,7 +19,7 @@ use Rattle.csl_style.specs.declared.taxonomy.DateVariable.{DateVariable}
 use Rattle.csl_style.specs.declared.taxonomy.StandardVariable.TheVariants.{YearSuffix}
 use Rattle.csl_style.specs.declared.taxonomy.Variable.{Variable}
 use Rattle.csl_style.specs.declared.taxonomy.Variable.TheVariants as variable
-use Rattle.csl_style.specs.Dressing.{AffixTexts, Dressing}
+use Rattle.csl_style.specs.Dressing.{Dressing}
 use Rattle.csl_style.specs.Formatting.{over}
 use Rattle.csl_style.specs.Node.{DateNode, DatePartNode}
 use Rattle.csl_style.specs.Reached.{reached_layout, is_year_suffix_implicit}
@@ -35,7 +35,7 @@ use Rattle.csl_context.specs.World.{World, standard_look, date_look, localized}
 use Rattle.csl_leaves.specs.Boxes.{in_plain, plain_between, plain_box}
 use Rattle.csl_leaves.specs.DateText.{is_written, part_text}
 use Rattle.csl_leaves.specs.DateKey.{sort_key}
-use Rattle.csl_leaves.specs.Flags.{flags, Info, info_of, nothing_said}
+use Rattle.csl_leaves.specs.Flags.{Info, nothing_said}
 use Rattle.csl_leaves.specs.Numbers.{number_said}
 use Rattle.csl_leaves.specs.Text.{Made, made, same_variable, no_affixes}
 

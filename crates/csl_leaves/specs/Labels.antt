@@ -9,7 +9,6 @@ use Rattle.csl_style.specs.contracts.taxonomy.NumberVariable.{the_type as the_nu
 use Rattle.csl_style.specs.declared.number.LabelPluralize.{LabelPluralize}
 use Rattle.csl_style.specs.declared.number.LabelPluralize.TheVariants.{Contextual, Always, Never}
 use Rattle.csl_style.specs.declared.taxonomy.Locator.TheVariants.{Custom}
-use Rattle.csl_style.specs.declared.taxonomy.NumberVariable.{NumberVariable}
 use Rattle.csl_style.specs.declared.taxonomy.NumberVariable.TheVariants.{Locator, NumberOfPages, NumberOfVolumes}
 use Rattle.csl_style.specs.declared.taxonomy.NumberOrPageVariable.{NumberOrPageVariable}
 use Rattle.csl_style.specs.declared.taxonomy.NumberOrPageVariable.TheVariants as number_or_page

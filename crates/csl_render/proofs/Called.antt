@@ -1,5 +1,5 @@
 -- What the calls of a text of a macro make of a context, one after another.
-use Rattle.std.proofs.Common.{◌≡◌, ℕ, Bool, true, false, List, Option, None, ap, ◌∙◌}
+use Rattle.std.proofs.Common.{Bool, None}
 use Rattle.std.specs.Prelude.{◌||◌}
 use Rattle.csl_style.specs.Dressing.{AffixTexts, TextDressing}
 use Rattle.csl_style.specs.Node.{Nodes, fills}
@@ -8,8 +8,8 @@ use Rattle.csl_entry.specs.Answers.{Answers}
 use Rattle.csl_context.specs.Now.{Now, world, with_part, closed_by, with_format, without_format, with_delimiter, without_delimiter, with_stripping}
 use Rattle.csl_context.specs.Quotes.{affixed_after}
 use Rattle.csl_context.specs.World.{env}
-use Rattle.csl_leaves.specs.Text.{turned, turned_if, in_quotes_if, moved_if, in_body, with_made}
-use Rattle.csl_render.specs.Tree.{sum_of, in_macro}
+use Rattle.csl_leaves.specs.Text.{turned_if, in_quotes_if, with_made}
+use Rattle.csl_render.specs.Tree.{sum_of}
 
 module _ {T : Type 0} (answers : T → Answers) where
   -- the nodes of a macro, in the context that they are lent

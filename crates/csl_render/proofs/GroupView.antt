@@ -1,6 +1,5 @@
 -- A group as data.
-use Rattle.std.proofs.Common.{◌≡◌, refl, arith}
-use Rattle.std.proofs.lemmas.Grind.{common_steps}
+use Rattle.std.proofs.Common.{◌≡◌, refl}
 use Rattle.csl_style.specs.declared.element.Group.{Group}
 use Rattle.csl_style.specs.declared.element.LayoutRenderingElement.TheFolds.{fold_out-Group}
 use Rattle.csl_style.specs.Dressing.{text_if, dressing_of}

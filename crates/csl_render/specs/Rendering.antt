@@ -1,11 +1,10 @@
 -- What can be rendered, and what each of the three calls makes of a context.
 use Rattle.std.specs.Prelude.{Bool}
 use Rattle.csl_style.specs.declared.taxonomy.Variable.{Variable}
-use Rattle.csl_style.specs.Node.{Full, Fulls, FullLayout}
+use Rattle.csl_style.specs.Node.{Full, FullLayout}
 use Rattle.csl_style.specs.Node as node
 use Rattle.csl_style.specs.Style.{StyleParts}
 use Rattle.csl_style.specs.View as view
-use Rattle.csl_style.specs.declared.element.RenderingElement.{RenderingElement}
 use Rattle.csl_entry.specs.Answers.{Answers}
 use Rattle.csl_context.specs.State.{State, Inherited}
 use Rattle.csl_context.specs.World.{World, env}

@@ -5,7 +5,6 @@ use Rattle.csl_style.specs.View.{view_text, views, text_dressing}
 use Rattle.csl_context.specs.World.{env}
 use Rattle.csl_context.specs.Now.{world}
 use Rattle.csl_leaves.specs.Flags.{but_groups, macro_info}
-use Rattle.csl_leaves.specs.Usages.{told}
 use Rattle.csl_render.specs.Tree.{info, infos}
 use Rattle.csl_render.proofs.Eithers.{either_assoc, either_nothing, nothing_either}
 use Rattle.csl_render.proofs.+info.Goals as goal
