@@ -1,7 +1,8 @@
 //! The program `csl_bench`: it does a work of a given size, for whoever counts its instructions.
 //!
 //! `csl_bench WORK N` does the work once, N times as large as its unit, and prints a checksum of
-//! the answer, never a time. Without words it does each work in a small size.
+//! the answer, never a time. Without words it does each work once, in a small size but for
+//! the chain of parents, which is deep.
 #![tactic(auto)]
 
 mod entry;
@@ -16,31 +17,34 @@ use std::alloc::Global;
 use std::env;
 use std::rt::Env;
 
-/// The sizes of the works that are done without words.
+/// The size of a work that is done without words.
 const SMALL: usize = 10;
 
-/// The works, by name.
-const WORKS: [&str; 20] = [
-    "numeric",
-    "pages",
-    "initials",
-    "particle",
-    "clone_entry",
-    "family",
-    "stack",
-    "drain",
-    "search",
-    "search_deep",
-    "simplify",
-    "simplify_deep",
-    "style_chain",
-    "style_dense",
-    "answers",
-    "labels",
-    "render",
-    "pages_rendered",
-    "named",
-    "pair",
+/// As many parents one above the other as any chain may be expected to have.
+const MANY_PARENTS: usize = 2000;
+
+/// The works, by name, and the size in which each is done without words.
+const WORKS: [(&str, usize); 20] = [
+    ("numeric", SMALL),
+    ("pages", SMALL),
+    ("initials", SMALL),
+    ("particle", SMALL),
+    ("clone_entry", SMALL),
+    ("family", MANY_PARENTS),
+    ("stack", SMALL),
+    ("drain", SMALL),
+    ("search", SMALL),
+    ("search_deep", SMALL),
+    ("simplify", SMALL),
+    ("simplify_deep", SMALL),
+    ("style_chain", SMALL),
+    ("style_dense", SMALL),
+    ("answers", SMALL),
+    ("labels", SMALL),
+    ("render", SMALL),
+    ("pages_rendered", SMALL),
+    ("named", SMALL),
+    ("pair", SMALL),
 ];
 
 /// Does a work, and answers its checksum.
@@ -83,8 +87,8 @@ fn run(rt: &(impl Env + Print + AllocGlobal)) -> Result<()> {
         (Some(work), Some(size)) => report(rt, work.as_str(), size.parse::<usize>()?),
         (Some(_), None) => bail!("csl_bench WORK N"),
         _ => {
-            for work in WORKS {
-                report(rt, work, SMALL)?;
+            for (work, size) in WORKS {
+                report(rt, work, size)?;
             }
             Ok(())
         }
