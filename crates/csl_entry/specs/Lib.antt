@@ -12,6 +12,7 @@ pub mod EntryPage
 pub mod EntryStandard
 pub mod Instance
 pub mod Language
+pub mod LentForm
 pub mod Letters
 pub mod NameForm
 pub mod NameProperties

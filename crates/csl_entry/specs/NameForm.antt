@@ -1,5 +1,8 @@
 -- How much of a name is shown (CSL 1.0.2, Disambiguation: disambiguate-add-givenname).
-use Rattle.std.specs.Prelude.{Bool, true, false, Option, Some, None, ℕ, if◌then◌else◌}
+use Rattle.std.specs.Prelude.{Bool, true, false, Option, Some, None, ℕ, zero, suc, if◌then◌else◌}
+use Rattle.std.specs.Option.{option_or}
+use Rattle.std.specs.Ordering.{nat_cmp}
+use Rattle.std.specs.declared.cmp.Ordering.{Ordering}
 use Rattle.csl_entry.specs.declared.name_form.DisambiguatedNameForm.{DisambiguatedNameForm}
 use Rattle.csl_entry.specs.declared.name_form.DisambiguatedNameForm.TheVariants.{Count, ShortInitialized, ShortFull, LongInitialized, LongFull}
 
@@ -26,3 +29,17 @@ fuller_form full ShortInitialized = Some LongInitialized
 fuller_form full ShortFull = (if full then Some LongFull else None)
 fuller_form full LongInitialized = (if full then Some LongFull else None)
 fuller_form full LongFull = None
+
+-- forms in the order of how much of the name they show
+abbrev pub form_cmp : DisambiguatedNameForm → DisambiguatedNameForm → Ordering
+form_cmp a b = nat_cmp (form_place a) (form_place b)
+
+-- the form that tells a name further apart from others, where there is one: an absent name is shown in the default form
+abbrev pub further_form : DisambiguatedNameForm → Option DisambiguatedNameForm → Option DisambiguatedNameForm
+further_form default None = Some default
+further_form default (Some form) = fuller_form true form
+
+-- the form after so many steps of that kind
+abbrev pub told_apart : DisambiguatedNameForm → ℕ → Option DisambiguatedNameForm → Option DisambiguatedNameForm
+told_apart default zero form = form
+told_apart default (suc n) form = option_or (further_form default (told_apart default n form)) (told_apart default n form)

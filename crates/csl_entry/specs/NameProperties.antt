@@ -1,8 +1,20 @@
 -- In which forms the names of a cite are shown (CSL 1.0.2, Disambiguation: disambiguate-add-names, disambiguate-add-givenname).
-use Rattle.std.specs.Prelude.{List, Option, map}
+use Rattle.std.specs.Prelude.{ℕ, ◌+◌, ◌-◌, ◌<◌, List, [], ◌∷◌, ◌++◌, length, take, drop, map, count_by, position, ◌==◌, nat_lt, nat_le, Option, Some, None, is_some, IsSomeAnd, unwrap_or, slice_get, slice_set, slice_index_or, option_and_then, All, if◌then◌else◌}
+use Rattle.std.specs.List.{flat_map, sum_by, enumerate_from}
+use Rattle.std.specs.Option.{option_cmp, option_map, option_map_or, ForSome}
+use Rattle.std.specs.Ordering.{nat_cmp, ordering_then}
+use Rattle.std.specs.Cmp.Lexicographic.{slice_cmp}
+use Rattle.std.specs.declared.cmp.Ordering.{Ordering}
+use denote.Enum.Bare.{sameb}
+use Rattle.csl_style.specs.contracts.taxonomy.NameVariable.{the_type}
 use Rattle.csl_style.specs.declared.taxonomy.NameVariable.{NameVariable}
 use Rattle.csl_entry.specs.declared.name_form.DisambiguatedNameForm.{DisambiguatedNameForm}
 use Rattle.csl_entry.specs.declared.name_properties.NameDisambiguationProperties.{NameDisambiguationProperties}
+use Rattle.csl_entry.specs.NameForm.{form_cmp, told_apart}
+
+-- the form of each name of a list, where it is shown
+abbrev pub Forms : Type 0
+Forms = List (Option DisambiguatedNameForm)
 
 -- the form of a name that comes to be shown, the variables, and for each list of names the form of each name, where it is shown
 pub record NameProperties : Type 0 where
@@ -16,3 +28,92 @@ name_properties p = record {
   variables = p.variables.items;
   lists = map (λ forms. forms.items) p.name_forms.items;
 }
+
+-- the forms of all lists in order, absent ones counted
+abbrev pub all_forms : List Forms → Forms
+all_forms lists = flat_map (λ forms. forms) lists
+
+-- ---- more names are shown (disambiguate-add-names)
+
+-- absent forms become this one
+abbrev pub all_shown : DisambiguatedNameForm → Forms → Forms
+all_shown form forms = map (λ f. Some (unwrap_or f form)) forms
+
+-- the same of the first n forms of a list alone
+abbrev pub first_shown : DisambiguatedNameForm → ℕ → Forms → Forms
+first_shown form n forms = all_shown form (take n forms) ++ drop n forms
+
+-- the place of the first list of at least n forms
+abbrev pub first_as_long : ℕ → List Forms → Option ℕ
+first_as_long n lists = position (λ forms. nat_le n (length forms)) lists
+
+-- the lists after a change of the one at a place
+abbrev pub with_list : List Forms → (Forms → Forms) → ℕ → List Forms
+with_list lists change i = slice_set lists i (change (slice_index_or lists i []))
+
+-- the first n names of that list are shown
+abbrev pub with_names_shown : ℕ → NameProperties → NameProperties
+with_names_shown n p = record p {
+  lists = option_map_or (with_list p.lists (first_shown p.default_form n)) (first_as_long n p.lists) p.lists;
+}
+
+-- ---- names are told apart (disambiguate-add-givenname)
+
+-- the first position of a variable, where it is listed
+abbrev pub first_listed : NameVariable → NameProperties → Option ℕ
+first_listed variable p = position (λ v. sameb the_type v variable) p.variables
+
+-- where the variable is listed, a list stands at its first position and holds each of the places
+abbrev pub CanTellApart : NameVariable → List ℕ → NameProperties → Type 0
+CanTellApart variable places p = ForSome (first_listed variable p)
+    (λ i. IsSomeAnd (slice_get p.lists i) (λ forms. All (λ k. k < length forms) places))
+
+-- the form of each name after as many steps as its place stands among the given ones
+abbrev pub each_told_apart : DisambiguatedNameForm → List ℕ → Forms → Forms
+each_told_apart default places forms = map (λ f. told_apart default (count_by (λ k. k == f.0) places) f.1) (enumerate_from 0 forms)
+
+-- the names at these places of that list are told apart
+abbrev pub with_told_apart : NameVariable → List ℕ → NameProperties → NameProperties
+with_told_apart variable places p = record p {
+  lists = option_map_or (with_list p.lists (each_told_apart p.default_form places)) (first_listed variable p) p.lists;
+}
+
+-- ---- which of two shows more
+
+-- how many names are shown
+abbrev pub shown_count : NameProperties → ℕ
+shown_count p = sum_by (count_by is_some) p.lists
+
+-- lists of forms by the first place at which they differ; an absent form stands first, and a list before a longer one
+abbrev pub forms_cmp : Forms → Forms → Ordering
+forms_cmp = slice_cmp (option_cmp form_cmp)
+
+-- the order by the number of names that are shown, then by all forms
+abbrev pub properties_cmp : NameProperties → NameProperties → Ordering
+properties_cmp p q = ordering_then (nat_cmp (shown_count p) (shown_count q)) (forms_cmp (all_forms p.lists) (all_forms q.lists))
+
+-- ---- one form
+
+-- the i-th of all forms, where it is there and not absent
+abbrev pub form_at : ℕ → NameProperties → Option DisambiguatedNameForm
+form_at i p = option_and_then (λ f. f) (slice_get (all_forms p.lists) i)
+
+-- that form, or the default one
+abbrev pub form_or_default : ℕ → NameProperties → DisambiguatedNameForm
+form_or_default i p = unwrap_or (form_at i p) p.default_form
+
+-- the lists with another form as the i-th of all
+abbrev pub with_form_at : ℕ → DisambiguatedNameForm → List Forms → List Forms
+with_form_at i form [] = []
+with_form_at i form (forms ∷ lists) =
+    if nat_lt i (length forms) then slice_set forms i (Some form) ∷ lists else forms ∷ with_form_at (i - length forms) form lists
+
+-- another form stands where that one stood, be it in a list or the default one
+abbrev pub with_form : ℕ → NameProperties → DisambiguatedNameForm → NameProperties
+with_form i p form = if is_some (form_at i p) then record p { lists = with_form_at i form p.lists } else record p { default_form = form }
+
+-- the list in which the i-th of all forms stands, and its place there, where it is not absent; lists are counted from n on
+abbrev pub shown_from : ℕ → ℕ → List Forms → Option (ℕ × ℕ)
+shown_from n i [] = None
+shown_from n i (forms ∷ lists) =
+    if nat_lt i (length forms) then option_map (λ form. (n, i)) (slice_index_or forms i None) else shown_from (n + 1) (i - length forms) lists
