@@ -10,3 +10,7 @@ pub mod AnswersEqual
 pub mod Typings
 pub mod ShowSame
 pub mod AlikeSets
+pub mod FormLists
+pub mod FormOrder
+pub mod ShownForms
+pub mod ToldApart

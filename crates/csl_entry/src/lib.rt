@@ -8,6 +8,7 @@ mod citation_label;
 mod cite;
 mod creators;
 mod entry;
+mod form_list;
 mod instance;
 mod language;
 mod letters;
