@@ -1,5 +1,6 @@
 ghost use Rattle.std.specs.Prelude.{◌≡◌, ◌↔◌, IsTrue};
-ghost use Rattle.csl_entry.specs.NameProperties.{name_properties};
+ghost use Rattle.csl_entry.specs.NameProperties.{name_properties, with_form};
+ghost use Rattle.csl_entry.specs.declared.name_form.DisambiguatedNameForm.TheVariants.{Count};
 ghost use Rattle.csl_entry.specs.contracts.name_properties.NameDisambiguationPropertiesHash.TheImpl.{hash_input-value as hash_properties};
 
 use crate::asked::assert_answer;
@@ -7,6 +8,8 @@ use csl_entry::{DisambiguatedNameForm, NameDisambiguationProperties};
 use csl_style::NameVariable;
 use lit_model::Memory;
 use std::alloc::Global;
+use std::process::Abort;
+use std::test::Fail;
 
 /// Whether the two are equal: they are where the default form, the variables and the forms are.
 fn same(a: &NameDisambiguationProperties, b: &NameDisambiguationProperties) -> bool
@@ -80,4 +83,262 @@ fn parts_are_answered_and_equal_by_value(rt: HostRuntime) -> Result<(), Memory> 
         assert_eq!(rt; equal, wanted, "{variable:?} {last:?}");
     }
     Ok(())
+}
+
+/// The form of a name, by its letter. Any other letter is a name that is not shown.
+fn form_of(letter: char) -> Option<DisambiguatedNameForm> {
+    match letter {
+        'c' => Some(DisambiguatedNameForm::Count),
+        's' => Some(DisambiguatedNameForm::ShortInitialized),
+        'S' => Some(DisambiguatedNameForm::ShortFull),
+        'l' => Some(DisambiguatedNameForm::LongInitialized),
+        'L' => Some(DisambiguatedNameForm::LongFull),
+        _ => None,
+    }
+}
+
+fn letter_of(form: Option<DisambiguatedNameForm>) -> char {
+    match form {
+        None => '-',
+        Some(DisambiguatedNameForm::Count) => 'c',
+        Some(DisambiguatedNameForm::ShortInitialized) => 's',
+        Some(DisambiguatedNameForm::ShortFull) => 'S',
+        Some(DisambiguatedNameForm::LongInitialized) => 'l',
+        Some(DisambiguatedNameForm::LongFull) => 'L',
+    }
+}
+
+/// Of these variables and lists. A list is a word, `.` one of no names; the default form is that of
+/// `default`.
+fn made(
+    alloc: Global,
+    default: DisambiguatedNameForm,
+    variables: &[NameVariable],
+    lists: &str,
+) -> Result<NameDisambiguationProperties, Memory> {
+    let variables = variables.to_vec(alloc)?;
+    let mut name_forms = Vec::new(alloc);
+    for list in lists.split_whitespace() {
+        let mut forms = Vec::new(alloc);
+        for letter in list.chars() {
+            if letter != '.' {
+                forms.push(form_of(letter))?;
+            }
+        }
+        name_forms.push(forms)?;
+    }
+    Ok(NameDisambiguationProperties::new(default, variables, name_forms))
+}
+
+/// The default form, and each list.
+fn said(alloc: Global, properties: &NameDisambiguationProperties) -> Result<String, Memory> {
+    let mut said = String::new(alloc);
+    said.push(letter_of(Some(properties.default_name_form())))?;
+    for forms in properties.name_forms() {
+        said.push_str(if forms.is_empty() { " ." } else { " " })?;
+        for form in forms {
+            said.push(letter_of(*form))?;
+        }
+    }
+    Ok(said)
+}
+
+/// Lists, how many names are shown in turn, and what is there then and was answered.
+type AddedRow = (&'static str, &'static [usize], &'static str);
+
+static ADDED: [AddedRow; 10] = [
+    ("-- ---", &[3], "L -- LLL true"),
+    ("-- ---", &[3, 4], "L -- LLL true false"),
+    ("-- ---", &[2, 1], "L LL --- true true"),
+    ("s-- L", &[2], "L sL- L true"),
+    ("S-", &[1], "L S- true"),
+    ("-", &[0], "L - true"),
+    (". -", &[0], "L . - true"),
+    (". -", &[1], "L . L true"),
+    ("", &[0], "L false"),
+    ("-", &[2, 1], "L L false true"),
+];
+
+fn after_adding(alloc: Global, lists: &str, nums: &[usize]) -> Result<String, Memory> {
+    let mut answers = String::new(alloc);
+    let author = [NameVariable::Author];
+    let mut properties = made(alloc, DisambiguatedNameForm::LongFull, &author, lists)?;
+    for num in nums {
+        let is_there = properties.add_name(*num);
+        write!(answers, " {is_there}")?;
+    }
+    let mut said = said(alloc, &properties)?;
+    said.push_str(answers.as_str())?;
+    Ok(said)
+}
+
+fn assert_added(rt: &impl Abort, alloc: Global, rows: &[AddedRow]) -> Result<(), Fail> {
+    for (lists, nums, wanted) in rows {
+        let said = after_adding(alloc, lists, nums)?;
+        assert_answer(rt, said.as_str(), wanted, lists);
+    }
+    Ok(())
+}
+
+#[test]
+fn names_are_added_in_the_first_list_of_so_many(rt: HostRuntime) -> Result<(), Fail> {
+    assert_added(&rt, rt.alloc(), &ADDED)
+}
+
+/// Lists, a variable, places, and what is there then and was answered, where it may be asked.
+/// Variables are the author, the editor, and the author once more.
+type ToldRow = (&'static str, NameVariable, &'static [usize], &'static str);
+
+static TOLD: [ToldRow; 17] = [
+    ("-s S", NameVariable::Author, &[0], "S Ss S true"),
+    ("-s S", NameVariable::Author, &[1], "S -l S true"),
+    ("-s S", NameVariable::Author, &[1, 1], "S -L S true"),
+    ("-s S", NameVariable::Author, &[0, 1, 0], "S Ll S true"),
+    ("-s S", NameVariable::Author, &[], "S -s S false"),
+    ("-s S", NameVariable::Editor, &[0], "S -s L true"),
+    ("-s S", NameVariable::Editor, &[1], "refused"),
+    ("-s S", NameVariable::Chair, &[7], "S -s S false"),
+    ("cL S", NameVariable::Author, &[0, 1], "S cL S false"),
+    ("cl S", NameVariable::Author, &[0, 1], "S cL S true"),
+    ("S", NameVariable::Author, &[0], "S L true"),
+    ("S", NameVariable::Author, &[1], "refused"),
+    ("S", NameVariable::Editor, &[0], "refused"),
+    ("S", NameVariable::Editor, &[], "refused"),
+    ("", NameVariable::Author, &[], "refused"),
+    (". S -", NameVariable::Author, &[0], "refused"),
+    (". S -", NameVariable::Editor, &[0], "S . L - true"),
+];
+
+fn after_telling(
+    alloc: Global,
+    lists: &str,
+    variable: NameVariable,
+    places: &[usize],
+) -> Result<String, Memory> {
+    let variables = [
+        NameVariable::Author,
+        NameVariable::Editor,
+        NameVariable::Author,
+    ];
+    let mut properties = made(alloc, DisambiguatedNameForm::ShortFull, &variables, lists)?;
+    if !properties.can_disambiguate(variable, places) {
+        return Ok(String::from_str(alloc, "refused")?);
+    }
+    let changed = properties.disambiguate_list(variable, places);
+    let mut said = said(alloc, &properties)?;
+    write!(said, " {changed}")?;
+    Ok(said)
+}
+
+fn assert_told(rt: &impl Abort, alloc: Global, rows: &[ToldRow]) -> Result<(), Fail> {
+    for (lists, variable, places, wanted) in rows {
+        let said = after_telling(alloc, lists, *variable, places)?;
+        assert_answer(rt, said.as_str(), wanted, lists);
+    }
+    Ok(())
+}
+
+#[test]
+fn names_of_the_variable_are_told_apart(rt: HostRuntime) -> Result<(), Fail> {
+    assert_told(&rt, rt.alloc(), &TOLD)
+}
+
+#[test]
+fn one_form_on_the_author_holds_one_place(rt: HostRuntime) -> Result<(), Memory> {
+    let author = [NameVariable::Author];
+    let one = made(rt.alloc(), DisambiguatedNameForm::LongFull, &author, "L")?;
+    assert_eq!(rt; one.can_disambiguate(NameVariable::Author, &[0]), true);
+    assert_eq!(rt; one.can_disambiguate(NameVariable::Author, &[1]), false);
+    assert_eq!(rt; one.can_disambiguate(NameVariable::Editor, &[1]), true);
+    Ok(())
+}
+
+/// Lists of the first, whose default form is a count, lists of the second, whose default form is
+/// the fullest, and the one that shows more.
+type MaxRow = (&'static str, &'static str, &'static str);
+
+static MAX: [MaxRow; 11] = [
+    ("S- l", "S- l", "L S- l"),
+    ("", "", "L"),
+    ("SS", "L-", "c SS"),
+    ("L-", "SS", "L SS"),
+    ("L-", "S-", "c L-"),
+    ("S-", "L-", "L L-"),
+    ("c-", "-L", "c c-"),
+    ("-L", "c-", "L c-"),
+    ("S -", "S-", "L S-"),
+    ("S-", "S", "c S-"),
+    ("S", "S -", "L S -"),
+];
+
+fn max_of(alloc: Global, first: &str, second: &str) -> Result<String, Memory> {
+    let author = [NameVariable::Author];
+    let other = made(alloc, DisambiguatedNameForm::LongFull, &author, second)?;
+    let one = made(alloc, DisambiguatedNameForm::Count, &author, first)?;
+    said(alloc, &one.max(other))
+}
+
+fn assert_max(rt: &impl Abort, alloc: Global, rows: &[MaxRow]) -> Result<(), Fail> {
+    for (first, second, wanted) in rows {
+        let said = max_of(alloc, first, second)?;
+        assert_answer(rt, said.as_str(), wanted, first);
+    }
+    Ok(())
+}
+
+#[test]
+fn the_greater_shows_more_names_or_later_forms(rt: HostRuntime) -> Result<(), Fail> {
+    assert_max(&rt, rt.alloc(), &MAX)
+}
+
+/// Lists, a place among all forms, and what is there once the form was read and a count put there.
+type LentRow = (&'static str, usize, &'static str);
+
+static LENT: [LentRow; 9] = [
+    ("S- l", 0, "S: L c- l"),
+    ("S- l", 1, "L: c S- l"),
+    ("S- l", 2, "l: L S- c"),
+    ("S- l", 3, "L: c S- l"),
+    ("SSS", 5, "L: c SSS"),
+    ("S . s l", 1, "s: L S . c l"),
+    (". S", 0, "S: L . c"),
+    ("", 0, "L: c"),
+    ("--", 0, "L: c --"),
+];
+
+/// The form at that place is counted, and which it was.
+fn count_form(
+    properties: &mut NameDisambiguationProperties,
+    idx: usize,
+) -> Option<DisambiguatedNameForm>
+    ensures { name_properties properties.new
+        ≡ with_form idx (name_properties properties.old) Count }
+{
+    let form = properties.get_form_mut(idx)?;
+    let was = *form;
+    *form = DisambiguatedNameForm::Count;
+    Some(was)
+}
+
+fn after_counting(alloc: Global, lists: &str, idx: usize) -> Result<String, Memory> {
+    let author = [NameVariable::Author];
+    let mut properties = made(alloc, DisambiguatedNameForm::LongFull, &author, lists)?;
+    let was = count_form(&mut properties, idx);
+    let said = said(alloc, &properties)?;
+    let said = said.as_str();
+    let was = letter_of(was);
+    Ok(format!(in alloc; "{was}: {said}")?)
+}
+
+fn assert_lent(rt: &impl Abort, alloc: Global, rows: &[LentRow]) -> Result<(), Fail> {
+    for (lists, idx, wanted) in rows {
+        let said = after_counting(alloc, lists, *idx)?;
+        assert_answer(rt, said.as_str(), wanted, lists);
+    }
+    Ok(())
+}
+
+#[test]
+fn a_form_is_lent_at_its_place_or_the_default_one(rt: HostRuntime) -> Result<(), Fail> {
+    assert_lent(&rt, rt.alloc(), &LENT)
 }
