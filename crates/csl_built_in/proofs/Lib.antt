@@ -1,2 +1,3 @@
 pub mod Essay
 pub mod BuiltIns
+pub mod Made

@@ -1,2 +1,5 @@
+pub mod English
 pub mod Entries
+pub mod Nodes
+pub mod Styles
 pub mod Title

@@ -3,16 +3,14 @@ use Rattle.std.specs.Prelude.{◌≡◌, ℕ, List, [], ◌∷◌, Option, Some,
 use Rattle.lit_model.specs.Text.{Chunk}
 use Rattle.lit_model.specs.declared.text.ChunkKind.TheVariants.{Normal}
 use Rattle.lit_model.specs.declared.text.LongShortForm.TheVariants.{Long}
-use Rattle.csl_style.specs.declared.formatting.Formatting.{Formatting}
-use Rattle.csl_style.specs.declared.formatting.FontStyle.TheVariants.{Italic}
 use Rattle.csl_style.specs.declared.taxonomy.StandardVariable.{StandardVariable}
 use Rattle.csl_style.specs.declared.taxonomy.StandardVariable.TheVariants.{Title}
 use Rattle.csl_style.specs.declared.taxonomy.Variable.TheVariants.{Standard}
-use Rattle.csl_style.specs.Dressing.{Dressing, TextDressing}
 use Rattle.csl_style.specs.Node.{Target, of_variable, of_value, Node, text, group, Nodes, no_nodes, node, LayoutNode}
 use Rattle.csl_style.specs.Style.{StyleParts}
 use Rattle.csl_style.specs.View.{view_layout}
 use Rattle.csl_entry.specs.Answers.{Answers}
+use Rattle.csl_built_in.specs.Nodes.{no_formatting, italic, around, affixed, bare}
 
 -- ---- the entry
 
@@ -36,19 +34,6 @@ one_piece bs = record { value = bs; kind = Normal } ∷ []
 
 -- ---- the style
 
--- a node says nothing of its formatting
-abbrev pub no_formatting : Formatting
-no_formatting = record { font_style = None; font_variant = None; font_weight = None; text_decoration = None; vertical_align = None }
-
-abbrev pub italic : Formatting
-italic = record no_formatting { font_style = Some Italic }
-
-abbrev pub undressed : Formatting → Dressing
-undressed f = record { formatting = f; affixes = record { prefix = None; suffix = None }; display = None }
-
-abbrev pub bare : Formatting → TextDressing
-bare f = record { dressing = undressed f; quotes = false; strip_periods = false }
-
 -- the word `Title`
 abbrev pub label : Node
 label = text (of_value (codes "Title")) (bare no_formatting)
@@ -62,10 +47,7 @@ label_and_title = node label (node title_text no_nodes)
 
 -- these two in parentheses
 abbrev pub title_group : Node
-title_group =
-    group (Some (codes ": "))
-    (record (undressed no_formatting) { affixes = record { prefix = Some (codes "("); suffix = Some (codes ")") } })
-    label_and_title
+title_group = group (Some (codes ": ")) (affixed (around (codes "(") (codes ")"))) label_and_title
 
 abbrev pub title_layout : LayoutNode
 title_layout = record { delimiter = None; formatting = no_formatting; elements = node title_group no_nodes }

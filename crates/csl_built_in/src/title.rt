@@ -3,14 +3,14 @@
 ghost use Rattle.std.specs.Prelude.{◌≡◌, IfOk};
 ghost use Rattle.lit_model.specs.Text.{chunks};
 ghost use Rattle.csl_style.specs.View.{text_dressing, view, view_group, view_layout, views};
-ghost use Rattle.csl_built_in.specs.Title.{one_piece};
-ghost use Rattle.csl_built_in.specs.Title.{no_formatting, italic, bare, label, title_text, label_and_title};
+ghost use Rattle.csl_built_in.specs.Nodes.{bare};
+ghost use Rattle.csl_built_in.specs.Title.{one_piece, label, title_text, label_and_title};
 ghost use Rattle.csl_built_in.specs.Title.{title_group, title_layout, CitesTitles};
 
+use crate::nodes::{around, italic, no_formatting};
 use csl_entry::EntryLike;
-use csl_style::formatting::Formatting;
 use csl_style::{
-    Affixes, DateVariable, FontStyle, Group, Kind, Layout, LayoutRenderingElement, NameVariable,
+    Affixes, DateVariable, Formatting, Group, Kind, Layout, LayoutRenderingElement, NameVariable,
     NumberVariable, PageVariable, StandardVariable, Style, StyleError, StyleSettings, Text,
     TextTarget, Variable,
 };
@@ -110,23 +110,6 @@ pub fn one_piece(alloc: Global, title: &str) -> Result<ChunkedString, Memory>
     Ok(ChunkedString(chunks))
 }
 
-/// A formatting that says nothing.
-fn no_formatting() -> Formatting
-    ensures { result ≡ no_formatting }
-{
-    Formatting::default()
-}
-
-/// A formatting that asks for italics and nothing else.
-fn italic() -> Formatting
-    ensures { result ≡ italic }
-{
-    Formatting {
-        font_style: Some(FontStyle::Italic),
-        ..no_formatting()
-    }
-}
-
 /// A text with a formatting and nothing else.
 fn bare_text(target: TextTarget, formatting: Formatting) -> Text
     ensures target { result.target ≡ target }
@@ -175,16 +158,12 @@ fn title_group(alloc: Global) -> Result<Group, Memory>
 {
     let children = label_and_title(alloc)?;
     let delimiter = String::from_str(alloc, ": ")?;
-    let prefix = String::from_str(alloc, "(")?;
-    let suffix = String::from_str(alloc, ")")?;
+    let affixes = around(alloc, "(", ")")?;
     Ok(Group {
         children,
         delimiter: Some(delimiter),
         formatting: no_formatting(),
-        affixes: Affixes {
-            prefix: Some(prefix),
-            suffix: Some(suffix),
-        },
+        affixes,
         display: None,
     })
 }

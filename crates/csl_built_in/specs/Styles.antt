@@ -1,0 +1,174 @@
+-- The built-in styles (CSL 1.0.2, Rendering Elements).
+use Rattle.std.specs.Prelude.{◌≡◌, ℕ, Bool, true, false, List, [], ◌∷◌, Option, Some, None, codes, if◌then◌else◌}
+use Rattle.std.specs.Str.{bytes_eq}
+use Rattle.lit_model.specs.declared.numeric.NumberForm.TheVariants as number_forms
+use Rattle.lit_model.specs.declared.text.LongShortForm.TheVariants.{Long}
+use Rattle.csl_style.specs.declared.date.DateAnyForm.{DateAnyForm}
+use Rattle.csl_style.specs.declared.date.DateAnyForm.TheVariants as part_forms
+use Rattle.csl_style.specs.declared.date.DatePartName.{DatePartName}
+use Rattle.csl_style.specs.declared.date.DatePartName.TheVariants.{Month, Year}
+use Rattle.csl_style.specs.declared.formatting.Formatting.{Formatting}
+use Rattle.csl_style.specs.declared.locale.Locale.{Locale}
+use Rattle.csl_style.specs.declared.names.NameAnd.TheVariants as ands
+use Rattle.csl_style.specs.declared.names.NameAsSortOrder.{NameAsSortOrder}
+use Rattle.csl_style.specs.declared.names.NameAsSortOrder.TheVariants.{First}
+use Rattle.csl_style.specs.declared.names.NameForm.{NameForm}
+use Rattle.csl_style.specs.declared.names.NameForm.TheVariants as name_forms
+use Rattle.csl_style.specs.declared.number.LabelPluralize.TheVariants.{Contextual}
+use Rattle.csl_style.specs.declared.taxonomy.DateVariable.TheVariants.{Issued}
+use Rattle.csl_style.specs.declared.taxonomy.NameVariable.{NameVariable}
+use Rattle.csl_style.specs.declared.taxonomy.NameVariable.TheVariants.{Author, Editor}
+use Rattle.csl_style.specs.declared.taxonomy.NumberOrPageVariable.{NumberOrPageVariable}
+use Rattle.csl_style.specs.declared.taxonomy.NumberOrPageVariable.TheVariants as counts
+use Rattle.csl_style.specs.declared.taxonomy.NumberVariable.TheVariants.{Volume}
+use Rattle.csl_style.specs.declared.taxonomy.PageVariable.TheVariants as pages
+use Rattle.csl_style.specs.declared.taxonomy.StandardVariable.TheVariants.{Title, ContainerTitle, DOI}
+use Rattle.csl_style.specs.declared.taxonomy.Variable.{Variable}
+use Rattle.csl_style.specs.declared.taxonomy.Variable.TheVariants.{Standard, Page}
+use Rattle.csl_style.specs.declared.term.TermForm.TheVariants as forms
+use Rattle.csl_style.specs.Dressing.{AffixTexts}
+use Rattle.csl_style.specs.NameOptions.{SetOptions}
+use Rattle.csl_style.specs.Names.{NameNode}
+use Rattle.csl_style.specs.Node.{of_variable, DatePartNode, DateNode, Node, text, number, label, date, names, group, Nodes, no_nodes, node, LayoutNode}
+use Rattle.csl_style.specs.Style.{StyleParts, no_options, AreDefaults}
+use Rattle.csl_style.specs.View.{view_layout, Child, a_name, a_substitute, name_children, first_et_al, first_label, substitutes}
+use Rattle.csl_built_in.specs.English.{IsEnglish}
+use Rattle.csl_built_in.specs.Nodes.{no_formatting, italic, no_affixes, before, behind, around, undressed, affixed}
+use Rattle.csl_built_in.specs.declared.styles.BuiltInStyle.{BuiltInStyle}
+use Rattle.csl_built_in.specs.declared.styles.BuiltInStyle.TheVariants.{AuthorDate, Reference}
+
+-- the name of a built-in style
+abbrev pub style_name : BuiltInStyle → List ℕ
+style_name AuthorDate = codes "author-date"
+style_name Reference = codes "reference"
+
+-- the built-in style of a name
+abbrev pub named_style : List ℕ → Option BuiltInStyle
+named_style name =
+    if bytes_eq name (style_name AuthorDate) then Some AuthorDate
+    else (if bytes_eq name (style_name Reference) then Some Reference else None)
+
+-- ---- nodes of several sorts
+
+-- a text of a variable
+abbrev pub variable_text : Variable → Formatting → AffixTexts → Bool → Node
+variable_text variable formatting affixes quotes = text (of_variable variable Long) (record {
+  dressing = record (undressed formatting) { affixes = affixes };
+  quotes = quotes;
+  strip_periods = false;
+})
+
+-- the short label of a number or of pages, for several where several stand beside it
+abbrev pub short_label : NumberOrPageVariable → Node
+short_label variable = label variable (record {
+  form = forms.Short;
+  plural = Contextual;
+  formatting = no_formatting;
+  affixes = no_affixes;
+  strip_periods = false;
+})
+
+abbrev pub date_part : DatePartName → Option DateAnyForm → DatePartNode
+date_part name form = record { name = name; form = form; formatting = no_formatting; affixes = no_affixes; strip_periods = false }
+
+-- the date of issue, by these parts
+abbrev pub issued : List DatePartNode → Option (List ℕ) → DateNode
+issued parts delimiter = record {
+  variable = Some Issued;
+  form = None;
+  parts = None;
+  date_part = parts;
+  delimiter = delimiter;
+  dressing = undressed no_formatting;
+}
+
+-- persons of one variable, written by these children
+abbrev pub persons_by : NameVariable → List Child → Node
+persons_by variable children = names (record {
+  variables = variable ∷ [];
+  options = no_options;
+  delimiter = None;
+  dressing = undressed no_formatting;
+  name_children = name_children children;
+  et_al = first_et_al children;
+  label = first_label false children;
+}) (substitutes children)
+
+-- the word `and` before the last name, with or without a form and an order
+abbrev pub joined_by_and : Option NameForm → Option NameAsSortOrder → SetOptions
+joined_by_and form order = record no_options { and = Some ands.Text; form = form; name_as_sort_order = order }
+
+abbrev pub name_by : SetOptions → NameNode
+name_by options = record { options = options; formatting = no_formatting; parts = [] }
+
+-- ---- author and date in parentheses
+
+abbrev pub short_authors : Node
+short_authors = persons_by Author (a_name (name_by (joined_by_and (Some name_forms.Short) None)) ∷ [])
+
+abbrev pub year : Node
+year = date (issued (date_part Year None ∷ []) None)
+
+abbrev pub author_date : Node
+author_date = group (Some (codes ", ")) (affixed (around (codes "(") (codes ")"))) (node short_authors (node year no_nodes))
+
+-- ---- a reference in full
+
+abbrev pub editors : Node
+editors = persons_by Editor []
+
+-- The first has the family name first. Where there are none, the editors stand in, and are written as they are.
+abbrev pub authors : Node
+authors = persons_by Author (a_name (name_by (joined_by_and None (Some First))) ∷ a_substitute (node editors no_nodes) ∷ [])
+
+abbrev pub quoted_title : Node
+quoted_title = variable_text (Standard Title) no_formatting no_affixes true
+
+abbrev pub container_title : Node
+container_title = variable_text (Standard ContainerTitle) italic no_affixes false
+
+-- two with a space between them
+abbrev pub spaced : Node → Node → Node
+spaced first second = group (Some (codes " ")) (undressed no_formatting) (node first (node second no_nodes))
+
+abbrev pub bare_volume : Node
+bare_volume = number (record { variable = counts.Number Volume; form = number_forms.Numeric; dressing = undressed no_formatting })
+
+abbrev pub volume : Node
+volume = spaced (short_label (counts.Number Volume)) bare_volume
+
+abbrev pub page : Node
+page = spaced (short_label (counts.Page pages.Page)) (variable_text (Page pages.Page) no_formatting no_affixes false)
+
+abbrev pub month_and_year : Node
+month_and_year = date (issued (date_part Month (Some part_forms.Long) ∷ date_part Year None ∷ []) (Some (codes " ")))
+
+abbrev pub described : Nodes
+described = node authors (node quoted_title (node container_title (node volume (node page (node month_and_year no_nodes)))))
+
+-- with commas between them, and a period
+abbrev pub description : Node
+description = group (Some (codes ", ")) (affixed (behind (codes "."))) described
+
+-- the address of its digital object identifier behind a space
+abbrev pub address : Node
+address =
+    group None (affixed (before (codes " ")))
+    (node (variable_text (Standard DOI) no_formatting (before (codes "https://doi.org/")) false) no_nodes)
+
+-- ---- the styles
+
+abbrev pub elements_of : BuiltInStyle → Nodes
+elements_of AuthorDate = node author_date no_nodes
+elements_of Reference = node description (node address no_nodes)
+
+abbrev pub built_in_layout : BuiltInStyle → LayoutNode
+built_in_layout style = record { delimiter = None; formatting = no_formatting; elements = elements_of style }
+
+-- A style of one layout, that of a cite, in English. It has no macros and sets nothing.
+pub record IsBuiltInStyle (style : BuiltInStyle) (parts : StyleParts) : Type 0 where
+  pub citation : view_layout parts.citation ≡ built_in_layout style
+  pub bibliography : parts.bibliography ≡ None
+  pub macros : parts.macros ≡ []
+  pub settings : AreDefaults parts.settings
+  pub locales : (locale : Locale) × (parts.locales ≡ locale ∷ []) × IsEnglish locale
