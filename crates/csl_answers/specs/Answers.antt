@@ -4,8 +4,8 @@ use Rattle.std.specs.Fmt.{WritesInCalls}
 use Rattle.csl_tree.specs.Tokens.{Token, tokens}
 use Rattle.csl_tree.specs.Writing.{written}
 use Rattle.csl_built_in.specs.Entries.{label_text, is_built_in_kind}
-use Rattle.csl_answers.specs.Cites.{IsTitleContent}
-use Rattle.csl_answers.specs.Words.{Verdict, title_in, label_of, kind_of, missing, unknown}
+use Rattle.csl_answers.specs.Cites.{IsTitleContent, IsEntryContent}
+use Rattle.csl_answers.specs.Words.{Verdict, title_in, cite_in, label_of, kind_of, missing, unknown}
 use Rattle.csl_answers.specs.declared.answers.Answer.{Answer}
 use Rattle.csl_answers.specs.declared.answers.Answer.TheVariants.{Content, Text, Truth}
 
@@ -19,9 +19,10 @@ abbrev pub truth_text : Bool → List ℕ
 truth_text true = codes "true"
 truth_text false = codes "false"
 
--- The text answers the words: what the style of the command makes of the title, as it is written; the label, with three letters, of the built-in entry; whether that entry is of the kind.
+-- The text answers the words: what the style of the command makes of the title or of the built-in entry, as it is written; the label, with three letters, of the built-in entry; whether that entry is of the kind.
 abbrev pub IsAnswer : Verdict → List ℕ → Type 0
 IsAnswer (title_in title format) text = (content : List Token) × IsTitleContent title content × (text ≡ written format content)
+IsAnswer (cite_in entry style format) text = (content : List Token) × IsEntryContent entry style content × (text ≡ written format content)
 IsAnswer (label_of entry) text = text ≡ label_text entry
 IsAnswer (kind_of entry kind) text = text ≡ truth_text (is_built_in_kind kind entry)
 IsAnswer missing text = ⊥
@@ -36,6 +37,7 @@ text_of (Truth truth) = truth_text truth
 -- what is said of words that were refused, without the newline
 abbrev pub complaint : Verdict → Option (List ℕ)
 complaint (title_in title format) = None
+complaint (cite_in entry style format) = None
 complaint (label_of entry) = None
 complaint (kind_of entry kind) = None
 complaint missing = Some (codes "missing word")

@@ -8,15 +8,18 @@ use Rattle.csl_style.specs.declared.taxonomy.Kind.TheVariants as kinds
 use Rattle.csl_tree.specs.declared.elem.BufWriteFormat.{BufWriteFormat}
 use Rattle.csl_tree.specs.declared.elem.BufWriteFormat.TheVariants.{Plain, Html}
 use Rattle.csl_built_in.specs.Entries.{named_built_in}
+use Rattle.csl_built_in.specs.Styles.{named_style}
 use Rattle.csl_built_in.specs.declared.entries.BuiltIn.{BuiltIn}
+use Rattle.csl_built_in.specs.declared.styles.BuiltInStyle.{BuiltInStyle}
 use Rattle.csl_answers.specs.declared.words.Command.{Command}
 use Rattle.csl_answers.specs.declared.words.Command.TheVariants as commands
 use Rattle.csl_answers.specs.declared.words.WordsError.{WordsError}
 use Rattle.csl_answers.specs.declared.words.WordsError.TheVariants.{Missing, Unknown}
 
--- What is asked for: a title in a format, the label of an entry, whether an entry is of a kind. Or a word is missing, or unknown.
+-- What is asked for: a title in a format, a cite of an entry by a style in a format, the label of an entry, whether an entry is of a kind. Or a word is missing, or unknown.
 pub data Verdict : Type 0 where
   title_in : List ℕ → BufWriteFormat → Verdict
+  cite_in : BuiltIn → BuiltInStyle → BufWriteFormat → Verdict
   label_of : BuiltIn → Verdict
   kind_of : BuiltIn → Kind → Verdict
   missing : Verdict
@@ -32,16 +35,30 @@ abbrev pub or_unknown : {T : Type 0} → List ℕ → Option T → (T → Verdic
 or_unknown word None next = unknown word
 or_unknown word (Some x) next = next x
 
-abbrev pub format_verdict : List ℕ → List ℕ → List (List ℕ) → Verdict
-format_verdict title format words =
-    if bytes_eq format (codes "plain") then when_last (title_in title Plain) words
-    else (if bytes_eq format (codes "html") then when_last (title_in title Html) words else unknown format)
+-- the format of a name
+abbrev pub named_format : List ℕ → Option BufWriteFormat
+named_format name = if bytes_eq name (codes "plain") then Some Plain else (if bytes_eq name (codes "html") then Some Html else None)
 
 -- the words after `title`: the title and its format
 abbrev pub title_verdict : List (List ℕ) → Verdict
 title_verdict [] = missing
 title_verdict (title ∷ []) = missing
-title_verdict (title ∷ format ∷ words) = format_verdict title format words
+title_verdict (title ∷ name ∷ words) = or_unknown name (named_format name) (λ format. when_last (title_in title format) words)
+
+-- the word after an entry and a style: the format
+abbrev pub cite_verdict_in : BuiltIn → BuiltInStyle → List (List ℕ) → Verdict
+cite_verdict_in entry style [] = missing
+cite_verdict_in entry style (name ∷ words) = or_unknown name (named_format name) (λ format. when_last (cite_in entry style format) words)
+
+-- the words after an entry: the style and the format
+abbrev pub cite_verdict_of : BuiltIn → List (List ℕ) → Verdict
+cite_verdict_of entry [] = missing
+cite_verdict_of entry (name ∷ words) = or_unknown name (named_style name) (λ style. cite_verdict_in entry style words)
+
+-- the words after `cite`: the entry, the style and the format
+abbrev pub cite_verdict : List (List ℕ) → Verdict
+cite_verdict [] = missing
+cite_verdict (key ∷ words) = or_unknown key (named_built_in key) (λ entry. cite_verdict_of entry words)
 
 -- the words after `label`: the entry
 abbrev pub label_verdict : List (List ℕ) → Verdict
@@ -76,8 +93,9 @@ abbrev pub verdict_on : List (List ℕ) → Verdict
 verdict_on [] = title_in (codes "Nature") Html
 verdict_on (name ∷ words) =
     if bytes_eq name (codes "title") then title_verdict words
+    else (if bytes_eq name (codes "cite") then cite_verdict words
     else (if bytes_eq name (codes "label") then label_verdict words
-    else (if bytes_eq name (codes "kind") then kind_verdict words else unknown name))
+    else (if bytes_eq name (codes "kind") then kind_verdict words else unknown name)))
 
 -- what the code's answer says
 abbrev pub refusal : WordsError → Verdict
@@ -86,6 +104,7 @@ refusal (Unknown word) = unknown word.now
 
 abbrev pub command_verdict : Command → Verdict
 command_verdict (commands.Title title format) = title_in title.now format
+command_verdict (commands.Cite entry style format) = cite_in entry style format
 command_verdict (commands.Label entry) = label_of entry
 command_verdict (commands.Kind entry kind) = kind_of entry kind
 

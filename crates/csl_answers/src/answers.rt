@@ -4,7 +4,7 @@ ghost use Rattle.std.specs.Prelude.{◌≡◌, true, OnOk, OnErr, IfOk};
 ghost use Rattle.csl_answers.specs.Answers.{IsAnswer, TakesLine, text_of, truth_text};
 ghost use Rattle.csl_answers.specs.Words.{command_verdict};
 
-use crate::cites::title_content;
+use crate::cites::{entry_content, title_content};
 use crate::words::Command;
 use csl_tree::{BufWriteFormat, ElemChildren};
 use lit_model::{Memory, Sink};
@@ -32,6 +32,14 @@ pub fn answer_to(alloc: Global, command: Command<'_>) -> Result<Answer, Memory>
     match command {
         Command::Title { title, format } => {
             let content = title_content(alloc, title)?;
+            Ok(Answer::Content(content, format))
+        }
+        Command::Cite {
+            entry,
+            style,
+            format,
+        } => {
+            let content = entry_content(alloc, entry, style)?;
             Ok(Answer::Content(content, format))
         }
         Command::Label(entry) => {

@@ -4,9 +4,9 @@ ghost use Rattle.std.specs.Prelude.{◌≡◌, IfOk};
 ghost use Rattle.csl_tree.specs.Tokens.{tokens};
 ghost use Rattle.csl_entry.specs.Cite.{cite_state};
 ghost use Rattle.csl_render.specs.Cited.{first_cite, cited};
-ghost use Rattle.csl_answers.specs.Cites.{IsTitleContent};
+ghost use Rattle.csl_answers.specs.Cites.{IsEntryContent, IsTitleContent};
 
-use csl_built_in::{TitleOnly, one_piece, title_style};
+use csl_built_in::{BuiltIn, BuiltInStyle, TitleOnly, one_piece, title_style};
 use csl_context::{Context, RenderError, Rendered};
 use csl_entry::{
     CertainCiteProperties, CitationNumber, CiteProperties, DisambiguateState, EntryLike, IbidState,
@@ -72,6 +72,26 @@ pub fn title_content(alloc: Global, title: &str) -> Result<ElemChildren, Memory>
     let style = title_style(alloc)?;
     let title = one_piece(alloc, title)?;
     match cite(alloc, &style, &TitleOnly { title }) {
+        Ok(made) => Ok(made.content),
+        // A context that is new has not failed: what is missing is memory.
+        Err(_) => Err(Memory),
+    }
+}
+
+/// What a built-in style makes of a built-in entry.
+///
+/// # Errors
+/// [`Memory`]: there was no memory left.
+pub fn entry_content(
+    alloc: Global,
+    entry: BuiltIn,
+    style: BuiltInStyle,
+) -> Result<ElemChildren, Memory>
+    ensures { IfOk result (λ content. IsEntryContent entry style (tokens content)) }
+{
+    let parts = style.style(alloc)?;
+    let work = entry.entry(alloc)?;
+    match cite(alloc, &parts, &work) {
         Ok(made) => Ok(made.content),
         // A context that is new has not failed: what is missing is memory.
         Err(_) => Err(Memory),

@@ -1,10 +1,11 @@
 //! The words that the program is called with.
 
 ghost use Rattle.std.specs.Prelude.{◌≡◌, map, string_bytes};
-ghost use Rattle.csl_answers.specs.Words.{meaning, named_kind, verdict_of};
+ghost use Rattle.csl_answers.specs.Words.{meaning, named_format, named_kind, verdict_of};
 ghost use Rattle.csl_answers.specs.Words.{title_verdict, label_verdict, kind_verdict, kind_verdict_of};
+ghost use Rattle.csl_answers.specs.Words.{cite_verdict, cite_verdict_of, cite_verdict_in};
 
-use csl_built_in::BuiltIn;
+use csl_built_in::{BuiltIn, BuiltInStyle};
 use csl_style::Kind;
 use csl_tree::BufWriteFormat;
 
@@ -14,6 +15,12 @@ pub enum Command<'a> {
     /// A title, written in a format.
     Title {
         title: &'a str,
+        format: BufWriteFormat,
+    },
+    /// A cite of an entry by a style, written in a format.
+    Cite {
+        entry: BuiltIn,
+        style: BuiltInStyle,
         format: BufWriteFormat,
     },
     /// The label of an entry.
@@ -45,6 +52,7 @@ pub fn command_of(words: &[String]) -> Result<Command<'_>, WordsError<'_>>
         }),
         [name, words @ ..] => match name.as_str() {
             "title" => title_command(words),
+            "cite" => cite_command(words),
             "label" => label_command(words),
             "kind" => kind_command(words),
             _ => Err(WordsError::Unknown(name.as_str())),
@@ -56,19 +64,76 @@ pub fn command_of(words: &[String]) -> Result<Command<'_>, WordsError<'_>>
 fn title_command(words: &[String]) -> Result<Command<'_>, WordsError<'_>>
     ensures { verdict_of result ≡ title_verdict (map string_bytes words.now) }
 {
-    let [title, format, more @ ..] = words else {
+    let [title, name, more @ ..] = words else {
         return Err(WordsError::Missing);
     };
-    let format = if format.as_str() == "plain" {
-        BufWriteFormat::Plain
-    } else if format.as_str() == "html" {
-        BufWriteFormat::Html
-    } else {
-        return Err(WordsError::Unknown(format.as_str()));
+    let Some(format) = format_of_name(name.as_str()) else {
+        return Err(WordsError::Unknown(name.as_str()));
     };
     match more {
         [] => Ok(Command::Title {
             title: title.as_str(),
+            format,
+        }),
+        [word, ..] => Err(WordsError::Unknown(word.as_str())),
+    }
+}
+
+/// The format of a name, if there is one.
+fn format_of_name(name: &str) -> Option<BufWriteFormat>
+    ensures { result ≡ named_format name.now }
+{
+    match name {
+        "plain" => Some(BufWriteFormat::Plain),
+        "html" => Some(BufWriteFormat::Html),
+        _ => None,
+    }
+}
+
+/// What the words after `cite` ask for.
+fn cite_command(words: &[String]) -> Result<Command<'_>, WordsError<'_>>
+    ensures { verdict_of result ≡ cite_verdict (map string_bytes words.now) }
+{
+    let [key, more @ ..] = words else {
+        return Err(WordsError::Missing);
+    };
+    match BuiltIn::of_key(key.as_str()) {
+        Some(entry) => cite_command_of(entry, more),
+        None => Err(WordsError::Unknown(key.as_str())),
+    }
+}
+
+/// What the words after `cite` and an entry ask for.
+fn cite_command_of(entry: BuiltIn, words: &[String]) -> Result<Command<'_>, WordsError<'_>>
+    ensures { verdict_of result ≡ cite_verdict_of entry (map string_bytes words.now) }
+{
+    let [name, more @ ..] = words else {
+        return Err(WordsError::Missing);
+    };
+    match BuiltInStyle::of_name(name.as_str()) {
+        Some(style) => cite_command_in(entry, style, more),
+        None => Err(WordsError::Unknown(name.as_str())),
+    }
+}
+
+/// What the words after `cite`, an entry and a style ask for.
+fn cite_command_in(
+    entry: BuiltIn,
+    style: BuiltInStyle,
+    words: &[String],
+) -> Result<Command<'_>, WordsError<'_>>
+    ensures { verdict_of result ≡ cite_verdict_in entry style (map string_bytes words.now) }
+{
+    let [name, more @ ..] = words else {
+        return Err(WordsError::Missing);
+    };
+    let Some(format) = format_of_name(name.as_str()) else {
+        return Err(WordsError::Unknown(name.as_str()));
+    };
+    match more {
+        [] => Ok(Command::Cite {
+            entry,
+            style,
             format,
         }),
         [word, ..] => Err(WordsError::Unknown(word.as_str())),

@@ -2,6 +2,8 @@
 #![tactic(auto)]
 
 #[cfg(test)]
+mod cites;
+#[cfg(test)]
 mod entries;
 #[cfg(test)]
 mod refused;

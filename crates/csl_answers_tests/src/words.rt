@@ -7,13 +7,13 @@ use std::process::Abort;
 use std::test::Fail;
 
 /// The words, and the status, the answer and the fault that they give.
-type Row = (&'static [&'static str], u8, &'static str, &'static str);
+pub type Row = (&'static [&'static str], u8, &'static str, &'static str);
 
 const NATURE: &str = "(Title: <span style=\"font-style: italic;\">Nature</span>)\n";
 
 const AS_IT_IS: &str = "(Title: <span style=\"font-style: italic;\">é 📚 <b> & \n\"</span>)\n";
 
-static ROWS: [Row; 32] = [
+static ROWS: [Row; 31] = [
     // A title in a format.
     (&["title", "Nature", "html"], 0, NATURE, ""),
     (&["title", "Nature", "plain"], 0, "(Title: Nature)\n", ""),
@@ -54,12 +54,6 @@ static ROWS: [Row; 32] = [
     (&["title", "Nature", "pdf"], 2, "", "unknown: pdf\n"),
     (&["title", "Nature", "html", "now"], 2, "", "unknown: now\n"),
     (&["title", "Nature", "pdf", "now"], 2, "", "unknown: pdf\n"),
-    (
-        &["cite", "crazy-rich", "author-date", "plain"],
-        2,
-        "",
-        "unknown: cite\n",
-    ),
     (&["labels", "x"], 2, "", "unknown: labels\n"),
     (&["label", "nobody"], 2, "", "unknown: nobody\n"),
     (&["label", "crazy-rich", "now"], 2, "", "unknown: now\n"),
@@ -82,19 +76,27 @@ pub fn owned(alloc: Global, words: &[&str]) -> Result<Vec<String>, Fail> {
     Ok(all)
 }
 
-/// Runs the words, and asserts the status and what both streams took.
+/// Runs the words, and asserts the status and what both streams took. Where memory was refused, the
+/// fault stream took just that line, and the words are run once more.
 fn assert_run(rt: &impl Abort, alloc: Global, row: Row) -> Result<(), Fail> {
     let (words, status, out, fault) = row;
     let owned = owned(alloc, words)?;
-    let mut wrote = String::new(alloc);
-    let mut said = String::new(alloc);
-    let answered = run(alloc, owned.as_slice(), &mut wrote, &mut said);
+    let mut wrote = String::with_capacity(alloc, 512)?;
+    let mut said = String::with_capacity(alloc, 512)?;
+    let mut answered = run(alloc, owned.as_slice(), &mut wrote, &mut said);
+    if answered == 3 {
+        let got = (wrote.as_str(), said.as_str());
+        assert_eq!(rt; got, ("", "out of memory\n"), "of {words:?}");
+        said.clear();
+        answered = run(alloc, owned.as_slice(), &mut wrote, &mut said);
+    }
     let got = (answered, wrote.as_str(), said.as_str());
     assert_eq!(rt; got, (status, out, fault), "of {words:?}");
     Ok(())
 }
 
-fn assert_all(rt: &impl Abort, alloc: Global, rows: &[Row]) -> Result<(), Fail> {
+/// Asserts each row.
+pub fn assert_all(rt: &impl Abort, alloc: Global, rows: &[Row]) -> Result<(), Fail> {
     for row in rows {
         assert_run(rt, alloc, *row)?;
     }
