@@ -1,29 +1,38 @@
 -- Two entries that answer alike what a node names: the node says, shows and makes the same of both.
-use Rattle.std.proofs.Common.{◌≡◌, Bool, true, false, ℕ, List, [], ◌∷◌, map, Option, Some, None, refl, ap, ap₂, ◌∙◌, if◌then◌else◌}
+use Rattle.std.proofs.Common.{◌≡◌, Bool, true, false, subst, ℕ, List, [], ◌∷◌, map, Option, Some, None, refl, sym, ap, ap₂, ◌∙◌, if◌then◌else◌}
 use Rattle.std.specs.Prelude.{◌||◌, ◌&&◌, not, ◌==◌, length, option_map, is_some, unwrap_or}
 use Rattle.lit_model.specs.Date.{Parts}
+use Rattle.lit_model.specs.Person.{Named}
 use Rattle.lit_model.specs.Chunks.{is_white_space}
 use Rattle.lit_model.specs.declared.text.LongShortForm.{LongShortForm}
 use Rattle.lit_model.specs.declared.text.LongShortForm.TheVariants.{Long}
 use Rattle.csl_style.specs.declared.taxonomy.DateVariable.{DateVariable}
+use Rattle.csl_style.specs.declared.taxonomy.NameVariable.{NameVariable}
+use Rattle.csl_style.specs.declared.taxonomy.NameVariable.TheVariants.{Editor, Translator, EditorTranslator}
 use Rattle.csl_style.specs.declared.taxonomy.NumberOrPageVariable.{NumberOrPageVariable}
 use Rattle.csl_style.specs.declared.taxonomy.NumberOrPageVariable.TheVariants as number_or_page
 use Rattle.csl_style.specs.declared.taxonomy.Variable.{Variable}
 use Rattle.csl_style.specs.declared.taxonomy.Variable.TheVariants as variable
 use Rattle.csl_style.specs.declared.term.Term.{Term}
+use Rattle.csl_style.specs.declared.term.Term.TheVariants as terms
+use Rattle.csl_style.specs.declared.term.TermForm.TheVariants as term_forms
 use Rattle.csl_style.specs.Dressing.{TextDressing}
-use Rattle.csl_style.specs.Named.{NamedSet, joined, the_variable, the_date, the_kind, each_of, each_if, the_number_or_page, date_if, of_target, of_tests, of_full, of_fulls, of_cases}
+use Rattle.csl_style.specs.Named.{NamedSet, joined, the_variable, the_date, the_name, the_kind, each_of, each_if, the_number_or_page, date_if, of_target, of_tests, of_full, of_fulls, of_cases, of_insteads}
 use Rattle.csl_style.specs.Names.{LabelNode}
-use Rattle.csl_style.specs.Node.{Target, of_variable, of_term, of_value, NumberNode, DateNode, Tests, Full, printed, called, lacking, numbered, labelled, dated, named, shorthand, chosen, grouped, Fulls, none, more, Cases, no_cases, else_case, case, FullLayout}
+use Rattle.csl_style.specs.Node.{Target, of_variable, of_term, of_value, NumberNode, DateNode, Tests, Full, printed, called, lacking, numbered, labelled, dated, named, shorthand, chosen, grouped, Fulls, none, more, Cases, no_cases, else_case, case, Insteads, no_insteads, instead, FullLayout}
 use Rattle.csl_style.specs.Taxonomy.{variable_of}
 use Rattle.csl_style.proofs.Sets.{or_left, or_right}
-use Rattle.csl_tree.specs.Tokens.{Token}
+use Rattle.csl_style.proofs.Variables.{name_decides}
+use Rattle.std.proofs.lemmas.Bool.{false≢true}
+use Rattle.std.proofs.lemmas.Slice.Eq.{slice_eq-Decides}
+use Rattle.csl_tree.specs.Tokens.{Token, has_text}
 use Rattle.csl_entry.specs.Alike.{Alike}
 use Rattle.csl_entry.specs.Answers.{Answers}
 use Rattle.csl_entry.specs.declared.cite.Sorting.{Sorting}
 use Rattle.csl_entry.specs.NumberResult.{NumberOrPageView}
 use Rattle.csl_context.specs.State.{State, Inherited, looked}
-use Rattle.csl_context.specs.World.{World, date_look}
+use Rattle.csl_context.specs.World.{World, name_look, date_look, term_in}
+use Rattle.csl_names.specs.NamesLists.{Lists, same_variables, merges, merged, all_empty, each_found, each_printed, all_looked, found_lists, printed_lists, lists_state, is_pair}
 use Rattle.csl_leaves.specs.Answered.{number_or_page_look}
 use Rattle.csl_leaves.specs.Conditions.{is_some_and, is_number, is_typed, is_typed_result, is_numeric, is_uncertain, is_disambiguated, is_of_kind, is_present, one_if, all_if, holds}
 use Rattle.csl_leaves.specs.Dates.{shows_date, variable_info, written_as, printed_date, date_or_key, found_date, variable_tree}
@@ -31,8 +40,9 @@ use Rattle.csl_leaves.specs.Flags.{info_of, no_flags, nothing_said, rule, either
 use Rattle.csl_leaves.specs.Labels.{is_plural, label_term, term_if, text_beside, label_text, label_info, label_box, label_tree, said_by_form}
 use Rattle.csl_leaves.specs.Numbers.{shows_own, number_said, number_info, sort_text_if, number_content, found_content, number_tree}
 use Rattle.csl_render.specs.Printed.{answered_by}
-use Rattle.csl_leaves.specs.Text.{made, then_made, within, shows_variable, answer, numeral, Found, variable_found, found, calls, found_info, is_of, found_tree, variable_state, target_state, target_tree}
-use Rattle.csl_render.specs.Tree.{is_group, info, infos, cases_info, shows, any_shows, cases_show, tree, sum_of, delimited, cases_tree, admitted_made, macro_made, in_macro, group_made, in_group, layout_tree}
+use Rattle.csl_leaves.specs.Text.{Made, made, then_made, within, shows_variable, answer, numeral, Found, variable_found, found, calls, found_info, is_of, found_tree, variable_state, target_state, target_tree}
+use Rattle.csl_render.specs.Names.{author, is_refused, names_show, names_info, in_substitute, suppressing_from, names_made}
+use Rattle.csl_render.specs.Tree.{is_group, info, infos, cases_info, substitute_info, shows, any_shows, cases_show, substitute_shows, names_tree, tree, sum_of, delimited, cases_tree, until_text, substitute_tree, admitted_made, macro_made, in_macro, group_made, in_group, layout_tree}
 use Rattle.csl_render.proofs.Looks.{kind_alike, number_look_alike, page_look_alike, number_or_page_look_alike, standard_look_alike, name_look_alike, date_look_alike}
 
 module _ (a b : Answers) where
@@ -147,6 +157,61 @@ module _ (a b : Answers) where
         let content = ap (λ o. found_date v n o inh after) (date_look_alike a b w s x h) ∙ found_date_alike n (date_look u s x) inh after in
         ap (λ m. if shows_date w s x then m else made [] s) content
 
+    -- ---- lists of names
+
+    each_found_alike : (s : State) (vs : List NameVariable) → Alike (each_of the_name vs) a b → each_found v s vs ≡ each_found u s vs
+    each_found_alike s [] h = refl
+    each_found_alike s (x ∷ vs) h = ap₂ (λ (l : List Named) (ls : Lists). (l, x) ∷ ls) (name_look_alike a b w s x (on_left _ _ h)) (each_found_alike s vs (on_right _ _ h))
+
+    each_printed_alike : (s : State) (vs : List NameVariable) → Alike (each_of the_name vs) a b → each_printed v s vs ≡ each_printed u s vs
+    each_printed_alike s [] h = refl
+    each_printed_alike s (x ∷ vs) h = ap₂ (λ (l : List Named) (ls : Lists). (l, x) ∷ ls) (name_look_alike a b w s x (on_left _ _ h)) (each_printed_alike (looked (variable.Name x) s) vs (on_right _ _ h))
+
+    all_looked_alike : (s : State) (vs : List NameVariable) → all_looked v s vs ≡ all_looked u s vs
+    all_looked_alike s [] = refl
+    all_looked_alike s (x ∷ vs) = all_looked_alike (looked (variable.Name x) s) vs
+
+    lists_state_alike : (s : State) (vs : List NameVariable) → lists_state v s vs ≡ lists_state u s vs
+    lists_state_alike s vs = ap (λ t. if merges w.style vs then looked (variable.Name Translator) (looked (variable.Name Editor) s) else t) (all_looked_alike s vs)
+
+    -- lists of editors and translators that may be merged are of these two variables
+    module _ (s t : State) where
+      abbrev Pair : Type 0
+      Pair = (name_look v s Editor ≡ name_look u s Editor) × (name_look v t Translator ≡ name_look u t Translator)
+
+      looks_alike : Alike (the_name Editor) a b → Alike (the_name Translator) a b → Pair
+      looks_alike h k = (name_look_alike a b w s Editor h, name_look_alike a b w t Translator k)
+
+      one_of : (x y : Bool) (vs : List NameVariable) → (x ≡ true → vs ≡ Editor ∷ Translator ∷ []) → (y ≡ true → vs ≡ Translator ∷ Editor ∷ []) → (x || y) ≡ true → Alike (each_of the_name vs) a b → Pair
+      one_of true y vs f g e h =
+          let k : Alike (each_of the_name (Editor ∷ Translator ∷ [])) a b = subst (λ us. Alike (each_of the_name us) a b) (f refl) h in
+          looks_alike (on_left _ _ k) (on_left _ _ (on_right _ _ k))
+      one_of false true vs f g e h =
+          let k : Alike (each_of the_name (Translator ∷ Editor ∷ [])) a b = subst (λ us. Alike (each_of the_name us) a b) (g refl) h in
+          looks_alike (on_left _ _ (on_right _ _ k)) (on_left _ _ k)
+      one_of false false vs f g e h = absurd (false≢true e)
+
+      same_list : (xs ys : List NameVariable) → same_variables xs ys ≡ true → xs ≡ ys
+      same_list xs ys e = (slice_eq-Decides name_decides xs ys (same_variables xs ys) refl).0 e
+
+      pair_alike : (vs : List NameVariable) → is_pair vs ≡ true → Alike (each_of the_name vs) a b → Pair
+      pair_alike vs e h =
+          one_of (same_variables vs (Editor ∷ Translator ∷ [])) (same_variables vs (Translator ∷ Editor ∷ [])) vs (same_list vs (Editor ∷ Translator ∷ [])) (same_list vs (Translator ∷ Editor ∷ [])) e h
+
+      -- lists that are merged where a word is there and they are that pair, else not
+      merged_alike : (word pair : Bool) (vs : List NameVariable) (xs ys : Lists) → pair ≡ is_pair vs → xs ≡ ys → Alike (each_of the_name vs) a b
+          → (if word && pair then merged (name_look v s Editor) (name_look v t Translator) else xs) ≡ (if word && pair then merged (name_look u s Editor) (name_look u t Translator) else ys)
+      merged_alike true true vs xs ys e f h = let both = pair_alike vs (sym e) h in ap₂ merged both.0 both.1
+      merged_alike true false vs xs ys e f h = f
+      merged_alike false true vs xs ys e f h = f
+      merged_alike false false vs xs ys e f h = f
+
+    found_lists_alike : (s : State) (vs : List NameVariable) → Alike (each_of the_name vs) a b → found_lists v s vs ≡ found_lists u s vs
+    found_lists_alike s vs h = merged_alike s s (is_some (term_in w.style (terms.Name EditorTranslator) term_forms.Long false)) (is_pair vs) vs _ _ refl (each_found_alike s vs h) h
+
+    printed_lists_alike : (s : State) (vs : List NameVariable) → Alike (each_of the_name vs) a b → printed_lists v s vs ≡ printed_lists u s vs
+    printed_lists_alike s vs h = merged_alike s (looked (variable.Name Editor) s) (is_some (term_in w.style (terms.Name EditorTranslator) term_forms.Long false)) (is_pair vs) vs _ _ refl (each_printed_alike s vs h) h
+
     -- ---- tests
 
     numeric_alike : (s : State) (x : Variable) → Alike (the_variable x) a b → is_numeric v s x ≡ is_numeric u s x
@@ -192,31 +257,6 @@ module _ (a b : Answers) where
         let present = each_if_alike the_variable (is_present v s) (is_present u s) (present_alike s) ts.variable (on_right _ _ past_dates) in
         rw (disambiguated_alike ts.disambiguate, numbers, dates, kinds, present) refl
 
-    -- ---- what is said
-
-    mutual
-      pub info_alike : (s : State) (f : Full) → Alike (of_full f) a b → info v s f ≡ info u s f
-      info_alike s (printed t d) h = ap (found_info (calls t)) (found_alike s t h)
-      info_alike s (called fs d) h = ap (λ i. macro_info (but_groups i)) (infos_alike s fs h)
-      info_alike s lacking h = refl
-      info_alike s (numbered n) h = number_info_alike s n h
-      info_alike s (labelled x l) h = label_info_alike s x l h
-      info_alike s (dated n) h = variable_info_alike s n.variable h
-      info_alike s (named n is) h = refl
-      info_alike s (shorthand written n) h = refl
-      info_alike s (chosen cs) h = cases_info_alike s cs h
-      info_alike s (grouped delimiter d fs) h = ap group_info (infos_alike s fs h)
-
-      pub infos_alike : (s : State) (fs : Fulls) → Alike (of_fulls fs) a b → infos v s fs ≡ infos u s fs
-      infos_alike s none h = refl
-      infos_alike s (more f fs) h = ap₂ (λ i j. either (counted (is_group f) i) j) (info_alike s f (on_left _ _ h)) (infos_alike s fs (on_right _ _ h))
-
-      cases_info_alike : (s : State) (cs : Cases) → Alike (of_cases cs) a b → cases_info v s cs ≡ cases_info u s cs
-      cases_info_alike s no_cases h = refl
-      cases_info_alike s (else_case fs) h = ap but_groups (infos_alike s fs h)
-      cases_info_alike s (case ts fs cs) h =
-          rw (holds_alike s ts (on_left _ _ h), infos_alike s fs (on_left _ _ (on_right _ _ h)), cases_info_alike s cs (on_right _ _ (on_right _ _ h))) refl
-
     -- ---- what is shown
 
     mutual
@@ -227,8 +267,9 @@ module _ (a b : Answers) where
       shows_alike s x (numbered n) h = refl
       shows_alike s x (labelled y l) h = refl
       shows_alike s x (dated n) h = refl
-      shows_alike s x (named n is) h = refl
-      shows_alike s x (shorthand written n) h = refl
+      shows_alike s x (named n is) h =
+          ap₂ (λ ls substitute. names_show x n (all_empty ls) substitute) (found_lists_alike s n.variables (on_left _ _ h)) (substitute_shows_alike s x is (on_right _ _ h))
+      shows_alike s x (shorthand written n) h = ap (λ ls. names_show x written (all_empty ls) false) (found_lists_alike s written.variables (on_left _ _ h))
       shows_alike s x (chosen cs) h = cases_show_alike s x cs h
       shows_alike s x (grouped delimiter d fs) h = any_shows_alike s x fs h
 
@@ -242,6 +283,45 @@ module _ (a b : Answers) where
       cases_show_alike s x (case ts fs cs) h =
           rw (holds_alike s ts (on_left _ _ h), any_shows_alike s x fs (on_left _ _ (on_right _ _ h)), cases_show_alike s x cs (on_right _ _ (on_right _ _ h))) refl
 
+      substitute_shows_alike : (s : State) (x : Variable) (is : Insteads) → Alike (of_insteads is) a b → substitute_shows v s x is ≡ substitute_shows u s x is
+      substitute_shows_alike s x no_insteads h = refl
+      substitute_shows_alike s x (instead fs is) h = any_shows_alike s x fs (on_left _ _ h)
+
+    -- ---- what is said
+
+    mutual
+      pub info_alike : (s : State) (f : Full) → Alike (of_full f) a b → info v s f ≡ info u s f
+      info_alike s (printed t d) h = ap (found_info (calls t)) (found_alike s t h)
+      info_alike s (called fs d) h = ap (λ i. macro_info (but_groups i)) (infos_alike s fs h)
+      info_alike s lacking h = refl
+      info_alike s (numbered n) h = number_info_alike s n h
+      info_alike s (labelled x l) h = label_info_alike s x l h
+      info_alike s (dated n) h = variable_info_alike s n.variable h
+      info_alike s (named n is) h =
+          let lists = found_lists_alike s n.variables (on_left _ _ h) in
+          let shown = shows_alike s author (named n is) h in
+          let substituted = substitute_info_alike s is (on_right _ _ h) in
+          ap (λ ls. names_info w.instance.special n ls is (shows v s author (named n is)) (substitute_info v s is)) lists
+          ∙ ap₂ (λ shown sub. names_info w.instance.special n (found_lists u s n.variables) is shown sub) shown substituted
+      info_alike s (shorthand written n) h =
+          ap₂ (λ ls shown. names_info w.instance.special written ls no_insteads shown nothing_said) (found_lists_alike s written.variables (on_left _ _ h)) (shows_alike s author (shorthand written n) h)
+      info_alike s (chosen cs) h = cases_info_alike s cs h
+      info_alike s (grouped delimiter d fs) h = ap group_info (infos_alike s fs h)
+
+      pub infos_alike : (s : State) (fs : Fulls) → Alike (of_fulls fs) a b → infos v s fs ≡ infos u s fs
+      infos_alike s none h = refl
+      infos_alike s (more f fs) h = ap₂ (λ i j. either (counted (is_group f) i) j) (info_alike s f (on_left _ _ h)) (infos_alike s fs (on_right _ _ h))
+
+      cases_info_alike : (s : State) (cs : Cases) → Alike (of_cases cs) a b → cases_info v s cs ≡ cases_info u s cs
+      cases_info_alike s no_cases h = refl
+      cases_info_alike s (else_case fs) h = ap but_groups (infos_alike s fs h)
+      cases_info_alike s (case ts fs cs) h =
+          rw (holds_alike s ts (on_left _ _ h), infos_alike s fs (on_left _ _ (on_right _ _ h)), cases_info_alike s cs (on_right _ _ (on_right _ _ h))) refl
+
+      substitute_info_alike : (s : State) (is : Insteads) → Alike (of_insteads is) a b → substitute_info v s is ≡ substitute_info u s is
+      substitute_info_alike s no_insteads h = refl
+      substitute_info_alike s (instead fs is) h = ap but_groups (infos_alike s fs (on_left _ _ h))
+
     -- ---- what is made
 
     mutual
@@ -252,8 +332,15 @@ module _ (a b : Answers) where
       tree_alike (numbered n) inh s h = number_tree_alike n inh s h
       tree_alike (labelled x l) inh s h = label_tree_alike x l inh s h
       tree_alike (dated n) inh s h = variable_tree_alike n n.variable inh s h
-      tree_alike (named n is) inh s h = refl
-      tree_alike (shorthand written n) inh s h = refl
+      tree_alike (named n is) inh s h =
+          let after = lists_state u s n.variables in
+          let lists = printed_lists u s n.variables in
+          let substitute = suppressing_from after in
+          ap₂ (λ ls t. names_tree v n is inh (substitute_tree v is (in_substitute n inh) (suppressing_from t)) ls t) (printed_lists_alike s n.variables (on_left _ _ h)) (lists_state_alike s n.variables)
+          ∙ ap₂ (λ shown m. names_made w n lists (is_refused w.instance.special n (all_empty lists) is (names_show author n (all_empty lists) shown)) inh m after)
+          (substitute_shows_alike after author is (on_right _ _ h)) (substitute_tree_alike is (in_substitute n inh) substitute (on_right _ _ h))
+      tree_alike (shorthand written n) inh s h =
+          ap₂ (λ ls t. names_tree w n no_insteads inh (made [] (suppressing_from t)) ls t) (printed_lists_alike s n.variables (on_right _ _ h)) (lists_state_alike s n.variables)
       tree_alike (chosen cs) inh s h = cases_tree_alike cs inh s h
       tree_alike (grouped delimiter d fs) inh s h = ap₂ (λ i m. group_made (rule i.flags) d inh m) (infos_alike s fs h) (delimited_alike fs (in_group delimiter d inh) true s h)
 
@@ -279,6 +366,17 @@ module _ (a b : Answers) where
       cases_tree_alike (else_case fs) inh s h = delimited_alike fs inh true s h
       cases_tree_alike (case ts fs cs) inh s h =
           rw (holds_alike s ts (on_left _ _ h), delimited_alike fs inh true s (on_left _ _ (on_right _ _ h)), cases_tree_alike cs inh s (on_right _ _ (on_right _ _ h))) refl
+
+      substitute_tree_alike : (is : Insteads) (inh : Inherited) (s : State) → Alike (of_insteads is) a b → substitute_tree v is inh s ≡ substitute_tree u is inh s
+      substitute_tree_alike no_insteads inh s h = refl
+      substitute_tree_alike (instead fs is) inh s h = until_text_alike fs inh (made [] s) (on_left _ _ h)
+
+      until_text_alike : (fs : Fulls) (inh : Inherited) (m : Made) → Alike (of_fulls fs) a b → until_text v fs inh m ≡ until_text u fs inh m
+      until_text_alike none inh m h = refl
+      until_text_alike (more f fs) inh m h =
+          let rest = until_text_alike fs inh (then_made m.content (tree v f inh m.state)) (on_right _ _ h) in
+          let first = tree_alike f inh m.state (on_left _ _ h) in
+          ap (λ k. if has_text m.content then m else k) (rest ∙ ap (λ t. until_text u fs inh (then_made m.content t)) first)
 
     pub layout_alike : (l : FullLayout) (inh : Inherited) (s : State) → Alike (of_fulls l.elements) a b → layout_tree v l inh s ≡ layout_tree u l inh s
     layout_alike l inh s h = sum_of_alike l.elements (record (within l.formatting inh) { delimiter = l.delimiter }) s h

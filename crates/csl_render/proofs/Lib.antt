@@ -3,6 +3,9 @@ pub mod Leaving
 pub mod Grouped
 pub mod GroupView
 pub mod Called
+pub mod NamesView
+pub mod Within
+pub mod Substituted
 pub mod Chosen
 pub mod Looks
 pub mod AlikeNodes

@@ -34,6 +34,10 @@ abbrev pub tree_in : World → Rendering → Inherited → State → Made
 tree_in w (whole l) inh s = layout_tree w l inh s
 tree_in w (part f) inh s = tree w f inh s
 
+-- a context in whose innermost open part all is made anew
+abbrev pub with_all_made : {T : Type 0} → Made → Now T → Now T
+with_all_made m now = record now { inner = m.content; state = m.state }
+
 -- a context after a rendering: the innermost open part and the state change, and nothing else
 abbrev pub rendered : {T : Type 0} → (T → Answers) → Rendering → Now T → Now T
 rendered answers r now = with_made (tree_in (world answers now) r now.inherited now.state) now

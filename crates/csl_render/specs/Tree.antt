@@ -1,20 +1,22 @@
--- What a node says in a dry run, what it shows, and what it makes (CSL 1.0.2, Rendering Elements; Group; Layout; Macro; Choose).
--- Names say, show and make nothing yet.
+-- What a node says in a dry run, what it shows, and what it makes (CSL 1.0.2, Rendering Elements; Group; Layout; Macro; Choose; Names).
 use Rattle.std.specs.Prelude.{ℕ, Bool, true, false, ◌||◌, List, [], Option, Some, None, if◌then◌else◌}
 use Rattle.csl_style.specs.declared.taxonomy.Variable.{Variable}
 use Rattle.csl_style.specs.Dressing.{AffixTexts, Dressing, TextDressing}
-use Rattle.csl_style.specs.Node.{Full, printed, called, lacking, numbered, labelled, dated, named, shorthand, chosen, grouped, Fulls, none, more, Cases, no_cases, else_case, case, FullLayout}
-use Rattle.csl_tree.specs.Tokens.{Token}
+use Rattle.csl_style.specs.Names.{NamesNode}
+use Rattle.csl_style.specs.Node.{Full, printed, called, lacking, numbered, labelled, dated, named, shorthand, chosen, grouped, Fulls, none, more, Cases, no_cases, else_case, case, Insteads, no_insteads, instead, FullLayout}
+use Rattle.csl_tree.specs.Tokens.{Token, has_text}
 use Rattle.csl_tree.specs.Content.{◌++>◌, boxed}
 use Rattle.csl_context.specs.State.{State, Inherited}
 use Rattle.csl_context.specs.World.{World}
 use Rattle.csl_context.specs.Texts.{text_in, affixed_in}
+use Rattle.csl_names.specs.NamesLists.{Lists, all_empty, found_lists, printed_lists, lists_state}
 use Rattle.csl_leaves.specs.Conditions.{holds}
 use Rattle.csl_leaves.specs.Flags.{rule, Info, nothing_said, either, counted, but_groups, group_info, macro_info}
 use Rattle.csl_leaves.specs.Numbers.{number_info, number_shows, number_tree}
 use Rattle.csl_leaves.specs.Labels.{label_info, label_tree}
 use Rattle.csl_leaves.specs.Dates.{date_info, date_shows, date_tree}
 use Rattle.csl_leaves.specs.Text.{Made, made, then_made, within, in_body, text_box, no_affixes, target_info, target_shows, target_tree, shows_macro_affixes}
+use Rattle.csl_render.specs.Names.{author, is_refused, names_show, names_info, in_substitute, suppressing_from, names_made}
 
 abbrev pub is_group : Full → Bool
 is_group (printed t d) = false
@@ -69,6 +71,33 @@ group_made shows d inh m =
 -- ---- the three recursions
 module _ (w : World) where
   abbrev mutual
+    pub shows : State → Variable → Full → Bool
+    shows s v (printed t d) = target_shows w s v t
+    shows s v (called fs d) = any_shows s v fs
+    shows s v lacking = false
+    shows s v (numbered n) = number_shows w v n
+    shows s v (labelled u l) = false
+    shows s v (dated n) = date_shows w s v n
+    shows s v (named n is) = names_show v n (all_empty (found_lists w s n.variables)) (substitute_shows s v is)
+    shows s v (shorthand written n) = names_show v written (all_empty (found_lists w s written.variables)) false
+    shows s v (chosen cs) = cases_show s v cs
+    shows s v (grouped delimiter d fs) = any_shows s v fs
+
+    pub any_shows : State → Variable → Fulls → Bool
+    any_shows s v none = false
+    any_shows s v (more f fs) = shows s v f || any_shows s v fs
+
+    pub cases_show : State → Variable → Cases → Bool
+    cases_show s v no_cases = false
+    cases_show s v (else_case fs) = any_shows s v fs
+    cases_show s v (case ts fs cs) = if holds w s ts then any_shows s v fs else cases_show s v cs
+
+    -- of several substitutes the first one counts
+    pub substitute_shows : State → Variable → Insteads → Bool
+    substitute_shows s v no_insteads = false
+    substitute_shows s v (instead fs is) = any_shows s v fs
+
+  abbrev mutual
     pub info : State → Full → Info
     info s (printed t d) = target_info w s t
     info s (called fs d) = macro_info (but_groups (infos s fs))
@@ -76,8 +105,11 @@ module _ (w : World) where
     info s (numbered n) = number_info w s n
     info s (labelled v l) = label_info w s v l
     info s (dated n) = date_info w s n
-    info s (named n is) = nothing_said
-    info s (shorthand written n) = nothing_said
+    info s (named n is) =
+        names_info w.instance.special n (found_lists w s n.variables) is (shows s author (named n is)) (substitute_info s is)
+    -- as it is written, and with no substitute
+    info s (shorthand written n) =
+        names_info w.instance.special written (found_lists w s written.variables) no_insteads (shows s author (shorthand written n)) nothing_said
     info s (chosen cs) = cases_info s cs
     info s (grouped delimiter d fs) = group_info (infos s fs)
 
@@ -91,27 +123,23 @@ module _ (w : World) where
     cases_info s (else_case fs) = but_groups (infos s fs)
     cases_info s (case ts fs cs) = if holds w s ts then but_groups (infos s fs) else cases_info s cs
 
-  abbrev mutual
-    pub shows : State → Variable → Full → Bool
-    shows s v (printed t d) = target_shows w s v t
-    shows s v (called fs d) = any_shows s v fs
-    shows s v lacking = false
-    shows s v (numbered n) = number_shows w v n
-    shows s v (labelled u l) = false
-    shows s v (dated n) = date_shows w s v n
-    shows s v (named n is) = false
-    shows s v (shorthand written n) = false
-    shows s v (chosen cs) = cases_show s v cs
-    shows s v (grouped delimiter d fs) = any_shows s v fs
+    pub substitute_info : State → Insteads → Info
+    substitute_info s no_insteads = nothing_said
+    substitute_info s (instead fs is) = but_groups (infos s fs)
 
-    pub any_shows : State → Variable → Fulls → Bool
-    any_shows s v none = false
-    any_shows s v (more f fs) = shows s v f || any_shows s v fs
+  -- no names are left, in the state after the looks for these lists
+  abbrev pub refused_in : NamesNode → Insteads → Lists → State → Bool
+  refused_in n is ls s =
+      is_refused w.instance.special n (all_empty ls) is (names_show author n (all_empty ls) (substitute_shows s author is))
 
-    pub cases_show : State → Variable → Cases → Bool
-    cases_show s v no_cases = false
-    cases_show s v (else_case fs) = any_shows s v fs
-    cases_show s v (case ts fs cs) = if holds w s ts then any_shows s v fs else cases_show s v cs
+  abbrev pub names_tree : NamesNode → Insteads → Inherited → Made → Lists → State → Made
+  names_tree n is inh sub ls s = names_made w n ls (refused_in n is ls s) inh sub s
+
+  -- of names without children in a substitute
+  abbrev pub shorthand_tree : NamesNode → Inherited → State → Made
+  shorthand_tree n inh s =
+      let after = lists_state w s n.variables in
+      names_tree n no_insteads inh (made [] (suppressing_from after)) (printed_lists w s n.variables) after
 
   abbrev mutual
     pub tree : Full → Inherited → State → Made
@@ -121,8 +149,10 @@ module _ (w : World) where
     tree (numbered n) inh s = number_tree w n inh s
     tree (labelled v l) inh s = label_tree w v l inh s
     tree (dated n) inh s = date_tree w n inh s
-    tree (named n is) inh s = made [] s
-    tree (shorthand written n) inh s = made [] s
+    tree (named n is) inh s =
+        names_tree n is inh (substitute_tree is (in_substitute n inh) (suppressing_from (lists_state w s n.variables)))
+        (printed_lists w s n.variables) (lists_state w s n.variables)
+    tree (shorthand written n) inh s = shorthand_tree n inh s
     tree (chosen cs) inh s = cases_tree cs inh s
     tree (grouped delimiter d fs) inh s =
         group_made (rule (info s (grouped delimiter d fs)).flags) d inh (delimited fs (in_group delimiter d inh) true s)
@@ -146,6 +176,16 @@ module _ (w : World) where
     cases_tree (else_case fs) inh s = delimited fs inh true s
     cases_tree (case ts fs cs) inh s = if holds w s ts then delimited fs inh true s else cases_tree cs inh s
 
+    -- the children of the first substitute, up to the one that brings a text
+    pub substitute_tree : Insteads → Inherited → State → Made
+    substitute_tree no_insteads inh s = made [] s
+    substitute_tree (instead fs is) inh s = until_text fs inh (made [] s)
+
+    -- behind what is made so far, unless that has a text
+    pub until_text : Fulls → Inherited → Made → Made
+    until_text none inh m = m
+    until_text (more f fs) inh m = if has_text m.content then m else until_text fs inh (then_made m.content (tree f inh m.state))
+
   abbrev pub layout_tree : FullLayout → Inherited → State → Made
   layout_tree l inh s = sum_of l.elements (record (within l.formatting inh) { delimiter = l.delimiter }) s
 
@@ -161,3 +201,7 @@ module _ (w : World) where
   abbrev pub choice_tree : Option Fulls → Inherited → State → Made
   choice_tree None inh s = made [] s
   choice_tree (Some fs) inh s = delimited fs inh true s
+
+  abbrev pub tries_tree : Option Fulls → Inherited → State → Made
+  tries_tree None inh s = made [] s
+  tries_tree (Some fs) inh s = until_text fs inh (made [] s)

@@ -13,7 +13,7 @@ ghost use Rattle.csl_leaves.specs.Text.{with_made};
 use crate::render::RenderCsl;
 use csl_context::{Context, RenderError};
 use csl_entry::EntryLike;
-use csl_leaves::{UsageInfo, nothing, nothing_said, nothing_shown, with_child};
+use csl_leaves::{UsageInfo, nothing, with_child};
 use csl_style::{LayoutRenderingElement, RenderingElement, Variable};
 
 impl RenderCsl for LayoutRenderingElement {
@@ -30,7 +30,7 @@ impl RenderCsl for LayoutRenderingElement {
             LayoutRenderingElement::Number(number) => number.will_have_info(ctx),
             LayoutRenderingElement::Label(label) => label.will_have_info(ctx),
             LayoutRenderingElement::Date(date) => date.will_have_info(ctx),
-            LayoutRenderingElement::Names(_) => nothing_said(ctx),
+            LayoutRenderingElement::Names(names) => names.will_have_info(ctx),
             LayoutRenderingElement::Choose(choose) => choose.will_have_info(ctx),
         }
     }
@@ -47,7 +47,7 @@ impl RenderCsl for LayoutRenderingElement {
             LayoutRenderingElement::Number(number) => number.will_render(ctx, var),
             LayoutRenderingElement::Label(label) => label.will_render(ctx, var),
             LayoutRenderingElement::Date(date) => date.will_render(ctx, var),
-            LayoutRenderingElement::Names(_) => nothing_shown(ctx),
+            LayoutRenderingElement::Names(names) => names.will_render(ctx, var),
             LayoutRenderingElement::Choose(choose) => choose.will_render(ctx, var),
         }
     }
@@ -60,7 +60,7 @@ impl RenderCsl for LayoutRenderingElement {
             LayoutRenderingElement::Number(number) => number.render(ctx),
             LayoutRenderingElement::Label(label) => label.render(ctx),
             LayoutRenderingElement::Date(date) => date.render(ctx),
-            LayoutRenderingElement::Names(_) => nothing(ctx),
+            LayoutRenderingElement::Names(names) => names.render(ctx),
             LayoutRenderingElement::Choose(choose) => choose.render(ctx),
         }
     }

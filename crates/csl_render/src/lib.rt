@@ -1,8 +1,7 @@
 //! What each node of a style makes of a cite (CSL 1.0.2, Rendering Elements): whether it prints
 //! and what it notes, whether it shows a variable, and its content, in a context that the caller
-//! lends. A text, a number, a label, a date, a choice, a group and a layout do; names make nothing
-//! yet. Here stand the nodes that hold other nodes, or call them by a macro; what the others make
-//! is in `csl_leaves`.
+//! lends. Here stand the nodes that hold other nodes, or call them by a macro; what the others make
+//! is in `csl_leaves`, and how persons are written in `csl_names`.
 #![tactic(auto)]
 
 mod choose;
@@ -11,6 +10,7 @@ mod element;
 mod group;
 mod label;
 mod layout;
+mod names;
 mod number;
 mod pair;
 mod render;

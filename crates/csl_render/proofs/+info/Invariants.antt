@@ -1,10 +1,11 @@
 use Rattle.std.proofs.Common.{◌≡◌, ◌+◌, ◌*◌, ◌≤◌, false, drop}
-use Rattle.csl_style.specs.Node.{size, sizes, fill, fills}
-use Rattle.csl_style.specs.View.{view, view_text, view_group, view_choose, views}
+use Rattle.csl_style.specs.Node.{size, sizes, insteads_size, fill, fills}
+use Rattle.csl_style.specs.View.{view, view_text, view_group, view_choose, view_names, views}
 use Rattle.csl_context.specs.World.{env}
 use Rattle.csl_context.specs.Now.{world}
 use Rattle.csl_leaves.specs.Flags.{either}
 use Rattle.csl_leaves.specs.Usages.{told}
+use Rattle.csl_render.specs.Names.{insteads_of}
 use Rattle.csl_render.specs.Tree.{infos}
 use Rattle.csl_render.proofs.+info.Given as goal
 
@@ -19,6 +20,12 @@ decreases-group::GroupRenderCsl::will_have_info g l = 2 * size (fill (env l.ctx.
 
 abbrev pub decreases-choose::ChooseRenderCsl::will_have_info : goal.decreases-choose::ChooseRenderCsl::will_have_info
 decreases-choose::ChooseRenderCsl::will_have_info g l = 2 * size (fill (env l.ctx.now.style) (view_choose l.self.now))
+
+abbrev pub decreases-names::NamesRenderCsl::will_have_info : goal.decreases-names::NamesRenderCsl::will_have_info
+decreases-names::NamesRenderCsl::will_have_info g l = 2 * size (fill (env l.ctx.now.style) (view_names l.self.now))
+
+abbrev pub decreases-names::substitute_info : goal.decreases-names::substitute_info
+decreases-names::substitute_info g l = 2 * insteads_size (insteads_of (env l.ctx.now.style) l.names.now) + 1
 
 abbrev pub decreases-element::infos : goal.decreases-element::infos
 decreases-element::infos g l = 2 * sizes (fills (env l.ctx.now.style) (views l.nodes.now))

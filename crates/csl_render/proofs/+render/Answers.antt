@@ -1,23 +1,31 @@
-use Rattle.std.proofs.Common.{◌≡◌, true, None, option_map, refl, sym, ap, ◌∙◌, arith, rules}
+use Rattle.std.proofs.Common.{◌≡◌, true, None, List, map, option_map, refl, sym, ap, ◌∙◌, arith, rules}
 use Rattle.std.proofs.lemmas.Grind.{common_steps}
 use Rattle.csl_tree.proofs.Joins.{join-none, join_assoc}
 use Rattle.csl_style.specs.Dressing.{AffixTexts, text_if, affix_texts}
+use Rattle.csl_style.specs.declared.taxonomy.NameVariable.{NameVariable}
+use Rattle.csl_style.specs.Names.{NamesNode}
+use Rattle.csl_style.specs.NamesParts.{names_node, parts_node}
 use Rattle.csl_style.specs.Node.{fill, fills}
 use Rattle.csl_style.specs.View.{views, text_dressing}
 use Rattle.csl_context.specs.World.{env}
 use Rattle.std.specs.Prelude.{◌||◌}
-use Rattle.csl_context.specs.Now.{world, without_format, without_delimiter, with_stripping}
+use Rattle.csl_context.specs.Now.{world, without_format, without_delimiter, without_options, with_stripping, with_switch}
+use Rattle.csl_names.specs.NamesLists.{Lists, printed_lists, lists_state}
+use Rattle.csl_names.specs.PersonLists.{list_of}
 use Rattle.csl_tree.specs.Content.{boxed}
 use Rattle.csl_context.specs.Quotes.{affixed_after}
 use Rattle.csl_leaves.specs.Text.{turned, moved_if, within, made as made_of, with_made}
 use Rattle.csl_leaves.specs.Flags.{rule, but_groups, macro_info}
 use Rattle.csl_leaves.specs.Usages.{told}
-use Rattle.csl_render.specs.Tree.{infos, macro_affixes, macro_made, in_macro, sum_of}
+use Rattle.csl_render.specs.Names.{insteads_of, in_substitute, suppressing_from}
+use Rattle.csl_render.specs.Tree.{infos, macro_affixes, macro_made, in_macro, sum_of, substitute_tree, names_tree}
 use Rattle.csl_render.specs.Rendering.{part, rendered}
 use Rattle.csl_leaves.proofs.Dressings.{turned_back, undelimited}
 use Rattle.csl_render.proofs.Grouped.{grouped_by}
 use Rattle.csl_render.proofs.GroupView.{group_out}
 use Rattle.csl_render.proofs.Called.{called_inside, called_by}
+use Rattle.csl_render.proofs.NamesView.{names_out}
+use Rattle.csl_render.proofs.Substituted.{substituted_by, substituted}
 use Rattle.csl_render.proofs.Leaving.{and_then, and_so, and_is}
 use Rattle.csl_render.proofs.+render.Goals as goal
 
@@ -108,4 +116,49 @@ text::render_macro-returns-clause-ok g t c =
           ∙ ap (λ q. with_made (made_of (boxed text.display None (affixed_after (moved_if d.quotes now.style (macro_affixes w d).suffix m.content) within_text (macro_affixes w d) q)) m.state) now)
           (undelimited d.quotes now.style within_text None (macro_affixes w d).suffix m.content)
           ∙ ap (λ b. with_made (macro_made b w d now.inherited (sum_of w fs (in_macro d now.inherited) now.state) now.state) now) (sym shows);
+    }
+
+pub names::NamesRenderCsl::render-returns-clause-ok : goal.names::NamesRenderCsl::render-returns-clause-ok
+names::NamesRenderCsl::render-returns-clause-ok g t c =
+    let now = c.args.ctx.now in
+    let names = c.args.self.now in
+    let w = world g.T.EntryLike.answers now in
+    let n = names_node names in
+    let is = insteads_of (env now.style) names in
+    let own : parts_node c.parts-parts.result ≡ n = c.parts-parts.ensures.value in
+    let l1 = and_then _ _ now _ _ c.in_ok-lists.ensures.ok c.in_ok-render_lists.ensures.ok in
+    let made = λ (ls : Lists) (vs : List NameVariable). with_made (names_tree w n is now.inherited (substitute_tree w is (in_substitute n now.inherited) (suppressing_from (lists_state w now.state vs))) ls (lists_state w now.state vs)) now in
+    let handed : map list_of c.deref.result.now ≡ map list_of c.in_ok-lists.lists.items = ap (λ xs. map list_of xs) c.deref.ensures.value in
+    record {
+      sound = l1.sound;
+      left = l1.left
+          ∙ ap (λ ls. made ls c.parts-parts.result.variables.now) (handed ∙ c.in_ok-lists.ensures.value)
+          ∙ ap (λ (m : NamesNode). made (printed_lists w now.state m.variables) m.variables) own
+          ∙ ap (λ n. rendered g.T.EntryLike.answers (part (fill (env now.style) n)) now) (sym (names_out names));
+    }
+
+pub names::render_tries-returns-clause-ok : goal.names::render_tries-returns-clause-ok
+names::render_tries-returns-clause-ok g t c =
+    let now = c.args.ctx.now in
+    let names = c.args.names.now in
+    let ns = views c.args.nodes.now in
+    let ls = map list_of c.args.lists.now in
+    let own : parts_node c.parts-parts.result ≡ names_node names = c.parts-parts.ensures.value in
+    let l1 = and_then _ _ now _ _ c.in_ok-push_name_options.ensures.ok c.in_ok-push_format.ensures.ok in
+    let l2 = and_is _ (with_switch true) now _ _ l1 c.start_suppressing_queried_variables-suppressing.ensures.after in
+    let l3 = and_then _ _ now _ _ l2 c.in_ok-element.ensures.ok in
+    let l4 = and_then _ _ now _ _ l3 c.in_ok-render_until_text.ensures.ok in
+    let l5 = and_then _ _ now _ _ l4 c.in_ok-commit_names.ensures.ok in
+    let l6 = and_is _ (with_switch c.start_suppressing_queried_variables-suppressing.result) now _ _ l5 c.restore_suppressing.ensures in
+    let l7 = and_so _ without_format now _ _ l6 refl c.pop_format.ensures.popped in
+    let l8 = and_so _ without_options now _ _ l7 refl c.pop_name_options.ensures.popped in
+    let suppressing : c.start_suppressing_queried_variables-suppressing.result ≡ now.state.suppressing =
+    c.start_suppressing_queried_variables-suppressing.ensures.value ∙ ap (λ b. b.state.suppressing) l1.left in
+    let made = substituted_by g.T.EntryLike.answers ls ns (names_node names).options in
+    record {
+      sound = l8.sound;
+      left = l8.left
+          ∙ ap (λ m. made m c.start_suppressing_queried_variables-suppressing.result now) own
+          ∙ ap (λ b. made (names_node names) b now) suppressing
+          ∙ substituted g.T.EntryLike.answers ls ns (names_node names) now;
     }

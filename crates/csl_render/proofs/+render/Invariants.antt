@@ -1,10 +1,13 @@
 use Rattle.std.proofs.Common.{◌≡◌, ◌+◌, ◌*◌, ◌≤◌, true, false, drop}
-use Rattle.csl_style.specs.Node.{size, sizes, fill, fills}
-use Rattle.csl_style.specs.View.{view, view_text, view_group, view_choose, views}
+use Rattle.csl_style.specs.NamesParts.{parts_node}
+use Rattle.csl_style.specs.Node.{size, sizes, insteads_size, fill, fills, fill_within}
+use Rattle.csl_style.specs.View.{view, view_text, view_group, view_choose, view_names, views}
 use Rattle.csl_context.specs.World.{env}
 use Rattle.csl_context.specs.Now.{world}
-use Rattle.csl_render.specs.Tree.{sum_of, delimited}
-use Rattle.csl_leaves.specs.Text.{with_made}
+use Rattle.csl_render.specs.Names.{insteads_of}
+use Rattle.csl_render.specs.Rendering.{with_all_made}
+use Rattle.csl_render.specs.Tree.{sum_of, delimited, until_text}
+use Rattle.csl_leaves.specs.Text.{made, with_made}
 use Rattle.csl_render.proofs.+render.Given as goal
 
 abbrev pub decreases-element::LayoutRenderingElementRenderCsl::render : goal.decreases-element::LayoutRenderingElementRenderCsl::render
@@ -21,6 +24,24 @@ decreases-group::GroupRenderCsl::render g l = 3 * size (fill (env l.ctx.now.styl
 
 abbrev pub decreases-choose::ChooseRenderCsl::render : goal.decreases-choose::ChooseRenderCsl::render
 decreases-choose::ChooseRenderCsl::render g l = 3 * size (fill (env l.ctx.now.style) (view_choose l.self.now))
+
+abbrev pub decreases-names::NamesRenderCsl::render : goal.decreases-names::NamesRenderCsl::render
+decreases-names::NamesRenderCsl::render g l = 3 * size (fill (env l.ctx.now.style) (view_names l.self.now))
+
+abbrev pub decreases-names::render_lists : goal.decreases-names::render_lists
+decreases-names::render_lists g l = 3 * insteads_size (insteads_of (env l.ctx.now.style) l.names.now) + 2
+
+abbrev pub decreases-names::render_substitute : goal.decreases-names::render_substitute
+decreases-names::render_substitute g l = 3 * insteads_size (insteads_of (env l.ctx.now.style) l.names.now) + 1
+
+abbrev pub decreases-names::render_tries : goal.decreases-names::render_tries
+decreases-names::render_tries g l = 3 * sizes (fills (env l.ctx.now.style) (views l.nodes.now)) + 1
+
+abbrev pub decreases-names::render_until_text : goal.decreases-names::render_until_text
+decreases-names::render_until_text g l = 3 * sizes (fills (env l.ctx.now.style) (views l.nodes.now))
+
+abbrev pub decreases-names::render_in_place : goal.decreases-names::render_in_place
+decreases-names::render_in_place g l = 3 * size (fill (env l.ctx.now.style) (view l.node.now)) + 2
 
 abbrev pub decreases-element::render_all : goal.decreases-element::render_all
 decreases-element::render_all g l = 3 * sizes (fills (env l.ctx.now.style) (views l.nodes.now))
@@ -52,4 +73,18 @@ invariant-element::render_with_delimiter-loop-node g l =
       frame : l.ctx ≡ record l.fn.ctx { inner = l.ctx.inner; state = l.ctx.state };
       told : with_made (delimited w rest l.fn.ctx.inherited l.first l.ctx.state) l.ctx ≡ with_made (delimited w (fills (env l.fn.ctx.style) (views l.nodes)) l.fn.ctx.inherited true l.fn.ctx.state) l.fn.ctx;
       inside : sizes rest ≤ sizes (fills (env l.fn.ctx.style) (views l.nodes));
+    }
+
+-- what the rest would bring, behind what is written so far, is what they all bring
+abbrev pub invariant-names::render_until_text-loop-node : goal.invariant-names::render_until_text-loop-node
+invariant-names::render_until_text-loop-node g l =
+    let w = world g.T.EntryLike.answers l.fn.ctx in
+    let rest = views (drop l.node-index l.nodes) in
+    let all = views l.nodes in
+    let in_place = fill_within (env l.fn.ctx.style) (parts_node l.original) in
+    record {
+      sound : l.fn.ctx.failed ≡ false;
+      frame : l.ctx ≡ record l.fn.ctx { inner = l.ctx.inner; state = l.ctx.state };
+      told : with_all_made (until_text w (in_place rest) l.fn.ctx.inherited (made l.ctx.inner l.ctx.state)) l.ctx ≡ with_all_made (until_text w (in_place all) l.fn.ctx.inherited (made l.fn.ctx.inner l.fn.ctx.state)) l.fn.ctx;
+      inside : sizes (fills (env l.fn.ctx.style) rest) ≤ sizes (fills (env l.fn.ctx.style) all);
     }

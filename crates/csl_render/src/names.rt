@@ -1,0 +1,521 @@
+//! Names (CSL 1.0.2, Names; Substitute): what a names node says, shows and makes.
+
+ghost use Rattle.std.specs.Prelude.{◌≡◌, ◌<◌, ◌&&◌, ◌||◌, [], false, map, IfOk, OnOk, IfErr, IfSome, option_map};
+ghost use Rattle.csl_style.specs.declared.taxonomy.Variable.{Variable};
+ghost use Rattle.csl_style.specs.declared.taxonomy.NameVariable.{NameVariable};
+ghost use Rattle.csl_style.specs.Names.{NamesNode};
+ghost use Rattle.csl_style.specs.NamesParts.{names_node, names_substitutes, first_substitute, parts_node};
+ghost use Rattle.csl_style.specs.Node.{Full, fill, fills, fill_within, no_insteads, sizes, insteads_size, within};
+ghost use Rattle.csl_style.specs.View.{view, views, view_names};
+ghost use Rattle.csl_context.specs.State.{Inherited, State};
+ghost use Rattle.csl_context.specs.World.{env};
+ghost use Rattle.csl_context.specs.Now.{FailsAs, Leaves, same, world};
+ghost use Rattle.csl_names.specs.NamesForms.{is_void};
+ghost use Rattle.csl_names.specs.NamesLists.{all_empty, found_lists};
+ghost use Rattle.csl_names.specs.PersonLists.{list_of};
+ghost use Rattle.csl_render.specs.Names.{author, has_variable, is_of_names, names_it, any_names_it, choice_names_it, substitutes_it, insteads_of, standing_in, refuses_alone, is_refused, names_show, names_said, in_substitute, suppressing_from, substitute_made};
+ghost use Rattle.csl_leaves.specs.Text.{made, with_made};
+ghost use Rattle.csl_leaves.specs.Usages.{told};
+ghost use Rattle.csl_render.specs.Rendering.{part, with_all_made};
+ghost use Rattle.csl_render.specs.Tree.{tree, substitute_shows, substitute_info, substitute_tree, until_text, tries_tree, choice_info, choice_shows, names_tree, shorthand_tree};
+
+use crate::element::{any_shows, infos};
+use crate::render::RenderCsl;
+use csl_context::{Context, RenderError};
+use csl_entry::{EntryLike, SpecialForm};
+use csl_leaves::{UsageInfo, but_groups, nothing, nothing_said, nothing_shown};
+use csl_names::{
+    PersonList, all_empty, commit_names, found_lists, is_void, printed_lists, write_names,
+};
+use csl_style::{LayoutRenderingElement, NameVariable, Names, NamesParts, Variable};
+
+impl RenderCsl for Names {
+    ghost rendering = { λ style n. part (fill (env style) (view_names n)) };
+
+    #[cycle(info)]
+    fn will_have_info<'s, T: EntryLike>(
+        &'s self,
+        ctx: &mut Context<'s, T>,
+    ) -> Result<(bool, UsageInfo), RenderError> {
+        let judged = judge(ctx, self.parts())?;
+        if refuses(self, ctx, judged.is_empty)? {
+            return nothing_said(ctx);
+        }
+        let said = substitute_info(self, ctx)?;
+        Ok(names_said(judged.is_void, said))
+    }
+
+    #[cycle(shows)]
+    fn will_render<'s, T: EntryLike>(
+        &'s self,
+        ctx: &mut Context<'s, T>,
+        var: Variable,
+    ) -> Result<bool, RenderError> {
+        let judged = judge(ctx, self.parts())?;
+        shows_it(self, ctx, var, judged.is_empty)
+    }
+
+    #[cycle(render)]
+    fn render<'s, T: EntryLike>(&'s self, ctx: &mut Context<'s, T>) -> Result<(), RenderError> {
+        let parts = self.parts();
+        let lists = printed_lists(ctx, parts.variables)?;
+        render_lists(self, ctx, &lists)?;
+        Ok(())
+    }
+}
+
+/// What the lists of a names node are in a dry run.
+#[derive(Clone, Copy)]
+struct Judged {
+    /// No list has a person.
+    is_empty: bool,
+    /// No name of them is written.
+    is_void: bool,
+}
+
+/// Judges the lists of a names node. The looks are silent.
+///
+/// # Errors
+/// [`RenderError::Memory`]: there was no memory left, or the entry said so. The context has failed.
+/// [`RenderError::Failed`]: the context had failed before.
+fn judge<'s, T: EntryLike>(
+    ctx: &mut Context<'s, T>,
+    parts: NamesParts<'_>,
+) -> Result<Judged, RenderError>
+    ensures empty { IfOk result (λ judged. judged.is_empty ≡ all_empty (found_lists
+        (world T.answers ctx.old) ctx.old.state (parts_node parts.entry).variables)) }
+    ensures void { IfOk result (λ judged. judged.is_void ≡ is_void (parts_node parts.entry)
+        (found_lists (world T.answers ctx.old) ctx.old.state
+        (parts_node parts.entry).variables)) }
+    ensures ok { OnOk result (Leaves same ctx.old ctx.new) }
+    ensures err { IfErr result (λ e. FailsAs e ctx.old ctx.new) }
+{
+    let lists = found_lists(ctx, parts.variables)?;
+    Ok(Judged {
+        is_empty: all_empty(&lists),
+        is_void: is_void(parts, &lists),
+    })
+}
+
+/// Whether the variable is one of some.
+fn has_variable(wanted: NameVariable, variables: &[NameVariable]) -> bool
+    ensures { result ≡ has_variable wanted variables.now }
+{
+    for variable in variables {
+        if wanted == *variable {
+            return true;
+        }
+    }
+    false
+}
+
+/// Whether the variable is that of one of the lists.
+fn is_of_names(variable: Variable, variables: &[NameVariable]) -> bool
+    ensures { result ≡ is_of_names variable variables.now }
+{
+    match variable {
+        Variable::Standard(_) => false,
+        Variable::Number(_) => false,
+        Variable::Page(_) => false,
+        Variable::Name(variable) => has_variable(variable, variables),
+        Variable::Date(_) => false,
+    }
+}
+
+/// What names say that are left, by what their substitute says.
+fn names_said(is_void: bool, said: (bool, UsageInfo)) -> (bool, UsageInfo)
+    ensures { told result ≡ names_said is_void (told said) }
+{
+    let usage = UsageInfo {
+        has_vars: true,
+        has_non_empty_vars: !is_void || said.1.has_non_empty_vars,
+        has_used_macros: is_void && said.1.has_used_macros,
+        has_non_empty_group: false,
+    };
+    (!is_void || said.0, usage)
+}
+
+/// The children of the first substitute.
+fn first_nodes(names: &Names) -> Option<&[LayoutRenderingElement]>
+    ensures { option_map (λ ns. views ns.now) result
+        ≡ first_substitute (names_substitutes names.now) }
+{
+    match names.substitute() {
+        Some(substitute) => Some(substitute.children.as_slice()),
+        None => None,
+    }
+}
+
+/// The children of the first substitute. The names say, show and make by them what their
+/// substitutes do; a child of it that is rendered in the place of the names says and shows what it
+/// does elsewhere.
+fn substitute_nodes<'n, 's, T: EntryLike>(
+    names: &'n Names,
+    ctx: &Context<'s, T>,
+) -> Option<&'n [LayoutRenderingElement]>
+    ensures inside { IfSome result (λ ns. sizes (fills (env ctx.now.style) (views ns.now))
+        < insteads_size (insteads_of (env ctx.now.style) names.now)) }
+    ensures said { substitute_info (world T.answers ctx.now) ctx.now.state
+        (insteads_of (env ctx.now.style) names.now)
+        ≡ choice_info (world T.answers ctx.now) ctx.now.state
+        (option_map (fills (env ctx.now.style)) (option_map (λ ns. views ns.now) result)) }
+    ensures shown { (v : Variable) → substitute_shows (world T.answers ctx.now) ctx.now.state v
+        (insteads_of (env ctx.now.style) names.now)
+        ≡ choice_shows (world T.answers ctx.now) ctx.now.state v
+        (option_map (fills (env ctx.now.style)) (option_map (λ ns. views ns.now) result)) }
+    ensures named { (v : NameVariable) → substitutes_it v
+        (insteads_of (env ctx.now.style) names.now) ≡ choice_names_it v
+        (option_map (fills (env ctx.now.style)) (option_map (λ ns. views ns.now) result)) }
+    ensures made { (inh : Inherited) → (s : State) → substitute_tree (world T.answers ctx.now)
+        (insteads_of (env ctx.now.style) names.now) inh s ≡ tries_tree (world T.answers ctx.now)
+        (option_map (fill_within (env ctx.now.style) (names_node names.now))
+        (option_map (λ ns. views ns.now) result)) inh s }
+{
+    first_nodes(names)
+}
+
+/// Whether the node is names of the variable.
+fn names_it<'s, T: EntryLike>(
+    variable: NameVariable,
+    node: &LayoutRenderingElement,
+    ctx: &Context<'s, T>,
+) -> bool
+    ensures { result ≡ names_it variable (fill (env ctx.now.style) (view node.now)) }
+{
+    match node {
+        LayoutRenderingElement::Text(_) => false,
+        LayoutRenderingElement::Number(_) => false,
+        LayoutRenderingElement::Label(_) => false,
+        LayoutRenderingElement::Date(_) => false,
+        LayoutRenderingElement::Names(names) => are_of(variable, names, ctx),
+        LayoutRenderingElement::Choose(_) => false,
+        LayoutRenderingElement::Group(_) => false,
+    }
+}
+
+/// Whether the names are of the variable.
+fn are_of<'s, T: EntryLike>(variable: NameVariable, names: &Names, ctx: &Context<'s, T>) -> bool
+    ensures { result ≡ names_it variable (fill (env ctx.now.style) (view_names names.now)) }
+{
+    has_variable(variable, names.parts().variables)
+}
+
+/// Whether one of the nodes is.
+fn any_names_it<'s, T: EntryLike>(
+    variable: NameVariable,
+    nodes: &[LayoutRenderingElement],
+    ctx: &Context<'s, T>,
+) -> bool
+    ensures { result ≡ any_names_it variable (fills (env ctx.now.style) (views nodes.now)) }
+{
+    for node in nodes {
+        if names_it(variable, node, ctx) {
+            return true;
+        }
+    }
+    false
+}
+
+/// Whether directly in the substitute stand names of the variable.
+fn substitutes_it<'s, T: EntryLike>(
+    variable: NameVariable,
+    names: &Names,
+    ctx: &Context<'s, T>,
+) -> bool
+    ensures { result ≡ substitutes_it variable (insteads_of (env ctx.now.style) names.now) }
+{
+    match substitute_nodes(names, ctx) {
+        Some(nodes) => any_names_it(variable, nodes, ctx),
+        None => false,
+    }
+}
+
+/// Whether names are refused where that variable alone is to be shown.
+fn refuses_alone<'s, T: EntryLike>(
+    only: Variable,
+    names: &Names,
+    ctx: &Context<'s, T>,
+    is_empty: bool,
+) -> bool
+    ensures { result ≡ refuses_alone only (names_node names.now) is_empty
+        (insteads_of (env ctx.now.style) names.now) }
+{
+    match only {
+        Variable::Standard(_) => true,
+        Variable::Number(_) => true,
+        Variable::Page(_) => true,
+        Variable::Name(variable) => !has_or_substitutes(variable, names, ctx, is_empty),
+        Variable::Date(_) => true,
+    }
+}
+
+/// Whether the variable is one of the names, or where there are no persons one of the names in
+/// their substitute.
+fn has_or_substitutes<'s, T: EntryLike>(
+    variable: NameVariable,
+    names: &Names,
+    ctx: &Context<'s, T>,
+    is_empty: bool,
+) -> bool
+    ensures { result ≡ (has_variable variable (names_node names.now).variables
+        || (is_empty && substitutes_it variable (insteads_of (env ctx.now.style) names.now))) }
+{
+    if has_variable(variable, names.parts().variables) {
+        return true;
+    }
+    if !is_empty {
+        return false;
+    }
+    substitutes_it(variable, names, ctx)
+}
+
+/// Whether names show the variable. `is_empty` says that there are no persons.
+#[cycle(shows)]
+fn shows_it<'s, T: EntryLike>(
+    names: &'s Names,
+    ctx: &mut Context<'s, T>,
+    var: Variable,
+    is_empty: bool,
+) -> Result<bool, RenderError>
+    ensures value { IfOk result (λ shows. shows ≡ names_show var (names_node names.now) is_empty
+        (substitute_shows (world T.answers ctx.old) ctx.old.state var
+        (insteads_of (env ctx.old.style) names.now))) }
+    ensures ok { OnOk result (Leaves same ctx.old ctx.new) }
+    ensures err { IfErr result (λ e. FailsAs e ctx.old ctx.new) }
+{
+    nothing(ctx)?;
+    if is_of_names(var, names.parts().variables) {
+        return Ok(true);
+    }
+    if !is_empty {
+        return Ok(false);
+    }
+    match substitute_nodes(names, ctx) {
+        Some(nodes) => any_shows(ctx, nodes, var),
+        None => nothing_shown(ctx),
+    }
+}
+
+/// Whether the special form of the cite leaves no names. `is_empty` says that there are no persons.
+fn refuses<'s, T: EntryLike>(
+    names: &'s Names,
+    ctx: &mut Context<'s, T>,
+    is_empty: bool,
+) -> Result<bool, RenderError>
+    ensures value { IfOk result (λ refused. refused ≡ is_refused ctx.old.special
+        (names_node names.now) is_empty (insteads_of (env ctx.old.style) names.now)
+        (names_show author (names_node names.now) is_empty (substitute_shows
+        (world T.answers ctx.old) ctx.old.state author
+        (insteads_of (env ctx.old.style) names.now)))) }
+    ensures ok { OnOk result (Leaves same ctx.old ctx.new) }
+    ensures err { IfErr result (λ e. FailsAs e ctx.old ctx.new) }
+{
+    nothing(ctx)?;
+    match ctx.special_form() {
+        None => Ok(false),
+        Some(SpecialForm::VarOnly(only)) => Ok(refuses_alone(only, names, ctx, is_empty)),
+        Some(SpecialForm::OnlyFirstDate) => Ok(true),
+        Some(SpecialForm::OnlyYearSuffix) => Ok(true),
+        Some(SpecialForm::SuppressAuthor) => {
+            shows_it(names, ctx, Variable::Name(NameVariable::Author), is_empty)
+        }
+    }
+}
+
+/// What the substitute says.
+#[cycle(info)]
+fn substitute_info<'s, T: EntryLike>(
+    names: &'s Names,
+    ctx: &mut Context<'s, T>,
+) -> Result<(bool, UsageInfo), RenderError>
+    ensures value { IfOk result (λ answer. told answer ≡ substitute_info (world T.answers ctx.old)
+        ctx.old.state (insteads_of (env ctx.old.style) names.now)) }
+    ensures ok { OnOk result (Leaves same ctx.old ctx.new) }
+    ensures err { IfErr result (λ e. FailsAs e ctx.old ctx.new) }
+{
+    match substitute_nodes(names, ctx) {
+        Some(nodes) => {
+            let said = infos(ctx, nodes)?;
+            Ok(but_groups(said))
+        }
+        None => nothing_said(ctx),
+    }
+}
+
+/// Appends what names make that have these lists.
+#[cycle(render)]
+fn render_lists<'s, T: EntryLike>(
+    names: &'s Names,
+    ctx: &mut Context<'s, T>,
+    lists: &[PersonList<'s>],
+) -> Result<(), RenderError>
+    ensures ok { OnOk result (Leaves (λ now. with_made (names_tree (world T.answers now)
+        (names_node names.now) (insteads_of (env now.style) names.now) now.inherited
+        (substitute_tree (world T.answers now) (insteads_of (env now.style) names.now)
+        (in_substitute (names_node names.now) now.inherited) (suppressing_from now.state))
+        (map list_of lists.now) now.state) now) ctx.old ctx.new) }
+    ensures err { IfErr result (λ e. FailsAs e ctx.old ctx.new) }
+{
+    let is_empty = all_empty(lists);
+    if refuses(names, ctx, is_empty)? {
+        return nothing(ctx);
+    }
+    if is_empty {
+        return render_substitute(names, ctx, lists);
+    }
+    write_names(ctx, names.parts(), lists)
+}
+
+/// Appends what stands for names without persons.
+#[cycle(render)]
+fn render_substitute<'s, T: EntryLike>(
+    names: &'s Names,
+    ctx: &mut Context<'s, T>,
+    lists: &[PersonList<'s>],
+) -> Result<(), RenderError>
+    ensures ok { OnOk result (Leaves (λ now. with_made (substitute_made (names_node names.now)
+        (map list_of lists.now) (substitute_tree (world T.answers now)
+        (insteads_of (env now.style) names.now) (in_substitute (names_node names.now)
+        now.inherited) (suppressing_from now.state)) now.state) now) ctx.old ctx.new) }
+    ensures err { IfErr result (λ e. FailsAs e ctx.old ctx.new) }
+{
+    match substitute_nodes(names, ctx) {
+        Some(nodes) => render_tries(nodes, ctx, names, lists),
+        None => nothing(ctx),
+    }
+}
+
+/// Appends the box of names around the children of their substitute, up to the one that brings a
+/// text. Their looks suppress their variables.
+#[cycle(render)]
+fn render_tries<'s, T: EntryLike>(
+    nodes: &'s [LayoutRenderingElement],
+    ctx: &mut Context<'s, T>,
+    names: &'s Names,
+    lists: &[PersonList<'s>],
+) -> Result<(), RenderError>
+    ensures ok { OnOk result (Leaves (λ now. with_made (substitute_made (names_node names.now)
+        (map list_of lists.now) (until_text (world T.answers now) (fill_within (env now.style)
+        (names_node names.now) (views nodes.now)) (in_substitute (names_node names.now)
+        now.inherited) (made [] (suppressing_from now.state))) now.state) now) ctx.old ctx.new) }
+    ensures err { IfErr result (λ e. FailsAs e ctx.old ctx.new) }
+{
+    let parts = names.parts();
+    ctx.push_name_options(&names.options)?;
+    ctx.push_format(parts.formatting)?;
+    let suppressing = ctx.start_suppressing_queried_variables();
+    let element = ctx.push_elem()?;
+    render_until_text(nodes, ctx, parts)?;
+    commit_names(ctx, element, parts.display, lists)?;
+    ctx.restore_suppressing(suppressing);
+    ctx.pop_format();
+    ctx.pop_name_options();
+    Ok(())
+}
+
+/// Appends what the children of a substitute make, up to the one that brings the open part a text.
+#[cycle(render)]
+fn render_until_text<'s, T: EntryLike>(
+    nodes: &'s [LayoutRenderingElement],
+    ctx: &mut Context<'s, T>,
+    original: NamesParts<'s>,
+) -> Result<(), RenderError>
+    ensures ok { OnOk result (Leaves (λ now. with_all_made (until_text (world T.answers now)
+        (fill_within (env now.style) (parts_node original.entry) (views nodes.now)) now.inherited
+        (made now.inner now.state)) now) ctx.old ctx.new) }
+    ensures err { IfErr result (λ e. FailsAs e ctx.old ctx.new) }
+{
+    nothing(ctx)?;
+    for node in nodes {
+        if ctx.open_part_has_text() {
+            return Ok(());
+        }
+        render_in_place(node, ctx, original)?;
+    }
+    Ok(())
+}
+
+/// The node, where it is names without children.
+fn shorthand(node: &LayoutRenderingElement) -> Option<&Names>
+    ensures { (original : NamesNode) → (f : Full) → within original (view node.now) f
+        ≡ standing_in original f (option_map (λ n. names_node n.now) result) }
+{
+    match node {
+        LayoutRenderingElement::Text(_) => None,
+        LayoutRenderingElement::Number(_) => None,
+        LayoutRenderingElement::Label(_) => None,
+        LayoutRenderingElement::Date(_) => None,
+        LayoutRenderingElement::Names(names) => childless(names),
+        LayoutRenderingElement::Choose(_) => None,
+        LayoutRenderingElement::Group(_) => None,
+    }
+}
+
+/// The names, where they have no children.
+fn childless(names: &Names) -> Option<&Names>
+    ensures { (original : NamesNode) → (f : Full) → within original (view_names names.now) f
+        ≡ standing_in original f (option_map (λ n. names_node n.now) result) }
+{
+    let _parts = names.parts();
+    if names.is_childless() {
+        Some(names)
+    } else {
+        None
+    }
+}
+
+/// Appends what a child of a substitute makes: names without children are written as those are that
+/// they stand in for.
+#[cycle(render)]
+fn render_in_place<'s, T: EntryLike>(
+    node: &'s LayoutRenderingElement,
+    ctx: &mut Context<'s, T>,
+    original: NamesParts<'s>,
+) -> Result<(), RenderError>
+    ensures ok { OnOk result (Leaves (λ now. with_made (tree (world T.answers now)
+        (within (parts_node original.entry) (view node.now)
+        (fill (env now.style) (view node.now))) now.inherited now.state) now) ctx.old ctx.new) }
+    ensures err { IfErr result (λ e. FailsAs e ctx.old ctx.new) }
+{
+    match shorthand(node) {
+        Some(names) => render_shorthand(ctx, names.parts_in_place_of(original)),
+        None => node.render(ctx),
+    }
+}
+
+/// Whether the special form of the cite leaves no names of these parts, which have no substitute.
+fn refuses_shorthand<'s, T: EntryLike>(
+    ctx: &Context<'s, T>,
+    parts: NamesParts<'_>,
+    is_empty: bool,
+) -> bool
+    ensures { result ≡ is_refused ctx.now.special (parts_node parts.entry) is_empty no_insteads
+        (names_show author (parts_node parts.entry) is_empty false) }
+{
+    match ctx.special_form() {
+        None => false,
+        Some(SpecialForm::VarOnly(only)) => !is_of_names(only, parts.variables),
+        Some(SpecialForm::OnlyFirstDate) => true,
+        Some(SpecialForm::OnlyYearSuffix) => true,
+        Some(SpecialForm::SuppressAuthor) => {
+            is_of_names(Variable::Name(NameVariable::Author), parts.variables)
+        }
+    }
+}
+
+/// Appends what names of these parts make, which have no substitute.
+fn render_shorthand<'s, T: EntryLike>(
+    ctx: &mut Context<'s, T>,
+    parts: NamesParts<'s>,
+) -> Result<(), RenderError>
+    ensures ok { OnOk result (Leaves (λ now. with_made (shorthand_tree (world T.answers now)
+        (parts_node parts.entry) now.inherited now.state) now) ctx.old ctx.new) }
+    ensures err { IfErr result (λ e. FailsAs e ctx.old ctx.new) }
+{
+    let lists = printed_lists(ctx, parts.variables)?;
+    let is_empty = all_empty(&lists);
+    if is_empty || refuses_shorthand(ctx, parts, is_empty) {
+        return nothing(ctx);
+    }
+    write_names(ctx, parts, &lists)
+}
