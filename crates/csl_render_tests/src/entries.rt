@@ -1,7 +1,8 @@
 //! Cites from words: an entry, and behind ` @ ` what its citation says of it.
 //!
 //! An entry is a book. It has clauses with `; ` between them: `article` makes it an article, and
-//! `title T`, `volume 20`, `edition 2`, `pages 7-8` and `date 2014` say the rest. Behind `'` a
+//! `title T`, `volume 20`, `edition 2`, `pages 7-8` and `date 2014` say the rest; `author A/B+C`,
+//! `editor A` and `translator A` say persons, each with a given name behind a stroke. Behind `'` a
 //! number or pages are a text, behind a backslash pages are an escaped range, and behind `~` a date
 //! is about right. In a title `~` says a blank, and behind a bar stands its short form. A date may
 //! go on with strokes before its month, its day, which both count from 0, and its season, as
@@ -19,7 +20,7 @@ use csl_entry::{
 use csl_style::{PageRangeFormat, Scope};
 use lit_model::{
     ChunkKind, ChunkedString, Date, Entry, EntryType, FormatString, MaybeTyped, Memory, Numeric,
-    PageRanges, PageRangesPart, Season, StringChunk,
+    PageRanges, PageRangesPart, Person, PersonRole, PersonsWithRoles, Season, StringChunk,
 };
 use std::alloc::{AllocError, Global};
 use std::test::Fail;
@@ -112,6 +113,39 @@ pub(crate) fn date(value: &str) -> Result<Option<Date>, Fail> {
     Ok(Date::new(year, month, day, season, approximate))
 }
 
+/// A person: the family name, and behind a stroke the given name.
+fn person(alloc: Global, words: &str) -> Result<Person, Fail> {
+    let (name, given) = words.split_once('/').unwrap_or((words, ""));
+    let given_name = if given.is_empty() {
+        None
+    } else {
+        Some(read(alloc, given)?)
+    };
+    Ok(Person {
+        name: read(alloc, name)?,
+        given_name,
+        prefix: None,
+        suffix: None,
+        alias: None,
+        comma_suffix: false,
+    })
+}
+
+fn persons(alloc: Global, words: &str) -> Result<Vec<Person>, Fail> {
+    let mut persons = Vec::new(alloc);
+    for words in words.split('+') {
+        persons.push(person(alloc, words)?)?;
+    }
+    Ok(persons)
+}
+
+/// The translators, alone in a list of persons with roles.
+fn translators(alloc: Global, words: &str) -> Result<Vec<PersonsWithRoles>, Fail> {
+    let names = persons(alloc, words)?;
+    let role = PersonRole::Translator;
+    Ok(vec![in alloc; PersonsWithRoles { names, role }]?)
+}
+
 /// Says one thing of the work.
 fn state(alloc: Global, work: &mut Entry, word: &str, value: &str) -> Result<(), Fail> {
     match word {
@@ -122,6 +156,9 @@ fn state(alloc: Global, work: &mut Entry, word: &str, value: &str) -> Result<(),
         "edition" => work.edition = Some(number(alloc, value)?),
         "pages" => work.page_range = Some(pages(alloc, value)?),
         "date" => work.date = date(value)?,
+        "author" => work.authors = Some(persons(alloc, value)?),
+        "editor" => work.editors = Some(persons(alloc, value)?),
+        "translator" => work.affiliated = Some(translators(alloc, value)?),
         _ => return Err(Fail::from("a word that no entry has")),
     }
     Ok(())
@@ -171,6 +208,7 @@ fn set(setting: &mut Setting, word: &'static str) -> Result<(), Fail> {
         "minimal-two" => setting.manner.format = Some(PageRangeFormat::MinimalTwo),
         "limited" => setting.manner.is_limited = true,
         "eras" => setting.manner.has_eras = true,
+        "merging" => setting.manner.is_merging = true,
         "bibliography" => setting.scope = Scope::Bibliography,
         "sorted" => setting.sorting = Some(Sorting::Macro),
         "sorted-by-variable" => setting.sorting = Some(Sorting::Variable),
@@ -200,7 +238,8 @@ fn payload(text: &'static str) -> LocatorPayload<'static> {
 
 /// Sets what was written before, as in `after:k`, the variable that is shown alone, as in
 /// `only:volume`, the place of the year suffix, as in `letter:0`, the localized date or the layout
-/// of the style, as in `locale::text+year` and `layout:=suffix`, or where the cite points, as in
+/// of the style, as in `locale::text+year` and `layout:=suffix`, its options of names, as in
+/// `names:short`, or where the cite points, as in
 /// `page:7`.
 fn set_text(setting: &mut Setting, word: &'static str) -> Result<(), Fail> {
     let (name, text) = word.split_once(':').ok_or("a word that no citation has")?;
@@ -210,6 +249,7 @@ fn set_text(setting: &mut Setting, word: &'static str) -> Result<(), Fail> {
         "letter" => setting.suffix = Some(text.parse::<u8>()?),
         "locale" => setting.manner.date = Some(text),
         "layout" => setting.manner.layout = text,
+        "names" => setting.manner.names = text,
         _ => {
             let kind = locator_named(name)?;
             setting.locator = Some(SpecificLocator(kind, payload(text)));

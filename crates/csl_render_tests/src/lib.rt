@@ -21,6 +21,10 @@ mod key_rows;
 #[cfg(test)]
 mod made;
 #[cfg(test)]
+mod name_nodes;
+#[cfg(test)]
+mod name_rows;
+#[cfg(test)]
 mod nodes;
 #[cfg(test)]
 mod number_nodes;

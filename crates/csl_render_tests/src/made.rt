@@ -1,19 +1,21 @@
 //! The style of these tests.
 
 use crate::date_nodes::date;
+use crate::name_nodes::name_options;
 use crate::nodes::{PAGE, layout, nodes};
 use csl_style::{
-    CslMacro, Date, Locale, Locator, NumberVariable, OrdinalSlot, OrdinalTerm, OtherTerm,
-    PageRangeFormat, Style, StyleSettings, Term, TermEntry, TermForm,
+    CslMacro, Date, Locale, Locator, NameVariable, NumberVariable, OrdinalSlot, OrdinalTerm,
+    OtherTerm, PageRangeFormat, Style, StyleSettings, Term, TermEntry, TermForm,
 };
 use lit_model::{GrammarGender, Season};
 use std::alloc::{AllocError, Global};
 use std::test::Fail;
 
 /// A macro a line: its name, and the words of its nodes.
-static MACROS: [&str; 9] = [
+static MACROS: [&str; 10] = [
     "both 'w title",
     "choice ( ( 'v ) ( =suffix ) )?all",
+    "editors +editor:name",
     "genre genre",
     "group genre ( 'v )",
     "pair 'A 'B",
@@ -56,7 +58,7 @@ fn gender_of(term: Term) -> Option<GrammarGender> {
 /// A term, its form, its text for one and that for several.
 type TermRow = (Term, TermForm, &'static str, &'static str);
 
-static TERMS: [TermRow; 18] = [
+static TERMS: [TermRow; 19] = [
     (Term::Other(OtherTerm::OpenQuote), TermForm::Long, "“", "“"),
     (Term::Other(OtherTerm::CloseQuote), TermForm::Long, "”", "”"),
     (
@@ -70,6 +72,12 @@ static TERMS: [TermRow; 18] = [
         TermForm::Long,
         "’",
         "’",
+    ),
+    (
+        Term::Other(OtherTerm::EtAl),
+        TermForm::Long,
+        "et al.",
+        "et al.",
     ),
     (PAGE, TermForm::Long, "page", "pages"),
     (PAGE, TermForm::Short, "p.", "pp."),
@@ -103,6 +111,14 @@ static ERAS: [TermRow; 2] = [
     (Term::Other(OtherTerm::Bc), TermForm::Long, " bc", " bc"),
 ];
 
+/// The word for who is both editor and translator.
+static BOTH: [TermRow; 1] = [(
+    Term::Name(NameVariable::EditorTranslator),
+    TermForm::Long,
+    "ed. & trans.",
+    "eds. & trans.",
+)];
+
 fn add_terms(
     alloc: Global,
     rows: &[TermRow],
@@ -126,6 +142,9 @@ fn terms(alloc: Global, manner: Manner) -> Result<Vec<TermEntry>, AllocError> {
     add_terms(alloc, &TERMS, &mut terms)?;
     if manner.has_eras {
         add_terms(alloc, &ERAS, &mut terms)?;
+    }
+    if manner.is_merging {
+        add_terms(alloc, &BOTH, &mut terms)?;
     }
     Ok(terms)
 }
@@ -167,6 +186,10 @@ pub(crate) struct Manner {
     pub(crate) is_limited: bool,
     /// It has words for the eras.
     pub(crate) has_eras: bool,
+    /// It has a word for who is both editor and translator.
+    pub(crate) is_merging: bool,
+    /// Its options of names.
+    pub(crate) names: &'static str,
 }
 
 /// The manner of a style that says nothing.
@@ -176,6 +199,8 @@ pub(crate) const PLAIN: Manner = Manner {
     layout: "",
     is_limited: false,
     has_eras: false,
+    is_merging: false,
+    names: "",
 };
 
 fn dates(alloc: Global, manner: Manner) -> Result<Vec<Date>, Fail> {
@@ -207,6 +232,7 @@ pub(crate) fn style(alloc: Global, manner: Manner) -> Result<Style, Fail> {
     let citation = layout(alloc, manner.layout)?;
     let settings = StyleSettings {
         page_range_format: manner.format,
+        names: name_options(alloc, manner.names)?,
         ..StyleSettings::default()
     };
     Ok(Style::new(alloc, settings, macros, citation, None, locales)?)

@@ -2,8 +2,9 @@
 //!
 //! The words of some nodes have one space between them. A node `( .. )` is a group of what stands
 //! inside, a node `( .. )?` a choice, as `choice_nodes` says, a word with `#` or `&` a number or a
-//! label, as `number_nodes` says, a word with `@` a date, as `date_nodes` says, and each other word
-//! a text. It begins with what the text prints:
+//! label, as `number_nodes` says, a word with `@` a date, as `date_nodes` says, a word with `+` and
+//! a node `( .. )+` names, as `name_nodes` says, and each other word a text. It begins with what
+//! the text prints:
 //!
 //! | Word | Text of |
 //! |---|---|
@@ -20,6 +21,7 @@
 
 use crate::choice_nodes::choice;
 use crate::date_nodes::date;
+use crate::name_nodes::{names, substituted};
 use crate::number_nodes::{label, number};
 use crate::work::UNANSWERED;
 use csl_style::{
@@ -50,6 +52,8 @@ pub(crate) fn variable_named(name: &str) -> Result<Variable, Fail> {
         "citation-number" => Ok(Variable::Number(NumberVariable::CitationNumber)),
         "page" => Ok(Variable::Page(PageVariable::Page)),
         "author" => Ok(Variable::Name(NameVariable::Author)),
+        "editor" => Ok(Variable::Name(NameVariable::Editor)),
+        "translator" => Ok(Variable::Name(NameVariable::Translator)),
         "issued" => Ok(Variable::Date(DateVariable::Issued)),
         _ => Err(Fail::from("no variable")),
     }
@@ -180,6 +184,9 @@ fn node(alloc: Global, word: &str) -> Result<LayoutRenderingElement, Fail> {
     if let Some(word) = word.strip_prefix('@') {
         return Ok(LayoutRenderingElement::Date(date(alloc, word)?));
     }
+    if let Some(word) = word.strip_prefix('+') {
+        return names(alloc, word);
+    }
     let (word, options) = word.split_once('|').unwrap_or((word, ""));
     if let Some(word) = word.strip_prefix('#') {
         return number(alloc, word, options);
@@ -190,12 +197,15 @@ fn node(alloc: Global, word: &str) -> Result<LayoutRenderingElement, Fail> {
     text(alloc, word, options)
 }
 
-/// What ends with these options, or with the branches of a choice.
+/// What ends with these options, with the branches of a choice, or with names.
 fn ended(
     alloc: Global,
     children: Vec<LayoutRenderingElement>,
     end: &str,
 ) -> Result<LayoutRenderingElement, Fail> {
+    if let Some(words) = end.strip_prefix('+') {
+        return substituted(alloc, children, words);
+    }
     match end.strip_prefix('?') {
         Some(branches) => choice(alloc, children, branches),
         None => Ok(group(alloc, children, end)?),

@@ -64,6 +64,8 @@ fn meta_of(meta: &Option<ElemMeta>) -> &'static str {
         Some(ElemMeta::Label) => ":label",
         Some(ElemMeta::CitationNumber) => ":citation-number",
         Some(ElemMeta::CitationLabel) => ":citation-label",
+        Some(ElemMeta::Names(_)) => ":names",
+        Some(ElemMeta::Name(_, _)) => ":name",
         Some(_) => ":another",
     }
 }

@@ -1,0 +1,153 @@
+//! Names from words.
+//!
+//! `+author,editor` are names of these variables without children. Behind each `:` stands a child:
+//! `name`, `label` with its affixes, as `label<~(>)`, or `et-al`; behind `name=` and behind the
+//! option `|=` stand options of names with `;` between them. `( .. )+author:name` are names whose
+//! last child is a substitute, with the nodes that stand inside.
+//!
+//! | Word | Option of names |
+//! |---|---|
+//! | `short`, `long`, `count` | the form |
+//! | `min-3`, `first-1` | from how many names on some are left out, and how many are left |
+//! | `later-min-3`, `later-first-1` | the same in a later cite |
+//! | `use-last` | the last name is kept |
+//! | `with-a` | what follows an initial |
+//! | `names-a` | what stands between two lists |
+
+use crate::nodes::{affixes, display, formatting, option, read, text_of, variable_named};
+use csl_style::{
+    EtAl, Formatting, InheritableNameOptions, LayoutRenderingElement, Name, NameForm, NameVariable,
+    Names, NamesChild, Substitute, Variable, VariablelessLabel,
+};
+use std::alloc::Global;
+use std::test::Fail;
+
+/// Sets what a word says that has a text or a number behind it.
+fn set_valued(alloc: Global, options: &mut InheritableNameOptions, word: &str) -> Result<(), Fail> {
+    if let Some(count) = word.strip_prefix("min-") {
+        options.et_al_min = Some(count.parse::<u32>()?);
+    } else if let Some(count) = word.strip_prefix("first-") {
+        options.et_al_use_first = Some(count.parse::<u32>()?);
+    } else if let Some(count) = word.strip_prefix("later-min-") {
+        options.et_al_subsequent_min = Some(count.parse::<u32>()?);
+    } else if let Some(count) = word.strip_prefix("later-first-") {
+        options.et_al_subsequent_use_first = Some(count.parse::<u32>()?);
+    } else if let Some(text) = word.strip_prefix("with-") {
+        options.initialize_with = Some(read(alloc, text)?);
+    } else if let Some(text) = word.strip_prefix("names-") {
+        options.names_delimiter = Some(read(alloc, text)?);
+    } else {
+        return Err(Fail::from("no option of names"));
+    }
+    Ok(())
+}
+
+/// Sets what a word says.
+fn set(alloc: Global, options: &mut InheritableNameOptions, word: &str) -> Result<(), Fail> {
+    match word {
+        "short" => options.form = Some(NameForm::Short),
+        "long" => options.form = Some(NameForm::Long),
+        "count" => options.form = Some(NameForm::Count),
+        "use-last" => options.et_al_use_last = Some(true),
+        _ => set_valued(alloc, options, word)?,
+    }
+    Ok(())
+}
+
+/// The options of names of these words.
+pub(crate) fn name_options(alloc: Global, words: &str) -> Result<InheritableNameOptions, Fail> {
+    let mut options = InheritableNameOptions::default();
+    for word in words.split(';') {
+        if !word.is_empty() {
+            set(alloc, &mut options, word)?;
+        }
+    }
+    Ok(options)
+}
+
+fn name(alloc: Global, words: &str) -> Result<Name, Fail> {
+    Ok(Name {
+        options: name_options(alloc, words)?,
+        formatting: Formatting::default(),
+        parts: Vec::new(alloc),
+    })
+}
+
+/// A label whose prefix stands behind `<` and whose suffix behind `>`.
+fn label(alloc: Global, words: &str) -> Result<VariablelessLabel, Fail> {
+    let mut label = VariablelessLabel::default();
+    if let Some(affixes) = words.strip_prefix('<') {
+        let (prefix, suffix) = affixes.split_once('>').unwrap_or((affixes, ""));
+        label.affixes.prefix = Some(read(alloc, prefix)?);
+        label.affixes.suffix = Some(read(alloc, suffix)?);
+    }
+    Ok(label)
+}
+
+fn child(alloc: Global, word: &str) -> Result<NamesChild, Fail> {
+    if word == "et-al" {
+        return Ok(NamesChild::EtAl(EtAl::default()));
+    }
+    if let Some(words) = word.strip_prefix("label") {
+        return Ok(NamesChild::Label(label(alloc, words)?));
+    }
+    let (kind, options) = word.split_once('=').unwrap_or((word, ""));
+    if kind != "name" {
+        return Err(Fail::from("no child of names"));
+    }
+    Ok(NamesChild::Name(name(alloc, options)?))
+}
+
+fn children(alloc: Global, words: &str) -> Result<Vec<NamesChild>, Fail> {
+    let mut children = Vec::new(alloc);
+    for word in words.split(':') {
+        if !word.is_empty() {
+            children.push(child(alloc, word)?)?;
+        }
+    }
+    Ok(children)
+}
+
+fn variables(alloc: Global, words: &str) -> Result<Vec<NameVariable>, Fail> {
+    let mut variables = Vec::new(alloc);
+    for word in words.split(',') {
+        match variable_named(word)? {
+            Variable::Name(variable) => variables.push(variable)?,
+            _ => return Err(Fail::from("a variable that holds no names")),
+        }
+    }
+    Ok(variables)
+}
+
+/// The names of a word.
+fn names_of(alloc: Global, words: &str) -> Result<Names, Fail> {
+    let (word, options) = words.split_once('|').unwrap_or((words, ""));
+    let (of, inside) = word.split_once(':').unwrap_or((word, ""));
+    let affixes = affixes(alloc, options)?;
+    Ok(Names {
+        variable: variables(alloc, of)?,
+        children: children(alloc, inside)?,
+        options: name_options(alloc, option(options, "=").unwrap_or(""))?,
+        delimiter: text_of(alloc, options, ",")?,
+        formatting: formatting(options),
+        affixes,
+        display: display(options),
+    })
+}
+
+/// The names of a word, as a node.
+pub(crate) fn names(alloc: Global, words: &str) -> Result<LayoutRenderingElement, Fail> {
+    Ok(LayoutRenderingElement::Names(names_of(alloc, words)?))
+}
+
+/// The names of a word with these nodes as their substitute.
+pub(crate) fn substituted(
+    alloc: Global,
+    nodes: Vec<LayoutRenderingElement>,
+    words: &str,
+) -> Result<LayoutRenderingElement, Fail> {
+    let mut names = names_of(alloc, words)?;
+    let substitute = Substitute { children: nodes };
+    names.children.push(NamesChild::Substitute(substitute))?;
+    Ok(LayoutRenderingElement::Names(names))
+}

@@ -1,0 +1,282 @@
+//! The tests of names.
+
+use crate::cited::{Row, Sought, assert_cited};
+use std::process::Abort;
+use std::test::Fail;
+
+const THREE: &str = "author Ferrante/Elena+Kwan/Kevin+Warren/Rosanna";
+
+const BOTH: &str = "editor Weintraub/Stanley; translator Weintraub/Stanley";
+
+const TWO: &str = "editor Ottenstein/Peter; translator Warren/Rosanna";
+
+/// Plain texts.
+static PLAIN: [Row; 47] = [
+    ("+author:name", "author Ferrante/Elena", "Elena Ferrante"),
+    ("+author", "author Ferrante/Elena", "Elena Ferrante"),
+    ("+author:name", "book", ""),
+    // Some names are left out.
+    ("+author:name=short;min-3;first-1", THREE, "Ferrante et al."),
+    (
+        "+author:name=short;min-3;first-1;use-last",
+        THREE,
+        "Ferrante, … Warren",
+    ),
+    ("+author:name=short;min-3;first-0", THREE, "et al."),
+    ("+author:name=count;min-3;first-1;with-.", THREE, "1"),
+    ("+author:name=count", THREE, "3"),
+    // A later cite has limits of its own, each where it is set.
+    (
+        "+author:name=short;min-3;first-2;later-first-1",
+        "author Ferrante/Elena+Kwan/Kevin+Warren/Rosanna @ subsequent",
+        "Ferrante et al.",
+    ),
+    (
+        "+author:name=short;min-3;first-2;later-first-1",
+        THREE,
+        "Ferrante, Kwan, et al.",
+    ),
+    // The first name child writes the names.
+    (
+        "+author:name=short:name=long",
+        "author Ferrante/Elena",
+        "Ferrante",
+    ),
+    // Editors and translators who are the same are one list where the style has a term for them.
+    (
+        "+editor,translator:name=short:label<~(>)|,;~",
+        BOTH,
+        "Weintraub; Weintraub",
+    ),
+    (
+        "+editor,translator:name=short:label<~(>)|,;~",
+        "editor Weintraub/Stanley; translator Weintraub/Stanley @ merging",
+        "Weintraub (ed. & trans.)",
+    ),
+    (
+        "+editor,translator:label<~(>)|=short",
+        "editor Weintraub/Stanley; translator Weintraub/Stanley @ merging",
+        " (ed. & trans.)Weintraub",
+    ),
+    // What stands between two lists: the name says it, else the names.
+    (
+        "+editor,translator:name=short;names-~/~|,;~",
+        TWO,
+        "Ottenstein / Warren",
+    ),
+    (
+        "+editor,translator:name=short|,;~",
+        TWO,
+        "Ottenstein; Warren",
+    ),
+    // Names in a substitute inherit it only where they have no children.
+    (
+        "( +editor,translator:name=short )+author|,;~",
+        TWO,
+        "OttensteinWarren",
+    ),
+    (
+        "( +editor,translator )+author:name=short|,;~",
+        TWO,
+        "Ottenstein; Warren",
+    ),
+    // So with affixes.
+    (
+        "( +editor )+author:name=short|<(|>)",
+        "editor Weintraub/Stanley",
+        "(Weintraub)",
+    ),
+    (
+        "( +editor:name=short )+author|<(|>)",
+        "editor Weintraub/Stanley",
+        "Weintraub",
+    ),
+    ("( title )+author|<(|>)", "title T", "T"),
+    // Where it sets them itself, they are its own.
+    (
+        "( +editor|<[ )+author:name=short|<(|>)",
+        "editor Weintraub/Stanley",
+        "[Weintraub)",
+    ),
+    // The options of the names around are inherited.
+    (
+        "( +editor:name )+author|=short",
+        "editor Weintraub/Stanley",
+        "Weintraub",
+    ),
+    // The space before what stands for others looks at the lists, and not at the affixes.
+    (
+        "+author:name=min-1;first-0|<by",
+        "author Ferrante/Elena",
+        "byet al.",
+    ),
+    (
+        "+editor,translator:label:name=min-1;first-0",
+        "editor Weintraub/Stanley; translator Weintraub/Stanley @ merging",
+        "ed. & trans. et al.",
+    ),
+    // A substitute ends with the first child that brings a text.
+    ("( title 'Anon. )+author:name", "title T", "T"),
+    ("( genre 'Anon. )+author:name", "title T", "Anon."),
+    (
+        "( title )+author:name",
+        THREE,
+        "Elena Ferrante, Kevin Kwan, Rosanna Warren",
+    ),
+    // What it prints is not printed again.
+    ("( title )+author:name title", "title T", "T"),
+    (
+        "( ( genre )+editor:name title )+author title",
+        "title T",
+        "T",
+    ),
+    (
+        "( +editor )+author:name=short +editor:name",
+        "editor Kwan/Kevin",
+        "Kwan",
+    ),
+    // Names that have persons suppress nothing.
+    (
+        "+author:name +author:name=short",
+        "author Ferrante/Elena",
+        "Elena FerranteFerrante",
+    ),
+    // A group is left out whose names are empty, and its substitute prints a value alone.
+    ("( ( genre 'Anon. )+author )", "book", ""),
+    ("( ( title )+author '! )", "title T", "T!"),
+    // Names that leave out every name by their own options call nothing that is not empty.
+    (
+        "( +author:name|=min-1;first-0 title )|,,~",
+        "author Ferrante/Elena; title T",
+        "T",
+    ),
+    (
+        "( +author:name title )|,,~",
+        "author Ferrante/Elena; title T @ names:min-1;first-0",
+        "et al., T",
+    ),
+    (
+        "( +author:name=min-1;first-0:name title )|,,~",
+        "author Ferrante/Elena; title T",
+        "et al., T",
+    ),
+    // A cite without its authors.
+    (
+        "+author:name +editor:name",
+        "author Ferrante/Elena; editor Kwan/Kevin @ no-author",
+        "Kevin Kwan",
+    ),
+    (
+        "( +author )+editor:name",
+        "author Ferrante/Elena @ no-author",
+        "",
+    ),
+    (
+        "( +author )+editor:name",
+        "author Ferrante/Elena",
+        "Elena Ferrante",
+    ),
+    (
+        "( +author )+editor:name",
+        "author Ferrante/Elena; editor Kwan/Kevin @ no-author",
+        "Kevin Kwan",
+    ),
+    // One variable alone.
+    (
+        "+author:name title",
+        "author Ferrante/Elena; title T @ only:issued",
+        "",
+    ),
+    (
+        "+author:name title",
+        "author Ferrante/Elena; title T @ only:author",
+        "Elena Ferrante",
+    ),
+    (
+        "+author:name +editor:name",
+        "author Ferrante/Elena; editor Kwan/Kevin @ only:editor",
+        "Kevin Kwan",
+    ),
+    (
+        "( +editor )+author:name",
+        "editor Kwan/Kevin @ only:editor",
+        "Kevin Kwan",
+    ),
+    // The names of a macro in the substitute do not stand directly in it.
+    (
+        "( =editors )+author:name",
+        "editor Kwan/Kevin @ only:editor",
+        "",
+    ),
+    ("+author:name", "author Ferrante/Elena @ first-date", ""),
+];
+
+/// What is made, and left.
+static TREES: [Row; 7] = [
+    (
+        "+author:name=short|<(|>)|b",
+        "author Ferrante/Elena+Kwan/Kevin",
+        "[ ( [ Ferrante ]:name ,~ [ Kwan ]:name ) ]block:names",
+    ),
+    (
+        "( title )+author:name|b|<(",
+        "title T",
+        "[ [ T ]:text ]block:names suppressed {Standard(Title)}",
+    ),
+    (
+        "( +editor )+author:name=short|b",
+        "editor Kwan/Kevin",
+        "[ [ [ Kwan ]:name ]:names ]block:names suppressed {Name(Editor)}",
+    ),
+    (
+        "( ( genre 'Anon. )+author )",
+        "book",
+        "suppressed {Standard(Genre)}",
+    ),
+    (
+        "( ( genre )+editor:name title )+author:name",
+        "title T",
+        "[ [ T ]:text ]:names suppressed {Standard(Genre), Standard(Title), Name(Editor)}",
+    ),
+    (
+        "+author:name=short",
+        "author Ferrante/Elena @ suppressing",
+        "[ [ Ferrante ]:name ]:names suppressed {Name(Author)} suppressing",
+    ),
+    ("+author:name", "book", ""),
+];
+
+/// What dry runs say.
+static DRY: [Row; 8] = [
+    (
+        "+author:name",
+        "author Ferrante/Elena",
+        " prints called non-empty",
+    ),
+    ("+author:name", "book", " called"),
+    ("( 'Anon. )+author:name", "book", " prints called"),
+    (
+        "( #volume )+author:name",
+        "volume 20",
+        " prints called non-empty shows",
+    ),
+    (
+        "( #volume )+author:name",
+        "volume 20; author Ferrante/Elena",
+        " prints called non-empty",
+    ),
+    ("( =y )+author:name", "book", " prints called macro"),
+    ("( 'Anon. )+author:name", "book @ first-date", ""),
+    (
+        "+author:name|=min-1;first-0",
+        "author Ferrante/Elena",
+        " called",
+    ),
+];
+
+#[test]
+fn names_print_as_the_standard_says(rt: HostRuntime) -> Result<(), Fail> {
+    assert_cited(&rt, rt.alloc(), Sought::Plain, &PLAIN)?;
+    assert_cited(&rt, rt.alloc(), Sought::Tree, &TREES)?;
+    assert_cited(&rt, rt.alloc(), Sought::Dry, &DRY)
+}
