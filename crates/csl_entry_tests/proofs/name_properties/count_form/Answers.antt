@@ -2,4 +2,4 @@ use Rattle.csl_entry.specs.declared.name_form.DisambiguatedNameForm.TheVariants.
 use Rattle.csl_entry_tests.proofs.name_properties.count_form.Goals as goal
 
 pub returns : goal.returns
-returns c = rw c.in_ok-form.is at (c.get_form_mut.follows.holds Count)
+returns c = rw c.in_ok-form.was at (c.get_form_mut.follows.holds Count)
