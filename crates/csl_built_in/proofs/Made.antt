@@ -1,5 +1,5 @@
 -- The nodes that are made, as data.
-use Rattle.std.proofs.Common.{◌≡◌, ℕ, false, List, [], ◌∷◌, None, map, refl, sym, ap, ◌∙◌}
+use Rattle.std.proofs.Common.{◌≡◌, false, [], ◌∷◌, None, map, refl, sym, ap, ◌∙◌}
 use Rattle.std.specs.Prelude.{Option, Vec, String}
 use Rattle.std.specs.declared.alloc.Global.{Global}
 use Rattle.csl_style.specs.declared.affixes.Affixes.{Affixes}
@@ -15,8 +15,8 @@ use Rattle.csl_style.specs.declared.element.Substitute.{Substitute, roll-Substit
 use Rattle.csl_style.specs.declared.formatting.Formatting.{Formatting}
 use Rattle.csl_style.specs.declared.names.options.InheritableNameOptions.{InheritableNameOptions}
 use Rattle.csl_style.specs.declared.taxonomy.NameVariable.{NameVariable}
-use Rattle.csl_style.specs.Dressing.{AffixTexts, affix_texts, text_if, dressing_of}
-use Rattle.csl_style.specs.NameOptions.{SetOptions, own_options}
+use Rattle.csl_style.specs.Dressing.{affix_texts, text_if, dressing_of}
+use Rattle.csl_style.specs.NameOptions.{own_options}
 use Rattle.csl_style.specs.Node.{Node, Nodes, node, no_nodes, names, group}
 use Rattle.csl_style.specs.Style.{no_options}
 use Rattle.csl_style.specs.View.{Child, Part, a_substitute, name_children, first_et_al, first_label, substitutes, view, view_child, view_group, view_names, view_substitute, views, nodes_of, element_step, child_step, choose_step, branch_step, group_step, names_step, substitute_step}

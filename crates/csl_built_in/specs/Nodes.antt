@@ -1,5 +1,5 @@
 -- The parts of a style's nodes that say nothing, or one thing.
-use Rattle.std.specs.Prelude.{ℕ, List, Option, Some, None, false}
+use Rattle.std.specs.Prelude.{ℕ, List, Some, None, false}
 use Rattle.csl_style.specs.declared.formatting.Formatting.{Formatting}
 use Rattle.csl_style.specs.declared.formatting.FontStyle.TheVariants.{Italic}
 use Rattle.csl_style.specs.Dressing.{AffixTexts, Dressing, TextDressing}

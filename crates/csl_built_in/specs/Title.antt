@@ -6,7 +6,7 @@ use Rattle.lit_model.specs.declared.text.LongShortForm.TheVariants.{Long}
 use Rattle.csl_style.specs.declared.taxonomy.StandardVariable.{StandardVariable}
 use Rattle.csl_style.specs.declared.taxonomy.StandardVariable.TheVariants.{Title}
 use Rattle.csl_style.specs.declared.taxonomy.Variable.TheVariants.{Standard}
-use Rattle.csl_style.specs.Node.{Target, of_variable, of_value, Node, text, group, Nodes, no_nodes, node, LayoutNode}
+use Rattle.csl_style.specs.Node.{of_variable, of_value, Node, text, group, Nodes, no_nodes, node, LayoutNode}
 use Rattle.csl_style.specs.Style.{StyleParts}
 use Rattle.csl_style.specs.View.{view_layout}
 use Rattle.csl_entry.specs.Answers.{Answers}

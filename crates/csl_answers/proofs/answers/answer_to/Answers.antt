@@ -1,4 +1,4 @@
-use Rattle.std.proofs.Common.{◌≡◌, ℕ, List, refl, sym, ap, subst}
+use Rattle.std.proofs.Common.{◌≡◌, List, refl, sym, ap, subst}
 use Rattle.csl_tree.specs.Tokens.{Token}
 use Rattle.csl_tree.specs.Writing.{written}
 use Rattle.csl_tree.specs.declared.elem.BufWriteFormat.{BufWriteFormat}

@@ -1,4 +1,4 @@
-use Rattle.std.proofs.Common.{◌≡◌, sym, ap, ◌∙◌, subst}
+use Rattle.std.proofs.Common.{sym, ap, ◌∙◌, subst}
 use Rattle.csl_style.specs.Style.{StyleParts, AreDefaults}
 use Rattle.csl_style.specs.View.{view_layout}
 use Rattle.csl_built_in.proofs.styles.BuiltInStyle.style.Goals as goal
