@@ -76,20 +76,13 @@ pub fn owned(alloc: Global, words: &[&str]) -> Result<Vec<String>, Fail> {
     Ok(all)
 }
 
-/// Runs the words, and asserts the status and what both streams took. Where memory was refused, the
-/// fault stream took just that line, and the words are run once more.
+/// Runs the words, and asserts the status and what both streams took.
 fn assert_run(rt: &impl Abort, alloc: Global, row: Row) -> Result<(), Fail> {
     let (words, status, out, fault) = row;
     let owned = owned(alloc, words)?;
-    let mut wrote = String::with_capacity(alloc, 512)?;
-    let mut said = String::with_capacity(alloc, 512)?;
-    let mut answered = run(alloc, owned.as_slice(), &mut wrote, &mut said);
-    if answered == 3 {
-        let got = (wrote.as_str(), said.as_str());
-        assert_eq!(rt; got, ("", "out of memory\n"), "of {words:?}");
-        said.clear();
-        answered = run(alloc, owned.as_slice(), &mut wrote, &mut said);
-    }
+    let mut wrote = String::new(alloc);
+    let mut said = String::new(alloc);
+    let answered = run(alloc, owned.as_slice(), &mut wrote, &mut said);
     let got = (answered, wrote.as_str(), said.as_str());
     assert_eq!(rt; got, (status, out, fault), "of {words:?}");
     Ok(())
