@@ -14,6 +14,8 @@ mod equal;
 #[cfg(test)]
 mod formatting;
 #[cfg(test)]
+mod laws;
+#[cfg(test)]
 mod named;
 #[cfg(test)]
 mod places;

@@ -1,0 +1,131 @@
+//! Laws of contents. Two texts of one formatting in a row are the text of both. Contents in a row,
+//! in an element and between two others show the leaf text of all that is in them, and hold no
+//! empty leaf and no empty element where those hold none.
+
+ghost use Rattle.std.specs.Prelude.{◌≡◌, ◌<◌, ◌++◌, length, IfOk};
+ghost use Rattle.csl_tree.specs.Content.{text_content, IsContent};
+ghost use Rattle.csl_tree.specs.Tokens.{tokens, leaf_text};
+
+use crate::trees::{assert_tree, names, read};
+use csl_style::{Display, NameVariable};
+use csl_tree::{ElemChild, ElemChildren, ElemMeta, Formatted, Formatting};
+use lit_model::Memory;
+use std::alloc::Global;
+use std::process::Abort;
+use std::test::Fail;
+
+/// Two texts of one formatting in a row.
+fn texts_in_a_row(
+    alloc: Global,
+    one: &str,
+    two: &str,
+    formatting: Formatting,
+) -> Result<ElemChildren, Memory>
+    ensures text { IfOk result (λ c. tokens c ≡ text_content (one.now ++ two.now) formatting) }
+    ensures sound { IfOk result (λ c. IsContent (tokens c)) }
+{
+    let mut all = ElemChildren::new(alloc);
+    all.push_text(alloc, one, formatting)?;
+    all.push_text(alloc, two, formatting)?;
+    Ok(all)
+}
+
+/// A markup alone.
+fn one_markup(alloc: Global, markup: String) -> Result<ElemChildren, Memory>
+    ensures sound { IfOk result (λ c. IsContent (tokens c)) }
+{
+    let mut all = ElemChildren::new(alloc);
+    all.push_child(alloc, ElemChild::Markup(markup))?;
+    Ok(all)
+}
+
+/// A link alone.
+fn one_link(alloc: Global, text: Formatted, url: String) -> Result<ElemChildren, Memory>
+    ensures sound { IfOk result (λ c. IsContent (tokens c)) }
+{
+    let mut all = ElemChildren::new(alloc);
+    all.push_child(alloc, ElemChild::Link { text, url })?;
+    Ok(all)
+}
+
+/// Two contents in a row.
+fn in_a_row(alloc: Global, one: ElemChildren, two: ElemChildren) -> Result<ElemChildren, Memory>
+    ensures leaf { IfOk result
+        (λ c. leaf_text (tokens c) ≡ leaf_text (tokens one) ++ leaf_text (tokens two)) }
+    ensures sound { IfOk result
+        (λ c. IsContent (tokens one) → IsContent (tokens two) → IsContent (tokens c)) }
+{
+    let mut all = one;
+    all.append(alloc, two)?;
+    Ok(all)
+}
+
+/// A content in an element.
+fn in_an_element(
+    alloc: Global,
+    inside: ElemChildren,
+    display: Option<Display>,
+    meta: Option<ElemMeta>,
+) -> Result<ElemChildren, Memory>
+    ensures leaf { IfOk result (λ c. leaf_text (tokens c) ≡ leaf_text (tokens inside)) }
+    ensures sound { IfOk result (λ c. IsContent (tokens inside) → IsContent (tokens c)) }
+{
+    let mut all = ElemChildren::new(alloc);
+    all.push_box(inside, display, meta)?;
+    Ok(all)
+}
+
+/// A content between two others.
+fn between(
+    alloc: Global,
+    before: ElemChildren,
+    middle: ElemChildren,
+    after: ElemChildren,
+) -> Result<ElemChildren, Memory>
+    ensures leaf { IfOk result (λ c. 0 < length (tokens middle)
+        → leaf_text (tokens c)
+        ≡ leaf_text (tokens before) ++ (leaf_text (tokens middle) ++ leaf_text (tokens after))) }
+    ensures sound { IfOk result (λ c. IsContent (tokens before) → IsContent (tokens middle)
+        → IsContent (tokens after) → IsContent (tokens c)) }
+{
+    let mut all = ElemChildren::new(alloc);
+    all.push_between(alloc, before, middle, after)?;
+    Ok(all)
+}
+
+#[test]
+fn contents_in_a_row_in_an_element_and_between_others(rt: HostRuntime) -> Result<(), Fail> {
+    let alloc = rt.alloc();
+    let plain = Formatting::default();
+    assert_tree(
+        &rt,
+        alloc,
+        texts_in_a_row(alloc, "a", "b", plain)?,
+        "ab",
+        "two texts",
+    )?;
+    assert_tree(
+        &rt,
+        alloc,
+        texts_in_a_row(alloc, "", "", plain)?,
+        "",
+        "no texts",
+    )?;
+    let markup = one_markup(alloc, String::from_str(alloc, "m")?)?;
+    assert_tree(&rt, alloc, markup, "$m", "a markup")?;
+    let text = plain.add_text(String::from_str(alloc, "l")?);
+    let link = one_link(alloc, text, String::from_str(alloc, "u")?)?;
+    assert_tree(&rt, alloc, link, "@l|u", "a link")?;
+    let row = in_a_row(alloc, read(alloc, "$m a")?, read(alloc, "b ( c )")?)?;
+    assert_tree(&rt, alloc, row, "$m ab ( c )", "contents in a row")?;
+    let meta = names(alloc, "Knuth", NameVariable::Author)?;
+    let elem = in_an_element(alloc, read(alloc, "a")?, Some(Display::Block), Some(meta))?;
+    assert_tree(&rt, alloc, elem, "( a )block:Knuth", "an element")?;
+    let all = between(
+        alloc,
+        read(alloc, "x~")?,
+        read(alloc, "a")?,
+        read(alloc, "b")?,
+    )?;
+    assert_tree(&rt, alloc, all, "x~ab", "between others")
+}
