@@ -95,7 +95,7 @@ join_next (t ∷ v ∷ a) u l r = ap (λ w. t ∷ w) (join_next (v ∷ a) u l r)
 -- the last item of a list, of any items that have tokens
 module _ {A : Type 0} (tokens_of : A → List Token) (begins : (a : A) → Begins (tokens_of a)) where
   -- what follows joins the last item alone
-  join_item : (p : List Token) (k : A) (b : List Token) → (p ++ tokens_of k) ++> b ≡ p ++ (tokens_of k ++> b)
+  pub join_item : (p : List Token) (k : A) (b : List Token) → (p ++ tokens_of k) ++> b ≡ p ++ (tokens_of k ++> b)
   join_item p k b = let h = begins k in rw h.is (join_after p h.first h.rest b)
 
   -- it is another, which is the old one and a text that joined it
@@ -137,10 +137,10 @@ pushed xs ys s bs f e h =
     ∙ ap (λ l. flat_map child_tokens xs ++ (l ++ [])) (text_child (record { text = s; formatting = f }))
     ∙ ap (λ l. flat_map child_tokens xs ++ text l f ∷ []) h
 
-markup_child : (m : String Global) → child_tokens (variants.Markup m) ≡ solid (markup (string_bytes m)) ∷ []
+pub markup_child : (m : String Global) → child_tokens (variants.Markup m) ≡ solid (markup (string_bytes m)) ∷ []
 markup_child m = ap child_tokens (sym (variants.rolls-Markup m)) ∙ fold-roll-ElemChild (List Token) (List Token) (List Token) child_step elem_step children_step (Markup m)
 
-link_child : (f : Formatted) (u : String Global) → child_tokens (variants.Link f u) ≡ solid (link (string_bytes f.text) f.formatting (string_bytes u)) ∷ []
+pub link_child : (f : Formatted) (u : String Global) → child_tokens (variants.Link f u) ≡ solid (link (string_bytes f.text) f.formatting (string_bytes u)) ∷ []
 link_child f u = ap child_tokens (sym (variants.rolls-Link f u)) ∙ fold-roll-ElemChild (List Token) (List Token) (List Token) child_step elem_step children_step (Link f u)
 
 pub transparent_child : (n : ℕ) (f : Formatting) → child_tokens (variants.Transparent n f) ≡ solid (transparent n f) ∷ []

@@ -70,11 +70,11 @@ row_spells : (ks : List ElemChild) → IsUtf8 (leaf_of ks)
 row_spells [] = IsUtf8-nil
 row_spells (k ∷ ks) = subst IsUtf8 (sym (flat_map-append token_text (child_tokens k) (flat_map child_tokens ks))) (IsUtf8-append _ _ (child_spells k) (row_spells ks))
 
-last_or-append : (o : Option ℕ) (x y : List ℕ) → last_or o (x ++ y) ≡ last_or (last_or o x) y
+pub last_or-append : (o : Option ℕ) (x y : List ℕ) → last_or o (x ++ y) ≡ last_or (last_or o x) y
 last_or-append o [] y = refl
 last_or-append o (c ∷ x) y = last_or-append (Some c) x y
 
-last_or-none : (o : Option ℕ) (x : List ℕ) → last_or None x ≡ None → last_or o x ≡ o
+pub last_or-none : (o : Option ℕ) (x : List ℕ) → last_or None x ≡ None → last_or o x ≡ o
 last_or-none o [] h = refl
 last_or-none o (c ∷ x) h = absurd (goes c x h)
   where
@@ -82,7 +82,7 @@ last_or-none o (c ∷ x) h = absurd (goes c x h)
     goes c [] h = cc
     goes c (d ∷ x) h = goes d x h
 
-last_or-some : (o : Option ℕ) (x : List ℕ) (d : ℕ) → last_or None x ≡ Some d → last_or o x ≡ Some d
+pub last_or-some : (o : Option ℕ) (x : List ℕ) (d : ℕ) → last_or None x ≡ Some d → last_or o x ≡ Some d
 last_or-some o [] d h = cc
 last_or-some o (c ∷ x) d h = h
 

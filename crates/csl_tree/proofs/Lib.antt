@@ -4,6 +4,8 @@ pub mod Nested
 pub mod Joins
 pub mod Appended
 pub mod ContentLaws
+pub mod Flats
+pub mod FlatTexts
 pub mod Overlays
 pub mod LastChars
 pub mod Rejects

@@ -3,6 +3,7 @@ pub mod Tokens
 pub mod Html
 pub mod Writing
 pub mod Content
+pub mod Flat
 pub mod Stack
 pub mod Tree
 pub mod Simplify

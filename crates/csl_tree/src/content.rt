@@ -125,7 +125,7 @@ impl ElemChildren {
 
 impl ElemChild {
     /// Whether it is a text, a markup or a link of empty text, or an element without children.
-    fn shows_nothing(&self) -> bool
+    pub(crate) fn shows_nothing(&self) -> bool
         ensures nothing { OnTrue result (child_content self.now ≡ []) }
         ensures something { OnFalse result (child_content self.now ≡ child_tokens self.now) }
     {
@@ -189,7 +189,11 @@ impl ElemChildren {
 }
 
 /// Appends a text to a child that is a text of equal formatting, and says whether it is one.
-fn join_last(last: &mut ElemChild, more: &str, formatting: Formatting) -> Result<bool, Memory>
+pub(crate) fn join_last(
+    last: &mut ElemChild,
+    more: &str,
+    formatting: Formatting,
+) -> Result<bool, Memory>
     ensures joins { IfOk result (λ did. OnTrue did
         (child_tokens last.new ≡ child_tokens last.old ++> text more.now formatting ∷ [])) }
     ensures unchanged { IfOk result (λ did. OnFalse did

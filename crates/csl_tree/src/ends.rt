@@ -67,7 +67,7 @@ impl Elem {
 impl ElemChild {
     /// The last character of the text of the leaves.
     #[cycle(ends)]
-    fn last_char(&self) -> Option<char>
+    pub(crate) fn last_char(&self) -> Option<char>
         ensures { result ≡ last_char (leaf_text (child_tokens self.now)) }
     {
         match self {

@@ -9,6 +9,8 @@ mod copies;
 mod css;
 pub mod elem;
 mod ends;
+pub mod flat;
+mod flat_items;
 pub mod formatting;
 mod named;
 mod places;
@@ -18,6 +20,7 @@ pub mod stack;
 mod write;
 
 pub use elem::{BufWriteFormat, Elem, ElemChild, ElemChildren, ElemMeta};
+pub use flat::FlatTree;
 pub use formatting::{Formatted, Formatting};
 pub use simplify::{simplify_children, simplify_fully};
 pub use stack::NonEmptyStack;

@@ -12,6 +12,8 @@ mod elem;
 #[cfg(test)]
 mod equal;
 #[cfg(test)]
+mod flat;
+#[cfg(test)]
 mod formatting;
 #[cfg(test)]
 mod laws;

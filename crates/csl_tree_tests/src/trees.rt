@@ -39,7 +39,7 @@ fn read_text(alloc: Global, word: &str) -> Result<String, Memory> {
 }
 
 /// A text in a formatting.
-fn read_formatted(alloc: Global, word: &str) -> Result<Formatted, Memory> {
+pub fn read_formatted(alloc: Global, word: &str) -> Result<Formatted, Memory> {
     let mut formatting = Formatting::default();
     match word.strip_prefix('/') {
         Some(word) => {
@@ -51,7 +51,7 @@ fn read_formatted(alloc: Global, word: &str) -> Result<Formatted, Memory> {
 }
 
 /// A child that is no element.
-fn read_leaf(alloc: Global, word: &str) -> Result<ElemChild, Fail> {
+pub fn read_leaf(alloc: Global, word: &str) -> Result<ElemChild, Fail> {
     if let Some(markup) = word.strip_prefix('$') {
         return Ok(ElemChild::Markup(read_text(alloc, markup)?));
     }

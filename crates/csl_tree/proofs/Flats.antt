@@ -1,0 +1,350 @@
+-- A flat list of contents that are being item by item.
+use Rattle.std.proofs.Common.{◌≡◌, ◌≢◌, ℕ, ◌+◌, ◌-◌, ◌<◌, ◌≤◌, suc, zero, List, [], ◌∷◌, ◌++◌, length, get_or, take, drop, set, reverse, true, false, cond, length-drop, refl, sym, ap, ◌∙◌, append_assoc, arith}
+use Rattle.std.specs.List.{flat_map, remove}
+use Rattle.std.proofs.lemmas.List.{take_more, take_more_set, take_all, length-set, reverse-append, get_or-set_other, take-append-drop}
+use Rattle.csl_tree.specs.Tokens.{Token, has_children, Solid, solid, text, tokens, optional_meta, child_tokens}
+use Rattle.csl_tree.specs.Content.{◌++>◌, text_before, joined, boxed, affixed}
+use Rattle.csl_tree.specs.declared.formatting.Formatted.{Formatted}
+use Rattle.std.proofs.Common.{Option, Some, string_bytes}
+use Rattle.csl_tree.proofs.Joins.{join_assoc, join-none, text_content-none, text_content-some}
+use Rattle.csl_tree.proofs.Appended.{Begins, child_begins, join_item, solid_next, elem_child, boxed_is, text_child}
+use Rattle.csl_tree.proofs.Trees.{elem_tokens_are}
+use Rattle.csl_tree.specs.declared.elem.Elem as elem
+use Rattle.csl_tree.specs.declared.elem.ElemChild.TheVariants as variants
+use Rattle.csl_tree.specs.declared.formatting.Formatting.{Formatting}
+use Rattle.csl_tree.specs.Formatting.{same_formatting}
+use Rattle.std.proofs.Math.Seq.{drop-cons}
+use Rattle.csl_tree.specs.declared.elem.ElemChild.{ElemChild}
+use Rattle.csl_tree.specs.declared.flat_items.Item.{Item}
+use Rattle.csl_tree.specs.declared.flat_items.Item.TheVariants.{Child, Mark}
+use Rattle.csl_tree.specs.Flat.{Parts, no_parts, with_tokens, with_open, closed_onto, closed_as, IsRun, IsLastPart, text_of, step, parts_from, parts, plain_step, plain_from, plain_inner, run_step, run_from, run, IsJoined, IsFresh, JoinsAs, Joins, IsSame, IsApartFrom, IsApart}
+
+-- some items, and then others
+pub parts_append : (p : Parts) (xs ys : List Item) → parts_from p (xs ++ ys) ≡ parts_from (parts_from p xs) ys
+parts_append p [] ys = refl
+parts_append p (x ∷ xs) ys = parts_append (step p x) xs ys
+
+pub plain_append : (c : List Token) (xs ys : List Item) → plain_from c (xs ++ ys) ≡ plain_from (plain_from c xs) ys
+plain_append c [] ys = refl
+plain_append c (x ∷ xs) ys = plain_append (plain_step c x) xs ys
+
+pub run_append : (n : ℕ) (xs ys : List Item) → run_from n (xs ++ ys) ≡ run_from (run_from n xs) ys
+run_append n [] ys = refl
+run_append n (x ∷ xs) ys = run_append (run_step n x) xs ys
+
+-- one item more
+pub parts_pushed : (xs ys : List Item) (x : Item) → ys ≡ xs ++ x ∷ [] → parts ys ≡ step (parts xs) x
+parts_pushed xs ys x e = ap parts e ∙ parts_append no_parts xs (x ∷ [])
+
+pub plain_pushed : (xs ys : List Item) (x : Item) → ys ≡ xs ++ x ∷ [] → plain_inner ys ≡ plain_step (plain_inner xs) x
+plain_pushed xs ys x e = ap plain_inner e ∙ plain_append [] xs (x ∷ [])
+
+pub run_pushed : (xs ys : List Item) (x : Item) → ys ≡ xs ++ x ∷ [] → run ys ≡ run_step (run xs) x
+run_pushed xs ys x e = ap run e ∙ run_append 0 xs (x ∷ [])
+
+-- the last of some items, and what stands before it
+pub taken : (xs : List Item) (k i : ℕ) (x : Item) → k + 1 ≡ i → k < length xs → x ≡ get_or xs k x → take i xs ≡ take k xs ++ x ∷ []
+taken xs k i x e h g = ap (λ j. take j xs) (sym e) ∙ take_more xs k x h ∙ ap (λ y. take k xs ++ y ∷ []) (sym g)
+
+pub last_is : (xs : List Item) (i : ℕ) (x : Item) → i + 1 ≡ length xs → x ≡ get_or xs i x → xs ≡ take i xs ++ x ∷ []
+last_is xs i x h e = sym (take_all (i + 1) xs (omega arith)) ∙ taken xs i (i + 1) x refl (omega arith) e
+
+pub last_set : (xs : List Item) (i : ℕ) (y : Item) → i + 1 ≡ length xs → set xs i y ≡ take i xs ++ y ∷ []
+last_set xs i y h = sym (take_all (i + 1) (set xs i y) (omega (arith, length-set {A = Item}))) ∙ take_more_set xs i y (omega arith)
+
+-- ---- two items in a row
+
+pub same_step : (x z : Item) → IsSame x z → (p : Parts) → step p z ≡ step p x
+same_step Mark Mark h p = refl
+same_step Mark (Child b) h p = absurd h
+same_step (Child a) Mark h p = absurd h
+same_step (Child a) (Child b) h p = ap (λ (c : List Token). with_tokens c p) h
+
+pub joins_step_as : (x : Item) (b : List Token) (z : Item) → JoinsAs x b z → (p : Parts) → step p z ≡ with_tokens b (step p x)
+joins_step_as Mark b z h p = absurd h
+joins_step_as (Child a) b Mark h p = absurd h
+joins_step_as (Child a) b (Child c) h p = ap (λ (c : List Token). with_tokens c p) h ∙ ap (λ (c : List Token). record { inner = c; outer = p.outer }) (sym (join_assoc p.inner (child_tokens a) b))
+
+pub joins_step : (x y z : Item) → Joins x y z → (p : Parts) → step p z ≡ step (step p x) y
+joins_step x Mark z h p = absurd h
+joins_step x (Child b) z h p = joins_step_as x (child_tokens b) z h p
+
+-- the last item is another
+pub replaced_last : (xs ys : List Item) (i : ℕ) (x y : Item) → i + 1 ≡ length xs → x ≡ get_or xs i x → ys ≡ set xs i y → IsSame x y → parts ys ≡ parts xs
+replaced_last xs ys i x y h e s f =
+    parts_pushed (take i xs) ys y (s ∙ last_set xs i y h) ∙ same_step x y f (parts (take i xs)) ∙ sym (parts_pushed (take i xs) xs x (last_is xs i x h e))
+
+pub joined_last : (xs ys : List Item) (i : ℕ) (x y : Item) (b : List Token) → i + 1 ≡ length xs → x ≡ get_or xs i x → ys ≡ set xs i y → JoinsAs x b y → parts ys ≡ with_tokens b (parts xs)
+joined_last xs ys i x y b h e s f =
+    parts_pushed (take i xs) ys y (s ∙ last_set xs i y h) ∙ joins_step_as x b y f (parts (take i xs)) ∙ ap (with_tokens b) (sym (parts_pushed (take i xs) xs x (last_is xs i x h e)))
+
+-- two items that became one
+pub pair_joined : (p : Parts) (xs : List Item) (k : ℕ) (x y z m : Item) → suc k < length xs → x ≡ get_or xs k x → y ≡ get_or xs (suc k) y → ((q : Parts) → step q z ≡ step (step q x) y) → parts_from p (remove (set (set xs (suc k) m) k z) (suc k)) ≡ parts_from p xs
+pair_joined p [] k x y z m h e f g = absurd (omega arith)
+pair_joined p (a ∷ []) k x y z m h e f g = absurd (omega arith)
+pair_joined p (a ∷ b ∷ xs) zero x y z m h e f g = ap (λ (q : Parts). parts_from q xs) (g p ∙ ap (λ (w : Item). step (step p w) y) e ∙ ap (λ (w : Item). step (step p a) w) f)
+pair_joined p (a ∷ b ∷ xs) (suc k) x y z m h e f g = pair_joined (step p a) (b ∷ xs) k x y z m (omega arith) e f g
+
+-- two items that did not
+pub pair_kept : (p : Parts) (xs : List Item) (k : ℕ) (x y z m : Item) → suc k < length xs → x ≡ get_or xs k x → y ≡ get_or xs (suc k) y → ((q : Parts) → step q z ≡ step q x) → parts_from p (set (set (set xs (suc k) m) k z) (suc k) y) ≡ parts_from p xs
+pair_kept p [] k x y z m h e f g = absurd (omega arith)
+pair_kept p (a ∷ []) k x y z m h e f g = absurd (omega arith)
+pair_kept p (a ∷ b ∷ xs) zero x y z m h e f g = ap (λ (q : Parts). parts_from q xs) (ap (λ (q : Parts). step q y) (g p ∙ ap (λ (w : Item). step p w) e) ∙ ap (λ (w : Item). step (step p a) w) f)
+pair_kept p (a ∷ b ∷ xs) (suc k) x y z m h e f g = pair_kept (step p a) (b ∷ xs) k x y z m (omega arith) e f g
+
+pub take_joined : (xs : List Item) (k : ℕ) (z m : Item) → suc k < length xs → take (suc k) (remove (set (set xs (suc k) m) k z) (suc k)) ≡ take k xs ++ z ∷ []
+take_joined [] k z m h = absurd (omega arith)
+take_joined (a ∷ []) k z m h = absurd (omega arith)
+take_joined (a ∷ b ∷ xs) zero z m h = refl
+take_joined (a ∷ b ∷ xs) (suc k) z m h = ap (λ (l : List Item). a ∷ l) (take_joined (b ∷ xs) k z m (omega arith))
+
+pub take_kept : (xs : List Item) (k : ℕ) (y z m : Item) → suc k < length xs → take (suc (suc k)) (set (set (set xs (suc k) m) k z) (suc k) y) ≡ take k xs ++ z ∷ y ∷ []
+take_kept [] k y z m h = absurd (omega arith)
+take_kept (a ∷ []) k y z m h = absurd (omega arith)
+take_kept (a ∷ b ∷ xs) zero y z m h = refl
+take_kept (a ∷ b ∷ xs) (suc k) y z m h = ap (λ (l : List Item). a ∷ l) (take_kept (b ∷ xs) k y z m (omega arith))
+
+-- what is joined stays so with a text more
+pub joined_now : (t : List Item) (x y z : Item) → IsJoined (t ++ x ∷ []) → Joins x y z → IsJoined (t ++ z ∷ [])
+joined_now t x Mark z j h = absurd h
+joined_now t Mark (Child b) z j h = absurd h
+joined_now t (Child a) (Child b) Mark j h = absurd h
+joined_now t (Child a) (Child b) (Child c) j h =
+    let was : plain_inner t ++ child_tokens a ≡ (parts t).inner ++> child_tokens a = sym (plain_append [] t (Child a ∷ [])) ∙ j ∙ ap (λ (p : Parts). p.inner) (parts_append no_parts t (Child a ∷ [])) in
+    plain_append [] t (Child c ∷ []) ∙ ap (λ (l : List Token). plain_inner t ++ l) h ∙ sym (join_item child_tokens child_begins (plain_inner t) a (child_tokens b)) ∙ ap (λ (l : List Token). l ++> child_tokens b) was
+    ∙ join_assoc (parts t).inner (child_tokens a) (child_tokens b) ∙ ap (λ (l : List Token). (parts t).inner ++> l) (sym h) ∙ ap (λ (p : Parts). p.inner) (sym (parts_append no_parts t (Child c ∷ [])))
+
+-- and with an item more that stands apart
+pub apart_now : (t : List Item) (x y z : Item) → IsJoined (t ++ x ∷ []) → IsSame x z → IsApart z y → IsJoined (t ++ z ∷ y ∷ [])
+apart_now t x Mark z j s h = plain_append [] t (z ∷ Mark ∷ []) ∙ ap (λ (p : Parts). p.inner) (sym (parts_append no_parts t (z ∷ Mark ∷ [])))
+apart_now t Mark (Child b) Mark j s h = plain_append [] t (Mark ∷ Child b ∷ []) ∙ ap (λ (p : Parts). p.inner) (sym (parts_append no_parts t (Mark ∷ Child b ∷ [])))
+apart_now t Mark (Child b) (Child c) j s h = absurd s
+apart_now t (Child a) (Child b) Mark j s h = absurd s
+apart_now t (Child a) (Child b) (Child c) j s h =
+    let was : plain_inner t ++ child_tokens a ≡ (parts t).inner ++> child_tokens a = sym (plain_append [] t (Child a ∷ [])) ∙ j ∙ ap (λ (p : Parts). p.inner) (parts_append no_parts t (Child a ∷ [])) in
+    let now : plain_inner t ++ child_tokens c ≡ (parts t).inner ++> child_tokens c = ap (λ (l : List Token). plain_inner t ++ l) s ∙ was ∙ ap (λ (l : List Token). (parts t).inner ++> l) (sym s) in
+    plain_append [] t (Child c ∷ Child b ∷ []) ∙ append_assoc (plain_inner t) (child_tokens c) (child_tokens b) ∙ ap (λ (l : List Token). plain_inner t ++ l) (sym h)
+    ∙ sym (join_item child_tokens child_begins (plain_inner t) c (child_tokens b)) ∙ ap (λ (l : List Token). l ++> child_tokens b) now ∙ ap (λ (p : Parts). p.inner) (sym (parts_append no_parts t (Child c ∷ Child b ∷ [])))
+
+-- the same at places that are given by numbers
+module _ (xs : List Item) (i k : ℕ) (e : i ≡ suc k) (h : i < length xs) (x y z m : Item) (ex : x ≡ get_or xs k x) (ey : y ≡ get_or xs i y) where
+  at_i : y ≡ get_or xs (suc k) y
+  at_i = ey ∙ ap (λ j. get_or xs j y) e
+
+  first_is : take i xs ≡ take k xs ++ x ∷ []
+  first_is = taken xs k i x (omega arith) (omega arith) ex
+
+  pub joined_parts : Joins x y z → parts (remove (set (set xs i m) k z) i) ≡ parts xs
+  joined_parts j = ap (λ n. parts (remove (set (set xs n m) k z) n)) e ∙ pair_joined no_parts xs k x y z m (omega arith) ex at_i (joins_step x y z j)
+
+  pub joined_stays : Joins x y z → IsJoined (take i xs) → IsJoined (take i (remove (set (set xs i m) k z) i))
+  joined_stays j was =
+      let now : take i (remove (set (set xs i m) k z) i) ≡ take k xs ++ z ∷ [] = ap (λ n. take n (remove (set (set xs n m) k z) n)) e ∙ take_joined xs k z m (omega arith) in
+      rw now (joined_now (take k xs) x y z (rw first_is at was) j)
+
+  pub kept_parts : IsSame x z → parts (set (set (set xs i m) k z) i y) ≡ parts xs
+  kept_parts s = ap (λ n. parts (set (set (set xs n m) k z) n y)) e ∙ pair_kept no_parts xs k x y z m (omega arith) ex at_i (same_step x z s)
+
+  pub kept_stays : IsSame x z → IsApart z y → IsJoined (take i xs) → IsJoined (take (i + 1) (set (set (set xs i m) k z) i y))
+  kept_stays s a was =
+      let two : i + 1 ≡ suc (suc k) = omega arith in
+      let now : take (i + 1) (set (set (set xs i m) k z) i y) ≡ take k xs ++ z ∷ y ∷ [] = ap (λ n. take n (set (set (set xs i m) k z) i y)) two ∙ ap (λ n. take (suc (suc k)) (set (set (set xs n m) k z) n y)) e ∙ take_kept xs k y z m (omega arith) in
+      rw now (apart_now (take k xs) x y z (rw first_is at was) s a)
+
+-- what begins with no text stands apart
+pub solid_apart : (x : Item) (b : List Token) (s : Solid) (l : List Token) → b ≡ solid s ∷ l → IsApartFrom x b
+solid_apart Mark b s l h = tt
+solid_apart (Child a) b s l h = rw h (solid_next (child_tokens a) s l)
+
+-- nothing stands behind a mark
+pub fresh_behind : (xs : List Item) (k i : ℕ) → k + 1 ≡ i → k < length xs → Mark ≡ get_or xs k Mark → IsFresh (take i xs)
+fresh_behind xs k i e h g =
+    (plain_pushed (take k xs) (take i xs) Mark (taken xs k i Mark e h g), ap (λ (p : Parts). p.inner) (parts_pushed (take k xs) (take i xs) Mark (taken xs k i Mark e h g)))
+
+-- a child before which one more is taken
+pub run_child : (xs : List Item) (k i : ℕ) (c : ElemChild) → k + 1 ≡ i → k < length xs → Child c ≡ get_or xs k (Child c) → run (take i xs) ≡ run (take k xs) + 1
+run_child xs k i c e h g = run_pushed (take k xs) (take i xs) (Child c) (taken xs k i (Child c) e h g)
+
+pub run_mark : (xs : List Item) (k i : ℕ) → k + 1 ≡ i → k < length xs → Mark ≡ get_or xs k Mark → run (take i xs) ≡ 0
+run_mark xs k i e h g = run_pushed (take k xs) (take i xs) Mark (taken xs k i Mark e h g)
+
+-- an item more is joined where nothing stood
+pub joined_first : (xs : List Item) (k i : ℕ) (x : Item) → k + 1 ≡ i → k < length xs → x ≡ get_or xs k x → IsFresh (take k xs) → IsJoined (take i xs)
+joined_first xs k i Mark e h g f = plain_pushed (take k xs) (take i xs) Mark (taken xs k i Mark e h g) ∙ ap (λ (p : Parts). p.inner) (sym (parts_pushed (take k xs) (take i xs) Mark (taken xs k i Mark e h g)))
+joined_first xs k i (Child c) e h g f =
+    plain_pushed (take k xs) (take i xs) (Child c) (taken xs k i (Child c) e h g) ∙ ap (λ (l : List Token). l ++ child_tokens c) f.0 ∙ ap (λ (l : List Token). l ++> child_tokens c) (sym f.1)
+    ∙ ap (λ (p : Parts). p.inner) (sym (parts_pushed (take k xs) (take i xs) (Child c) (taken xs k i (Child c) e h g)))
+
+-- ---- items are taken from the end
+
+pub popped_plain : (xs ys : List Item) (k : ElemChild) (ks more : List ElemChild) (all : List Token) → xs ≡ ys ++ Child k ∷ [] → more ≡ ks ++ k ∷ [] → all ≡ plain_inner xs ++ flat_map child_tokens (reverse ks) → all ≡ plain_inner ys ++ flat_map child_tokens (reverse more)
+popped_plain xs ys k ks more all e f h =
+    h ∙ ap (λ (l : List Token). l ++ flat_map child_tokens (reverse ks)) (plain_pushed ys xs (Child k) e) ∙ append_assoc (plain_inner ys) (child_tokens k) (flat_map child_tokens (reverse ks))
+    ∙ ap (λ (l : List ElemChild). plain_inner ys ++ flat_map child_tokens l) (sym (ap reverse f ∙ reverse-append ks (k ∷ [])))
+
+pub popped_outer : (xs ys : List Item) (k : ElemChild) (all : List (List Token)) → xs ≡ ys ++ Child k ∷ [] → all ≡ (parts xs).outer → all ≡ (parts ys).outer
+popped_outer xs ys k all e h = h ∙ ap (λ (p : Parts). p.outer) (parts_pushed ys xs (Child k) e)
+
+pub popped_run : (xs ys : List Item) (k : ElemChild) → xs ≡ ys ++ Child k ∷ [] → run xs ≡ run ys + 1
+popped_run xs ys k e = run_pushed ys xs (Child k) e
+
+pub popped_mark : (xs ys : List Item) (ks : List ElemChild) (all : List Token) → xs ≡ ys ++ Mark ∷ [] → all ≡ plain_inner xs ++ flat_map child_tokens ks → flat_map child_tokens ks ≡ all
+popped_mark xs ys ks all e h = sym (h ∙ ap (λ (l : List Token). l ++ flat_map child_tokens ks) (plain_pushed ys xs Mark e))
+
+pub popped_part : (xs ys : List Item) → xs ≡ ys ++ Mark ∷ [] → (parts xs).outer ≡ (parts ys).inner ∷ (parts ys).outer
+popped_part xs ys e = ap (λ (p : Parts). p.outer) (parts_pushed ys xs Mark e)
+
+-- the first of two, as it was before the second was lent
+pub before_set : (xs : List Item) (i k : ℕ) (x m : Item) → i ≡ suc k → x ≡ get_or (set xs i m) k x → x ≡ get_or xs k x
+before_set xs i k x m e h = let ne : k ≢ i = omega arith in h ∙ get_or-set_other xs i k m x ne
+
+-- ---- the innermost part as a run of children
+
+abbrev run_tokens : List Item → List Token
+run_tokens [] = []
+run_tokens (Child k ∷ xs) = child_tokens k ++> run_tokens xs
+run_tokens (Mark ∷ xs) = []
+
+pub run_parts : (p : Parts) (xs : List Item) → IsRun xs → parts_from p xs ≡ with_tokens (run_tokens xs) p
+run_parts p [] h = ap (λ (l : List Token). record { inner = l; outer = p.outer }) (sym (join-none p.inner))
+run_parts p (Child k ∷ xs) h = run_parts (with_tokens (child_tokens k) p) xs h ∙ ap (λ (l : List Token). record { inner = l; outer = p.outer }) (join_assoc p.inner (child_tokens k) (run_tokens xs))
+run_parts p (Mark ∷ xs) h = absurd h
+
+-- one child more before others
+pub run_more : (xs : List Item) (k i : ℕ) (c : ElemChild) → k + 1 ≡ i → k < length xs → Child c ≡ get_or xs k (Child c) → IsRun (drop i xs) → IsRun (drop k xs)
+run_more xs k i c e h g r = let n : i ≡ suc k = omega arith in rw (drop-cons xs k (Child c) h, ← g) (rw n at r)
+
+text_before-begins : (x : List ℕ) (f : Formatting) (b : List Token) → Begins (text_before x f b)
+text_before-begins x f [] = record { first = _; rest = _; is = refl }
+text_before-begins x f (text y g ∷ b) = elim (same_formatting f g) as (λ s. Begins (cond s (text (x ++ y) f ∷ b) (text x f ∷ text y g ∷ b))) [ true ↦ record { first = _; rest = _; is = refl } | false ↦ record { first = _; rest = _; is = refl } ]
+text_before-begins x f (solid s ∷ b) = record { first = _; rest = _; is = refl }
+
+joined-begins : (t : Token) (a b : List Token) → Begins (joined t a b)
+joined-begins (text x f) [] b = text_before-begins x f b
+joined-begins (solid s) [] b = record { first = _; rest = _; is = refl }
+joined-begins t (u ∷ a) b = record { first = _; rest = _; is = refl }
+
+child_joined-begins : (k : ElemChild) (b : List Token) → Begins (child_tokens k ++> b)
+child_joined-begins k b = let h = child_begins k in rw h.is (joined-begins h.first h.rest b)
+
+run-begins : (xs : List Item) → IsRun xs → 0 < length xs → Begins (run_tokens xs)
+run-begins [] r h = absurd (omega arith)
+run-begins (Child k ∷ xs) r h = child_joined-begins k (run_tokens xs)
+run-begins (Mark ∷ xs) r h = absurd r
+
+pub set-split : (xs : List Item) (i : ℕ) (x : Item) → i < length xs → set xs i x ≡ take i xs ++ x ∷ drop (suc i) xs
+set-split [] i x h = absurd (omega arith)
+set-split (y ∷ xs) zero x h = refl
+set-split (y ∷ xs) (suc i) x h = ap (λ (l : List Item). y ∷ l) (set-split xs i x (omega arith))
+
+-- items of which one is a mark, with children alone behind it
+module _ (xs : List Item) (at : ℕ) (within : at < length xs) (mark : get_or xs at Mark ≡ Mark) (behind : IsRun (drop (suc at) xs)) where
+  whole : xs ≡ take at xs ++ Mark ∷ drop (suc at) xs
+  whole = sym (take-append-drop at xs) ∙ ap (λ l. take at xs ++ l) (drop-cons xs at Mark within ∙ ap (λ (x : Item). x ∷ drop (suc at) xs) mark)
+
+  pub part_is : parts xs ≡ record { inner = run_tokens (drop (suc at) xs); outer = (parts (take at xs)).inner ∷ (parts (take at xs)).outer }
+  part_is = ap parts whole ∙ parts_append no_parts (take at xs) (Mark ∷ drop (suc at) xs) ∙ run_parts (with_open (parts (take at xs))) (drop (suc at) xs) behind
+
+  pub part_dropped : (parts xs).outer ≡ (parts (take at xs)).inner ∷ (parts (take at xs)).outer
+  part_dropped = ap (λ (p : Parts). p.outer) part_is
+
+  -- another item in the place of the mark
+  pub part_set : (k : ElemChild) → parts (set xs at (Child k)) ≡ closed_as (child_tokens k ++> (parts xs).inner) (parts xs)
+  part_set k =
+      let is : set xs at (Child k) ≡ take at xs ++ Child k ∷ drop (suc at) xs = set-split xs at (Child k) within in
+      ap parts is ∙ parts_append no_parts (take at xs) (Child k ∷ drop (suc at) xs) ∙ run_parts (with_tokens (child_tokens k) (parts (take at xs))) (drop (suc at) xs) behind
+      ∙ ap (λ (l : List Token). record { inner = l; outer = (parts (take at xs)).outer }) (join_assoc (parts (take at xs)).inner (child_tokens k) (run_tokens (drop (suc at) xs)))
+      ∙ sym (ap (λ (p : Parts). closed_as (child_tokens k ++> p.inner) p) part_is)
+
+  -- the mark is taken away
+  pub part_unmarked : parts (remove xs at) ≡ closed_as (parts xs).inner (parts xs)
+  part_unmarked =
+      let is : remove xs at ≡ take at xs ++ drop (suc at) xs = refl in
+      ap parts is ∙ parts_append no_parts (take at xs) (drop (suc at) xs) ∙ run_parts (parts (take at xs)) (drop (suc at) xs) behind
+      ∙ sym (ap (λ (p : Parts). closed_as p.inner p) part_is)
+
+-- what stands inside is not nothing
+pub part_some : (xs : List Item) (at : ℕ) (within : at < length xs) (mark : get_or xs at Mark ≡ Mark) (behind : IsRun (drop (suc at) xs)) → suc at < length xs → Begins (parts xs).inner
+part_some xs at within mark behind h = rw (part_is xs at within mark behind) (run-begins (drop (suc at) xs) behind (omega (arith, length-drop {A = Item})))
+
+joined_more : (a : List Token) (t : Token) (b : List Token) → has_children (a ++> (t ∷ b)) ≡ true
+joined_more [] t b = refl
+joined_more (u ∷ a) t b = let h = joined-begins u a (t ∷ b) in rw h.is refl
+
+-- the last item, or there is none
+pub ends_in_child : (xs : List Item) (i : ℕ) (k : ElemChild) → i + 1 ≡ length xs → Child k ≡ get_or xs i (Child k) → has_children (parts xs).inner ≡ true
+ends_in_child xs i k h e =
+    let b = child_begins k in
+    ap (λ (p : Parts). has_children p.inner) (parts_pushed (take i xs) xs (Child k) (last_is xs i (Child k) h e)) ∙ ap (λ l. has_children ((parts (take i xs)).inner ++> l)) b.is ∙ joined_more (parts (take i xs)).inner b.first b.rest
+
+pub ends_in_mark : (xs : List Item) (i : ℕ) → i + 1 ≡ length xs → Mark ≡ get_or xs i Mark → has_children (parts xs).inner ≡ false
+ends_in_mark xs i h e = ap (λ (p : Parts). has_children p.inner) (parts_pushed (take i xs) xs Mark (last_is xs i Mark h e))
+
+-- ---- how many are open
+
+pub opened_within : (p : Parts) (xs : List Item) → length (parts_from p xs).outer ≤ length p.outer + length xs
+opened_within p [] = omega arith
+opened_within p (Child k ∷ xs) = let h = opened_within (with_tokens (child_tokens k) p) xs in omega (arith, h)
+opened_within p (Mark ∷ xs) = let h = opened_within (with_open p) xs in omega (arith, h)
+
+run_outer : (p : Parts) (xs : List Item) → IsRun xs → (parts_from p xs).outer ≡ p.outer
+run_outer p xs h = ap (λ (q : Parts). q.outer) (run_parts p xs h)
+
+-- ---- a part is closed
+
+pub closed_none : (old new : Parts) (c : List Token) → c ≡ [] → old.outer ≡ new.inner ∷ new.outer → new ≡ closed_as c old
+closed_none old new c h e = sym (ap (λ (l : List Token). closed_as l old) h ∙ ap (closed_onto [] old) e ∙ ap (λ (l : List Token). record { inner = l; outer = new.outer }) (join-none new.inner))
+
+pub closed_some : (old taken new : Parts) (c : List Token) → old.outer ≡ taken.inner ∷ taken.outer → new ≡ with_tokens c taken → new ≡ closed_as c old
+closed_some old taken new c e h = h ∙ sym (ap (closed_onto c old) e)
+
+-- all items, and none behind them
+drop_all : (xs : List Item) → IsRun (drop (length xs) xs)
+drop_all [] = tt
+drop_all (x ∷ xs) = drop_all xs
+
+pub run_none : (xs : List Item) → (length xs ≤ length xs) × (run xs ≡ run (take (length xs) xs) + (length xs - length xs)) × IsRun (drop (length xs) xs)
+run_none xs = (omega arith, (let e : take (length xs) xs ≡ xs = take_all (length xs) xs (omega arith) in rw e (omega arith)), drop_all xs)
+
+-- where a part is open, there is its mark
+pub part_open : (xs : List Item) (n : ℕ) → IsLastPart xs n → 0 < length (parts xs).outer → n < length xs
+part_open xs n l h =
+    let ne : n ≢ length xs = λ e. (let z : length xs - n ≡ 0 = omega arith in let r : IsRun xs = rw z at l.1 in let o = run_outer no_parts xs r in absurd (omega (arith, ap length o, h))) in
+    omega (arith, l.0, ne)
+
+pub mark_at : (xs : List Item) (n at : ℕ) → IsLastPart xs n → n < length xs → at ≡ length xs - n - 1 → get_or xs at Mark ≡ Mark
+mark_at xs n at l h e = rw e (l.2 h)
+
+pub run_behind : (xs : List Item) (n at : ℕ) → IsLastPart xs n → n < length xs → at ≡ length xs - n - 1 → IsRun (drop (suc at) xs)
+run_behind xs n at l h e = let k : suc at ≡ length xs - n = omega arith in rw k l.1
+
+pub last_dropped : (xs : List Item) (n at : ℕ) → IsLastPart xs n → n < length xs → at ≡ length xs - n - 1 → (parts xs).outer ≡ (parts (take at xs)).inner ∷ (parts (take at xs)).outer
+last_dropped xs n at l h e = part_dropped xs at (omega arith) (mark_at xs n at l h e) (run_behind xs n at l h e)
+
+pub last_some : (xs : List Item) (n at : ℕ) → IsLastPart xs n → n < length xs → 0 < n → at ≡ length xs - n - 1 → Begins (parts xs).inner
+last_some xs n at l h m e = part_some xs at (omega arith) (mark_at xs n at l h e) (run_behind xs n at l h e) (omega arith)
+
+pub elem_box : (e : elem.Elem) (l : List Token) → l ≡ tokens e.children → 0 < length e.children.0.items → child_tokens (variants.Elem e) ≡ boxed e.display (optional_meta e.meta) l
+elem_box e l g h = elem_child e ∙ elem_tokens_are e ∙ sym (boxed_is e.display (optional_meta e.meta) e.children h) ∙ ap (boxed e.display (optional_meta e.meta)) (sym g)
+
+pub fresh_whole : (xs : List Item) (n : ℕ) → n ≡ 0 → IsFresh (take (length xs - n) xs) → (parts xs).inner ≡ []
+fresh_whole xs n e f = let g : length xs - n ≡ length xs = omega arith in let t : take (length xs - n) xs ≡ xs = ap (λ k. take k xs) g ∙ take_all (length xs) xs (omega arith) in rw t at f.1
+
+spliced_parts : (i : List Token) (os : List (List Token)) (b a : List Token) → Begins i → 0 < length os → with_tokens a (closed_onto (b ++> i) (record { inner = i; outer = os }) os) ≡ closed_onto (affixed b a i) (record { inner = i; outer = os }) os
+spliced_parts i [] b a f h = absurd (omega arith)
+spliced_parts i (o ∷ os) b a f h =
+    let is : affixed b a i ≡ b ++> (i ++> a) = rw f.is refl in
+    ap (λ (l : List Token). record { inner = l; outer = os }) (join_assoc o (b ++> i) a ∙ ap (λ (l : List Token). o ++> l) (join_assoc b i a) ∙ ap (λ (l : List Token). o ++> l) (sym is))
+
+pub spliced : (old mid new : Parts) (b a : List Token) → Begins old.inner → 0 < length old.outer → mid ≡ closed_as (b ++> old.inner) old → new ≡ with_tokens a mid → new ≡ closed_as (affixed b a old.inner) old
+spliced old mid new b a f h e g = g ∙ ap (with_tokens a) e ∙ spliced_parts old.inner old.outer b a f h
+
+-- a text that is empty or absent writes nothing
+pub text_none : (p : Parts) (o : Option Formatted) (t : Formatted) → o ≡ Some t → length (string_bytes t.text) ≡ 0 → text_of o ≡ []
+text_none p o t e h = rw e (text_content-none (string_bytes t.text) t.formatting h)
+
+pub text_some : (o : Option Formatted) (t : Formatted) → o ≡ Some t → 0 < length (string_bytes t.text) → text_of o ≡ child_tokens (variants.Text t)
+text_some o t e h = rw e (text_content-some (string_bytes t.text) t.formatting h ∙ sym (text_child t))
+
+pub with_none : (p : Parts) (l : List Token) → l ≡ [] → p ≡ with_tokens l p
+with_none p l e = rw e (ap (λ (l : List Token). record { inner = l; outer = p.outer }) (sym (join-none p.inner)))

@@ -1,0 +1,190 @@
+//! Contents that are being written, in one flat list: children, and a mark where each open part
+//! begins.
+
+ghost use Rattle.std.specs.Prelude.{◌≡◌, ◌+◌, ◌<◌, not, length, OnOk, IfOk, OnErr};
+ghost use Rattle.csl_tree.specs.Content.{text_content, child_content, boxed, affixed};
+ghost use Rattle.csl_tree.specs.Tokens.{tokens, optional_meta, has_children, has_text, ends_in_white_space};
+ghost use Rattle.csl_tree.specs.Flat.{no_parts, with_tokens, with_open, closed_as, dropped, text_of};
+
+use crate::elem::{ElemChild, ElemChildren, ElemMeta};
+use crate::flat_items::{
+    Item, close_items, drop_part, is_fresh, join_texts, last_char, push_child_item, push_item,
+    push_str_item, run_len, splice_items, take_part,
+};
+use crate::formatting::{Formatted, Formatting};
+use csl_style::Display;
+use lit_model::Memory;
+use std::alloc::Global;
+use std::marker::Model;
+
+/// Contents that are being written. The root is always open.
+#[derive(Drop)]
+pub struct FlatTree {
+    alloc: Global,
+    items: Vec<Item>,
+    opened: usize,
+}
+
+impl Model for FlatTree {
+    ghost use Rattle.std.specs.Prelude.{◌≡◌, length};
+    ghost use Rattle.csl_tree.specs.Flat.{Parts, parts};
+
+    ghost Value = { Parts };
+
+    ghost view = { λ t. parts t.items.items };
+
+    ghost invariant = { λ t. t.opened ≡ length (parts t.items.items).outer };
+}
+
+impl FlatTree {
+    /// The root is open, and nothing stands in it. It takes no memory.
+    pub fn new(alloc: Global) -> FlatTree
+        ensures { result ≡ no_parts }
+    {
+        FlatTree {
+            alloc,
+            items: Vec::new(alloc),
+            opened: 0,
+        }
+    }
+
+    /// How many parts are open, the root among them.
+    pub fn depth(&self) -> usize
+        ensures { result ≡ length self.now.outer + 1 }
+    {
+        self.opened + 1
+    }
+
+    /// Whether nothing stands in the innermost part.
+    pub fn is_empty(&self) -> bool
+        ensures { result ≡ not (has_children self.now.inner) }
+    {
+        is_fresh(&self.items)
+    }
+
+    /// Whether the text of the innermost part is not empty.
+    pub fn has_text(&self) -> bool
+        ensures { result ≡ has_text self.now.inner }
+    {
+        last_char(&self.items).is_some()
+    }
+
+    /// Whether the text of the innermost part ends in white space.
+    pub fn ends_in_white_space(&self) -> bool
+        ensures { result ≡ ends_in_white_space self.now.inner }
+    {
+        match last_char(&self.items) {
+            Some(c) => c.is_whitespace(),
+            None => false,
+        }
+    }
+
+    /// Appends a text, which joins a last text of equal formatting. An empty text writes nothing.
+    ///
+    /// # Errors
+    /// [`Memory`]: there was no memory left. The contents stay as they were.
+    pub fn push_text(&mut self, more: &str, formatting: Formatting) -> Result<(), Memory>
+        ensures ok { OnOk result
+            (self.new ≡ with_tokens (text_content more.now formatting) self.old) }
+        ensures err { OnErr result (self.new ≡ self.old) }
+    {
+        if more.is_empty() {
+            return Ok(());
+        }
+        push_str_item(&mut self.items, self.alloc, more, formatting)?;
+        Ok(())
+    }
+
+    /// Appends a child, which joins a last text if it is a text of equal formatting. A text, a
+    /// markup or a link of empty text writes nothing, nor does an element without children.
+    ///
+    /// # Errors
+    /// [`Memory`]: there was no memory left. The contents stay as they were.
+    pub fn push(&mut self, child: ElemChild) -> Result<(), Memory>
+        ensures ok { OnOk result (self.new ≡ with_tokens (child_content child) self.old) }
+        ensures err { OnErr result (self.new ≡ self.old) }
+    {
+        if child.shows_nothing() {
+            return Ok(());
+        }
+        push_child_item(&mut self.items, child)?;
+        Ok(())
+    }
+
+    /// Opens a part.
+    ///
+    /// # Errors
+    /// [`Memory`]: there was no memory left. The contents stay as they were.
+    pub fn open(&mut self) -> Result<(), Memory>
+        ensures ok { OnOk result (self.new ≡ with_open self.old) }
+        ensures err { OnErr result (self.new ≡ self.old) }
+    {
+        push_item(&mut self.items, Item::Mark)?;
+        self.opened += 1;
+        Ok(())
+    }
+
+    /// Closes the innermost part as an element in the part around it, unless nothing stands in it.
+    ///
+    /// # Errors
+    /// [`Memory`]: there was no memory left. The contents stay as they were.
+    pub fn close_elem(
+        &mut self,
+        display: Option<Display>,
+        meta: Option<ElemMeta>,
+    ) -> Result<(), Memory>
+        requires is_open { 0 < length self.old.outer }
+        ensures ok { OnOk result
+            (self.new ≡ closed_as (boxed display (optional_meta meta) self.old.inner) self.old) }
+        ensures err { OnErr result (self.new ≡ self.old) }
+    {
+        close_items(&mut self.items, self.alloc, display, meta)?;
+        self.opened -= 1;
+        Ok(())
+    }
+
+    /// Closes the innermost part, and leaves what stands in it between two texts in the part around
+    /// it, unless nothing stands in it.
+    ///
+    /// # Errors
+    /// [`Memory`]: there was no memory left. The contents stay as they were.
+    pub fn close_spliced(
+        &mut self,
+        before: Option<Formatted>,
+        after: Option<Formatted>,
+    ) -> Result<(), Memory>
+        requires is_open { 0 < length self.old.outer }
+        ensures ok { OnOk result (self.new
+            ≡ closed_as (affixed (text_of before) (text_of after) self.old.inner) self.old) }
+        ensures err { OnErr result (self.new ≡ self.old) }
+    {
+        splice_items(&mut self.items, before, after)?;
+        self.opened -= 1;
+        Ok(())
+    }
+
+    /// Closes the innermost part, and drops what stands in it.
+    pub fn discard(&mut self)
+        requires is_open { 0 < length self.old.outer }
+        ensures { self.new ≡ dropped self.old }
+    {
+        drop_part(&mut self.items);
+        self.opened -= 1;
+    }
+
+    /// What stands in the root, once only that is open.
+    ///
+    /// # Errors
+    /// [`Memory`]: there was no memory left. The contents are dropped.
+    pub fn finish(self) -> Result<ElemChildren, Memory>
+        requires root { length self.outer ≡ 0 }
+        ensures { IfOk result (λ children. tokens children ≡ self.inner) }
+    {
+        let alloc = self.alloc;
+        let mut items = self.items;
+        let from = items.len() - run_len(&items);
+        join_texts(&mut items, from)?;
+        let children = take_part(&mut items, alloc)?;
+        Ok(ElemChildren(children))
+    }
+}

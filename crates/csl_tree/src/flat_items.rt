@@ -1,0 +1,389 @@
+//! The items of a flat list of contents: children, and a mark where each open part begins.
+
+ghost use Rattle.std.specs.Prelude.{◌≡◌, ◌+◌, ◌-◌, ◌<◌, ◌≤◌, ℕ, string_bytes, not, [], ◌∷◌, ◌++◌, length, get_or, set, take, drop, remove, OnOk, IfOk, IfErr, OnErr, vec_len, vec_capacity};
+ghost use Rattle.std.specs.Bool.{OnTrue, OnFalse};
+ghost use Rattle.std.specs.List.{flat_map};
+ghost use Rattle.csl_tree.specs.Content.{◌++>◌, text_content, optional_text, boxed, affixed};
+ghost use Rattle.csl_tree.specs.Tokens.{tokens, child_tokens, text, text_tokens, optional_meta, leaf_text, last_char, has_children};
+ghost use Rattle.csl_tree.specs.Flat.{Parts, no_parts, with_tokens, with_open, closed_as, dropped, step, parts, plain_inner, run, IsJoined, IsFresh, IsRun, IsLastPart, text_of, JoinsAs, Joins, IsSame, IsApartFrom, IsApart};
+ghost use Rattle.csl_tree.specs.declared.flat_items.Item.TheVariants.{Mark};
+
+use crate::content::join_last;
+use crate::elem::{Elem, ElemChild, ElemChildren, ElemMeta};
+use crate::formatting::{Formatted, Formatting};
+use csl_style::Display;
+use lit_model::Memory;
+use std::alloc::Global;
+use std::mem;
+
+/// One item of the list.
+#[derive(Drop)]
+pub(crate) enum Item {
+    /// A child.
+    Child(ElemChild),
+    /// A part is opened.
+    Mark,
+}
+
+/// Puts an item behind the others. The only error is want of memory, and leaves them.
+pub(crate) fn push_item(items: &mut Vec<Item>, item: Item) -> Result<(), Memory>
+    ensures ok { OnOk result (parts items.new.items ≡ step (parts items.old.items) item) }
+    ensures err { OnErr result (items.new.items ≡ items.old.items) }
+{
+    items.push(item)?;
+    Ok(())
+}
+
+/// Appends a text to an item that is a text of equal formatting, and says whether it is one.
+fn join_item(item: &mut Item, more: &str, formatting: Formatting) -> Result<bool, Memory>
+    ensures joins { IfOk result (λ did. OnTrue did (JoinsAs item.old (text more.now formatting ∷
+        []) item.new)) }
+    ensures unchanged { IfOk result (λ did. OnFalse did (IsSame item.old item.new)) }
+    ensures apart { IfOk result (λ did. OnFalse did (IsApartFrom item.new (text more.now
+        formatting ∷ []))) }
+    ensures err { OnErr result (IsSame item.old item.new) }
+{
+    match item {
+        Item::Child(last) => {
+            let did = join_last(last, more, formatting)?;
+            Ok(did)
+        }
+        Item::Mark => Ok(false),
+    }
+}
+
+/// Appends a text to the last item, if that is a text of equal formatting, and says whether it is.
+fn join_end(items: &mut Vec<Item>, more: &str, formatting: Formatting) -> Result<bool, Memory>
+    ensures joins { IfOk result (λ did. OnTrue did (parts items.new.items ≡ with_tokens (text
+        more.now formatting ∷ []) (parts items.old.items))) }
+    ensures unchanged { IfOk result (λ did. OnFalse did (parts items.new.items ≡ parts
+        items.old.items)) }
+    ensures err { OnErr result (parts items.new.items ≡ parts items.old.items) }
+{
+    let len = items.len();
+    if len == 0 {
+        return Ok(false);
+    }
+    if join_item(&mut items[len - 1], more, formatting)? {
+        Ok(true)
+    } else {
+        Ok(false)
+    }
+}
+
+/// Appends a text that is not empty. The only error is want of memory, and leaves the rest.
+fn push_text_item(items: &mut Vec<Item>, text: Formatted) -> Result<(), Memory>
+    ensures ok { OnOk result (parts items.new.items ≡ with_tokens (text_tokens text) (parts
+        items.old.items)) }
+    ensures err { OnErr result (parts items.new.items ≡ parts items.old.items) }
+{
+    if join_end(items, text.text.as_str(), text.formatting)? {
+        return Ok(());
+    }
+    push_item(items, Item::Child(ElemChild::Text(text)))?;
+    Ok(())
+}
+
+/// Appends a text that is not empty. The only error is want of memory, and leaves the rest.
+pub(crate) fn push_str_item(
+    items: &mut Vec<Item>,
+    alloc: Global,
+    more: &str,
+    formatting: Formatting,
+) -> Result<(), Memory>
+    ensures ok { OnOk result (parts items.new.items ≡ with_tokens (text more.now formatting ∷
+        []) (parts items.old.items)) }
+    ensures err { OnErr result (parts items.new.items ≡ parts items.old.items) }
+{
+    if join_end(items, more, formatting)? {
+        return Ok(());
+    }
+    let text = String::from_str(alloc, more)?;
+    push_item(
+        items,
+        Item::Child(ElemChild::Text(Formatted { text, formatting })),
+    )?;
+    Ok(())
+}
+
+/// How many children stand behind the last mark.
+pub(crate) fn run_len(items: &[Item]) -> usize
+    ensures count { result ≡ run items.now }
+    ensures last { IsLastPart items.now result }
+    ensures begins { IsFresh (take (length items.now - result) items.now) }
+{
+    let mut i = items.len();
+    while i > 0 {
+        match &items[i - 1] {
+            Item::Child(_) => i -= 1,
+            Item::Mark => return items.len() - i,
+        }
+    }
+    items.len()
+}
+
+/// Joins the second item to the first, if they are texts of equal formatting, and says whether
+/// they are.
+fn join_onto(left: &mut Item, right: &Item) -> Result<bool, Memory>
+    ensures joins { IfOk result (λ did. OnTrue did (Joins left.old right.now left.new)) }
+    ensures unchanged { IfOk result (λ did. OnFalse did (IsSame left.old left.new)) }
+    ensures apart { IfOk result (λ did. OnFalse did (IsApart left.new right.now)) }
+    ensures err { OnErr result (IsSame left.old left.new) }
+{
+    match right {
+        Item::Mark => Ok(false),
+        Item::Child(child) => match child {
+            ElemChild::Text(more) => join_item(left, more.text.as_str(), more.formatting),
+            ElemChild::Elem(_) => Ok(false),
+            ElemChild::Markup(_) => Ok(false),
+            ElemChild::Link { text: _, url: _ } => Ok(false),
+            ElemChild::Transparent {
+                cite_idx: _,
+                format: _,
+            } => Ok(false),
+        },
+    }
+}
+
+/// Joins an item to the one before it, if they are texts of equal formatting, and says whether
+/// they are.
+fn join_pair(items: &mut Vec<Item>, i: usize) -> Result<bool, Memory>
+    requires within { (0 < i) × (i < length items.old.items) }
+    ensures same { parts items.new.items ≡ parts items.old.items }
+    ensures fewer { IfOk result (λ did. OnTrue did (length items.new.items + 1 ≡ length
+        items.old.items)) }
+    ensures as_many { IfOk result (λ did. OnFalse did (length items.new.items ≡ length
+        items.old.items)) }
+    ensures joined { IfOk result (λ did. OnTrue did (IsJoined (take i items.old.items) →
+        IsJoined (take i items.new.items))) }
+    ensures apart { IfOk result (λ did. OnFalse did (IsJoined (take i items.old.items) →
+        IsJoined (take (i + 1) items.new.items))) }
+{
+    let right = mem::replace(&mut items[i], Item::Mark);
+    match join_onto(&mut items[i - 1], &right) {
+        Ok(true) => {
+            items.remove(i);
+            Ok(true)
+        }
+        Ok(false) => {
+            items[i] = right;
+            Ok(false)
+        }
+        Err(error) => {
+            items[i] = right;
+            Err(error)
+        }
+    }
+}
+
+/// Joins the texts of the innermost part, which begins at `from`, that meet.
+pub(crate) fn join_texts(items: &mut Vec<Item>, from: usize) -> Result<(), Memory>
+    requires within { from ≤ length items.old.items }
+    requires begins { IsFresh (take from items.old.items) }
+    ensures same { parts items.new.items ≡ parts items.old.items }
+    ensures joined { OnOk result (IsJoined items.new.items) }
+{
+    if from == items.len() {
+        return Ok(());
+    }
+    let mut i = from + 1;
+    while i < items.len() {
+        if !join_pair(items, i)? {
+            i += 1;
+        }
+    }
+    Ok(())
+}
+
+/// Takes the children of the innermost part, and its mark, if it has one.
+pub(crate) fn take_part(items: &mut Vec<Item>, alloc: Global) -> Result<Vec<ElemChild>, Memory>
+    ensures children { IfOk result (λ ks. flat_map child_tokens ks.items ≡ plain_inner
+        items.old.items) }
+    ensures left { OnOk result (0 < length (parts items.old.items).outer → ((parts
+        items.old.items).outer ≡ (parts items.new.items).inner ∷ (parts items.new.items).outer)
+        × (vec_len items.new < vec_capacity items.new)) }
+    ensures err { OnErr result (items.new ≡ items.old) }
+{
+    let count = run_len(items);
+    let mut children = Vec::with_capacity(alloc, count)?;
+    while let Some(item) = items.pop() {
+        match item {
+            Item::Child(child) => match children.push(child) {
+                Ok(()) => {}
+                Err(_) => unreachable!(),
+            },
+            Item::Mark => {
+                children.reverse();
+                return Ok(children);
+            }
+        }
+    }
+    children.reverse();
+    Ok(children)
+}
+
+/// Puts an item where there is room for it.
+fn put(items: &mut Vec<Item>, item: Item)
+    requires room { vec_len items.old < vec_capacity items.old }
+    ensures { parts items.new.items ≡ step (parts items.old.items) item }
+{
+    match items.push(item) {
+        Ok(()) => {}
+        Err(_) => unreachable!(),
+    }
+}
+
+/// Drops the items behind the last mark, and the mark.
+pub(crate) fn drop_part(items: &mut Vec<Item>)
+    requires is_open { 0 < length (parts items.old.items).outer }
+    ensures { (parts items.old.items).outer ≡ (parts items.new.items).inner ∷ (parts
+        items.new.items).outer }
+{
+    let at = items.len() - run_len(items) - 1;
+    items.truncate(at);
+}
+
+/// Closes the innermost part as an element, unless nothing stands in it. The only error is want of
+/// memory, and leaves all.
+pub(crate) fn close_items(
+    items: &mut Vec<Item>,
+    alloc: Global,
+    display: Option<Display>,
+    meta: Option<ElemMeta>,
+) -> Result<(), Memory>
+    requires is_open { 0 < length (parts items.old.items).outer }
+    ensures ok { OnOk result (parts items.new.items ≡ closed_as (boxed display (optional_meta
+        meta) (parts items.old.items).inner) (parts items.old.items)) }
+    ensures err { OnErr result (parts items.new.items ≡ parts items.old.items) }
+{
+    let from = items.len() - run_len(items);
+    join_texts(items, from)?;
+    let children = take_part(items, alloc)?;
+    if children.is_empty() {
+        return Ok(());
+    }
+    put(
+        items,
+        Item::Child(ElemChild::Elem(Elem {
+            children: ElemChildren(children),
+            display,
+            meta,
+        })),
+    );
+    Ok(())
+}
+
+/// Puts a text in the place of a mark, or takes the mark away.
+fn unmark(items: &mut Vec<Item>, at: usize, text: Option<Formatted>)
+    requires within { at < length items.old.items }
+    requires mark { get_or items.old.items at Mark ≡ Mark }
+    requires behind { IsRun (drop (at + 1) items.old.items) }
+    ensures spliced { parts items.new.items ≡ closed_as (text_of text ++> (parts
+        items.old.items).inner) (parts items.old.items) }
+    ensures room { vec_len items.new ≤ vec_len items.old }
+    ensures kept { vec_capacity items.new ≡ vec_capacity items.old }
+{
+    match text {
+        Some(text) => {
+            if text.text.is_empty() {
+                items.remove(at);
+            } else {
+                items[at] = Item::Child(ElemChild::Text(text));
+            }
+        }
+        None => {
+            items.remove(at);
+        }
+    }
+}
+
+/// Puts a text behind the others, where there is room for it.
+fn put_text(items: &mut Vec<Item>, text: Option<Formatted>)
+    requires room { vec_len items.old < vec_capacity items.old }
+    ensures { parts items.new.items ≡ with_tokens (text_of text) (parts items.old.items) }
+{
+    match text {
+        Some(text) => {
+            if !text.text.is_empty() {
+                put(items, Item::Child(ElemChild::Text(text)));
+            }
+        }
+        None => {}
+    }
+}
+
+/// Closes the innermost part between two texts, unless nothing stands in it. The only error is
+/// want of memory, and leaves all.
+pub(crate) fn splice_items(
+    items: &mut Vec<Item>,
+    before: Option<Formatted>,
+    after: Option<Formatted>,
+) -> Result<(), Memory>
+    requires is_open { 0 < length (parts items.old.items).outer }
+    ensures ok { OnOk result (parts items.new.items ≡ closed_as (affixed (text_of before)
+        (text_of after) (parts items.old.items).inner) (parts items.old.items)) }
+    ensures err { OnErr result (parts items.new.items ≡ parts items.old.items) }
+{
+    let count = run_len(items);
+    if count == 0 {
+        drop_part(items);
+        return Ok(());
+    }
+    items.reserve(1)?;
+    let at = items.len() - count - 1;
+    unmark(items, at, before);
+    put_text(items, after);
+    Ok(())
+}
+
+/// Appends a child that shows something. The only error is want of memory, and leaves all.
+pub(crate) fn push_child_item(items: &mut Vec<Item>, child: ElemChild) -> Result<(), Memory>
+    ensures ok { OnOk result
+        (parts items.new.items ≡ with_tokens (child_tokens child) (parts items.old.items)) }
+    ensures err { OnErr result (parts items.new.items ≡ parts items.old.items) }
+{
+    match child {
+        ElemChild::Text(text) => {
+            push_text_item(items, text)?;
+            Ok(())
+        }
+        other => {
+            push_item(items, Item::Child(other))?;
+            Ok(())
+        }
+    }
+}
+
+/// Whether nothing stands in the innermost part.
+pub(crate) fn is_fresh(items: &[Item]) -> bool
+    ensures { result ≡ not (has_children (parts items.now).inner) }
+{
+    let len = items.len();
+    if len == 0 {
+        return true;
+    }
+    match &items[len - 1] {
+        Item::Child(_) => false,
+        Item::Mark => true,
+    }
+}
+
+/// The last character of the text of the innermost part.
+pub(crate) fn last_char(items: &[Item]) -> Option<char>
+    ensures { result ≡ last_char (leaf_text (parts items.now).inner) }
+{
+    let mut i = items.len();
+    while i > 0 {
+        i -= 1;
+        match &items[i] {
+            Item::Child(child) => {
+                let last = child.last_char();
+                if last.is_some() {
+                    return last;
+                }
+            }
+            Item::Mark => return None,
+        }
+    }
+    None
+}

@@ -1,0 +1,177 @@
+//! Contents that are written into a flat tree, call by call.
+//!
+//! The words of a script have one space between them, and each says one call:
+//!
+//! | Word | Call |
+//! |---|---|
+//! | `[` | a part is opened |
+//! | `]` | it is closed as a block of a date |
+//! | `}<\|>` | it is spliced between `<` and `>`, of which either may be missing |
+//! | `!` | it is discarded |
+//! | `=a` | the text `a` is pushed as a text |
+//! | any other | a child is pushed, as the descriptions of trees say it |
+
+use crate::trees::{assert_tree, read_formatted, read_leaf};
+use csl_style::Display;
+use csl_tree::{ElemChildren, ElemMeta, FlatTree, Formatted, Formatting};
+use std::alloc::Global;
+use std::test::Fail;
+
+/// The text of an affix, unless it is missing.
+fn read_affix(alloc: Global, word: &str) -> Result<Option<Formatted>, Fail> {
+    if word.is_empty() {
+        return Ok(None);
+    }
+    Ok(Some(read_formatted(alloc, word)?))
+}
+
+/// Closes the innermost part as a word says.
+fn close(tree: &mut FlatTree, alloc: Global, word: &str) -> Result<(), Fail> {
+    if tree.depth() == 1 {
+        return Err(Fail::from("a part is open"));
+    }
+    if let Some(affixes) = word.strip_prefix('}') {
+        let (before, after) = affixes.split_once('|').ok_or("there are two affixes")?;
+        let before = read_affix(alloc, before)?;
+        let after = read_affix(alloc, after)?;
+        return Ok(tree.close_spliced(before, after)?);
+    }
+    if word == "!" {
+        tree.discard();
+        return Ok(());
+    }
+    Ok(tree.close_elem(Some(Display::Block), Some(ElemMeta::Date))?)
+}
+
+/// Makes the call of a word.
+fn call(tree: &mut FlatTree, alloc: Global, word: &str) -> Result<(), Fail> {
+    if word == "[" {
+        return Ok(tree.open()?);
+    }
+    if let Some(text) = word.strip_prefix('=') {
+        return Ok(tree.push_text(text, Formatting::default())?);
+    }
+    if word == "]" || word == "!" || word.starts_with('}') {
+        return close(tree, alloc, word);
+    }
+    Ok(tree.push(read_leaf(alloc, word)?)?)
+}
+
+/// Makes the calls of a script.
+fn written(alloc: Global, script: &str) -> Result<FlatTree, Fail> {
+    let mut tree = FlatTree::new(alloc);
+    for word in script.split(' ') {
+        if !word.is_empty() {
+            call(&mut tree, alloc, word)?;
+        }
+    }
+    Ok(tree)
+}
+
+/// The contents of the root.
+fn finished(tree: FlatTree) -> Result<ElemChildren, Fail> {
+    if tree.depth() != 1 {
+        return Err(Fail::from("the root alone is open"));
+    }
+    Ok(tree.finish()?)
+}
+
+#[test]
+fn the_calls_of_a_script_make_a_tree(rt: HostRuntime) -> Result<(), Fail> {
+    for (script, wanted) in [
+        ("", ""),
+        ("a b", "ab"),
+        ("=a =b", "ab"),
+        ("=a /b c", "a /b c"),
+        ("a _ = $_ @_|u b", "ab"),
+        ("a $b @c|u #1 d", "a $b @c|u #1 d"),
+        ("a [ b ] c", "a ( b )block:date c"),
+        ("[ a [ b ] c ]", "( a ( b )block:date c )block:date"),
+        ("a [ b }<|> c", "a<b>c"),
+        ("a [ /b }<|> c", "a< /b >c"),
+        ("a [ /b }/<|/> /c", "a /<b>c"),
+        ("a [ b }| c", "abc"),
+        ("a [ #1 }<| b", "a< #1 b"),
+        ("[ [ a }<|> [ b }<|> }-|-", "-<a><b>-"),
+        ("[ a [ b }<|> c ] d", "( a<b>c )block:date d"),
+        ("a [ b !", "a"),
+        ("[ a [ b ! c ]", "( ac )block:date"),
+        ("a [ b [ c ] ! d", "ad"),
+    ] {
+        let tree = finished(written(rt.alloc(), script)?)?;
+        assert_tree(&rt, rt.alloc(), tree, wanted, script)?;
+    }
+    Ok(())
+}
+
+#[test]
+fn an_empty_part_leaves_nothing(rt: HostRuntime) -> Result<(), Fail> {
+    for (script, wanted) in [
+        ("[ ]", ""),
+        ("a [ ] b", "ab"),
+        ("a [ _ $_ ] b", "ab"),
+        ("a [ }<|> b", "ab"),
+        ("a [ _ $_ }<|> b", "ab"),
+        ("[ [ ] }<|>", ""),
+        ("[ [ }<|> ]", ""),
+        ("a [ ! b", "ab"),
+    ] {
+        let tree = finished(written(rt.alloc(), script)?)?;
+        assert_tree(&rt, rt.alloc(), tree, wanted, script)?;
+    }
+    Ok(())
+}
+
+/// How many parts are open; whether the innermost one is empty, has text, and ends in white space.
+fn flags(alloc: Global, script: &str) -> Result<(usize, bool, bool, bool), Fail> {
+    let tree = written(alloc, script)?;
+    Ok((
+        tree.depth(),
+        tree.is_empty(),
+        tree.has_text(),
+        tree.ends_in_white_space(),
+    ))
+}
+
+#[test]
+fn what_is_said_of_the_innermost_part(rt: HostRuntime) -> Result<(), Fail> {
+    for (script, wanted) in [
+        ("", (1, true, false, false)),
+        ("a", (1, false, true, false)),
+        ("a~", (1, false, true, true)),
+        ("a~ [", (2, true, false, false)),
+        ("a~ [ _ $_", (2, true, false, false)),
+        ("a~ [ #1", (2, false, false, false)),
+        ("a~ [ b", (2, false, true, false)),
+        ("a~ [ b ]", (1, false, true, false)),
+        ("a [ b~ ]", (1, false, true, true)),
+        ("a [ b~ }|", (1, false, true, true)),
+        ("a [ b~ }|>", (1, false, true, false)),
+        ("a~ [ #1 ]", (1, false, true, true)),
+        ("a [ b~ !", (1, false, true, false)),
+        ("[ [ ] [ }<|>", (2, true, false, false)),
+        ("[ [ [", (4, true, false, false)),
+    ] {
+        assert_eq!(rt; flags(rt.alloc(), script)?, wanted, "of {script}");
+    }
+    Ok(())
+}
+
+/// A part of a thousand spliced parts.
+fn thousand(alloc: Global) -> Result<FlatTree, Fail> {
+    let mut tree = FlatTree::new(alloc);
+    for _ in 0..1000 {
+        call(&mut tree, alloc, "[")?;
+        call(&mut tree, alloc, "a")?;
+        call(&mut tree, alloc, "}<|>")?;
+    }
+    Ok(tree)
+}
+
+#[test]
+fn a_thousand_splices_are_one_text(rt: HostRuntime) -> Result<(), Fail> {
+    let tree = finished(thousand(rt.alloc())?)?;
+    assert_eq!(rt; tree.str_len(), 3000);
+    assert_eq!(rt; tree.0.len(), 1);
+    Ok(())
+}
