@@ -17,7 +17,7 @@ use Rattle.std.proofs.Math.Seq.{drop-cons}
 use Rattle.csl_tree.specs.declared.elem.ElemChild.{ElemChild}
 use Rattle.csl_tree.specs.declared.flat_items.Item.{Item}
 use Rattle.csl_tree.specs.declared.flat_items.Item.TheVariants.{Child, Mark}
-use Rattle.csl_tree.specs.Flat.{Parts, no_parts, with_tokens, with_open, closed_onto, closed_as, IsRun, IsLastPart, text_of, step, parts_from, parts, plain_step, plain_from, plain_inner, run_step, run_from, run, IsJoined, IsFresh, JoinsAs, Joins, IsSame, IsApartFrom, IsApart}
+use Rattle.csl_tree.specs.Flat.{Parts, no_parts, with_tokens, with_open, closed_onto, closed_as, IsRun, IsLastPart, affix_content, step, parts_from, parts, plain_step, plain_from, plain_inner, run_step, run_from, run, IsJoined, IsFresh, JoinsAs, Joins, IsSame, IsApartFrom, IsApart}
 
 -- some items, and then others
 pub parts_append : (p : Parts) (xs ys : List Item) → parts_from p (xs ++ ys) ≡ parts_from (parts_from p xs) ys
@@ -340,10 +340,10 @@ pub spliced : (old mid new : Parts) (b a : List Token) → Begins old.inner → 
 spliced old mid new b a f h e g = g ∙ ap (with_tokens a) e ∙ spliced_parts old.inner old.outer b a f h
 
 -- a text that is empty or absent writes nothing
-pub text_none : (p : Parts) (o : Option Formatted) (t : Formatted) → o ≡ Some t → length (string_bytes t.text) ≡ 0 → text_of o ≡ []
+pub text_none : (p : Parts) (o : Option Formatted) (t : Formatted) → o ≡ Some t → length (string_bytes t.text) ≡ 0 → affix_content o ≡ []
 text_none p o t e h = rw e (text_content-none (string_bytes t.text) t.formatting h)
 
-pub text_some : (o : Option Formatted) (t : Formatted) → o ≡ Some t → 0 < length (string_bytes t.text) → text_of o ≡ child_tokens (variants.Text t)
+pub text_some : (o : Option Formatted) (t : Formatted) → o ≡ Some t → 0 < length (string_bytes t.text) → affix_content o ≡ child_tokens (variants.Text t)
 text_some o t e h = rw e (text_content-some (string_bytes t.text) t.formatting h ∙ sym (text_child t))
 
 pub with_none : (p : Parts) (l : List Token) → l ≡ [] → p ≡ with_tokens l p

@@ -86,9 +86,9 @@ abbrev pub IsLastPart : List Item → ℕ → Type 0
 IsLastPart xs n = (n ≤ length xs) × IsRun (drop (length xs - n) xs) × (n < length xs → get_or xs (length xs - n - 1) Mark ≡ Mark)
 
 -- the content of a text, if there is one
-abbrev pub text_of : Option Formatted → List Token
-text_of None = []
-text_of (Some t) = text_content (string_bytes t.text) t.formatting
+abbrev pub affix_content : Option Formatted → List Token
+affix_content None = []
+affix_content (Some t) = text_content (string_bytes t.text) t.formatting
 
 -- no texts that could be one meet in the innermost part
 abbrev pub IsJoined : List Item → Type 0

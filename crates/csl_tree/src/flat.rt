@@ -4,7 +4,7 @@
 ghost use Rattle.std.specs.Prelude.{◌≡◌, ◌+◌, ◌<◌, not, length, OnOk, IfOk, OnErr};
 ghost use Rattle.csl_tree.specs.Content.{text_content, child_content, boxed, affixed};
 ghost use Rattle.csl_tree.specs.Tokens.{tokens, optional_meta, has_children, has_text, ends_in_white_space};
-ghost use Rattle.csl_tree.specs.Flat.{no_parts, with_tokens, with_open, closed_as, dropped, text_of};
+ghost use Rattle.csl_tree.specs.Flat.{no_parts, with_tokens, with_open, closed_as, dropped, affix_content};
 
 use crate::elem::{ElemChild, ElemChildren, ElemMeta};
 use crate::flat_items::{
@@ -155,7 +155,7 @@ impl FlatTree {
     ) -> Result<(), Memory>
         requires is_open { 0 < length self.old.outer }
         ensures ok { OnOk result (self.new
-            ≡ closed_as (affixed (text_of before) (text_of after) self.old.inner) self.old) }
+            ≡ closed_as (affixed (affix_content before) (affix_content after) self.old.inner) self.old) }
         ensures err { OnErr result (self.new ≡ self.old) }
     {
         splice_items(&mut self.items, before, after)?;

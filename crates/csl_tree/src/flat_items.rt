@@ -5,7 +5,7 @@ ghost use Rattle.std.specs.Bool.{OnTrue, OnFalse};
 ghost use Rattle.std.specs.List.{flat_map};
 ghost use Rattle.csl_tree.specs.Content.{◌++>◌, text_content, optional_text, boxed, affixed};
 ghost use Rattle.csl_tree.specs.Tokens.{tokens, child_tokens, text, text_tokens, optional_meta, leaf_text, last_char, has_children};
-ghost use Rattle.csl_tree.specs.Flat.{Parts, no_parts, with_tokens, with_open, closed_as, dropped, step, parts, plain_inner, run, IsJoined, IsFresh, IsRun, IsLastPart, text_of, JoinsAs, Joins, IsSame, IsApartFrom, IsApart};
+ghost use Rattle.csl_tree.specs.Flat.{Parts, no_parts, with_tokens, with_open, closed_as, dropped, step, parts, plain_inner, run, IsJoined, IsFresh, IsRun, IsLastPart, affix_content, JoinsAs, Joins, IsSame, IsApartFrom, IsApart};
 ghost use Rattle.csl_tree.specs.declared.flat_items.Item.TheVariants.{Mark};
 
 use crate::content::join_last;
@@ -278,7 +278,7 @@ fn unmark(items: &mut Vec<Item>, at: usize, text: Option<Formatted>)
     requires within { at < length items.old.items }
     requires mark { get_or items.old.items at Mark ≡ Mark }
     requires behind { IsRun (drop (at + 1) items.old.items) }
-    ensures spliced { parts items.new.items ≡ closed_as (text_of text ++> (parts
+    ensures spliced { parts items.new.items ≡ closed_as (affix_content text ++> (parts
         items.old.items).inner) (parts items.old.items) }
     ensures room { vec_len items.new ≤ vec_len items.old }
     ensures kept { vec_capacity items.new ≡ vec_capacity items.old }
@@ -300,7 +300,7 @@ fn unmark(items: &mut Vec<Item>, at: usize, text: Option<Formatted>)
 /// Puts a text behind the others, where there is room for it.
 fn put_text(items: &mut Vec<Item>, text: Option<Formatted>)
     requires room { vec_len items.old < vec_capacity items.old }
-    ensures { parts items.new.items ≡ with_tokens (text_of text) (parts items.old.items) }
+    ensures { parts items.new.items ≡ with_tokens (affix_content text) (parts items.old.items) }
 {
     match text {
         Some(text) => {
@@ -320,8 +320,8 @@ pub(crate) fn splice_items(
     after: Option<Formatted>,
 ) -> Result<(), Memory>
     requires is_open { 0 < length (parts items.old.items).outer }
-    ensures ok { OnOk result (parts items.new.items ≡ closed_as (affixed (text_of before)
-        (text_of after) (parts items.old.items).inner) (parts items.old.items)) }
+    ensures ok { OnOk result (parts items.new.items ≡ closed_as (affixed (affix_content before)
+        (affix_content after) (parts items.old.items).inner) (parts items.old.items)) }
     ensures err { OnErr result (parts items.new.items ≡ parts items.old.items) }
 {
     let count = run_len(items);

@@ -1,6 +1,6 @@
 use Rattle.std.proofs.Common.{◌≡◌, ap, length, string_bytes, arith}
 use Rattle.std.proofs.lemmas.Grind.{common_steps}
-use Rattle.csl_tree.specs.Flat.{parts, text_of}
+use Rattle.csl_tree.specs.Flat.{parts, affix_content}
 use Rattle.csl_tree.proofs.Flats.{text_none, with_none}
 use Rattle.csl_tree.proofs.flat_items.put_text.Goals as goal
 
@@ -10,4 +10,4 @@ returns-else-not-is_empty c =
     with_none _ _ (text_none (parts c.args.items.now.items) _ _ c.in-Some.is e)
 
 pub returns-in-None : goal.returns-in-None
-returns-in-None c = with_none _ _ (ap text_of c.in-None.is)
+returns-in-None c = with_none _ _ (ap affix_content c.in-None.is)

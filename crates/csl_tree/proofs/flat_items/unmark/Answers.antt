@@ -1,7 +1,7 @@
 use Rattle.std.proofs.Common.{◌≡◌, ◌+◌, ◌<◌, ◌∙◌, suc, ap, sym, length, string_bytes, arith}
 use Rattle.std.proofs.lemmas.Grind.{common_steps}
 use Rattle.csl_tree.specs.Content.{◌++>◌}
-use Rattle.csl_tree.specs.Flat.{parts, closed_as, text_of}
+use Rattle.csl_tree.specs.Flat.{parts, closed_as, affix_content}
 use Rattle.csl_tree.proofs.Flats.{part_set, part_unmarked, text_none, text_some}
 use Rattle.csl_tree.proofs.flat_items.unmark.Goals as goal
 
@@ -22,4 +22,4 @@ returns-else-is_empty-clause-spliced c =
 pub returns-in-None-clause-spliced : goal.returns-in-None-clause-spliced
 returns-in-None-clause-spliced c =
     let n : c.args.at + 1 ≡ suc c.args.at = omega arith in
-    ap parts c.remove-in-None.ensures.items ∙ part_unmarked c.args.items.now.items c.args.at c.requires.within c.requires.mark (rw n at c.requires.behind) ∙ ap (λ o. closed_as (text_of o ++> (parts c.args.items.now.items).inner) (parts c.args.items.now.items)) (sym c.in-None.is)
+    ap parts c.remove-in-None.ensures.items ∙ part_unmarked c.args.items.now.items c.args.at c.requires.within c.requires.mark (rw n at c.requires.behind) ∙ ap (λ o. closed_as (affix_content o ++> (parts c.args.items.now.items).inner) (parts c.args.items.now.items)) (sym c.in-None.is)
