@@ -1,7 +1,7 @@
 -- A flat list of contents that are being item by item.
 use Rattle.std.proofs.Common.{◌≡◌, ◌≢◌, ℕ, ◌+◌, ◌-◌, ◌<◌, ◌≤◌, suc, zero, List, [], ◌∷◌, ◌++◌, length, get_or, take, drop, set, reverse, true, false, cond, length-drop, refl, sym, ap, ◌∙◌, append_assoc, arith}
 use Rattle.std.specs.List.{flat_map, remove}
-use Rattle.std.proofs.lemmas.List.{take_more, take_more_set, take_all, length-set, reverse-append, get_or-set_other, take-append-drop}
+use Rattle.std.proofs.lemmas.List.{take_more, take_more_set, take_all, append-nil, length-set, reverse-append, get_or-set_other, take-append-drop, take-set-le, drop-set-lt, drop-set, at_drop_all}
 use Rattle.csl_tree.specs.Tokens.{Token, has_children, Solid, solid, text, tokens, optional_meta, child_tokens}
 use Rattle.csl_tree.specs.Content.{◌++>◌, text_before, joined, boxed, affixed}
 use Rattle.csl_tree.specs.declared.formatting.Formatted.{Formatted}
@@ -17,7 +17,7 @@ use Rattle.std.proofs.Math.Seq.{drop-cons}
 use Rattle.csl_tree.specs.declared.elem.ElemChild.{ElemChild}
 use Rattle.csl_tree.specs.declared.flat_items.Item.{Item}
 use Rattle.csl_tree.specs.declared.flat_items.Item.TheVariants.{Child, Mark}
-use Rattle.csl_tree.specs.Flat.{Parts, no_parts, with_tokens, with_open, closed_onto, closed_as, IsRun, IsLastPart, affix_content, step, parts_from, parts, plain_step, plain_from, plain_inner, run_step, run_from, run, IsJoined, IsFresh, JoinsAs, Joins, IsSame, IsApartFrom, IsApart}
+use Rattle.csl_tree.specs.Flat.{Parts, no_parts, with_tokens, with_open, closed_onto, closed_as, IsRun, IsLastPart, kept, affix_content, step, parts_from, parts, plain_step, plain_from, plain_inner, run_step, run_from, run, IsJoined, IsFresh, JoinsAs, Joins, IsSame, IsApartFrom, IsApart}
 
 -- some items, and then others
 pub parts_append : (p : Parts) (xs ys : List Item) → parts_from p (xs ++ ys) ≡ parts_from (parts_from p xs) ys
@@ -78,32 +78,6 @@ pub joined_last : (xs ys : List Item) (i : ℕ) (x y : Item) (b : List Token) �
 joined_last xs ys i x y b h e s f =
     parts_pushed (take i xs) ys y (s ∙ last_set xs i y h) ∙ joins_step_as x b y f (parts (take i xs)) ∙ ap (with_tokens b) (sym (parts_pushed (take i xs) xs x (last_is xs i x h e)))
 
--- two items that became one
-pub pair_joined : (p : Parts) (xs : List Item) (k : ℕ) (x y z m : Item) → suc k < length xs → x ≡ get_or xs k x → y ≡ get_or xs (suc k) y → ((q : Parts) → step q z ≡ step (step q x) y) → parts_from p (remove (set (set xs (suc k) m) k z) (suc k)) ≡ parts_from p xs
-pair_joined p [] k x y z m h e f g = absurd (omega arith)
-pair_joined p (a ∷ []) k x y z m h e f g = absurd (omega arith)
-pair_joined p (a ∷ b ∷ xs) zero x y z m h e f g = ap (λ (q : Parts). parts_from q xs) (g p ∙ ap (λ (w : Item). step (step p w) y) e ∙ ap (λ (w : Item). step (step p a) w) f)
-pair_joined p (a ∷ b ∷ xs) (suc k) x y z m h e f g = pair_joined (step p a) (b ∷ xs) k x y z m (omega arith) e f g
-
--- two items that did not
-pub pair_kept : (p : Parts) (xs : List Item) (k : ℕ) (x y z m : Item) → suc k < length xs → x ≡ get_or xs k x → y ≡ get_or xs (suc k) y → ((q : Parts) → step q z ≡ step q x) → parts_from p (set (set (set xs (suc k) m) k z) (suc k) y) ≡ parts_from p xs
-pair_kept p [] k x y z m h e f g = absurd (omega arith)
-pair_kept p (a ∷ []) k x y z m h e f g = absurd (omega arith)
-pair_kept p (a ∷ b ∷ xs) zero x y z m h e f g = ap (λ (q : Parts). parts_from q xs) (ap (λ (q : Parts). step q y) (g p ∙ ap (λ (w : Item). step p w) e) ∙ ap (λ (w : Item). step (step p a) w) f)
-pair_kept p (a ∷ b ∷ xs) (suc k) x y z m h e f g = pair_kept (step p a) (b ∷ xs) k x y z m (omega arith) e f g
-
-pub take_joined : (xs : List Item) (k : ℕ) (z m : Item) → suc k < length xs → take (suc k) (remove (set (set xs (suc k) m) k z) (suc k)) ≡ take k xs ++ z ∷ []
-take_joined [] k z m h = absurd (omega arith)
-take_joined (a ∷ []) k z m h = absurd (omega arith)
-take_joined (a ∷ b ∷ xs) zero z m h = refl
-take_joined (a ∷ b ∷ xs) (suc k) z m h = ap (λ (l : List Item). a ∷ l) (take_joined (b ∷ xs) k z m (omega arith))
-
-pub take_kept : (xs : List Item) (k : ℕ) (y z m : Item) → suc k < length xs → take (suc (suc k)) (set (set (set xs (suc k) m) k z) (suc k) y) ≡ take k xs ++ z ∷ y ∷ []
-take_kept [] k y z m h = absurd (omega arith)
-take_kept (a ∷ []) k y z m h = absurd (omega arith)
-take_kept (a ∷ b ∷ xs) zero y z m h = refl
-take_kept (a ∷ b ∷ xs) (suc k) y z m h = ap (λ (l : List Item). a ∷ l) (take_kept (b ∷ xs) k y z m (omega arith))
-
 -- what is joined stays so with a text more
 pub joined_now : (t : List Item) (x y z : Item) → IsJoined (t ++ x ∷ []) → Joins x y z → IsJoined (t ++ z ∷ [])
 joined_now t x Mark z j h = absurd h
@@ -126,30 +100,62 @@ apart_now t (Child a) (Child b) (Child c) j s h =
     plain_append [] t (Child c ∷ Child b ∷ []) ∙ append_assoc (plain_inner t) (child_tokens c) (child_tokens b) ∙ ap (λ (l : List Token). plain_inner t ++ l) (sym h)
     ∙ sym (join_item child_tokens child_begins (plain_inner t) c (child_tokens b)) ∙ ap (λ (l : List Token). l ++> child_tokens b) now ∙ ap (λ (p : Parts). p.inner) (sym (parts_append no_parts t (Child c ∷ Child b ∷ [])))
 
--- the same at places that are given by numbers
-module _ (xs : List Item) (i k : ℕ) (e : i ≡ suc k) (h : i < length xs) (x y z m : Item) (ex : x ≡ get_or xs k x) (ey : y ≡ get_or xs i y) where
-  at_i : y ≡ get_or xs (suc k) y
-  at_i = ey ∙ ap (λ j. get_or xs j y) e
+-- the last item that is kept, and the next one behind a gap
+module _ (xs : List Item) (k n : ℕ) (o : k < n) (h : n < length xs) (x y z m : Item) (ex : x ≡ get_or xs k x) (ey : y ≡ get_or xs n y) where
+  kept_was : kept xs k n ≡ take k xs ++ x ∷ y ∷ drop (suc n) xs
+  kept_was =
+      let before : take (k + 1) xs ≡ take k xs ++ x ∷ [] = taken xs k (k + 1) x refl (omega arith) ex in
+      let behind : drop n xs ≡ y ∷ drop (suc n) xs = drop-cons xs n y h ∙ ap (λ (w : Item). w ∷ drop (suc n) xs) (sym ey) in
+      ap (λ l. l ++ drop n xs) before ∙ ap (λ l. (take k xs ++ x ∷ []) ++ l) behind ∙ append_assoc (take k xs) (x ∷ []) (y ∷ drop (suc n) xs)
 
-  first_is : take i xs ≡ take k xs ++ x ∷ []
-  first_is = taken xs k i x (omega arith) (omega arith) ex
+  parts_was : parts (kept xs k n) ≡ parts_from (step (step (parts (take k xs)) x) y) (drop (suc n) xs)
+  parts_was = ap parts kept_was ∙ parts_append no_parts (take k xs) (x ∷ y ∷ drop (suc n) xs)
 
-  pub joined_parts : Joins x y z → parts (remove (set (set xs i m) k z) i) ≡ parts xs
-  joined_parts j = ap (λ n. parts (remove (set (set xs n m) k z) n)) e ∙ pair_joined no_parts xs k x y z m (omega arith) ex at_i (joins_step x y z j)
+  first_put : take (k + 1) (set (set xs n m) k z) ≡ take k xs ++ z ∷ []
+  first_put = take_more_set (set xs n m) k z (omega (arith, length-set {A = Item})) ∙ ap (λ l. l ++ z ∷ []) (take-set-le k xs n m (omega arith))
 
-  pub joined_stays : Joins x y z → IsJoined (take i xs) → IsJoined (take i (remove (set (set xs i m) k z) i))
-  joined_stays j was =
-      let now : take i (remove (set (set xs i m) k z) i) ≡ take k xs ++ z ∷ [] = ap (λ n. take n (remove (set (set xs n m) k z) n)) e ∙ take_joined xs k z m (omega arith) in
-      rw now (joined_now (take k xs) x y z (rw first_is at was) j)
+  rest_put : drop (n + 1) (set (set xs n m) k z) ≡ drop (suc n) xs
+  rest_put =
+      let e : n + 1 ≡ suc n = omega arith in
+      drop-set-lt (n + 1) (set xs n m) k z (omega arith) ∙ drop-set-lt (n + 1) xs n m (omega arith) ∙ ap (λ j. drop j xs) e
 
-  pub kept_parts : IsSame x z → parts (set (set (set xs i m) k z) i y) ≡ parts xs
-  kept_parts s = ap (λ n. parts (set (set (set xs n m) k z) n y)) e ∙ pair_kept no_parts xs k x y z m (omega arith) ex at_i (same_step x z s)
+  pub next_joined : Joins x y z → parts (kept (set (set xs n m) k z) k (n + 1)) ≡ parts (kept xs k n)
+  next_joined j =
+      ap (λ l. parts (l ++ drop (n + 1) (set (set xs n m) k z))) first_put ∙ ap (λ l. parts ((take k xs ++ z ∷ []) ++ l)) rest_put ∙ ap parts (append_assoc (take k xs) (z ∷ []) (drop (suc n) xs))
+      ∙ parts_append no_parts (take k xs) (z ∷ drop (suc n) xs) ∙ ap (λ (p : Parts). parts_from p (drop (suc n) xs)) (joins_step x y z j (parts (take k xs))) ∙ sym parts_was
 
-  pub kept_stays : IsSame x z → IsApart z y → IsJoined (take i xs) → IsJoined (take (i + 1) (set (set (set xs i m) k z) i y))
-  kept_stays s a was =
-      let two : i + 1 ≡ suc (suc k) = omega arith in
-      let now : take (i + 1) (set (set (set xs i m) k z) i y) ≡ take k xs ++ z ∷ y ∷ [] = ap (λ n. take n (set (set (set xs i m) k z) i y)) two ∙ ap (λ n. take (suc (suc k)) (set (set (set xs n m) k z) n y)) e ∙ take_kept xs k y z m (omega arith) in
-      rw now (apart_now (take k xs) x y z (rw first_is at was) s a)
+  pub next_stays_joined : Joins x y z → IsJoined (take (k + 1) xs) → IsJoined (take (k + 1) (set (set xs n m) k z))
+  next_stays_joined j was =
+      let before : take (k + 1) xs ≡ take k xs ++ x ∷ [] = taken xs k (k + 1) x refl (omega arith) ex in
+      rw first_put (joined_now (take k xs) x y z (rw before at was) j)
+
+  two_put : take (k + 1 + 1) (set (set (set xs n m) k z) (k + 1) y) ≡ take k xs ++ z ∷ y ∷ []
+  two_put = take_more_set (set (set xs n m) k z) (k + 1) y (omega (arith, length-set {A = Item})) ∙ ap (λ l. l ++ y ∷ []) first_put ∙ append_assoc (take k xs) (z ∷ []) (y ∷ [])
+
+  same_parts : IsSame x z → parts_from (step (step (parts (take k xs)) z) y) (drop (suc n) xs) ≡ parts (kept xs k n)
+  same_parts s = ap (λ (p : Parts). parts_from (step p y) (drop (suc n) xs)) (same_step x z s (parts (take k xs))) ∙ sym parts_was
+
+  pub next_moved : IsSame x z → parts (kept (set (set (set xs n m) k z) (k + 1) y) (k + 1) (n + 1)) ≡ parts (kept xs k n)
+  next_moved s =
+      ap (λ l. parts (l ++ drop (n + 1) (set (set (set xs n m) k z) (k + 1) y))) two_put
+      ∙ ap (λ l. parts ((take k xs ++ z ∷ y ∷ []) ++ l)) (drop-set-lt (n + 1) (set (set xs n m) k z) (k + 1) y (omega arith) ∙ rest_put)
+      ∙ ap parts (append_assoc (take k xs) (z ∷ y ∷ []) (drop (suc n) xs)) ∙ parts_append no_parts (take k xs) (z ∷ y ∷ drop (suc n) xs) ∙ same_parts s
+
+  pub next_apart : IsSame x z → IsApart z y → IsJoined (take (k + 1) xs) → IsJoined (take (k + 1 + 1) (set (set (set xs n m) k z) (k + 1) y))
+  next_apart s a was =
+      let before : take (k + 1) xs ≡ take k xs ++ x ∷ [] = taken xs k (k + 1) x refl (omega arith) ex in
+      rw two_put (apart_now (take k xs) x y z (rw before at was) s a)
+
+  pub next_back : IsSame x z → parts (kept (set (set (set xs n m) k z) n y) k n) ≡ parts (kept xs k n)
+  next_back s =
+      let t : take (k + 1) (set (set (set xs n m) k z) n y) ≡ take k xs ++ z ∷ [] = take-set-le (k + 1) (set (set xs n m) k z) n y (omega arith) ∙ first_put in
+      let d : drop n (set (set (set xs n m) k z) n y) ≡ y ∷ drop (suc n) xs = drop-set (set (set xs n m) k z) n y (omega (arith, length-set {A = Item})) ∙ ap (λ l. y ∷ l) rest_put in
+      ap (λ l. parts (l ++ drop n (set (set (set xs n m) k z) n y))) t ∙ ap (λ l. parts ((take k xs ++ z ∷ []) ++ l)) d
+      ∙ ap parts (append_assoc (take k xs) (z ∷ []) (y ∷ drop (suc n) xs)) ∙ parts_append no_parts (take k xs) (z ∷ y ∷ drop (suc n) xs) ∙ same_parts s
+
+-- nothing is left behind
+pub kept_all : (xs : List Item) (k n : ℕ) → length xs ≤ n → kept xs k n ≡ take (k + 1) xs
+kept_all xs k n h = at_drop_all (λ l. take (k + 1) xs ++ l) xs n h ∙ append-nil (take (k + 1) xs)
 
 -- what begins with no text stands apart
 pub solid_apart : (x : Item) (b : List Token) (s : Solid) (l : List Token) → b ≡ solid s ∷ l → IsApartFrom x b
@@ -195,8 +201,8 @@ pub popped_part : (xs ys : List Item) → xs ≡ ys ++ Mark ∷ [] → (parts xs
 popped_part xs ys e = ap (λ (p : Parts). p.outer) (parts_pushed ys xs Mark e)
 
 -- the first of two, as it was before the second was lent
-pub before_set : (xs : List Item) (i k : ℕ) (x m : Item) → i ≡ suc k → x ≡ get_or (set xs i m) k x → x ≡ get_or xs k x
-before_set xs i k x m e h = let ne : k ≢ i = omega arith in h ∙ get_or-set_other xs i k m x ne
+pub before_set : (xs : List Item) (i k : ℕ) (x m : Item) → k < i → x ≡ get_or (set xs i m) k x → x ≡ get_or xs k x
+before_set xs i k x m o h = let ne : k ≢ i = omega arith in h ∙ get_or-set_other xs i k m x ne
 
 -- ---- the innermost part as a run of children
 

@@ -1,5 +1,5 @@
 -- Contents that are being written: children in a row, and a mark where each open part begins.
-use Rattle.std.specs.Prelude.{◌≡◌, ℕ, ◌+◌, ◌-◌, ◌<◌, ◌≤◌, Option, None, Some, List, [], ◌∷◌, ◌++◌, length, drop, get_or, string_bytes}
+use Rattle.std.specs.Prelude.{◌≡◌, ℕ, ◌+◌, ◌-◌, ◌<◌, ◌≤◌, Option, None, Some, List, [], ◌∷◌, ◌++◌, length, take, drop, get_or, string_bytes}
 use Rattle.csl_tree.specs.Tokens.{Token, child_tokens}
 use Rattle.csl_tree.specs.Content.{◌++>◌, text_content}
 use Rattle.csl_tree.specs.declared.formatting.Formatted.{Formatted}
@@ -125,3 +125,7 @@ IsApartFrom (Child a) ts = child_tokens a ++> ts ≡ child_tokens a ++ ts
 abbrev pub IsApart : Item → Item → Type 0
 IsApart x Mark = Unit {0}
 IsApart x (Child b) = IsApartFrom x (child_tokens b)
+
+-- the items up to a place, and those from another on
+abbrev pub kept : List Item → ℕ → ℕ → List Item
+kept xs last next = take (last + 1) xs ++ drop next xs

@@ -5,7 +5,7 @@ ghost use Rattle.std.specs.Bool.{OnTrue, OnFalse};
 ghost use Rattle.std.specs.List.{flat_map};
 ghost use Rattle.csl_tree.specs.Content.{◌++>◌, text_content, optional_text, boxed, affixed};
 ghost use Rattle.csl_tree.specs.Tokens.{tokens, child_tokens, text, text_tokens, optional_meta, leaf_text, last_char, has_children};
-ghost use Rattle.csl_tree.specs.Flat.{Parts, no_parts, with_tokens, with_open, closed_as, dropped, step, parts, plain_inner, run, IsJoined, IsFresh, IsRun, IsLastPart, affix_content, JoinsAs, Joins, IsSame, IsApartFrom, IsApart};
+ghost use Rattle.csl_tree.specs.Flat.{Parts, no_parts, with_tokens, with_open, closed_as, dropped, step, parts, plain_inner, run, IsJoined, IsFresh, IsRun, IsLastPart, kept, affix_content, JoinsAs, Joins, IsSame, IsApartFrom, IsApart};
 ghost use Rattle.csl_tree.specs.declared.flat_items.Item.TheVariants.{Mark};
 
 use crate::content::join_last;
@@ -145,35 +145,42 @@ fn join_onto(left: &mut Item, right: &Item) -> Result<bool, Memory>
     }
 }
 
-/// Joins an item to the one before it, if they are texts of equal formatting, and says whether
-/// they are.
-fn join_pair(items: &mut Vec<Item>, i: usize) -> Result<bool, Memory>
-    requires within { (0 < i) × (i < length items.old.items) }
-    ensures same { parts items.new.items ≡ parts items.old.items }
-    ensures fewer { IfOk result (λ did. OnTrue did (length items.new.items + 1 ≡ length
-        items.old.items)) }
-    ensures as_many { IfOk result (λ did. OnFalse did (length items.new.items ≡ length
-        items.old.items)) }
-    ensures joined { IfOk result (λ did. OnTrue did (IsJoined (take i items.old.items) →
-        IsJoined (take i items.new.items))) }
-    ensures apart { IfOk result (λ did. OnFalse did (IsJoined (take i items.old.items) →
-        IsJoined (take (i + 1) items.new.items))) }
+/// Joins an item to one before it, if they are texts of equal formatting, else puts it right behind
+/// that one, and says whether they are. What lies between the two does not count.
+fn join_next(items: &mut Vec<Item>, last: usize, next: usize) -> Result<bool, Memory>
+    requires within { (last < next) × (next < length items.old.items) }
+    ensures len { length items.new.items ≡ length items.old.items }
+    ensures joins { IfOk result (λ did. OnTrue did
+        (parts (kept items.new.items last (next + 1)) ≡ parts (kept items.old.items last next))) }
+    ensures moves { IfOk result (λ did. OnFalse did (parts
+        (kept items.new.items (last + 1) (next + 1)) ≡ parts (kept items.old.items last next))) }
+    ensures joined { IfOk result (λ did. OnTrue did (IsJoined (take (last + 1) items.old.items)
+        → IsJoined (take (last + 1) items.new.items))) }
+    ensures apart { IfOk result (λ did. OnFalse did (IsJoined (take (last + 1) items.old.items)
+        → IsJoined (take (last + 1 + 1) items.new.items))) }
+    ensures err { OnErr result
+        (parts (kept items.new.items last next) ≡ parts (kept items.old.items last next)) }
 {
-    let right = mem::replace(&mut items[i], Item::Mark);
-    match join_onto(&mut items[i - 1], &right) {
-        Ok(true) => {
-            items.remove(i);
-            Ok(true)
-        }
+    let right = mem::replace(&mut items[next], Item::Mark);
+    match join_onto(&mut items[last], &right) {
+        Ok(true) => Ok(true),
         Ok(false) => {
-            items[i] = right;
+            items[last + 1] = right;
             Ok(false)
         }
         Err(error) => {
-            items[i] = right;
+            items[next] = right;
             Err(error)
         }
     }
+}
+
+/// Takes the items between two places away.
+fn close_gap(items: &mut Vec<Item>, from: usize, to: usize)
+    requires within { (from ≤ to) × (to ≤ length items.old.items) }
+    ensures { items.new.items ≡ take from items.old.items ++ drop to items.old.items }
+{
+    items.drain(from..to);
 }
 
 /// Joins the texts of the innermost part, which begins at `from`, that meet.
@@ -186,12 +193,20 @@ pub(crate) fn join_texts(items: &mut Vec<Item>, from: usize) -> Result<(), Memor
     if from == items.len() {
         return Ok(());
     }
-    let mut i = from + 1;
-    while i < items.len() {
-        if !join_pair(items, i)? {
-            i += 1;
+    let mut last = from;
+    let mut next = from + 1;
+    while next < items.len() {
+        match join_next(items, last, next) {
+            Ok(true) => {}
+            Ok(false) => last += 1,
+            Err(error) => {
+                close_gap(items, last + 1, next);
+                return Err(error);
+            }
         }
+        next += 1;
     }
+    items.truncate(last + 1);
     Ok(())
 }
 

@@ -1,9 +1,15 @@
-use Rattle.std.proofs.Common.{◌≡◌, ◌-◌, ◌<◌, length, take}
-use Rattle.csl_tree.specs.Flat.{parts, IsJoined}
+use Rattle.std.proofs.Common.{◌≡◌, ◌+◌, ◌-◌, ◌<◌, ◌≤◌, length, take}
+use Rattle.csl_tree.specs.Flat.{parts, kept, IsJoined}
 use Rattle.csl_tree.proofs.flat_items.join_texts.Given as goal
 
-abbrev pub invariant-loop-i : goal.invariant-loop-i
-invariant-loop-i l = (0 < l.i) × (parts l.items.items ≡ parts l.fn.items.items) × IsJoined (take l.i l.items.items)
+-- the items up to the last that is kept, and those from the next one on, are all
+abbrev pub invariant-loop-next : goal.invariant-loop-next
+invariant-loop-next l = record {
+  order : l.last < l.next;
+  within : l.next ≤ length l.items.items;
+  same : parts (kept l.items.items l.last l.next) ≡ parts l.fn.items.items;
+  joined : IsJoined (take (l.last + 1) l.items.items);
+}
 
-abbrev pub decreases-loop-i : goal.decreases-loop-i
-decreases-loop-i l = length l.items.items - l.i
+abbrev pub decreases-loop-next : goal.decreases-loop-next
+decreases-loop-next l = length l.items.items - l.next
