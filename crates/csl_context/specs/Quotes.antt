@@ -11,7 +11,7 @@ use Rattle.csl_style.specs.Style.{StyleParts}
 use Rattle.csl_tree.specs.Tokens.{Token, has_children}
 use Rattle.csl_tree.specs.Content.{◌++>◌, affixed}
 use Rattle.csl_context.specs.State.{Inherited}
-use Rattle.csl_context.specs.Texts.{text_in, text_in_if, affixed_in}
+use Rattle.csl_context.specs.Texts.{text_in_if, affixed_in}
 use Rattle.csl_context.specs.World.{term_in}
 
 -- inside of an odd number of quotes stand the inner ones

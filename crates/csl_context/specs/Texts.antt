@@ -30,6 +30,11 @@ abbrev pub text_of_if : Bool → Formatting → Option (List ℕ) → List Token
 text_of_if stripping f None = []
 text_of_if stripping f (Some bs) = text_of stripping f bs
 
+-- the bytes of a text as it is written, if there is one
+abbrev pub stripped_if : Bool → Option (List ℕ) → List ℕ
+stripped_if stripping None = []
+stripped_if stripping (Some bs) = stripped stripping bs
+
 -- a text in what it inherits
 abbrev pub text_in : Inherited → List ℕ → List Token
 text_in inh bs = text_of inh.stripping inh.formatting bs

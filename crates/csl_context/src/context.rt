@@ -12,7 +12,7 @@ ghost use Rattle.csl_context.specs.Left.{state_left};
 use crate::error::RenderError;
 use csl_entry::{InstanceContext, NameDisambiguationProperties, Sorting, SpecialForm};
 use csl_style::{InheritedNameOptions, Scope, Style, Variable};
-use csl_tree::{ElemChildren, Formatting};
+use csl_tree::{ElemChildren, FlatTree, Formatting};
 use lit_model::Memory;
 use std::alloc::Global;
 use std::collections::BTreeSet;
@@ -32,8 +32,7 @@ pub struct Context<'s, T> {
 #[derive(Drop)]
 pub struct WritingContext<'s> {
     pub(crate) alloc: Global,
-    pub(crate) inner: ElemChildren,
-    pub(crate) outer: Vec<ElemChildren>,
+    pub(crate) content: FlatTree,
     pub(crate) formatting: Formatting,
     pub(crate) formats: Vec<Formatting>,
     pub(crate) delimiter: Option<&'s str>,
@@ -52,7 +51,6 @@ impl<'s, T> Model for Context<'s, T> {
     ghost use Rattle.csl_style.specs.contracts.element.CslMacro as of_macro;
     ghost use Rattle.csl_style.specs.contracts.element.Layout as of_layout;
     ghost use Rattle.csl_style.specs.NameOptions.{inherited_options};
-    ghost use Rattle.csl_tree.specs.Tokens.{tokens};
     ghost use Rattle.csl_entry.specs.Cite.{cite_state};
     ghost use Rattle.csl_context.specs.Left.{state_left};
     ghost use Rattle.csl_context.specs.Now.{Now};
@@ -68,8 +66,8 @@ impl<'s, T> Model for Context<'s, T> {
       cite = cite_state c.instance.cite_props.now;
       sorting = c.instance.sorting;
       special = c.instance.kind;
-      inner = tokens c.writing.inner;
-      outer = reverse (map tokens c.writing.outer.items);
+      inner = c.writing.content.inner;
+      outer = c.writing.content.outer;
       inherited = record {
         formatting = c.writing.formatting;
         delimiter = option_map (λ t. t.now) c.writing.delimiter;
@@ -171,8 +169,7 @@ fn begin<'s, T>(
         instance,
         writing: WritingContext {
             alloc,
-            inner: ElemChildren::new(alloc),
-            outer: Vec::new(alloc),
+            content: FlatTree::new(alloc),
             formatting: Formatting::default(),
             formats: Vec::new(alloc),
             delimiter: None,
@@ -240,10 +237,14 @@ impl<'s, T> Context<'s, T> {
         if self.writing.failed {
             return Err(RenderError::Failed);
         }
-        Ok(Rendered {
-            content: self.writing.inner,
-            state: self.writing.state,
-        })
+        let writing = self.writing;
+        match writing.content.finish() {
+            Ok(content) => Ok(Rendered {
+                content,
+                state: writing.state,
+            }),
+            Err(_) => Err(RenderError::Memory),
+        }
     }
 
     /// Marks the context as failed.

@@ -3,7 +3,7 @@
 ghost use Rattle.std.specs.Prelude.{◌≡◌, ◌+◌, length, false, true, option_map, IfOk, OnOk, IfErr};
 ghost use Rattle.csl_style.specs.Dressing.{affix_texts};
 ghost use Rattle.csl_tree.specs.Content.{◌++>◌, affixed};
-ghost use Rattle.csl_tree.specs.Tokens.{tokens};
+ghost use Rattle.csl_tree.specs.Flat.{affix_content};
 ghost use Rattle.csl_context.specs.Texts.{text_in_if, between_in};
 ghost use Rattle.csl_context.specs.Quotes.{opening, closing, quote, front, behind_front, moved_front, has_moved, affixed_after};
 ghost use Rattle.csl_context.specs.Now.{FailsAs, Leaves, IsInnermost, with_part, closed_by, turned, with_quotes};
@@ -12,9 +12,8 @@ use crate::context::Context;
 use crate::error::RenderError;
 use crate::mark::Mark;
 use csl_style::{Affixes, OtherTerm, Term, TermForm};
-use csl_tree::ElemChildren;
+use csl_tree::Formatted;
 use lit_model::Memory;
-use std::mem;
 
 /// The comma or period that a suffix begins with.
 fn front(suffix: &str) -> Option<&'static str>
@@ -133,35 +132,27 @@ impl<'s, T> Context<'s, T> {
         }
     }
 
-    /// Closes a part, and writes it between two contents in the part around it, unless it is
-    /// empty.
+    /// Closes a part, and writes it between two texts as they stand, unless it is empty.
     fn splice_between(
         &mut self,
         mark: Mark,
-        before: ElemChildren,
-        after: ElemChildren,
+        before: Option<Formatted>,
+        after: Option<Formatted>,
     ) -> Result<(), RenderError>
         requires innermost { IsInnermost mark self.old }
         ensures ok { OnOk result (Leaves
-            (closed_by (λ _ c. affixed (tokens before) (tokens after) c)) self.old self.new) }
+            (closed_by (λ _ c. affixed (affix_content before) (affix_content after) c))
+            self.old self.new) }
         ensures err { IfErr result (λ e. FailsAs e self.old self.new) }
     {
         if self.writing.failed {
             return Err(RenderError::Failed);
         }
-        match self.writing.outer.pop() {
-            None => unreachable!(),
-            Some(part) => {
-                let middle = mem::replace(&mut self.writing.inner, part);
-                let alloc = self.writing.alloc;
-                let inner = &mut self.writing.inner;
-                match inner.push_between(alloc, before, middle, after) {
-                    Ok(()) => Ok(()),
-                    Err(_) => {
-                        self.writing.failed = true;
-                        Err(RenderError::Memory)
-                    }
-                }
+        match self.writing.content.close_spliced(before, after) {
+            Ok(()) => Ok(()),
+            Err(_) => {
+                self.writing.failed = true;
+                Err(RenderError::Memory)
             }
         }
     }
@@ -204,40 +195,43 @@ impl<'s, T> Context<'s, T> {
         }
     }
 
-    /// The content of the opening quote.
-    fn opening_content(&self) -> Result<ElemChildren, Memory>
-        ensures { IfOk result (λ c. tokens c ≡ text_in_if self.now.inherited
+    /// The opening quote.
+    fn opening_affix(&self) -> Result<Option<Formatted>, Memory>
+        ensures { IfOk result (λ t. affix_content t ≡ text_in_if self.now.inherited
             (quote self.now.style (opening self.now.inherited.in_quotes))) }
     {
         let open = self.quote(opening(self.in_quotes()));
-        let content = self.pen().content(open)?;
-        Ok(content)
+        let affix = self.pen().affix(open)?;
+        Ok(affix)
     }
 
-    /// The content of the closing quote behind what is moved before it.
-    fn closing_content(&self, suffix: Option<&str>) -> Result<ElemChildren, Memory>
-        ensures { IfOk result (λ c. tokens c ≡ text_in_if self.now.inherited
+    /// The closing quote behind what is moved before it.
+    fn closing_affix(&self, suffix: Option<&str>) -> Result<Option<Formatted>, Memory>
+        ensures { IfOk result (λ t. affix_content t ≡ text_in_if self.now.inherited
             (moved_front self.now.style (option_map (λ t. t.now) suffix.entry))
             ++> text_in_if self.now.inherited
             (quote self.now.style (closing self.now.inherited.in_quotes))) }
     {
         let front = self.moved_front(suffix);
         let close = self.quote(closing(self.in_quotes()));
-        let content = self.pen().contents(front, close)?;
-        Ok(content)
+        let affix = self.pen().affix_of_two(front, close)?;
+        Ok(affix)
     }
 
     /// The two.
-    fn quotes_around(&self, suffix: Option<&str>) -> Result<(ElemChildren, ElemChildren), Memory>
-        ensures before { IfOk result (λ c. tokens c.0 ≡ text_in_if self.now.inherited
+    fn quotes_around(
+        &self,
+        suffix: Option<&str>,
+    ) -> Result<(Option<Formatted>, Option<Formatted>), Memory>
+        ensures before { IfOk result (λ t. affix_content t.0 ≡ text_in_if self.now.inherited
             (quote self.now.style (opening self.now.inherited.in_quotes))) }
-        ensures after { IfOk result (λ c. tokens c.1 ≡ text_in_if self.now.inherited
+        ensures after { IfOk result (λ t. affix_content t.1 ≡ text_in_if self.now.inherited
             (moved_front self.now.style (option_map (λ t. t.now) suffix.entry))
             ++> text_in_if self.now.inherited
             (quote self.now.style (closing self.now.inherited.in_quotes))) }
     {
-        let before = self.opening_content()?;
-        let after = self.closing_content(suffix)?;
+        let before = self.opening_affix()?;
+        let after = self.closing_affix(suffix)?;
         Ok((before, after))
     }
 
@@ -246,7 +240,7 @@ impl<'s, T> Context<'s, T> {
         ensures { result ≡ has_moved self.now.style (option_map (λ t. t.now) suffix.entry)
             self.now.inner }
     {
-        self.moved_front(suffix).is_some() && self.writing.inner.has_children()
+        self.moved_front(suffix).is_some() && !self.writing.content.is_empty()
     }
 
     /// Closes the inside of quotes on their outside.

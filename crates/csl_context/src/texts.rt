@@ -1,11 +1,12 @@
 //! Texts, markups and links behind what is written (CSL 1.0.2, Formatting, Strip-periods).
 
-ghost use Rattle.std.specs.Prelude.{◌≡◌, [], ◌∷◌, string_bytes, option_map, IfOk, OnOk};
-ghost use Rattle.csl_tree.specs.Content.{◌++>◌, markup_content, link_content, Appends};
-ghost use Rattle.csl_tree.specs.Tokens.{tokens, solid, transparent};
-ghost use Rattle.csl_context.specs.Texts.{without_periods, text_of, text_of_if};
+ghost use Rattle.std.specs.Prelude.{◌≡◌, [], ◌∷◌, ◌++◌, string_bytes, option_map, IfOk, OnOk};
+ghost use Rattle.csl_tree.specs.Content.{◌++>◌, markup_content, link_content};
+ghost use Rattle.csl_tree.specs.Flat.{with_tokens, affix_content};
+ghost use Rattle.csl_tree.specs.Tokens.{solid, transparent};
+ghost use Rattle.csl_context.specs.Texts.{without_periods, stripped, stripped_if, text_of, text_of_if};
 
-use csl_tree::{ElemChild, ElemChildren, Formatting};
+use csl_tree::{ElemChild, FlatTree, Formatted, Formatting};
 use lit_model::Memory;
 use std::alloc::Global;
 
@@ -26,107 +27,131 @@ pub(crate) struct Pen {
 }
 
 impl Pen {
-    /// Writes a text behind some children.
-    pub(crate) fn write(self, part: &mut ElemChildren, text: &str) -> Result<(), Memory>
-        ensures { OnOk result (Appends part.old part.new
-            (text_of self.stripping self.formatting text.now)) }
+    /// Writes a text into the innermost part.
+    pub(crate) fn write(self, parts: &mut FlatTree, text: &str) -> Result<(), Memory>
+        ensures { OnOk result (parts.new
+            ≡ with_tokens (text_of self.stripping self.formatting text.now) parts.old) }
     {
         if self.stripping {
             let text = without_periods(self.alloc, text)?;
-            part.push_text(self.alloc, text.as_str(), self.formatting)
+            parts.push_text(text.as_str(), self.formatting)
         } else {
-            part.push_text(self.alloc, text, self.formatting)
+            parts.push_text(text, self.formatting)
         }
     }
 
-    /// Writes a text behind some children, if there is one.
-    fn write_if(self, part: &mut ElemChildren, text: Option<&str>) -> Result<(), Memory>
-        ensures { OnOk result (Appends part.old part.new
-            (text_of_if self.stripping self.formatting (option_map (λ t. t.now) text.entry))) }
+    /// A copy of a text as it is written.
+    fn copy(self, text: &str) -> Result<String, Memory>
+        ensures { IfOk result (λ s. string_bytes s ≡ stripped self.stripping text.now) }
+    {
+        if self.stripping {
+            without_periods(self.alloc, text)
+        } else {
+            let copy = String::from_str(self.alloc, text)?;
+            Ok(copy)
+        }
+    }
+
+    /// Writes a text behind another, if there is one.
+    fn add(self, all: &mut String, text: Option<&str>) -> Result<(), Memory>
+        ensures { OnOk result (string_bytes all.new ≡ string_bytes all.old
+            ++ stripped_if self.stripping (option_map (λ t. t.now) text.entry)) }
     {
         match text {
-            Some(text) => self.write(part, text),
+            Some(text) => {
+                let text = self.copy(text)?;
+                all.push_str(text.as_str())?;
+                Ok(())
+            }
             None => Ok(()),
         }
     }
 
-    /// The content of a text, if there is one.
-    pub(crate) fn content(self, text: Option<&str>) -> Result<ElemChildren, Memory>
-        ensures { IfOk result (λ c. tokens c
+    /// A text, if there is one.
+    pub(crate) fn affix(self, text: Option<&str>) -> Result<Option<Formatted>, Memory>
+        ensures { IfOk result (λ t. affix_content t
             ≡ text_of_if self.stripping self.formatting (option_map (λ t. t.now) text.entry)) }
     {
-        let mut content = ElemChildren::new(self.alloc);
-        self.write_if(&mut content, text)?;
-        Ok(content)
+        match text {
+            Some(text) => {
+                let text = self.copy(text)?;
+                Ok(Some(self.formatting.add_text(text)))
+            }
+            None => Ok(None),
+        }
     }
 
-    /// The contents of two texts, as far as they are there.
+    /// Two texts, as far as they are there.
     pub(crate) fn affixes(
         self,
         prefix: Option<&str>,
         suffix: Option<&str>,
-    ) -> Result<(ElemChildren, ElemChildren), Memory>
-        ensures before { IfOk result (λ c. tokens c.0
+    ) -> Result<(Option<Formatted>, Option<Formatted>), Memory>
+        ensures before { IfOk result (λ t. affix_content t.0
             ≡ text_of_if self.stripping self.formatting (option_map (λ t. t.now) prefix.entry)) }
-        ensures after { IfOk result (λ c. tokens c.1
+        ensures after { IfOk result (λ t. affix_content t.1
             ≡ text_of_if self.stripping self.formatting (option_map (λ t. t.now) suffix.entry)) }
     {
-        let before = self.content(prefix)?;
-        let after = self.content(suffix)?;
+        let before = self.affix(prefix)?;
+        let after = self.affix(suffix)?;
         Ok((before, after))
     }
 
-    /// The content of two texts in a row, as far as they are there.
-    pub(crate) fn contents(
+    /// Two texts in a row, as far as they are there.
+    pub(crate) fn affix_of_two(
         self,
         first: Option<&str>,
         second: Option<&str>,
-    ) -> Result<ElemChildren, Memory>
-        ensures { IfOk result (λ c. tokens c
+    ) -> Result<Option<Formatted>, Memory>
+        ensures { IfOk result (λ t. affix_content t
             ≡ text_of_if self.stripping self.formatting (option_map (λ t. t.now) first.entry)
             ++> text_of_if self.stripping self.formatting (option_map (λ t. t.now) second.entry)) }
     {
-        let mut content = self.content(first)?;
-        self.write_if(&mut content, second)?;
-        Ok(content)
+        let mut text = String::new(self.alloc);
+        self.add(&mut text, first)?;
+        self.add(&mut text, second)?;
+        Ok(Some(Formatted {
+            text,
+            formatting: self.formatting,
+        }))
     }
 }
 
 impl Pen {
-    /// Writes a markup behind some children, unless it is empty.
-    pub(crate) fn write_markup(self, part: &mut ElemChildren, text: &str) -> Result<(), Memory>
-        ensures { OnOk result (Appends part.old part.new (markup_content text.now)) }
+    /// Writes a markup into the innermost part, unless it is empty.
+    pub(crate) fn write_markup(self, parts: &mut FlatTree, text: &str) -> Result<(), Memory>
+        ensures { OnOk result (parts.new ≡ with_tokens (markup_content text.now) parts.old) }
     {
         let markup = String::from_str(self.alloc, text)?;
-        part.push_child(self.alloc, ElemChild::Markup(markup))
+        parts.push(ElemChild::Markup(markup))
     }
 
-    /// Writes a link behind some children, unless its text is empty.
+    /// Writes a link into the innermost part, unless its text is empty.
     pub(crate) fn write_link(
         self,
-        part: &mut ElemChildren,
+        parts: &mut FlatTree,
         text: &str,
         url: &str,
     ) -> Result<(), Memory>
-        ensures { OnOk result (Appends part.old part.new
-            (link_content text.now self.formatting url.now)) }
+        ensures { OnOk result (parts.new
+            ≡ with_tokens (link_content text.now self.formatting url.now) parts.old) }
     {
         let text = String::from_str(self.alloc, text)?;
         let text = self.formatting.add_text(text);
         let url = String::from_str(self.alloc, url)?;
-        part.push_child(self.alloc, ElemChild::Link { text, url })
+        parts.push(ElemChild::Link { text, url })
     }
 
-    /// Writes a place that the caller fills behind some children.
+    /// Writes a place that the caller fills into the innermost part.
     pub(crate) fn write_transparent(
         self,
-        part: &mut ElemChildren,
+        parts: &mut FlatTree,
         cite_idx: usize,
     ) -> Result<(), Memory>
-        ensures { OnOk result (Appends part.old part.new
-            (solid (transparent cite_idx self.formatting) ∷ [])) }
+        ensures { OnOk result (parts.new
+            ≡ with_tokens (solid (transparent cite_idx self.formatting) ∷ []) parts.old) }
     {
         let format = self.formatting;
-        part.push_child(self.alloc, ElemChild::Transparent { cite_idx, format })
+        parts.push(ElemChild::Transparent { cite_idx, format })
     }
 }

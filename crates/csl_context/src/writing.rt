@@ -1,8 +1,9 @@
 //! What is written into the open parts of a context.
 
-ghost use Rattle.std.specs.Prelude.{◌≡◌, ◌+◌, not, length, false, true, IfOk, OnOk, IfErr};
+ghost use Rattle.std.specs.Prelude.{◌≡◌, ◌+◌, ◌<◌, not, [], length, false, true, IfOk, OnOk, IfErr};
 ghost use Rattle.lit_model.specs.Text.{chunk_of, chunks};
 ghost use Rattle.csl_tree.specs.Content.{boxed, text_content, markup_content};
+ghost use Rattle.csl_tree.specs.Flat.{closed_as};
 ghost use Rattle.csl_tree.specs.Tokens.{optional_meta, has_text, has_children};
 ghost use Rattle.csl_context.specs.Texts.{text_in, gap_after, chunk_in, chunks_in, link_in, transparent_in};
 ghost use Rattle.csl_context.specs.Now.{FailsAs, Leaves, IsInnermost, same, with_content, with_space, with_part, closed_by, dropped};
@@ -12,9 +13,25 @@ use crate::error::RenderError;
 use crate::mark::Mark;
 use crate::texts::Pen;
 use csl_style::Display;
-use csl_tree::{ElemChildren, ElemMeta};
-use lit_model::{ChunkKind, ChunkedString, StringChunk};
-use std::mem;
+use csl_tree::{ElemMeta, FlatTree};
+use lit_model::{ChunkKind, ChunkedString, Memory, StringChunk};
+
+/// Closes the innermost part, and leaves what stands in it in the part around it.
+fn splice_part(parts: &mut FlatTree) -> Result<(), Memory>
+    requires is_open { 0 < length parts.old.outer }
+    ensures { OnOk result (parts.new ≡ closed_as parts.old.inner parts.old) }
+{
+    parts.close_spliced(None, None)?;
+    Ok(())
+}
+
+/// Closes the innermost part, and leaves nothing of it in the part around it.
+fn drop_part(parts: &mut FlatTree)
+    requires is_open { 0 < length parts.old.outer }
+    ensures { parts.new ≡ closed_as [] parts.old }
+{
+    parts.discard();
+}
 
 impl<'s, T> Context<'s, T> {
     /// Writes nothing. It tells a context that has failed.
@@ -57,7 +74,7 @@ impl<'s, T> Context<'s, T> {
             return Err(RenderError::Failed);
         }
         let pen = self.pen();
-        match pen.write(&mut self.writing.inner, text) {
+        match pen.write(&mut self.writing.content, text) {
             Ok(()) => Ok(()),
             Err(_) => {
                 self.writing.failed = true;
@@ -77,11 +94,7 @@ impl<'s, T> Context<'s, T> {
             return Err(RenderError::Failed);
         }
         let pen = self.pen();
-        match self
-            .writing
-            .inner
-            .push_text(pen.alloc, text, pen.formatting)
-        {
+        match self.writing.content.push_text(text, pen.formatting) {
             Ok(()) => Ok(()),
             Err(_) => {
                 self.writing.failed = true;
@@ -100,7 +113,7 @@ impl<'s, T> Context<'s, T> {
             return Err(RenderError::Failed);
         }
         let pen = self.pen();
-        match pen.write_markup(&mut self.writing.inner, text) {
+        match pen.write_markup(&mut self.writing.content, text) {
             Ok(()) => Ok(()),
             Err(_) => {
                 self.writing.failed = true;
@@ -157,7 +170,7 @@ impl<'s, T> Context<'s, T> {
             return Err(RenderError::Failed);
         }
         let pen = self.pen();
-        match pen.write_link(&mut self.writing.inner, text, url) {
+        match pen.write_link(&mut self.writing.content, text, url) {
             Ok(()) => Ok(()),
             Err(_) => {
                 self.writing.failed = true;
@@ -181,7 +194,7 @@ impl<'s, T> Context<'s, T> {
             return Err(RenderError::Failed);
         }
         let pen = self.pen();
-        match pen.write_transparent(&mut self.writing.inner, cite_idx) {
+        match pen.write_transparent(&mut self.writing.content, cite_idx) {
             Ok(()) => Ok(()),
             Err(_) => {
                 self.writing.failed = true;
@@ -207,7 +220,7 @@ impl<'s, T> Context<'s, T> {
     fn gap(&self) -> &'static str
         ensures { result.now ≡ gap_after self.now.inner }
     {
-        if self.writing.inner.has_text() && !self.writing.inner.ends_in_white_space() {
+        if self.writing.content.has_text() && !self.writing.content.ends_in_white_space() {
             " "
         } else {
             ""
@@ -218,14 +231,14 @@ impl<'s, T> Context<'s, T> {
     pub fn open_part_has_text(&self) -> bool
         ensures { result ≡ has_text self.now.inner }
     {
-        self.writing.inner.has_text()
+        self.writing.content.has_text()
     }
 
     /// Whether nothing is written in the innermost open part.
     pub fn open_part_is_empty(&self) -> bool
         ensures { result ≡ not (has_children self.now.inner) }
     {
-        !self.writing.inner.has_children()
+        self.writing.content.is_empty()
     }
 
     /// Opens an element.
@@ -241,10 +254,8 @@ impl<'s, T> Context<'s, T> {
         if self.writing.failed {
             return Err(RenderError::Failed);
         }
-        let depth = self.writing.outer.len();
-        let opened = ElemChildren::new(self.writing.alloc);
-        let part = mem::replace(&mut self.writing.inner, opened);
-        match self.writing.outer.push(part) {
+        let depth = self.writing.content.depth() - 1;
+        match self.writing.content.open() {
             Ok(()) => Ok(Mark { depth }),
             Err(_) => {
                 self.writing.failed = true;
@@ -272,17 +283,11 @@ impl<'s, T> Context<'s, T> {
         if self.writing.failed {
             return Err(RenderError::Failed);
         }
-        match self.writing.outer.pop() {
-            None => unreachable!(),
-            Some(part) => {
-                let content = mem::replace(&mut self.writing.inner, part);
-                match self.writing.inner.push_box(content, display, meta) {
-                    Ok(()) => Ok(()),
-                    Err(_) => {
-                        self.writing.failed = true;
-                        Err(RenderError::Memory)
-                    }
-                }
+        match self.writing.content.close_elem(display, meta) {
+            Ok(()) => Ok(()),
+            Err(_) => {
+                self.writing.failed = true;
+                Err(RenderError::Memory)
             }
         }
     }
@@ -296,12 +301,7 @@ impl<'s, T> Context<'s, T> {
         if self.writing.failed {
             return;
         }
-        match self.writing.outer.pop() {
-            None => unreachable!(),
-            Some(part) => {
-                self.writing.inner = part;
-            }
-        }
+        drop_part(&mut self.writing.content);
     }
 
     /// Closes a part, and leaves what was written in it in the part around it.
@@ -317,18 +317,11 @@ impl<'s, T> Context<'s, T> {
         if self.writing.failed {
             return Err(RenderError::Failed);
         }
-        match self.writing.outer.pop() {
-            None => unreachable!(),
-            Some(part) => {
-                let content = mem::replace(&mut self.writing.inner, part);
-                let alloc = self.writing.alloc;
-                match self.writing.inner.append(alloc, content) {
-                    Ok(()) => Ok(()),
-                    Err(_) => {
-                        self.writing.failed = true;
-                        Err(RenderError::Memory)
-                    }
-                }
+        match splice_part(&mut self.writing.content) {
+            Ok(()) => Ok(()),
+            Err(_) => {
+                self.writing.failed = true;
+                Err(RenderError::Memory)
             }
         }
     }
