@@ -6,5 +6,6 @@ pub mod ListWays
 pub mod NamesLists
 pub mod PersonLists
 pub mod NamesForms
+pub mod KeptForms
 pub mod NamesContent
 pub mod NamesStyles

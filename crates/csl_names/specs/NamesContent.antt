@@ -13,14 +13,16 @@ use Rattle.csl_style.specs.NamesParts.{default_name, default_et_al}
 use Rattle.csl_style.specs.Style.{StyleParts}
 use Rattle.csl_tree.specs.Tokens.{Token, Meta, of_names}
 use Rattle.csl_tree.specs.Content.{◌++>◌, boxed}
-use Rattle.csl_context.specs.State.{Inherited}
+use Rattle.csl_entry.specs.Cite.{CiteState}
+use Rattle.csl_context.specs.State.{State, Inherited}
 use Rattle.csl_context.specs.Texts.{text_in, affixed_in}
 use Rattle.csl_context.specs.World.{term_in}
 use Rattle.csl_names.specs.Piece.{under, written}
 use Rattle.csl_names.specs.NameList.{Forms, name_list}
 use Rattle.csl_names.specs.ListWays.{list_way}
 use Rattle.csl_names.specs.NamesLists.{Lists}
-use Rattle.csl_names.specs.NamesForms.{default_forms, count_of, counted}
+use Rattle.csl_names.specs.NamesForms.{count_of, counted}
+use Rattle.csl_names.specs.KeptForms.{forms_in, keeping_by}
 
 -- ---- how the lists are written
 
@@ -126,17 +128,22 @@ abbrev pub inside : Dressing → Inherited → Inherited
 inside d inh = under d.formatting inh
 
 -- a names node writes how many names there are, or the names
-abbrev pub written_by : NameForm → StyleParts → Bool → Bool → NamesHow → Lists → Inherited → List Token
-written_by Count style sorting later how ls inh = text_in inh (decimal (counted (count_of how.options later ls)))
-written_by Short style sorting later how ls inh = with_lists style sorting how inh true 0 (default_forms how.options later ls) ls []
-written_by Long style sorting later how ls inh = with_lists style sorting how inh true 0 (default_forms how.options later ls) ls []
+abbrev pub written_by : NameForm → StyleParts → Bool → CiteState → List NameVariable → NamesHow → Lists → Inherited → List Token
+written_by Count style sorting cite vs how ls inh = text_in inh (decimal (counted (count_of how.options (not cite.is_first) ls)))
+written_by Short style sorting cite vs how ls inh = with_lists style sorting how inh true 0 (forms_in cite vs how.options ls).lists ls []
+written_by Long style sorting cite vs how ls inh = with_lists style sorting how inh true 0 (forms_in cite vs how.options ls).lists ls []
 
 -- which node the box is said to be
 abbrev pub lists_meta : Lists → Option Meta
 lists_meta ls = Some (of_names ls)
 
--- the box of a names node that has persons, around the affixed lists, in a style, for a sort key or not, in a later cite or a first
-abbrev pub names_content : StyleParts → Bool → Bool → NamesNode → Lists → Inherited → List Token
-names_content style sorting later n ls inh = boxed n.dressing.display (lists_meta ls)
+-- the box of a names node that has persons, around the affixed lists, in a style and a cite, for a sort key or not
+abbrev pub names_content : StyleParts → Bool → CiteState → NamesNode → Lists → Inherited → List Token
+names_content style sorting cite n ls inh = boxed n.dressing.display (lists_meta ls)
     (affixed_in (inside n.dressing inh) n.dressing.affixes
-    (written_by (names_how n inh.options).options.form style sorting later (names_how n inh.options) ls (inside n.dressing inh)))
+    (written_by (names_how n inh.options).options.form style sorting cite n.variables (names_how n inh.options) ls (inside n.dressing inh)))
+
+-- the state behind it: the first names that are not counted keep their forms
+abbrev pub names_state : CiteState → NamesNode → Lists → Inherited → State → State
+names_state cite n ls inh s =
+    keeping_by (names_how n inh.options).options.form (forms_in cite n.variables (names_how n inh.options).options ls) s

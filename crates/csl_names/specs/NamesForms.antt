@@ -1,6 +1,6 @@
 -- In which form each name of a names node is written, which are left out, and when none is written (CSL 1.0.2, Name: form,
 -- initialize, et-al-min and those after it).
-use Rattle.std.specs.Prelude.{ℕ, ◌+◌, Bool, true, false, not, ◌&&◌, ◌||◌, ◌==◌, nat_le, min, List, [], ◌∷◌, map, length, count_by, Option, Some, None, is_some, if◌then◌else◌}
+use Rattle.std.specs.Prelude.{ℕ, ◌+◌, Bool, false, not, ◌&&◌, ◌||◌, ◌==◌, nat_le, min, List, [], ◌∷◌, map, length, count_by, Option, Some, None, is_some, if◌then◌else◌}
 use Rattle.std.specs.List.{list_all, range_with_len}
 use Rattle.csl_style.specs.declared.names.NameForm.{NameForm}
 use Rattle.csl_style.specs.declared.names.NameForm.TheVariants.{Count, Short, Long}

@@ -17,7 +17,7 @@ use Rattle.csl_entry.specs.declared.cite.SpecialForm.{SpecialForm}
 use Rattle.csl_entry.specs.declared.cite.SpecialForm.TheVariants.{VarOnly, OnlyFirstDate, OnlyYearSuffix, SuppressAuthor}
 use Rattle.csl_context.specs.State.{State, Inherited}
 use Rattle.csl_context.specs.World.{World}
-use Rattle.csl_names.specs.NamesContent.{lists_meta, names_content}
+use Rattle.csl_names.specs.NamesContent.{lists_meta, names_content, names_state}
 use Rattle.csl_names.specs.NamesForms.{is_void}
 use Rattle.csl_names.specs.NamesLists.{Lists, all_empty}
 use Rattle.csl_leaves.specs.Flags.{flags, Info, info_of, nothing_said}
@@ -124,8 +124,10 @@ suppressing_from s = record s { suppressing = true }
 abbrev pub substitute_made : NamesNode → Lists → Made → State → Made
 substitute_made n ls m s = made (boxed n.dressing.display (lists_meta ls) m.content) (record m.state { suppressing = s.suppressing })
 
+-- the first names that are not counted keep their forms
 abbrev pub own_made : World → NamesNode → Lists → Inherited → State → Made
-own_made w n ls inh s = made (names_content w.style (is_some w.instance.sorting) (not w.instance.cite.is_first) n ls inh) s
+own_made w n ls inh s =
+    made (names_content w.style (is_some w.instance.sorting) w.instance.cite n ls inh) (names_state w.instance.cite n ls inh s)
 
 -- in the state after the looks for these lists: nothing, what the substitute makes, or the lists
 abbrev pub names_made : World → NamesNode → Lists → Bool → Inherited → Made → State → Made

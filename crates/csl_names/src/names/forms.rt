@@ -16,7 +16,7 @@ use lit_model::Memory;
 use std::alloc::Global;
 
 /// The form of each name that is shown.
-fn default_form(options: NameOptions<'_>) -> DisambiguatedNameForm
+pub(crate) fn default_form(options: NameOptions<'_>) -> DisambiguatedNameForm
     ensures { result ≡ default_form (used_options options.entry) }
 {
     let initialized = options.initialize && options.initialize_with.is_some();

@@ -1,22 +1,23 @@
 //! The box of a names node that has persons (CSL 1.0.2, Names; Affixes; Display; Name: form).
 
-ghost use Rattle.std.specs.Prelude.{◌≡◌, [], Some, true, map, is_some, not, decimal, IfOk, OnOk, IfErr};
+ghost use Rattle.std.specs.Prelude.{◌≡◌, [], Some, true, map, is_some, decimal, IfOk, OnOk, IfErr};
 ghost use Rattle.std.specs.Bool.{OnFalse};
 ghost use Rattle.lit_model.specs.Person.{named};
 ghost use Rattle.csl_style.specs.NameOptions.{inherited_options};
 ghost use Rattle.csl_style.specs.Names.{view_name, view_et_al};
 ghost use Rattle.csl_style.specs.NamesParts.{parts_node, default_name, default_et_al};
-ghost use Rattle.csl_tree.specs.Content.{boxed};
+ghost use Rattle.csl_tree.specs.Content.{◌++>◌, boxed};
 ghost use Rattle.csl_tree.specs.Tokens.{meta_of};
 ghost use Rattle.csl_entry.specs.Answers.{behind};
 ghost use Rattle.csl_context.specs.Texts.{text_in};
 ghost use Rattle.csl_context.specs.Now.{FailsAs, Leaves, IsInnermost, closed_by, with_content};
-ghost use Rattle.csl_names.specs.NamesForms.{default_forms};
-ghost use Rattle.csl_names.specs.NamesContent.{names_how, with_lists, written_by, names_content, lists_meta};
+ghost use Rattle.csl_names.specs.KeptForms.{forms_in, keeping, keeping_by};
+ghost use Rattle.csl_names.specs.NamesContent.{names_how, with_lists, written_by, names_content, names_state, lists_meta};
 ghost use Rattle.csl_names.specs.NamesStyles.{names_of};
 ghost use Rattle.csl_names.specs.PersonLists.{list_of};
 
-use crate::names::forms::{count_of, default_forms};
+use crate::names::forms::count_of;
+use crate::names::kept::forms_in;
 use crate::names::lists::PersonList;
 use crate::names::options::options_over;
 use crate::names::written::NamesStyle;
@@ -92,49 +93,54 @@ fn put_count<T>(ctx: &mut Context<'_, T>, count: usize) -> Result<(), RenderErro
     }
 }
 
-/// Writes the lists, each name in the form that the options give it.
+/// Writes the lists, each name in its form. The first forms that are written are kept.
 fn put_all<T>(
     ctx: &mut Context<'_, T>,
     style: NamesStyle<'_>,
-    later: bool,
+    variables: &[NameVariable],
     lists: &[PersonList<'_>],
 ) -> Result<(), RenderError>
     ensures ok { OnOk result (Leaves (λ now. record now {
       inner = with_lists now.style
           (is_some now.sorting) (names_of style.entry) now.inherited true 0
-          (default_forms (names_of style.entry).options later (map list_of lists.now))
-          (map list_of lists.now) now.inner;
+          (forms_in now.cite variables.now (names_of style.entry).options
+          (map list_of lists.now)).lists (map list_of lists.now) now.inner;
+      state = keeping (forms_in now.cite variables.now (names_of style.entry).options
+          (map list_of lists.now)) now.state;
     }) ctx.old ctx.new) }
     ensures err { IfErr result (λ e. FailsAs e ctx.old ctx.new) }
 {
-    ctx.nothing()?;
-    match default_forms(ctx.alloc(), style.options, later, lists) {
-        Ok(forms) => style.put_lists(ctx, lists, &forms),
-        Err(_) => {
-            ctx.fail();
-            Err(RenderError::Memory)
-        }
-    }
+    let forms = forms_in(ctx, variables, style.options, lists)?;
+    style.put_lists(ctx, lists, forms.name_forms())?;
+    ctx.keep_first_name_properties(forms);
+    Ok(())
 }
 
-/// Writes how many names there are, or the names, into a part in which nothing is written.
+/// Writes how many names there are, or the names, into a part in which nothing is written. Names
+/// that are not counted keep their forms, if they are the first.
 fn put_body<T>(
     ctx: &mut Context<'_, T>,
     style: NamesStyle<'_>,
-    later: bool,
+    variables: &[NameVariable],
     lists: &[PersonList<'_>],
 ) -> Result<(), RenderError>
     requires { OnFalse ctx.old.failed (ctx.old.inner ≡ []) }
     ensures ok { OnOk result (Leaves (λ now. record now {
       inner =
-          written_by (names_of style.entry).options.form now.style (is_some now.sorting) later
-          (names_of style.entry) (map list_of lists.now) now.inherited;
+          written_by (names_of style.entry).options.form now.style (is_some now.sorting) now.cite
+          variables.now (names_of style.entry) (map list_of lists.now) now.inherited;
+      state =
+          keeping_by (names_of style.entry).options.form (forms_in now.cite variables.now
+          (names_of style.entry).options (map list_of lists.now)) now.state;
     }) ctx.old ctx.new) }
     ensures err { IfErr result (λ e. FailsAs e ctx.old ctx.new) }
 {
     match style.options.form {
-        NameForm::Count => put_count(ctx, count_of(style.options, later, lists)),
-        NameForm::Short | NameForm::Long => put_all(ctx, style, later, lists),
+        NameForm::Count => {
+            let later = !ctx.instance().cite_props.certain.is_first;
+            put_count(ctx, count_of(style.options, later, lists))
+        }
+        NameForm::Short | NameForm::Long => put_all(ctx, style, variables, lists),
     }
 }
 
@@ -164,7 +170,8 @@ pub fn commit_names<T>(
     }
 }
 
-/// Writes a names node that has persons: its box around the affixed lists.
+/// Writes a names node that has persons: its box around the affixed lists. The first that is not
+/// counted keeps the forms of its names.
 ///
 /// # Errors
 /// [`RenderError::Memory`]: there was no memory left. The context has failed.
@@ -174,20 +181,23 @@ pub fn write_names<T>(
     parts: NamesParts<'_>,
     lists: &[PersonList<'_>],
 ) -> Result<(), RenderError>
-    ensures ok { OnOk result (Leaves (λ now. with_content (names_content now.style
-        (is_some now.sorting) (not now.cite.is_first) (parts_node parts.entry)
-        (map list_of lists.now)) now) ctx.old ctx.new) }
+    ensures ok { OnOk result (Leaves (λ now. record now {
+      inner = now.inner ++> names_content now.style
+          (is_some now.sorting) now.cite (parts_node parts.entry) (map list_of lists.now)
+          now.inherited;
+      state = names_state now.cite (parts_node parts.entry) (map list_of lists.now) now.inherited
+          now.state;
+    }) ctx.old ctx.new) }
     ensures err { IfErr result (λ e. FailsAs e ctx.old ctx.new) }
 {
     ctx.nothing()?;
     let missing_name = Name::new(ctx.alloc());
     let missing_et_al = EtAl::default();
     let style = names_style(parts, ctx.name_options(), &missing_name, &missing_et_al);
-    let later = !ctx.instance().cite_props.certain.is_first;
     ctx.push_format(parts.formatting)?;
     let element = ctx.push_elem()?;
     let middle = ctx.push_elem()?;
-    put_body(ctx, style, later, lists)?;
+    put_body(ctx, style, parts.variables, lists)?;
     ctx.splice_affixed(middle, parts.prefix, parts.suffix)?;
     commit_names(ctx, element, parts.display, lists)?;
     ctx.pop_format();

@@ -1,6 +1,6 @@
-use Rattle.std.proofs.Common.{◌≡◌, option_map, string_bytes, ap, ◌∙◌, rules}
+use Rattle.std.proofs.Common.{◌≡◌, option_map, ap, ◌∙◌, rules}
 use Rattle.std.specs.Option.{option_or, unwrap_or}
-use Rattle.csl_style.specs.Names.{NameNode, view_name, view_et_al, first_name}
+use Rattle.csl_style.specs.Names.{NameNode, view_name, view_et_al}
 use Rattle.csl_style.specs.NameOptions.{inherited_options, options_over, with_defaults, names_delimiter_of}
 use Rattle.csl_style.specs.NamesParts.{parts_node, default_name, default_et_al}
 use Rattle.csl_names.specs.NamesContent.{name_of}

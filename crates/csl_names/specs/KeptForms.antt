@@ -1,0 +1,38 @@
+-- In which forms a names node writes its names, and that they are kept for those who tell cites apart (CSL 1.0.2, Disambiguation:
+-- disambiguate-add-names, disambiguate-add-givenname).
+use Rattle.std.specs.Prelude.{Bool, not, List, Option, Some, None, if◌then◌else◌}
+use Rattle.std.specs.Option.{unwrap_or, option_or}
+use Rattle.csl_style.specs.declared.names.NameForm.{NameForm}
+use Rattle.csl_style.specs.declared.names.NameForm.TheVariants.{Count, Short, Long}
+use Rattle.csl_style.specs.declared.taxonomy.NameVariable.{NameVariable}
+use Rattle.csl_style.specs.NameOptions.{UsedOptions}
+use Rattle.csl_entry.specs.Cite.{CiteState, Disambiguation, nothing, names, choose, suffix}
+use Rattle.csl_entry.specs.NameProperties.{NameProperties}
+use Rattle.csl_context.specs.State.{State}
+use Rattle.csl_names.specs.NamesLists.{Lists, same_variables}
+use Rattle.csl_names.specs.NamesForms.{default_form, default_forms}
+
+-- the forms that tell the cite apart, where they are of exactly these variables, in their order
+abbrev pub forms_for : List NameVariable → Disambiguation → Option NameProperties
+forms_for vs nothing = None
+forms_for vs (names p) = if same_variables p.variables vs then Some p else None
+forms_for vs choose = None
+forms_for vs (suffix n) = None
+
+-- those that the options give to the names of each list
+abbrev pub own_forms : List NameVariable → UsedOptions → Bool → Lists → NameProperties
+own_forms vs o later ls = record { default_form = default_form o; variables = vs; lists = default_forms o later ls }
+
+-- the forms in which a node of these variables, as it is written, has the names of its lists
+abbrev pub forms_in : CiteState → List NameVariable → UsedOptions → Lists → NameProperties
+forms_in cite vs o ls = unwrap_or (forms_for vs cite.disambiguation) (own_forms vs o (not cite.is_first) ls)
+
+-- forms are kept, and no later ones
+abbrev pub keeping : NameProperties → State → State
+keeping p s = record s { first_names = option_or s.first_names (Some p) }
+
+-- names that are counted keep none
+abbrev pub keeping_by : NameForm → NameProperties → State → State
+keeping_by Count p s = s
+keeping_by Short p s = keeping p s
+keeping_by Long p s = keeping p s
