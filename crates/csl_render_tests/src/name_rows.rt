@@ -216,7 +216,7 @@ static TREES: [Row; 7] = [
     (
         "+author:name=short|<(|>)|b",
         "author Ferrante/Elena+Kwan/Kevin",
-        "[ ( [ Ferrante ]:name ,~ [ Kwan ]:name ) ]block:names",
+        "[ ( [ Ferrante ]:name ,~ [ Kwan ]:name ) ]block:names named ShortFull",
     ),
     (
         "( title )+author:name|b|<(",
@@ -226,7 +226,7 @@ static TREES: [Row; 7] = [
     (
         "( +editor )+author:name=short|b",
         "editor Kwan/Kevin",
-        "[ [ [ Kwan ]:name ]:names ]block:names suppressed {Name(Editor)}",
+        "[ [ [ Kwan ]:name ]:names ]block:names suppressed {Name(Editor)} named ShortFull",
     ),
     (
         "( ( genre 'Anon. )+author )",
@@ -241,7 +241,7 @@ static TREES: [Row; 7] = [
     (
         "+author:name=short",
         "author Ferrante/Elena @ suppressing",
-        "[ [ Ferrante ]:name ]:names suppressed {Name(Author)} suppressing",
+        "[ [ Ferrante ]:name ]:names suppressed {Name(Author)} suppressing named ShortFull",
     ),
     ("+author:name", "book", ""),
 ];
