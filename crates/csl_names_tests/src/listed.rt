@@ -9,6 +9,7 @@
 //! | `use-last` | the last name is kept |
 //! | `sorting` | a sort key is made |
 //! | `italic` | `et al.` stands in italics |
+//! | `no-text` | the term `et al.` is an empty text |
 //! | `no-terms` | the style has no terms |
 //!
 //! Persons are said one behind the other, with `; ` between them. Their forms are letters: `L` the
@@ -99,10 +100,11 @@ fn term(alloc: Global, term: OtherTerm, text: &str) -> Result<TermEntry, Memory>
 
 /// The one locale: `and` and `et al.`, or no terms.
 fn locales(alloc: Global, words: &str) -> Result<Vec<Locale>, Memory> {
+    let others = if says(words, "no-text") { "" } else { "et al." };
     let mut terms = Vec::new(alloc);
     if !says(words, "no-terms") {
         terms.push(term(alloc, OtherTerm::And, "and")?)?;
-        terms.push(term(alloc, OtherTerm::EtAl, "et al.")?)?;
+        terms.push(term(alloc, OtherTerm::EtAl, others)?)?;
     }
     let locale = Locale {
         terms,

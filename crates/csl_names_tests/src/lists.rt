@@ -24,7 +24,7 @@ const THREE: &str = "f=Ferrante g=Elena; f=Warren g=Rosanna; f=Kwan g=Kevin";
 /// How a list is written, the persons, their forms, and what is written.
 type ListRow = (&'static str, &'static str, &'static str, &'static str);
 
-static ROWS: [ListRow; 40] = [
+static ROWS: [ListRow; 44] = [
     ("", TWO, "LL", "[ Elena~Ferrante ]0 ,~ [ Rosanna~Warren ]1"),
     // Before the last of two names stands a space, of three a delimiter, and the word.
     (
@@ -116,6 +116,11 @@ static ROWS: [ListRow; 40] = [
         "[ Ferrante ]0 ,~ [ Warren ]1 ,~ /et~al.",
     ),
     ("no-terms", THREE, "S..", "[ Ferrante ]0"),
+    // Where it is an empty text, the delimiter and the gap are left.
+    ("no-text", THREE, "SS.", "[ Ferrante ]0 ,~ [ Warren ]1 ,~"),
+    ("no-text", THREE, "S..", "[ Ferrante ]0 ~"),
+    ("no-text italic", THREE, "S..", "[ Ferrante ]0 /~"),
+    ("no-text", THREE, "...", ""),
     ("sorting", THREE, "S..", "[ Ferrante ]0"),
     // The last name is kept where it has a form, with its own place.
     ("use-last", THREE, "S.S", "[ Ferrante ]0 ,~…~ [ Kwan ]2"),

@@ -16,9 +16,11 @@ use std::test::Fail;
 /// How a name is written, the person, and what is written behind a `=`.
 type NameRow = (&'static str, &'static str, &'static str);
 
-static ROWS: [NameRow; 42] = [
+static ROWS: [NameRow; 49] = [
     // a particle in each demotion and order
     ("", "f=van~Gogh g=Vincent", "=Vincent~van~Gogh"),
+    ("never", "f=van~Gogh g=Vincent", "=Vincent~van~Gogh"),
+    ("sort-only", "f=van~Gogh g=Vincent", "=Vincent~van~Gogh"),
     ("reversed", "f=van~Gogh g=Vincent", "=Gogh,~Vincent~van"),
     (
         "never reversed",
@@ -89,6 +91,10 @@ static ROWS: [NameRow; 42] = [
     // an empty text is there
     ("reversed", "f=X g=K p=", "=X,~K~"),
     ("sorting", "f=The~Group p=", "=The~Group"),
+    ("", "f=X g=K s=", "=K~X~"),
+    ("", "f=X g=K s= comma", "=K~X,~"),
+    ("reversed", "f=X g=K s=", "=X,~K,~"),
+    ("sorting", "f=The~Group s=", "=The~Group,~"),
     // initials, with a hyphen and without
     ("initialized with=.~", "f=X g=Jean-Luc~Marie", "=J.-L.~M.~X"),
     (
@@ -111,6 +117,8 @@ static ROWS: [NameRow; 42] = [
     ("", "f=毛 g=泽东", "=毛泽东"),
     ("reversed F<( G>)", "f=毛 g=泽东", "=(毛泽东)"),
     ("short", "f=毛 g=泽东", "=毛"),
+    // the mark of a long vowel is a letter, and of none of these scripts
+    ("", "f=マーク g=一郎", "=一郎~マーク"),
     // institutions
     ("F<( F>)", "f=The~Group", "=(The~Group)"),
     ("F<( F>) sorting", "f=The~Group", "=Group"),
