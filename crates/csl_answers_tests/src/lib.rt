@@ -6,6 +6,8 @@ mod cites;
 #[cfg(test)]
 mod entries;
 #[cfg(test)]
+mod forms;
+#[cfg(test)]
 mod refused;
 #[cfg(test)]
 mod words;

@@ -9,7 +9,7 @@ use crate::nodes::element;
 use crate::refused::refused;
 use crate::said::say;
 use csl_context::{Context, RenderError, Rendered};
-use csl_entry::{CiteProperties, InstanceContext};
+use csl_entry::{CiteProperties, DisambiguateState, InstanceContext, SpeculativeCiteProperties};
 use csl_render::{BranchConditionIter, RenderCsl, UsageInfo, choose_children};
 use csl_style::{
     Choose, LayoutRenderingElement, NumberVariable, RenderingElement, Style, Variable,
@@ -25,6 +25,8 @@ use std::test::Fail;
 pub(crate) enum Sought {
     /// What they make and leave.
     Tree,
+    /// The same of a cite that the forms of names which are left tell apart.
+    Again,
     /// The plain text of what they make.
     Plain,
     /// What they say in a dry run, and whether they would show the volume.
@@ -115,6 +117,27 @@ fn plain<'s>(scene: Scene<'s>) -> Result<String, Fail> {
     Ok(text)
 }
 
+/// What they make and leave once the forms that are left tell the cite apart.
+fn again<'s>(scene: Scene<'s>) -> Result<String, Fail> {
+    let state = render(scene)?.state;
+    let forms = state.first_names.ok_or("forms of names")?;
+    let told = &scene.cite.speculative;
+    let cite = CiteProperties {
+        certain: scene.cite.certain,
+        speculative: SpeculativeCiteProperties {
+            locator: told.locator,
+            citation_number: told.citation_number,
+            disambiguation: DisambiguateState::NameDisambiguation(forms),
+            ibid: told.ibid,
+        },
+    };
+    let told = Scene {
+        cite: &cite,
+        ..scene
+    };
+    say(scene.alloc, &render(told)?)
+}
+
 /// What dry runs say, and whether the volume would be shown.
 type Dry = ((bool, UsageInfo), bool);
 
@@ -194,6 +217,7 @@ fn chosen<'s>(scene: Scene<'s>) -> Result<String, Fail> {
 fn answer<'s>(scene: Scene<'s>, sought: Sought) -> Result<String, Fail> {
     match sought {
         Sought::Tree => say(scene.alloc, &render(scene)?),
+        Sought::Again => again(scene),
         Sought::Plain => plain(scene),
         Sought::Dry => dry(scene),
         Sought::Conditions => conditions(scene),
@@ -213,7 +237,7 @@ fn answered(
     let style = style(alloc, setting.manner)?;
     let element = element(alloc, words)?;
     let works = entries(alloc, entry)?;
-    let cite = properties(setting)?;
+    let cite = properties(alloc, setting)?;
     let scene = Scene {
         alloc,
         style: &style,

@@ -12,6 +12,7 @@
 
 use crate::choice_nodes::locator_named;
 use crate::made::{Manner, PLAIN};
+use crate::name_forms::forms_of;
 use crate::nodes::{read, variable_named};
 use csl_entry::{
     CertainCiteProperties, CitationNumber, CiteProperties, DisambiguateState, IbidState,
@@ -198,6 +199,8 @@ pub(crate) struct Setting {
     is_told: bool,
     /// The place of its year suffix, if it has one.
     suffix: Option<u8>,
+    /// The forms of names that tell it apart, in words, if there are some.
+    forms: Option<&'static str>,
 }
 
 /// Sets what the word says.
@@ -239,8 +242,8 @@ fn payload(text: &'static str) -> LocatorPayload<'static> {
 /// Sets what was written before, as in `after:k`, the variable that is shown alone, as in
 /// `only:volume`, the place of the year suffix, as in `letter:0`, the localized date or the layout
 /// of the style, as in `locale::text+year` and `layout:=suffix`, its options of names, as in
-/// `names:short`, or where the cite points, as in
-/// `page:7`.
+/// `names:short`, the forms of names that tell the cite apart, as in `forms:S/author/L`, or where the
+/// cite points, as in `page:7`.
 fn set_text(setting: &mut Setting, word: &'static str) -> Result<(), Fail> {
     let (name, text) = word.split_once(':').ok_or("a word that no citation has")?;
     match name {
@@ -250,6 +253,7 @@ fn set_text(setting: &mut Setting, word: &'static str) -> Result<(), Fail> {
         "locale" => setting.manner.date = Some(text),
         "layout" => setting.manner.layout = text,
         "names" => setting.manner.names = text,
+        "forms" => setting.forms = Some(text),
         _ => {
             let kind = locator_named(name)?;
             setting.locator = Some(SpecificLocator(kind, payload(text)));
@@ -274,6 +278,7 @@ pub(crate) fn set_by(words: &'static str) -> Result<Setting, Fail> {
         locator: None,
         is_told: false,
         suffix: None,
+        forms: None,
     };
     for word in words.split(' ') {
         if !word.is_empty() {
@@ -284,17 +289,22 @@ pub(crate) fn set_by(words: &'static str) -> Result<Setting, Fail> {
 }
 
 /// What tells the cite from others.
-fn told_by(setting: Setting) -> DisambiguateState {
+fn told_by(alloc: Global, setting: Setting) -> Result<DisambiguateState, Fail> {
+    if let Some(words) = setting.forms {
+        let forms = forms_of(alloc, words)?;
+        return Ok(DisambiguateState::NameDisambiguation(forms));
+    }
     match setting.suffix {
-        Some(place) => DisambiguateState::YearSuffix(place),
-        None if setting.is_told => DisambiguateState::Choose,
-        None => DisambiguateState::None,
+        Some(place) => Ok(DisambiguateState::YearSuffix(place)),
+        None if setting.is_told => Ok(DisambiguateState::Choose),
+        None => Ok(DisambiguateState::None),
     }
 }
 
 /// The first cite in the list of entries, of which that is said.
-pub(crate) fn properties(setting: Setting) -> Result<CiteProperties<'static>, Fail> {
+pub(crate) fn properties(alloc: Global, setting: Setting) -> Result<CiteProperties<'static>, Fail> {
     let citation_number = CitationNumber::new(0).ok_or("a citation number")?;
+    let disambiguation = told_by(alloc, setting)?;
     Ok(CiteProperties {
         certain: CertainCiteProperties {
             first_note_number: None,
@@ -305,7 +315,7 @@ pub(crate) fn properties(setting: Setting) -> Result<CiteProperties<'static>, Fa
         speculative: SpeculativeCiteProperties {
             locator: setting.locator,
             citation_number,
-            disambiguation: told_by(setting),
+            disambiguation,
             ibid: setting.ibid,
         },
     })

@@ -17,9 +17,13 @@ mod date_rows;
 #[cfg(test)]
 mod entries;
 #[cfg(test)]
+mod form_rows;
+#[cfg(test)]
 mod key_rows;
 #[cfg(test)]
 mod made;
+#[cfg(test)]
+mod name_forms;
 #[cfg(test)]
 mod name_nodes;
 #[cfg(test)]

@@ -108,7 +108,8 @@ fn children(alloc: Global, words: &str) -> Result<Vec<NamesChild>, Fail> {
     Ok(children)
 }
 
-fn variables(alloc: Global, words: &str) -> Result<Vec<NameVariable>, Fail> {
+/// The variables of these words.
+pub(crate) fn variables(alloc: Global, words: &str) -> Result<Vec<NameVariable>, Fail> {
     let mut variables = Vec::new(alloc);
     for word in words.split(',') {
         match variable_named(word)? {

@@ -216,7 +216,7 @@ static TREES: [Row; 7] = [
     (
         "+author:name=short|<(|>)|b",
         "author Ferrante/Elena+Kwan/Kevin",
-        "[ ( [ Ferrante ]:name ,~ [ Kwan ]:name ) ]block:names named ShortFull",
+        "[ ( [ Ferrante ]:name ,~ [ Kwan ]:name ) ]block:names named S/Author/SS",
     ),
     (
         "( title )+author:name|b|<(",
@@ -226,7 +226,7 @@ static TREES: [Row; 7] = [
     (
         "( +editor )+author:name=short|b",
         "editor Kwan/Kevin",
-        "[ [ [ Kwan ]:name ]:names ]block:names suppressed {Name(Editor)} named ShortFull",
+        "[ [ [ Kwan ]:name ]:names ]block:names suppressed {Name(Editor)} named S/Editor/S",
     ),
     (
         "( ( genre 'Anon. )+author )",
@@ -241,7 +241,7 @@ static TREES: [Row; 7] = [
     (
         "+author:name=short",
         "author Ferrante/Elena @ suppressing",
-        "[ [ Ferrante ]:name ]:names suppressed {Name(Author)} suppressing named ShortFull",
+        "[ [ Ferrante ]:name ]:names suppressed {Name(Author)} suppressing named S/Author/S",
     ),
     ("+author:name", "book", ""),
 ];

@@ -11,9 +11,10 @@
 //!
 //! In a text `~` says a blank. Behind the end of an element stand its display and its meta:
 //! `]block`, `]:date`, `]block:date`. Behind it all stands what was left, as far as it is not as in
-//! the beginning: ` suppressed {..}`, `suppressing`, `dated`, and `named` with the default form of
-//! the names.
+//! the beginning: ` suppressed {..}`, `suppressing`, `dated`, and `named` with the forms of names
+//! that are kept.
 
+use crate::name_forms::say_forms;
 use csl_context::{LeftState, Rendered};
 use csl_style::{Display, FontStyle, FontWeight};
 use csl_tree::{ElemChild, ElemChildren, ElemMeta, Formatted, Formatting};
@@ -121,7 +122,8 @@ fn say_state(state: &LeftState, said: &mut String) -> Result<(), Fail> {
         said.push_str(" dated")?;
     }
     if let Some(names) = &state.first_names {
-        write!(said, " named {:?}", names.default_name_form())?;
+        said.push_str(" named ")?;
+        say_forms(names, said)?;
     }
     Ok(())
 }

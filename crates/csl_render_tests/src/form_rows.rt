@@ -1,0 +1,243 @@
+//! The tests of forms of names that tell a cite apart, and of those that are kept.
+
+use crate::cited::{Row, Sought, assert_cited};
+use std::test::Fail;
+
+/// Plain texts.
+static PLAIN: [Row; 19] = [
+    // The forms are of the author.
+    (
+        "+author:name=short",
+        "author Kwan/Kevin @ forms:S/author/L",
+        "Kevin Kwan",
+    ),
+    (
+        "+author:name=short",
+        "author Kwan/Kevin @ forms:S/editor/L",
+        "Kwan",
+    ),
+    // They need not be those of the node, whose initials stand.
+    (
+        "+author:name=short;with-.",
+        "author Kwan/Kevin @ forms:S/author/I",
+        "K. Kwan",
+    ),
+    (
+        "+author:name=long",
+        "author Kwan/Kevin @ forms:S/author/1",
+        "Kwan",
+    ),
+    // There are fewer forms than names, as many, or more.
+    (
+        "+author:name=short",
+        "author Ferrante/Elena+Kwan/Kevin+Warren/Rosanna @ forms:S/author/SL",
+        "Ferrante, Kevin Kwan",
+    ),
+    (
+        "+author:name=short",
+        "author Ferrante/Elena+Kwan/Kevin+Warren/Rosanna @ forms:S/author/SLS",
+        "Ferrante, Kevin Kwan, Warren",
+    ),
+    (
+        "+author:name=short",
+        "author Ferrante/Elena @ forms:S/author/LSS",
+        "Elena Ferrante",
+    ),
+    (
+        "+author:name=short",
+        "author Ferrante/Elena+Kwan/Kevin @ forms:S/author/SS.",
+        "Ferrante, Kwan, et al.",
+    ),
+    // An absent form ends the names that are shown, whatever the limits are.
+    (
+        "+author:name=short",
+        "author Ferrante/Elena+Kwan/Kevin+Warren/Rosanna @ forms:S/author/L..",
+        "Elena Ferrante et al.",
+    ),
+    (
+        "+author:name=short;min-1;first-1",
+        "author Ferrante/Elena+Kwan/Kevin @ forms:S/author/SS",
+        "Ferrante, Kwan",
+    ),
+    // A person who is shown may be kept as the last one too.
+    (
+        "+author:name=short;use-last",
+        "author Kwan/Kevin @ forms:S/author/S.S",
+        "Kwan, … Kwan",
+    ),
+    // There are fewer lists of forms than lists of names.
+    (
+        "+editor,translator:name=short|,;~",
+        "editor Kwan/Kevin; translator Warren/Rosanna @ forms:S/editor,translator/L",
+        "Kevin Kwan",
+    ),
+    (
+        "+editor,translator:name=short|,;~",
+        "editor Kwan/Kevin; translator Warren/Rosanna @ forms:S/editor,translator/L,S",
+        "Kevin Kwan; Warren",
+    ),
+    // The variables are those of the node, in their order.
+    (
+        "+editor,translator:name=short|,;~",
+        "editor Kwan/Kevin; translator Warren/Rosanna @ forms:S/translator,editor/L,L",
+        "Kwan; Warren",
+    ),
+    (
+        "+editor,translator:name=short|,;~",
+        "editor Kwan/Kevin; translator Warren/Rosanna @ forms:S/editor/L",
+        "Kwan; Warren",
+    ),
+    (
+        "+author:name=short",
+        "author Kwan/Kevin @ forms:S/author,editor/L,L",
+        "Kwan",
+    ),
+    // They are compared before editors and translators are one list, which has the first forms.
+    (
+        "+translator,editor:name=short",
+        "editor Kwan/Kevin; translator Kwan/Kevin @ merging forms:S/translator,editor/L,S",
+        "Kevin Kwan",
+    ),
+    (
+        "+editor,translator:name=short",
+        "editor Kwan/Kevin @ merging forms:S/editor/L",
+        "Kwan",
+    ),
+    // Names that are counted have no forms.
+    (
+        "+author:name=count",
+        "author Ferrante/Elena+Kwan/Kevin @ forms:S/author/L.",
+        "2",
+    ),
+];
+
+/// What is made, and left.
+static TREES: [Row; 16] = [
+    (
+        "+author:name=short",
+        "author Ferrante/Elena+Kwan/Kevin",
+        "[ [ Ferrante ]:name ,~ [ Kwan ]:name ]:names named S/Author/SS",
+    ),
+    (
+        "+author:name=long;with-.",
+        "author Kwan/Kevin",
+        "[ [ K.~Kwan ]:name ]:names named I/Author/I",
+    ),
+    // Names that are left out have none.
+    (
+        "+author:name=short;min-1;first-1",
+        "author Ferrante/Elena+Kwan/Kevin",
+        "[ [ Ferrante ]:name ~et~al. ]:names named S/Author/S.",
+    ),
+    // An empty list has a list of forms too.
+    (
+        "+editor,author:name=short",
+        "author Kwan/Kevin",
+        "[ [ Kwan ]:name ]:names named S/Editor,Author/,S",
+    ),
+    // Two lists that are one have one list of forms and two variables.
+    (
+        "+translator,editor:name=short",
+        "editor Kwan/Kevin; translator Kwan/Kevin @ merging",
+        "[ [ Kwan ]:name ]:names named S/Translator,Editor/S",
+    ),
+    // Those that tell the cite apart are kept as they are, their default form with them.
+    (
+        "+author:name=short",
+        "author Kwan/Kevin @ forms:i/author/L.S",
+        "[ [ Kevin~Kwan ]:name ~et~al. ]:names named i/Author/L.S",
+    ),
+    (
+        "+author:name=short",
+        "author Kwan/Kevin @ forms:i/editor/L",
+        "[ [ Kwan ]:name ]:names named S/Author/S",
+    ),
+    // The first names count.
+    (
+        "+author:name=short +editor:name",
+        "author Kwan/Kevin; editor Warren/Rosanna",
+        "[ [ Kwan ]:name ]:names [ [ Rosanna~Warren ]:name ]:names named S/Author/S",
+    ),
+    (
+        "+author:name=short +editor:name=short",
+        "author Kwan/Kevin; editor Warren/Rosanna @ forms:i/editor/L",
+        "[ [ Kwan ]:name ]:names [ [ Rosanna~Warren ]:name ]:names named S/Author/S",
+    ),
+    // Names that are counted keep none.
+    (
+        "+author:name=count",
+        "author Ferrante/Elena+Kwan/Kevin",
+        "[ 2 ]:names",
+    ),
+    (
+        "+author:name=count +editor:name=short",
+        "author Kwan/Kevin; editor Warren/Rosanna",
+        "[ 1 ]:names [ [ Warren ]:name ]:names named S/Editor/S",
+    ),
+    // Nor do names without persons, but those in their substitute do, under their own variables.
+    (
+        "( 'Anon. )+author:name +editor:name=short",
+        "editor Warren/Rosanna",
+        "[ [ Anon. ] ]:names [ [ Warren ]:name ]:names named S/Editor/S",
+    ),
+    (
+        "( +editor )+author:name=short",
+        "editor Warren/Rosanna @ forms:i/editor/L",
+        "[ [ [ Rosanna~Warren ]:name ]:names ]:names suppressed {Name(Editor)} named i/Editor/L",
+    ),
+    // Nor names that are left out of the cite.
+    (
+        "+author:name +editor:name=short",
+        "author Kwan/Kevin; editor Warren/Rosanna @ no-author",
+        "[ [ Warren ]:name ]:names named S/Editor/S",
+    ),
+    // What a sort key is made from keeps its forms.
+    (
+        "+author:name=short",
+        "author Kwan/Kevin @ sorted",
+        "[ [ Kwan ]:name ]:names named S/Author/S",
+    ),
+    // A later cite has limits of its own.
+    (
+        "+author:name=short;min-2;first-2;later-first-1",
+        "author Ferrante/Elena+Kwan/Kevin @ subsequent",
+        "[ [ Ferrante ]:name ~et~al. ]:names named S/Author/S.",
+    ),
+];
+
+/// What is made, and left, also once the forms that are left tell the cite apart.
+static SAME: [Row; 5] = [
+    (
+        "+author:name=short",
+        "author Ferrante/Elena+Kwan/Kevin",
+        "[ [ Ferrante ]:name ,~ [ Kwan ]:name ]:names named S/Author/SS",
+    ),
+    (
+        "+author:name=long;with-.;min-1;first-1",
+        "author Ferrante/Elena+Kwan/Kevin",
+        "[ [ E.~Ferrante ]:name ~et~al. ]:names named I/Author/I.",
+    ),
+    (
+        "+author:name=short;min-1;first-0",
+        "author Kwan/Kevin",
+        "[ et~al. ]:names named S/Author/.",
+    ),
+    (
+        "+translator,editor:name=short",
+        "editor Kwan/Kevin; translator Kwan/Kevin @ merging",
+        "[ [ Kwan ]:name ]:names named S/Translator,Editor/S",
+    ),
+    (
+        "+author:name=short",
+        "author Kwan/Kevin @ forms:i/author/L.S",
+        "[ [ Kevin~Kwan ]:name ~et~al. ]:names named i/Author/L.S",
+    ),
+];
+
+#[test]
+fn forms_that_tell_a_cite_apart_are_taken_and_kept(rt: HostRuntime) -> Result<(), Fail> {
+    assert_cited(&rt, rt.alloc(), Sought::Plain, &PLAIN)?;
+    assert_cited(&rt, rt.alloc(), Sought::Tree, &TREES)?;
+    assert_cited(&rt, rt.alloc(), Sought::Tree, &SAME)?;
+    assert_cited(&rt, rt.alloc(), Sought::Again, &SAME)
+}

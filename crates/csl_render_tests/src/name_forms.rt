@@ -1,0 +1,82 @@
+//! Forms of names from words, and in words.
+//!
+//! `S/author,editor/L.,S` says the form of a name that comes to be shown, the variables, and for
+//! each list the form of each name: `1` counts, `i` and `S` are the short form with initials and
+//! the whole short one, `I` and `L` the long ones, and `.` says that the name is not shown.
+
+use crate::name_nodes::variables;
+use csl_entry::{DisambiguatedNameForm, NameDisambiguationProperties};
+use lit_model::Memory;
+use std::alloc::Global;
+use std::test::Fail;
+
+/// The form that a letter says.
+fn form(letter: char) -> Option<DisambiguatedNameForm> {
+    match letter {
+        '1' => Some(DisambiguatedNameForm::Count),
+        'i' => Some(DisambiguatedNameForm::ShortInitialized),
+        'S' => Some(DisambiguatedNameForm::ShortFull),
+        'I' => Some(DisambiguatedNameForm::LongInitialized),
+        'L' => Some(DisambiguatedNameForm::LongFull),
+        _ => None,
+    }
+}
+
+/// The letter that says a form.
+fn letter(form: Option<DisambiguatedNameForm>) -> char {
+    match form {
+        None => '.',
+        Some(DisambiguatedNameForm::Count) => '1',
+        Some(DisambiguatedNameForm::ShortInitialized) => 'i',
+        Some(DisambiguatedNameForm::ShortFull) => 'S',
+        Some(DisambiguatedNameForm::LongInitialized) => 'I',
+        Some(DisambiguatedNameForm::LongFull) => 'L',
+    }
+}
+
+/// The form that each letter says.
+fn list(alloc: Global, letters: &str) -> Result<Vec<Option<DisambiguatedNameForm>>, Memory> {
+    let forms = letters.chars().map(form).collect(alloc)?;
+    Ok(forms)
+}
+
+/// The forms of each list.
+fn lists(alloc: Global, words: &str) -> Result<Vec<Vec<Option<DisambiguatedNameForm>>>, Memory> {
+    let mut lists = Vec::new(alloc);
+    for letters in words.split(',') {
+        lists.push(list(alloc, letters)?)?;
+    }
+    Ok(lists)
+}
+
+/// The forms of these words.
+pub(crate) fn forms_of(alloc: Global, words: &str) -> Result<NameDisambiguationProperties, Fail> {
+    let (default, behind) = words.split_once('/').ok_or("variables")?;
+    let (variable, letters) = behind.split_once('/').ok_or("forms")?;
+    let default = default.chars().next().and_then(form).ok_or("a form")?;
+    let variables = variables(alloc, variable)?;
+    let forms = lists(alloc, letters)?;
+    Ok(NameDisambiguationProperties::new(default, variables, forms))
+}
+
+/// Says forms in words.
+pub(crate) fn say_forms(
+    forms: &NameDisambiguationProperties,
+    said: &mut String,
+) -> Result<(), Fail> {
+    said.push(letter(Some(forms.default_name_form())))?;
+    let mut before = '/';
+    for variable in forms.variables() {
+        write!(said, "{before}{variable:?}")?;
+        before = ',';
+    }
+    before = '/';
+    for list in forms.name_forms() {
+        said.push(before)?;
+        for form in list {
+            said.push(letter(*form))?;
+        }
+        before = ',';
+    }
+    Ok(())
+}
