@@ -2,8 +2,9 @@
 //!
 //! `+author,editor` are names of these variables without children. Behind each `:` stands a child:
 //! `name`, `label` with its affixes, as `label<~(>)`, or `et-al`; behind `name=` and behind the
-//! option `|=` stand options of names with `;` between them. `( .. )+author:name` are names whose
-//! last child is a substitute, with the nodes that stand inside.
+//! option `|=` stand options of names with `;` between them. Of `label.` the periods are stripped.
+//! `( .. )+author:name` are names whose last child is a substitute, with the nodes that stand
+//! inside; under the option `|each` each of these nodes stands in a substitute of its own.
 //!
 //! | Word | Option of names |
 //! |---|---|
@@ -73,9 +74,15 @@ fn name(alloc: Global, words: &str) -> Result<Name, Fail> {
     })
 }
 
-/// A label whose prefix stands behind `<` and whose suffix behind `>`.
+/// A label whose prefix stands behind `<` and whose suffix behind `>`. A period before them says
+/// that periods are stripped.
 fn label(alloc: Global, words: &str) -> Result<VariablelessLabel, Fail> {
     let mut label = VariablelessLabel::default();
+    let (words, strips) = match words.strip_prefix('.') {
+        Some(words) => (words, true),
+        None => (words, false),
+    };
+    label.strip_periods = strips;
     if let Some(affixes) = words.strip_prefix('<') {
         let (prefix, suffix) = affixes.split_once('>').unwrap_or((affixes, ""));
         label.affixes.prefix = Some(read(alloc, prefix)?);
@@ -141,6 +148,19 @@ pub(crate) fn names(alloc: Global, words: &str) -> Result<LayoutRenderingElement
     Ok(LayoutRenderingElement::Names(names_of(alloc, words)?))
 }
 
+/// Pushes a substitute for each of these nodes.
+fn push_each(
+    alloc: Global,
+    children: &mut Vec<NamesChild>,
+    nodes: Vec<LayoutRenderingElement>,
+) -> Result<(), Fail> {
+    for node in nodes {
+        let instead = vec![in alloc; node]?;
+        children.push(NamesChild::Substitute(Substitute { children: instead }))?;
+    }
+    Ok(())
+}
+
 /// The names of a word with these nodes as their substitute.
 pub(crate) fn substituted(
     alloc: Global,
@@ -148,7 +168,11 @@ pub(crate) fn substituted(
     words: &str,
 ) -> Result<LayoutRenderingElement, Fail> {
     let mut names = names_of(alloc, words)?;
-    let substitute = Substitute { children: nodes };
-    names.children.push(NamesChild::Substitute(substitute))?;
+    if words.ends_with("|each") {
+        push_each(alloc, &mut names.children, nodes)?;
+    } else {
+        let substitute = Substitute { children: nodes };
+        names.children.push(NamesChild::Substitute(substitute))?;
+    }
     Ok(LayoutRenderingElement::Names(names))
 }

@@ -274,6 +274,170 @@ static DRY: [Row; 8] = [
     ),
 ];
 
+/// The authors and the year of a cite.
+const AUTHOR_DATE: &str = "( +author:name=short @issued+year )|,,~|<(|>)";
+
+/// Whole cites of a book, under what its citation says.
+static CITES: [Row; 8] = [
+    (AUTHOR_DATE, "author Kwan/Kevin; date 2014", "(Kwan, 2014)"),
+    (
+        AUTHOR_DATE,
+        "author Kwan/Kevin; date 2014 @ letter:0",
+        "(Kwan, 2014a)",
+    ),
+    (
+        AUTHOR_DATE,
+        "author Kwan/Kevin; date 2014 @ no-author",
+        "(2014)",
+    ),
+    (
+        AUTHOR_DATE,
+        "author Kwan/Kevin; date 2014 @ only:issued",
+        "(2014)",
+    ),
+    (
+        AUTHOR_DATE,
+        "author Kwan/Kevin; date 2014 @ only:author",
+        "(Kwan)",
+    ),
+    (
+        AUTHOR_DATE,
+        "author Kwan/Kevin; date 2014 @ first-date letter:0",
+        "(2014a)",
+    ),
+    (
+        AUTHOR_DATE,
+        "author Kwan/Kevin; date 2014 @ suffix-alone letter:0",
+        "(a)",
+    ),
+    (
+        "+author:name",
+        "author Kwan/Kevin @ suffix-alone letter:0",
+        "",
+    ),
+];
+
+/// Lists, what stands between them, and how many names they show.
+static LISTS: [Row; 8] = [
+    // What stands between two lists: the node's own delimiter before its option, and this before
+    // that of the style.
+    (
+        "+editor,translator:name=short|=names-~/~",
+        TWO,
+        "Ottenstein / Warren",
+    ),
+    (
+        "+editor,translator:name=short|,;~|=names-~/~",
+        TWO,
+        "Ottenstein; Warren",
+    ),
+    (
+        "+editor,translator:name=short",
+        "editor Ottenstein/Peter; translator Warren/Rosanna @ names:names-~/~",
+        "Ottenstein / Warren",
+    ),
+    (
+        "+editor,translator:name=short|=names-~&~",
+        "editor Ottenstein/Peter; translator Warren/Rosanna @ names:names-~/~",
+        "Ottenstein & Warren",
+    ),
+    ("+editor,translator:name=short", TWO, "OttensteinWarren"),
+    // A cite that says the same as the one before it, and is the first, is no later one.
+    (
+        "+author:name=short;min-3;first-2;later-first-1",
+        "author Ferrante/Elena+Kwan/Kevin+Warren/Rosanna @ ibid",
+        "Ferrante, Kwan, et al.",
+    ),
+    (
+        "+author:name=short;min-4;first-1;later-min-3",
+        "author Ferrante/Elena+Kwan/Kevin+Warren/Rosanna @ subsequent",
+        "Ferrante et al.",
+    ),
+    (
+        "+author:name=short;min-4;first-1;later-min-3",
+        THREE,
+        "Ferrante, Kwan, Warren",
+    ),
+];
+
+/// The label of names, and names in sort keys.
+static LABELS: [Row; 8] = [
+    (
+        "+editor,translator:name=short:label<~(>)",
+        "editor Weintraub+Warren; translator Weintraub+Warren @ merging",
+        "Weintraub, Warren (eds. & trans.)",
+    ),
+    // Periods are stripped from the term and not from its affixes.
+    (
+        "+editor,translator:name=short:label.<~(>.)",
+        "editor Weintraub/Stanley; translator Weintraub/Stanley @ merging",
+        "Weintraub (ed & trans.)",
+    ),
+    // The first label is written.
+    (
+        "+editor,translator:name=short:label<~(>):label<[>]",
+        "editor Weintraub/Stanley; translator Weintraub/Stanley @ merging",
+        "Weintraub (ed. & trans.)",
+    ),
+    // A sort key has neither labels nor a word for others.
+    (
+        "+editor,translator:name=short:label<~(>)",
+        "editor Weintraub/Stanley; translator Weintraub/Stanley @ merging sorted",
+        "Weintraub",
+    ),
+    (
+        "+author:name=short;min-3;first-1",
+        "author Ferrante/Elena+Kwan/Kevin+Warren/Rosanna @ sorted",
+        "Ferrante",
+    ),
+    (
+        "+author:name=short;min-3;first-1;use-last",
+        "author Ferrante/Elena+Kwan/Kevin+Warren/Rosanna @ sorted",
+        "Ferrante, … Warren",
+    ),
+    (
+        "+author:name",
+        "author van~Gogh/Vincent @ sorted-by-variable",
+        "Gogh, Vincent van",
+    ),
+    ("+author:name", "author The~Group @ sorted", "Group"),
+];
+
+/// Substitutes.
+static SUBSTITUTES: [Row; 6] = [
+    // Names that leave out every name by their own options print where their substitute does, and
+    // it is they that are written.
+    (
+        "( ( 'Anon. )+author:name|=min-1;first-0 title )|,,~",
+        "author Ferrante/Elena; title T",
+        "et al., T",
+    ),
+    // An affix and a delimiter that are empty are there.
+    (
+        "( +editor|< )+author:name=short|<(|>)",
+        "editor Weintraub/Stanley",
+        "Weintraub)",
+    ),
+    (
+        "( +editor,translator|, )+author:name=short|,;~",
+        TWO,
+        "OttensteinWarren",
+    ),
+    // The first substitute is tried, and no other.
+    ("( title 'Anon. )+author:name|each", "title T", "T"),
+    ("( genre title )+author:name|each", "title T", ""),
+    // What was printed has no affixes either.
+    ("( title )+author:name title|<.~", "title T", "T"),
+];
+
+#[test]
+fn cites_and_lists_print_as_the_standard_says(rt: HostRuntime) -> Result<(), Fail> {
+    assert_cited(&rt, rt.alloc(), Sought::Plain, &CITES)?;
+    assert_cited(&rt, rt.alloc(), Sought::Plain, &LISTS)?;
+    assert_cited(&rt, rt.alloc(), Sought::Plain, &LABELS)?;
+    assert_cited(&rt, rt.alloc(), Sought::Plain, &SUBSTITUTES)
+}
+
 #[test]
 fn names_print_as_the_standard_says(rt: HostRuntime) -> Result<(), Fail> {
     assert_cited(&rt, rt.alloc(), Sought::Plain, &PLAIN)?;
