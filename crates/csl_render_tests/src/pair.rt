@@ -86,6 +86,65 @@ static ENTRIES: [Row; 20] = [
     ),
 ];
 
+/// Two built-in entries and their names and dates.
+static NAMES: [Row; 9] = [
+    (
+        "+author:name=short",
+        "author Kwan/Kevin",
+        "article; author Kwan/Kevin; title T",
+        "alike: Kwan, Kwan",
+    ),
+    (
+        "+author:name=short",
+        "author Kwan/Kevin",
+        "author Kwan/Anna",
+        "not alike: Kwan, Kwan",
+    ),
+    (
+        "+author:name",
+        "author Kwan/Kevin",
+        "author Warren/Rosanna",
+        "not alike: Kevin Kwan, Rosanna Warren",
+    ),
+    (
+        "( +author:name=short @issued+year )|,,~|<(|>)",
+        "author Kwan; date 2014; title T",
+        "author Kwan; date 2014; title U",
+        "alike: (Kwan, 2014), (Kwan, 2014)",
+    ),
+    (
+        "( +author:name=short @issued+year )|,,~|<(|>)",
+        "author Kwan; date 2014",
+        "author Kwan; date 2014/4",
+        "not alike: (Kwan, 2014), (Kwan, 2014)",
+    ),
+    // Each substitute is named, also one that is not tried.
+    (
+        "( +editor title )+author:name=short",
+        "author Kwan; editor Warren; title T",
+        "author Kwan; editor Warren; title T; volume 9",
+        "alike: Kwan, Kwan",
+    ),
+    (
+        "( +editor title )+author:name=short",
+        "author Kwan; editor Warren; title T",
+        "author Kwan; title T",
+        "not alike: Kwan, Kwan",
+    ),
+    (
+        "( +editor title )+author:name=short",
+        "editor Warren; title T",
+        "editor Warren; title U",
+        "not alike: Warren, Warren",
+    ),
+    (
+        "( genre title )+author:name|each",
+        "title T",
+        "title U",
+        "not alike: , ",
+    ),
+];
+
 /// A built-in entry, and a work of another type that answers one text.
 static WORKS: [Row; 7] = [
     (
@@ -209,6 +268,7 @@ fn entries_that_answer_alike_are_told(rt: HostRuntime) -> Result<(), Fail> {
     let alloc = rt.alloc();
     let start = begun(alloc, false, false)?;
     assert_entries(&rt, alloc, &start, &ENTRIES)?;
+    assert_entries(&rt, alloc, &start, &NAMES)?;
     assert_works(&rt, alloc, &start, &WORKS)
 }
 
