@@ -7,7 +7,8 @@ use std::test::Fail;
 const VORTEX: &str = "Gross, E. P., “Structure of a Quantized Vortex in Boson Systems”, \
     Il Nuovo Cimento, vol. 20, pp. 454–477, May 1961. https://doi.org/10.1007/BF02731494\n";
 
-const VORTEX_HTML: &str = "Gross, E. P., “Structure of a Quantized Vortex in Boson Systems”, \
+pub(crate) const VORTEX_HTML: &str =
+    "Gross, E. P., “Structure of a Quantized Vortex in Boson Systems”, \
     <span style=\"font-style: italic;\">Il Nuovo Cimento</span>, vol. 20, pp. 454–477, May 1961. \
     <a href=\"https://doi.org/10.1007/BF02731494\">https://doi.org/10.1007/BF02731494</a>\n";
 
@@ -16,20 +17,20 @@ const DEPENDENCE: &str = "Ferrante, Jeanne, Karl J. Ottenstein, and Joe D. Warre
     ACM Transactions on Programming Languages and Systems, vol. 9, July 1987. \
     https://doi.org/10.1145/24039.24041\n";
 
-const DEPENDENCE_HTML: &str = "Ferrante, Jeanne, Karl J. Ottenstein, and Joe D. Warren, \
+pub(crate) const DEPENDENCE_HTML: &str = "Ferrante, Jeanne, Karl J. Ottenstein, and Joe D. Warren, \
     “The program dependence graph and its use in optimization”, \
     <span style=\"font-style: italic;\">ACM Transactions on Programming Languages and Systems\
     </span>, vol. 9, July 1987. \
     <a href=\"https://doi.org/10.1145/24039.24041\">https://doi.org/10.1145/24039.24041</a>\n";
 
-const BOOK: &str = "Kwan, Kevin, “Crazy Rich Asians”, 2014.\n";
+pub(crate) const BOOK: &str = "Kwan, Kevin, “Crazy Rich Asians”, 2014.\n";
 
 const ESSAY: &str = "Ungard-Sargon, Batya, “She swoons to conquer”, Aeon, September 2015.\n";
 
-const ESSAY_HTML: &str = "Ungard-Sargon, Batya, “She swoons to conquer”, \
+pub(crate) const ESSAY_HTML: &str = "Ungard-Sargon, Batya, “She swoons to conquer”, \
     <span style=\"font-style: italic;\">Aeon</span>, September 2015.\n";
 
-const THREE: &str = "(Ferrante, Ottenstein, and Warren, 1987)\n";
+pub(crate) const THREE: &str = "(Ferrante, Ottenstein, and Warren, 1987)\n";
 
 static AUTHORS_AND_DATES: [Row; 8] = [
     (

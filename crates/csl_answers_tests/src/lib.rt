@@ -1,4 +1,5 @@
-//! What the program answers to its words, and what its built-in entries answer.
+//! What the program answers to its words, what its built-in entries answer, and what its built-in
+//! styles name and make of them.
 #![tactic(auto)]
 
 #[cfg(test)]
@@ -7,7 +8,10 @@ mod cites;
 mod entries;
 #[cfg(test)]
 mod forms;
+mod pairs;
 #[cfg(test)]
 mod refused;
+#[cfg(test)]
+mod styles;
 #[cfg(test)]
 mod words;
