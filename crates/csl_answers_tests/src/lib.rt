@@ -8,6 +8,7 @@ mod cites;
 mod entries;
 #[cfg(test)]
 mod forms;
+#[cfg(test)]
 mod pairs;
 #[cfg(test)]
 mod refused;
