@@ -76,16 +76,21 @@ pub fn particle(alloc: Global, size: usize) -> Result<usize> {
     }
 }
 
-/// An entry with many authors.
-fn entry(alloc: Global, size: usize) -> Result<Entry> {
+/// So many authors of one name.
+pub fn authors(alloc: Global, size: usize) -> Result<Vec<Person>> {
     let mut authors = Vec::new(alloc);
     for _ in 0..size {
         let name = String::from_str(alloc, "Kwan")?;
         let given_name = String::from_str(alloc, "Kevin")?;
         authors.push(person(name, given_name))?;
     }
+    Ok(authors)
+}
+
+/// An entry with many authors.
+fn entry(alloc: Global, size: usize) -> Result<Entry> {
     let mut entry = Entry::new(alloc, "crazy-rich", EntryType::Book)?;
-    entry.authors = Some(authors);
+    entry.authors = Some(authors(alloc, size)?);
     Ok(entry)
 }
 

@@ -5,6 +5,7 @@
 //! the chain of parents, which is deep.
 #![tactic(auto)]
 
+mod cite;
 mod entry;
 mod literature;
 mod pair;
@@ -24,7 +25,7 @@ const SMALL: usize = 10;
 const MANY_PARENTS: usize = 2000;
 
 /// The works, by name, and the size in which each is done without words.
-const WORKS: [(&str, usize); 20] = [
+const WORKS: [(&str, usize); 22] = [
     ("numeric", SMALL),
     ("pages", SMALL),
     ("initials", SMALL),
@@ -45,6 +46,8 @@ const WORKS: [(&str, usize); 20] = [
     ("pages_rendered", SMALL),
     ("named", SMALL),
     ("pair", SMALL),
+    ("cite", SMALL),
+    ("reference", SMALL),
 ];
 
 /// Does a work, and answers its checksum.
@@ -70,6 +73,8 @@ fn checksum(alloc: Global, work: &str, size: usize) -> Result<usize> {
         "pages_rendered" => render::pages_rendered(alloc, size),
         "named" => pair::named(alloc, size),
         "pair" => pair::pair(alloc, size),
+        "cite" => cite::cite(alloc, size),
+        "reference" => cite::reference(alloc, size),
         _ => bail!("no such work: {work}"),
     }
 }

@@ -108,6 +108,16 @@ fn rendered<T: EntryLike>(alloc: Global, style: &Style, entry: &T) -> Result<Ren
     }
 }
 
+/// Renders the citation layout of a style for an entry, and counts the bytes of the plain text.
+pub fn text_size<T: EntryLike>(alloc: Global, style: &Style, entry: &T) -> Result<usize> {
+    let rendered = rendered(alloc, style, entry)?;
+    let mut text = String::new(alloc);
+    rendered
+        .content
+        .write_buf(&mut text, BufWriteFormat::Plain)?;
+    Ok(text.len())
+}
+
 /// Renders groups of a title and texts of a macro for one article, and counts the children of the
 /// content.
 pub fn render(alloc: Global, size: usize) -> Result<usize> {
@@ -140,10 +150,5 @@ pub fn pages_rendered(alloc: Global, size: usize) -> Result<usize> {
     let style = paged(alloc)?;
     let mut entry = article(alloc, 1)?;
     entry.page_range = Some(MaybeTyped::Typed(page_ranges(alloc, size)?));
-    let rendered = rendered(alloc, &style, &entry)?;
-    let mut text = String::new(alloc);
-    rendered
-        .content
-        .write_buf(&mut text, BufWriteFormat::Plain)?;
-    Ok(text.len())
+    text_size(alloc, &style, &entry)
 }
