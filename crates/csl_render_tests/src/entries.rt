@@ -242,8 +242,8 @@ fn payload(text: &'static str) -> LocatorPayload<'static> {
 /// Sets what was written before, as in `after:k`, the variable that is shown alone, as in
 /// `only:volume`, the place of the year suffix, as in `letter:0`, the localized date or the layout
 /// of the style, as in `locale::text+year` and `layout:=suffix`, its options of names, as in
-/// `names:short`, the forms of names that tell the cite apart, as in `forms:S/author/L`, or where the
-/// cite points, as in `page:7`.
+/// `names:short`, the forms of names that tell the cite apart, as in `forms:S/author/L`, or where
+/// the cite points, as in `page:7`.
 fn set_text(setting: &mut Setting, word: &'static str) -> Result<(), Fail> {
     let (name, text) = word.split_once(':').ok_or("a word that no citation has")?;
     match name {
