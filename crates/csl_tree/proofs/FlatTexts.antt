@@ -10,7 +10,8 @@ use Rattle.csl_tree.specs.Tokens.{Token, child_tokens, leaf_text, last_char}
 use Rattle.csl_tree.specs.declared.elem.ElemChild.{ElemChild}
 use Rattle.csl_tree.specs.declared.flat_items.Item.{Item}
 use Rattle.csl_tree.specs.declared.flat_items.Item.TheVariants.{Child, Mark}
-use Rattle.csl_tree.specs.Flat.{Parts, no_parts, with_tokens, with_open, parts_from, parts}
+use Rattle.csl_tree.specs.Flat.{Parts, no_parts, with_tokens, with_open}
+use Rattle.csl_tree.specs.FlatItems.{parts_from, parts}
 use Rattle.csl_tree.proofs.ContentLaws.{leaf_text-join}
 use Rattle.csl_tree.proofs.LastChars.{child_spells, last_or-append, last_or-none, last_or-some, last_char-none}
 use Rattle.csl_tree.proofs.Flats.{parts_append, taken, fresh_behind}

@@ -17,7 +17,8 @@ use Rattle.std.proofs.Math.Seq.{drop-cons}
 use Rattle.csl_tree.specs.declared.elem.ElemChild.{ElemChild}
 use Rattle.csl_tree.specs.declared.flat_items.Item.{Item}
 use Rattle.csl_tree.specs.declared.flat_items.Item.TheVariants.{Child, Mark}
-use Rattle.csl_tree.specs.Flat.{Parts, no_parts, with_tokens, with_open, closed_onto, closed_as, IsRun, IsLastPart, kept, affix_content, step, parts_from, parts, plain_step, plain_from, plain_inner, run_step, run_from, run, IsJoined, IsFresh, JoinsAs, Joins, IsSame, IsApartFrom, IsApart}
+use Rattle.csl_tree.specs.Flat.{Parts, no_parts, with_tokens, with_open, closed_onto, closed_as, affix_content}
+use Rattle.csl_tree.specs.FlatItems.{IsRun, IsLastPart, kept, step, parts_from, parts, plain_step, plain_from, plain_inner, run_step, run_from, run, IsJoined, IsFresh, JoinsAs, Joins, IsSame, IsApartFrom, IsApart}
 
 -- some items, and then others
 pub parts_append : (p : Parts) (xs ys : List Item) → parts_from p (xs ++ ys) ≡ parts_from (parts_from p xs) ys

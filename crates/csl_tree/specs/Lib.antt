@@ -4,6 +4,7 @@ pub mod Html
 pub mod Writing
 pub mod Content
 pub mod Flat
+pub mod FlatItems
 pub mod Stack
 pub mod Tree
 pub mod Simplify

@@ -27,7 +27,8 @@ pub struct FlatTree {
 
 impl Model for FlatTree {
     ghost use Rattle.std.specs.Prelude.{◌≡◌, length};
-    ghost use Rattle.csl_tree.specs.Flat.{Parts, parts};
+    ghost use Rattle.csl_tree.specs.Flat.{Parts};
+    ghost use Rattle.csl_tree.specs.FlatItems.{parts};
 
     ghost Value = { Parts };
 

@@ -5,7 +5,8 @@ ghost use Rattle.std.specs.Bool.{OnTrue, OnFalse};
 ghost use Rattle.std.specs.List.{flat_map};
 ghost use Rattle.csl_tree.specs.Content.{◌++>◌, text_content, optional_text, boxed, affixed};
 ghost use Rattle.csl_tree.specs.Tokens.{tokens, child_tokens, text, text_tokens, optional_meta, leaf_text, last_char, has_children};
-ghost use Rattle.csl_tree.specs.Flat.{Parts, no_parts, with_tokens, with_open, closed_as, dropped, step, parts, plain_inner, run, IsJoined, IsFresh, IsRun, IsLastPart, kept, affix_content, JoinsAs, Joins, IsSame, IsApartFrom, IsApart};
+ghost use Rattle.csl_tree.specs.Flat.{Parts, no_parts, with_tokens, with_open, closed_as, dropped, affix_content};
+ghost use Rattle.csl_tree.specs.FlatItems.{step, parts, plain_inner, run, IsJoined, IsFresh, IsRun, IsLastPart, kept, JoinsAs, Joins, IsSame, IsApartFrom, IsApart};
 ghost use Rattle.csl_tree.specs.declared.flat_items.Item.TheVariants.{Mark};
 
 use crate::content::join_last;

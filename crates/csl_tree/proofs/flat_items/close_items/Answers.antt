@@ -2,7 +2,8 @@ use Rattle.std.proofs.Common.{◌≡◌, ◌∙◌, ap, sym, arith}
 use Rattle.std.proofs.lemmas.Grind.{common_steps}
 use Rattle.csl_tree.specs.Tokens.{tokens, optional_meta}
 use Rattle.csl_tree.specs.Content.{boxed}
-use Rattle.csl_tree.specs.Flat.{Parts, parts, with_tokens}
+use Rattle.csl_tree.specs.Flat.{Parts, with_tokens}
+use Rattle.csl_tree.specs.FlatItems.{parts}
 use Rattle.csl_tree.proofs.Trees.{tokens_out}
 use Rattle.csl_tree.proofs.Appended.{tokens_none}
 use Rattle.csl_tree.proofs.Flats.{closed_none, closed_some, elem_box}

@@ -1,5 +1,5 @@
 use Rattle.std.proofs.Common.{arith}
-use Rattle.csl_tree.specs.Flat.{IsLastPart}
+use Rattle.csl_tree.specs.FlatItems.{IsLastPart}
 use Rattle.csl_tree.proofs.Flats.{part_open, last_dropped}
 use Rattle.csl_tree.proofs.flat_items.drop_part.Goals as goal
 

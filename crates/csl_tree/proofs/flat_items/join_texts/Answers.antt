@@ -1,7 +1,7 @@
 use Rattle.std.proofs.Common.{◌+◌, get_or, refl, ap, arith}
 use Rattle.std.proofs.lemmas.List.{get_or_default, take-append-drop}
 use Rattle.csl_tree.specs.declared.flat_items.Item.TheVariants.{Mark}
-use Rattle.csl_tree.specs.Flat.{parts}
+use Rattle.csl_tree.specs.FlatItems.{parts}
 use Rattle.csl_tree.proofs.Flats.{joined_first}
 use Rattle.csl_tree.proofs.flat_items.join_texts.Goals as goal
 

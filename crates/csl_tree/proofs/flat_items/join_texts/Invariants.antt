@@ -1,5 +1,5 @@
 use Rattle.std.proofs.Common.{◌≡◌, ◌+◌, ◌-◌, ◌<◌, ◌≤◌, length, take}
-use Rattle.csl_tree.specs.Flat.{parts, kept, IsJoined}
+use Rattle.csl_tree.specs.FlatItems.{parts, kept, IsJoined}
 use Rattle.csl_tree.proofs.flat_items.join_texts.Given as goal
 
 -- the items up to the last that is kept, and those from the next one on, are all

@@ -1,6 +1,7 @@
 use Rattle.std.proofs.Common.{◌≡◌, ap, length, string_bytes, arith}
 use Rattle.std.proofs.lemmas.Grind.{common_steps}
-use Rattle.csl_tree.specs.Flat.{parts, affix_content}
+use Rattle.csl_tree.specs.Flat.{affix_content}
+use Rattle.csl_tree.specs.FlatItems.{parts}
 use Rattle.csl_tree.proofs.Flats.{text_none, with_none}
 use Rattle.csl_tree.proofs.flat_items.put_text.Goals as goal
 

@@ -1,5 +1,5 @@
 use Rattle.std.proofs.Common.{◌≡◌, ◌+◌, ◌-◌, length, take, sym, arith}
-use Rattle.csl_tree.specs.Flat.{run}
+use Rattle.csl_tree.specs.FlatItems.{run}
 use Rattle.csl_tree.proofs.Flats.{run_child, run_mark, run_more, run_none, fresh_behind}
 use Rattle.csl_tree.proofs.flat_items.run_len.Goals as goal
 

@@ -1,5 +1,5 @@
 use Rattle.std.proofs.Common.{◌≡◌, ◌+◌, ◌-◌, ◌≤◌, length, take, drop}
-use Rattle.csl_tree.specs.Flat.{run, IsRun}
+use Rattle.csl_tree.specs.FlatItems.{run, IsRun}
 use Rattle.csl_tree.proofs.flat_items.run_len.Given as goal
 
 abbrev pub invariant-loop-i : goal.invariant-loop-i

@@ -1,6 +1,7 @@
 use Rattle.std.proofs.Common.{◌≡◌, ◌-◌, ◌∙◌, ap, arith}
 use Rattle.csl_tree.specs.Content.{◌++>◌, affixed}
-use Rattle.csl_tree.specs.Flat.{parts, closed_as, IsLastPart, affix_content}
+use Rattle.csl_tree.specs.Flat.{closed_as, affix_content}
+use Rattle.csl_tree.specs.FlatItems.{parts, IsLastPart}
 use Rattle.csl_tree.proofs.Flats.{part_open, mark_at, last_some, spliced, closed_none, fresh_whole}
 use Rattle.csl_tree.proofs.flat_items.splice_items.Goals as goal
 

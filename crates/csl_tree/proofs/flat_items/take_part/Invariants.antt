@@ -1,7 +1,7 @@
 use Rattle.std.proofs.Common.{◌≡◌, ◌+◌, ◌≤◌, ◌++◌, reverse, vec_len, vec_capacity}
 use Rattle.std.specs.List.{flat_map}
 use Rattle.csl_tree.specs.Tokens.{child_tokens}
-use Rattle.csl_tree.specs.Flat.{parts, plain_inner, run}
+use Rattle.csl_tree.specs.FlatItems.{parts, plain_inner, run}
 use Rattle.csl_tree.proofs.flat_items.take_part.Given as goal
 
 abbrev pub invariant-loop-item : goal.invariant-loop-item

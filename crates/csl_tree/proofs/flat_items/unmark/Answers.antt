@@ -1,7 +1,8 @@
 use Rattle.std.proofs.Common.{◌≡◌, ◌+◌, ◌<◌, ◌∙◌, suc, ap, sym, length, string_bytes, arith}
 use Rattle.std.proofs.lemmas.Grind.{common_steps}
 use Rattle.csl_tree.specs.Content.{◌++>◌}
-use Rattle.csl_tree.specs.Flat.{parts, closed_as, affix_content}
+use Rattle.csl_tree.specs.Flat.{closed_as, affix_content}
+use Rattle.csl_tree.specs.FlatItems.{parts}
 use Rattle.csl_tree.proofs.Flats.{part_set, part_unmarked, text_none, text_some}
 use Rattle.csl_tree.proofs.flat_items.unmark.Goals as goal
 

@@ -1,6 +1,7 @@
 use Rattle.std.proofs.Common.{◌∙◌, ap}
 use Rattle.std.specs.Prelude.{is_some}
-use Rattle.csl_tree.specs.Flat.{Parts, parts}
+use Rattle.csl_tree.specs.Flat.{Parts}
+use Rattle.csl_tree.specs.FlatItems.{parts}
 use Rattle.csl_tree.specs.Tokens.{leaf_text, has_text}
 use Rattle.csl_tree.proofs.FlatTexts.{has_last, inner_spells}
 use Rattle.csl_tree.proofs.flat.FlatTree.has_text.Goals as goal

@@ -1,0 +1,93 @@
+-- Children in a row, with a mark where each open part begins, and the contents that they stand for.
+use Rattle.std.specs.Prelude.{◌≡◌, ℕ, ◌+◌, ◌-◌, ◌<◌, ◌≤◌, List, [], ◌∷◌, ◌++◌, length, take, drop, get_or}
+use Rattle.csl_tree.specs.Tokens.{Token, child_tokens}
+use Rattle.csl_tree.specs.Content.{◌++>◌}
+use Rattle.csl_tree.specs.Flat.{Parts, no_parts, with_tokens, with_open}
+use Rattle.csl_tree.specs.declared.flat_items.Item.{Item}
+use Rattle.csl_tree.specs.declared.flat_items.Item.TheVariants.{Child, Mark}
+
+-- one item more
+abbrev pub step : Parts → Item → Parts
+step p (Child k) = with_tokens (child_tokens k) p
+step p Mark = with_open p
+
+abbrev pub parts_from : Parts → List Item → Parts
+parts_from p [] = p
+parts_from p (x ∷ xs) = parts_from (step p x) xs
+
+abbrev pub parts : List Item → Parts
+parts xs = parts_from no_parts xs
+
+-- the same, where texts that meet stay apart
+abbrev pub plain_step : List Token → Item → List Token
+plain_step c (Child k) = c ++ child_tokens k
+plain_step c Mark = []
+
+abbrev pub plain_from : List Token → List Item → List Token
+plain_from c [] = c
+plain_from c (x ∷ xs) = plain_from (plain_step c x) xs
+
+abbrev pub plain_inner : List Item → List Token
+plain_inner xs = plain_from [] xs
+
+-- how many children stand behind the last mark
+abbrev pub run_step : ℕ → Item → ℕ
+run_step n (Child k) = n + 1
+run_step n Mark = 0
+
+abbrev pub run_from : ℕ → List Item → ℕ
+run_from n [] = n
+run_from n (x ∷ xs) = run_from (run_step n x) xs
+
+abbrev pub run : List Item → ℕ
+run xs = run_from 0 xs
+
+-- children alone
+abbrev pub IsRun : List Item → Type 0
+IsRun [] = Unit {0}
+IsRun (Child k ∷ xs) = IsRun xs
+IsRun (Mark ∷ xs) = ⊥
+
+-- the last so many items are those of the innermost part
+abbrev pub IsLastPart : List Item → ℕ → Type 0
+IsLastPart xs n = (n ≤ length xs) × IsRun (drop (length xs - n) xs) × (n < length xs → get_or xs (length xs - n - 1) Mark ≡ Mark)
+
+-- no texts that could be one meet in the innermost part
+abbrev pub IsJoined : List Item → Type 0
+IsJoined xs = plain_inner xs ≡ (parts xs).inner
+
+-- nothing stands in the innermost part
+abbrev pub IsFresh : List Item → Type 0
+IsFresh xs = (plain_inner xs ≡ []) × ((parts xs).inner ≡ [])
+
+-- the third is the first with a content joined to it
+abbrev pub JoinsAs : Item → List Token → Item → Type 0
+JoinsAs Mark ts z = ⊥
+JoinsAs (Child a) ts Mark = ⊥
+JoinsAs (Child a) ts (Child c) = child_tokens c ≡ child_tokens a ++> ts
+
+-- the third is the first with the second joined to it
+abbrev pub Joins : Item → Item → Item → Type 0
+Joins x Mark z = ⊥
+Joins x (Child b) z = JoinsAs x (child_tokens b) z
+
+-- both stand for the same
+abbrev pub IsSame : Item → Item → Type 0
+IsSame Mark Mark = Unit {0}
+IsSame Mark (Child b) = ⊥
+IsSame (Child a) Mark = ⊥
+IsSame (Child a) (Child b) = child_tokens b ≡ child_tokens a
+
+-- a content does not join the item
+abbrev pub IsApartFrom : Item → List Token → Type 0
+IsApartFrom Mark ts = Unit {0}
+IsApartFrom (Child a) ts = child_tokens a ++> ts ≡ child_tokens a ++ ts
+
+-- the second item does not join the first
+abbrev pub IsApart : Item → Item → Type 0
+IsApart x Mark = Unit {0}
+IsApart x (Child b) = IsApartFrom x (child_tokens b)
+
+-- the items up to a place, and those from another on
+abbrev pub kept : List Item → ℕ → ℕ → List Item
+kept xs last next = take (last + 1) xs ++ drop next xs
