@@ -72,11 +72,15 @@ tests_of b = let branch = out-ChooseBranch b in record {
   match_ = branch.match_;
 }
 
+-- the context in which the conditions are read
+abbrev pub context_of : {T : Type 0} → BranchConditionIter T → Now T
+context_of it = it.ctx.now
+
 -- what is left to be read: nothing behind an error
 abbrev pub conditions_left : {T : Type 0} → (T → Answers) → BranchConditionIter T → List Bool
 conditions_left answers it =
     if it.ended then []
-    else conditions_from (world answers it.ctx.now) it.ctx.now.state (tests_of it.branch.now) it.pos it.index
+    else conditions_from (world answers (context_of it)) (context_of it).state (tests_of it.branch.now) it.pos it.index
 
 -- what is left behind the first that is so: nothing where none is
 abbrev pub behind_first : (Bool → Bool) → List Bool → List Bool
@@ -101,7 +105,7 @@ ReadsAt now (Some b) r = MatchOption r ⊥ (λ x. MatchResult x (λ c. (now.fail
 -- The first condition that is left, or an error, behind which nothing is left; none where nothing is left, and nothing from then on.
 abbrev pub Reads : {T : Type 0} → (T → Answers) → BranchConditionIter T → Option (Result Bool RenderError) → BranchConditionIter T → Type 0
 Reads answers s r t =
-    (t.ctx ≡ s.ctx) × MatchOption r ((conditions_left answers s ≡ []) × (conditions_left answers t ≡ []))
+    (context_of t ≡ context_of s) × MatchOption r ((conditions_left answers s ≡ []) × (conditions_left answers t ≡ []))
     (λ x. MatchResult x
-    (λ b. (s.ctx.now.failed ≡ false) × (conditions_left answers s ≡ b ∷ conditions_left answers t))
-    (λ e. FailsSilently e s.ctx.now × (conditions_left answers t ≡ [])))
+    (λ b. ((context_of s).failed ≡ false) × (conditions_left answers s ≡ b ∷ conditions_left answers t))
+    (λ e. FailsSilently e (context_of s) × (conditions_left answers t ≡ [])))

@@ -5,7 +5,7 @@ ghost use Rattle.std.specs.Iterator.{YieldsFirst, item_count};
 ghost use Rattle.csl_style.specs.View.{view_branch};
 ghost use Rattle.csl_context.specs.Now.{world};
 ghost use Rattle.csl_leaves.specs.Conditions.{all_if, conditions_at, conditions};
-ghost use Rattle.csl_leaves.specs.ConditionsLeft.{arm_behind, arms_from, conditions_left, tests_of, ReadsAt, Reads};
+ghost use Rattle.csl_leaves.specs.ConditionsLeft.{arm_behind, arms_from, conditions_left, context_of, tests_of, ReadsAt, Reads};
 
 use crate::condition::{
     is_disambiguated, is_located, is_numeric, is_of_kind, is_positioned, is_present, is_uncertain,
@@ -87,7 +87,7 @@ impl<'a, 's, T: EntryLike> BranchConditionIter<'a, 's, T> {
     ) -> BranchConditionIter<'a, 's, T>
         ensures left { conditions_left T.answers result
             ≡ conditions (world T.answers ctx.now) ctx.now.state (view_branch branch.now).tests }
-        ensures context { result.ctx.now ≡ ctx.now }
+        ensures context { context_of result ≡ ctx.now }
     {
         BranchConditionIter {
             branch,

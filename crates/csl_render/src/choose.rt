@@ -8,7 +8,7 @@ ghost use Rattle.csl_style.specs.View.{views, view_branch, view_choose};
 ghost use Rattle.csl_context.specs.World.{env};
 ghost use Rattle.csl_context.specs.Now.{FailsAs, Leaves, same, world};
 ghost use Rattle.csl_leaves.specs.Conditions.{holds, satisfies, chosen_of};
-ghost use Rattle.csl_leaves.specs.ConditionsLeft.{conditions_left, behind_first, behind_deciding, FailsSilently};
+ghost use Rattle.csl_leaves.specs.ConditionsLeft.{conditions_left, context_of, behind_first, behind_deciding, FailsSilently};
 ghost use Rattle.csl_render.specs.Rendering.{part};
 ghost use Rattle.csl_render.specs.Tree.{info, shows, tree, choice_info, choice_shows, choice_tree};
 
@@ -29,7 +29,7 @@ fn all_hold<'a, 's, T: EntryLike>(
         ≡ list_all (λ b. b) (conditions_left T.answers conditions.old)) }
     ensures read { OnOk result (conditions_left T.answers conditions.new
         ≡ behind_first not (conditions_left T.answers conditions.old)) }
-    ensures err { IfErr result (λ e. FailsSilently e conditions.old.ctx.now) }
+    ensures err { IfErr result (λ e. FailsSilently e (context_of conditions.old)) }
 {
     while let Some(condition) = conditions.next() {
         if !condition? {
@@ -47,7 +47,7 @@ fn any_holds<'a, 's, T: EntryLike>(
         ≡ list_any (λ b. b) (conditions_left T.answers conditions.old)) }
     ensures read { OnOk result (conditions_left T.answers conditions.new
         ≡ behind_first (λ b. b) (conditions_left T.answers conditions.old)) }
-    ensures err { IfErr result (λ e. FailsSilently e conditions.old.ctx.now) }
+    ensures err { IfErr result (λ e. FailsSilently e (context_of conditions.old)) }
 {
     while let Some(condition) = conditions.next() {
         if condition? {
@@ -66,7 +66,7 @@ fn satisfied<'a, 's, T: EntryLike>(
         ≡ satisfies match_ (conditions_left T.answers conditions.old)) }
     ensures read { OnOk result (conditions_left T.answers conditions.new
         ≡ behind_deciding match_ (conditions_left T.answers conditions.old)) }
-    ensures err { IfErr result (λ e. FailsSilently e conditions.old.ctx.now) }
+    ensures err { IfErr result (λ e. FailsSilently e (context_of conditions.old)) }
 {
     match match_ {
         ChooseMatch::All => {
