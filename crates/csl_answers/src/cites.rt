@@ -2,44 +2,17 @@
 
 ghost use Rattle.std.specs.Prelude.{◌≡◌, IfOk};
 ghost use Rattle.csl_tree.specs.Tokens.{tokens};
-ghost use Rattle.csl_entry.specs.Cite.{cite_state};
-ghost use Rattle.csl_render.specs.Cited.{first_cite, cited};
+ghost use Rattle.csl_render.specs.Cited.{cited};
 ghost use Rattle.csl_answers.specs.Cites.{IsEntryContent, IsTitleContent};
 
 use csl_built_in::{BuiltIn, BuiltInStyle, TitleOnly, one_piece, title_style};
 use csl_context::{Context, RenderError, Rendered};
-use csl_entry::{
-    CertainCiteProperties, CitationNumber, CiteProperties, DisambiguateState, EntryLike, IbidState,
-    InstanceContext, SpeculativeCiteProperties,
-};
+use csl_entry::{CiteProperties, DisambiguateState, EntryLike, InstanceContext};
 use csl_render::RenderCsl;
 use csl_style::{Scope, Style};
 use csl_tree::ElemChildren;
 use lit_model::Memory;
 use std::alloc::Global;
-
-/// A cite that is the first of its entry, without a note and without a locator.
-fn first_cite() -> CiteProperties<'static>
-    ensures { cite_state result ≡ first_cite }
-{
-    let Some(citation_number) = CitationNumber::new(0) else {
-        unreachable!()
-    };
-    CiteProperties {
-        certain: CertainCiteProperties {
-            first_note_number: None,
-            is_first: true,
-            is_near_note: false,
-            initial_idx: 0,
-        },
-        speculative: SpeculativeCiteProperties {
-            locator: None,
-            citation_number,
-            disambiguation: DisambiguateState::None,
-            ibid: IbidState::Different,
-        },
-    }
-}
 
 /// What a style makes of the first cite of an entry.
 ///
@@ -48,7 +21,7 @@ fn first_cite() -> CiteProperties<'static>
 fn cite<T: EntryLike>(alloc: Global, style: &Style, entry: &T) -> Result<Rendered, RenderError>
     ensures { IfOk result (λ made. tokens made.content ≡ cited style.now (T.answers entry.now)) }
 {
-    let cite_props = first_cite();
+    let cite_props = CiteProperties::first(DisambiguateState::None);
     let instance = InstanceContext {
         entry,
         cite_props: &cite_props,

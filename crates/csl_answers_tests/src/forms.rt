@@ -4,9 +4,8 @@
 use csl_built_in::{BuiltIn, BuiltInStyle};
 use csl_context::{Context, RenderError, Rendered};
 use csl_entry::{
-    CertainCiteProperties, CitationNumber, CiteProperties, DisambiguateState,
-    DisambiguatedNameForm, IbidState, InstanceContext, NameDisambiguationProperties,
-    SpeculativeCiteProperties,
+    CiteProperties, DisambiguateState, DisambiguatedNameForm, InstanceContext,
+    NameDisambiguationProperties,
 };
 use csl_render::RenderCsl;
 use csl_style::{NameVariable, Scope, Style};
@@ -26,25 +25,6 @@ fn whole_name(
     let forms = vec![in alloc; Some(DisambiguatedNameForm::LongFull)]?;
     let lists = vec![in alloc; forms]?;
     Ok(NameDisambiguationProperties::new(default, variables, lists))
-}
-
-/// The first cite of an entry, told apart so.
-fn first_cite(disambiguation: DisambiguateState) -> Result<CiteProperties<'static>, Fail> {
-    let citation_number = CitationNumber::new(0).ok_or("a citation number")?;
-    Ok(CiteProperties {
-        certain: CertainCiteProperties {
-            first_note_number: None,
-            is_first: true,
-            is_near_note: false,
-            initial_idx: 0,
-        },
-        speculative: SpeculativeCiteProperties {
-            locator: None,
-            citation_number,
-            disambiguation,
-            ibid: IbidState::Different,
-        },
-    })
 }
 
 /// What a style makes of a cite of an entry.
@@ -77,7 +57,7 @@ fn assert_cite(
 ) -> Result<DisambiguateState, Fail> {
     let style = BuiltInStyle::AuthorDate.style(alloc)?;
     let entry = entry.entry(alloc)?;
-    let made = rendered(alloc, &style, &entry, &first_cite(told)?)?;
+    let made = rendered(alloc, &style, &entry, &CiteProperties::first(told))?;
     let mut text = String::new(alloc);
     made.content.write_buf(&mut text, BufWriteFormat::Plain)?;
     assert_eq!(rt; text.as_str(), wanted);

@@ -2,10 +2,9 @@
 //! makes of both. What is expected stands here as written out by hand.
 
 use crate::cites::{BOOK, DEPENDENCE_HTML, ESSAY_HTML, THREE, VORTEX_HTML};
-use crate::styles::first_cite;
 use csl_built_in::{BuiltIn, BuiltInStyle, TitleOnly, one_piece, title_style};
 use csl_context::LeftState;
-use csl_entry::{DisambiguateState, EntryLike};
+use csl_entry::{CiteProperties, DisambiguateState, EntryLike};
 use csl_render::{Pair, render_pair};
 use csl_style::{
     Affixes, Formatting, Layout, LayoutRenderingElement, Scope, StandardVariable, Style, Text,
@@ -42,7 +41,7 @@ fn paired<T: EntryLike, U: EntryLike>(
     right: &U,
 ) -> Result<Pair, Fail> {
     let start = LeftState::new(alloc);
-    let cite = first_cite(DisambiguateState::None)?;
+    let cite = CiteProperties::first(DisambiguateState::None);
     let scope = Scope::Citation;
     Ok(render_pair(
         alloc, style, layout, scope, &cite, None, None, &start, left, right,

@@ -4,9 +4,8 @@
 use csl_built_in::{BuiltIn, BuiltInStyle};
 use csl_context::Context;
 use csl_entry::{
-    CertainCiteProperties, CitationNumber, CiteProperties, DisambiguateState,
-    DisambiguatedNameForm, EntryLike, IbidState, InstanceContext, NameDisambiguationProperties,
-    SpecialForm, SpeculativeCiteProperties,
+    CiteProperties, DisambiguateState, DisambiguatedNameForm, EntryLike, InstanceContext,
+    NameDisambiguationProperties, SpecialForm,
 };
 use csl_render::RenderCsl;
 use csl_style::{DateVariable, NameVariable, Scope, Style, Variable, named_by};
@@ -15,25 +14,6 @@ use lit_model::{Entry, Memory};
 use std::alloc::Global;
 use std::process::Abort;
 use std::test::Fail;
-
-/// The first cite of an entry, told from others so.
-pub(crate) fn first_cite(told: DisambiguateState) -> Result<CiteProperties<'static>, Fail> {
-    let citation_number = CitationNumber::new(0).ok_or("a citation number")?;
-    Ok(CiteProperties {
-        certain: CertainCiteProperties {
-            first_note_number: None,
-            is_first: true,
-            is_near_note: false,
-            initial_idx: 0,
-        },
-        speculative: SpeculativeCiteProperties {
-            locator: None,
-            citation_number,
-            disambiguation: told,
-            ibid: IbidState::Different,
-        },
-    })
-}
 
 /// What a style names, set by set.
 fn named(alloc: Global, style: BuiltInStyle) -> Result<String, Fail> {
@@ -162,7 +142,7 @@ fn books(alloc: Global) -> Result<Vec<Entry>, Memory> {
 
 /// The book cited by its author and date.
 fn cited(alloc: Global, told: Told, form: Option<SpecialForm>) -> Result<String, Fail> {
-    let cite_props = first_cite(state(alloc, told)?)?;
+    let cite_props = CiteProperties::first(state(alloc, told)?);
     let style = BuiltInStyle::AuthorDate.style(alloc)?;
     let books = books(alloc)?;
     let book = books.first().ok_or("a book")?;

@@ -1,10 +1,10 @@
 //! Works over what a layout names, and over two entries.
 
 use crate::entry::article;
-use crate::render::{first_cite, style};
+use crate::render::style;
 use anyhow::{Result, bail};
 use csl_context::LeftState;
-use csl_entry::EntryLike;
+use csl_entry::{CiteProperties, DisambiguateState, EntryLike};
 use csl_render::render_pair;
 use csl_style::{Scope, Style, named_by};
 use std::alloc::Global;
@@ -18,9 +18,7 @@ pub fn named(alloc: Global, size: usize) -> Result<usize> {
 
 /// Renders the citation layout of a style for two entries, and counts the bytes of their HTML.
 fn byte_count<T: EntryLike>(alloc: Global, style: &Style, left: &T, right: &T) -> Result<usize> {
-    let Some(cite) = first_cite() else {
-        bail!("no such number");
-    };
+    let cite = CiteProperties::first(DisambiguateState::None);
     let start = LeftState::new(alloc);
     let (layout, scope) = (style.citation(), Scope::Citation);
     match render_pair(

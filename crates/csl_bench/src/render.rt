@@ -5,10 +5,7 @@ use crate::literature::page_ranges;
 use crate::style::{text, with_layout};
 use anyhow::{Result, bail};
 use csl_context::{Context, Rendered};
-use csl_entry::{
-    CertainCiteProperties, CitationNumber, CiteProperties, DisambiguateState, EntryLike, IbidState,
-    InstanceContext, SpeculativeCiteProperties,
-};
+use csl_entry::{CiteProperties, DisambiguateState, EntryLike, InstanceContext};
 use csl_render::RenderCsl;
 use csl_style::{
     Affixes, CslMacro, Formatting, Group, Layout, LayoutRenderingElement, PageRangeFormat,
@@ -69,29 +66,9 @@ pub fn style(alloc: Global, size: usize) -> Result<Style> {
     with_layout(alloc, StyleSettings::default(), macros, citation)
 }
 
-/// A cite that no other one stands before.
-pub fn first_cite<'s>() -> Option<CiteProperties<'s>> {
-    Some(CiteProperties {
-        certain: CertainCiteProperties {
-            first_note_number: None,
-            is_first: true,
-            is_near_note: false,
-            initial_idx: 0,
-        },
-        speculative: SpeculativeCiteProperties {
-            locator: None,
-            citation_number: CitationNumber::new(0)?,
-            disambiguation: DisambiguateState::None,
-            ibid: IbidState::Different,
-        },
-    })
-}
-
 /// Renders the citation layout of a style for an entry.
 fn rendered<T: EntryLike>(alloc: Global, style: &Style, entry: &T) -> Result<Rendered> {
-    let Some(cite) = first_cite() else {
-        bail!("no such number");
-    };
+    let cite = CiteProperties::first(DisambiguateState::None);
     let instance = InstanceContext {
         entry,
         cite_props: &cite,

@@ -1,9 +1,5 @@
-//! What a context is made of: a style, and the properties of a cite.
+//! What a context is made of: a style.
 
-use csl_entry::{
-    CertainCiteProperties, CitationNumber, CiteProperties, DisambiguateState, IbidState,
-    SpeculativeCiteProperties,
-};
 use csl_style::{
     Affixes, Date, DateForm, Formatting, InheritableNameOptions, Layout, Locale, OrdinalSlot,
     OrdinalTerm, OtherTerm, PageVariable, Style, StyleSettings, Term, TermEntry, TermForm,
@@ -176,25 +172,6 @@ pub(crate) fn style(alloc: Global) -> Result<Style, Fail> {
         None,
         locales,
     )?)
-}
-
-/// The first cite of an entry, whose disambiguation is that of a choose.
-pub(crate) fn first_cite() -> Result<CiteProperties<'static>, Fail> {
-    let citation_number = CitationNumber::new(0).ok_or("a citation number")?;
-    Ok(CiteProperties {
-        certain: CertainCiteProperties {
-            first_note_number: None,
-            is_first: true,
-            is_near_note: false,
-            initial_idx: 0,
-        },
-        speculative: SpeculativeCiteProperties {
-            locator: None,
-            citation_number,
-            disambiguation: DisambiguateState::Choose,
-            ibid: IbidState::Different,
-        },
-    })
 }
 
 /// The prefix `(` and the suffix `, `.

@@ -7,13 +7,13 @@ use crate::asked::{
 };
 use crate::film::{Film, UNANSWERED, metropolis};
 use crate::looked::{look, look_and_suppress, suppress_genre};
-use crate::made::{affixes, first_cite, style};
+use crate::made::{affixes, style};
 use crate::said::say;
 use crate::written::{
     affix, discard, format, join, nest, quote, quote_twice, space, splice, strip, write_pieces,
 };
 use csl_context::{Context, RenderError, Rendered};
-use csl_entry::{CiteProperties, InstanceContext, Sorting, SpecialForm};
+use csl_entry::{CiteProperties, DisambiguateState, InstanceContext, Sorting, SpecialForm};
 use csl_style::{Affixes, Scope, Style};
 use lit_model::{LongShortForm, Memory};
 use std::alloc::Global;
@@ -159,7 +159,7 @@ fn said_in<'s>(world: World<'s>, act: Act, next: Option<Act>) -> Result<String, 
 fn said(alloc: Global, act: Act, next: Option<Act>) -> Result<String, Fail> {
     let style = style(alloc)?;
     let film = metropolis(alloc)?;
-    let cite = first_cite()?;
+    let cite = CiteProperties::first(DisambiguateState::Choose);
     let affixes = affixes(alloc)?;
     let world = World {
         alloc,
@@ -193,7 +193,7 @@ fn refusals_in<'s>(world: World<'s>) -> Result<Refusals, Fail> {
 fn refusals(alloc: Global) -> Result<Refusals, Fail> {
     let style = style(alloc)?;
     let film = metropolis(alloc)?;
-    let cite = first_cite()?;
+    let cite = CiteProperties::first(DisambiguateState::Choose);
     let affixes = affixes(alloc)?;
     refusals_in(World {
         alloc,

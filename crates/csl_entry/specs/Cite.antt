@@ -1,11 +1,12 @@
 -- What a citation says of a cite beside its entry, without where it lies in memory (CSL 1.0.2, Choose: position; Locators;
 -- Appendix IV: Number Variables; Disambiguation).
-use Rattle.std.specs.Prelude.{ℕ, Bool, List, Option, option_map}
+use Rattle.std.specs.Prelude.{ℕ, Bool, List, None, Option, false, option_map, true}
 use Rattle.csl_style.specs.declared.taxonomy.Locator.{Locator}
 use Rattle.csl_entry.specs.declared.cite.LocatorPayload.{LocatorPayload}
 use Rattle.csl_entry.specs.declared.cite.LocatorPayload.TheVariants as of_payload
 use Rattle.csl_entry.specs.declared.cite.SpecificLocator.{SpecificLocator}
 use Rattle.csl_entry.specs.declared.cite.IbidState.{IbidState}
+use Rattle.csl_entry.specs.declared.cite.IbidState.TheVariants.{Different}
 use Rattle.csl_entry.specs.declared.cite.DisambiguateState.{DisambiguateState}
 use Rattle.csl_entry.specs.declared.cite.DisambiguateState.TheVariants as of_state
 use Rattle.csl_entry.specs.declared.cite.CiteProperties.{CiteProperties}
@@ -39,6 +40,19 @@ pub record CiteState : Type 0 where
   pub citation_number : ℕ
   pub disambiguation : Disambiguation
   pub ibid : IbidState
+
+-- a cite that no other one stands before: no note has it, and it points at no part of its entry
+abbrev pub first_cite : Disambiguation → CiteState
+first_cite told = record {
+  first_note = None;
+  is_first = true;
+  is_near_note = false;
+  initial_index = 0;
+  locator = None;
+  citation_number = 0;
+  disambiguation = told;
+  ibid = Different;
+}
 
 abbrev pub payload_of : LocatorPayload → Payload
 payload_of (of_payload.Str text) = printed text.now

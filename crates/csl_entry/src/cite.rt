@@ -125,7 +125,31 @@ impl DisambiguateState {
 }
 
 impl<'s> CiteProperties<'s> {
-    ghost use Rattle.csl_entry.specs.Cite.{cite_state};
+    ghost use Rattle.csl_entry.specs.Cite.{cite_state, disambiguation_of, first_cite};
+
+    /// What a citation says of a cite that no other one stands before, told apart so: no note has
+    /// it, it points at no part of its entry, and its citation number is 0, which prints as 1.
+    pub fn first(disambiguation: DisambiguateState) -> CiteProperties<'s>
+        ensures { cite_state result ≡ first_cite (disambiguation_of disambiguation) }
+    {
+        let Some(citation_number) = CitationNumber::new(0) else {
+            unreachable!()
+        };
+        CiteProperties {
+            certain: CertainCiteProperties {
+                first_note_number: None,
+                is_first: true,
+                is_near_note: false,
+                initial_idx: 0,
+            },
+            speculative: SpeculativeCiteProperties {
+                locator: None,
+                citation_number,
+                disambiguation,
+                ibid: IbidState::Different,
+            },
+        }
+    }
 
     /// An equal value.
     ///

@@ -121,19 +121,13 @@ type Certain = (Option<NoteNumber>, bool, bool, usize);
 
 /// What else it says: what tells the cite from others, its place, its number and how it stands to
 /// the one before it.
-type Speculative = (
-    &'static str,
-    Option<SpecificLocator<'static>>,
-    u32,
-    IbidState,
-);
+type Speculative<'s> = (&'static str, Option<SpecificLocator<'s>>, u32, IbidState);
 
-/// What a copy says.
-fn copied(alloc: Global) -> Result<(Certain, Speculative), Fail> {
-    let copy = on_page_five()?.clone(alloc)?;
-    let certain = copy.certain;
-    let (state, _) = said(&copy.speculative.disambiguation);
-    Ok((
+/// What a citation says of a cite.
+fn all_said<'s>(cite: &CiteProperties<'s>) -> (Certain, Speculative<'s>) {
+    let (certain, speculative) = (cite.certain, &cite.speculative);
+    let (state, _) = said(&speculative.disambiguation);
+    (
         (
             certain.first_note_number,
             certain.is_first,
@@ -142,11 +136,29 @@ fn copied(alloc: Global) -> Result<(Certain, Speculative), Fail> {
         ),
         (
             state,
-            copy.speculative.locator,
-            copy.speculative.citation_number.get(),
-            copy.speculative.ibid,
+            speculative.locator,
+            speculative.citation_number.get(),
+            speculative.ibid,
         ),
-    ))
+    )
+}
+
+/// What it says of the first cite of an entry that a choice of the style tells apart.
+fn said_of_the_first() -> (Certain, Speculative<'static>) {
+    all_said(&CiteProperties::first(DisambiguateState::Choose))
+}
+
+#[test]
+fn what_the_first_cite_says(rt: HostRuntime) {
+    let (certain, speculative) = said_of_the_first();
+    assert_eq!(rt; certain, (None, true, false, 0));
+    assert_eq!(rt; speculative, ("choose", None, 0, IbidState::Different));
+}
+
+/// What a copy says.
+fn copied(alloc: Global) -> Result<(Certain, Speculative<'static>), Fail> {
+    let copy = on_page_five()?.clone(alloc)?;
+    Ok(all_said(&copy))
 }
 
 #[test]

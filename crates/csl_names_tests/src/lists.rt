@@ -3,10 +3,12 @@
 ghost use Rattle.std.specs.Prelude.{◌≡◌, OnOk};
 
 use crate::listed::{et_al, forms, options, persons, style_with_terms};
-use crate::made::{first_cite, name, says};
+use crate::made::{name, says};
 use crate::said::say;
 use csl_context::{Context, RenderError};
-use csl_entry::{CiteProperties, DisambiguatedNameForm, InstanceContext, Sorting};
+use csl_entry::{
+    CiteProperties, DisambiguateState, DisambiguatedNameForm, InstanceContext, Sorting,
+};
 use csl_names::write_name_list;
 use csl_style::{Name, NameVariable, Scope, Style};
 use lit_model::Person;
@@ -233,7 +235,7 @@ fn said(
 fn written(alloc: Global, before: &str, row: ListRow) -> Result<String, Fail> {
     let (words, who, letters, _) = row;
     let style = style_with_terms(alloc, words)?;
-    let cite_props = first_cite()?;
+    let cite_props = CiteProperties::first(DisambiguateState::None);
     let name = name(alloc, words)?;
     let persons = persons(alloc, who)?;
     let forms = forms(alloc, letters)?;

@@ -17,10 +17,7 @@
 //!
 //! In a text `~` says a blank.
 
-use csl_entry::{
-    CertainCiteProperties, CitationNumber, CiteProperties, DisambiguateState,
-    DisambiguatedNameForm, IbidState, SpeculativeCiteProperties,
-};
+use csl_entry::DisambiguatedNameForm;
 use csl_style::{
     Affixes, DemoteNonDroppingParticle, FontStyle, Formatting, InheritableNameOptions, Layout,
     Name, NamePart, NamePartName, Style, StyleSettings,
@@ -153,23 +150,4 @@ pub(crate) fn style(alloc: Global, words: &str) -> Result<Style, Fail> {
     };
     let macros = Vec::new(alloc);
     Ok(Style::new(alloc, settings, macros, citation, None, Vec::new(alloc))?)
-}
-
-/// The first cite of an entry.
-pub(crate) fn first_cite() -> Result<CiteProperties<'static>, Fail> {
-    let citation_number = CitationNumber::new(0).ok_or("a citation number")?;
-    Ok(CiteProperties {
-        certain: CertainCiteProperties {
-            first_note_number: None,
-            is_first: true,
-            is_near_note: false,
-            initial_idx: 0,
-        },
-        speculative: SpeculativeCiteProperties {
-            locator: None,
-            citation_number,
-            disambiguation: DisambiguateState::None,
-            ibid: IbidState::Different,
-        },
-    })
 }

@@ -2,10 +2,12 @@
 
 ghost use Rattle.std.specs.Prelude.{◌≡◌, OnOk};
 
-use crate::made::{first_cite, form, name, person, says, style};
+use crate::made::{form, name, person, says, style};
 use crate::said::say;
 use csl_context::{Context, RenderError};
-use csl_entry::{DisambiguatedNameForm, InstanceContext, Sorting};
+use csl_entry::{
+    CiteProperties, DisambiguateState, DisambiguatedNameForm, InstanceContext, Sorting,
+};
 use csl_names::write_name;
 use csl_style::{Name, Scope};
 use lit_model::Person;
@@ -158,7 +160,7 @@ fn write_behind(
 fn written(alloc: Global, row: NameRow) -> Result<String, Fail> {
     let (how, who, _) = row;
     let style = style(alloc, how)?;
-    let cite_props = first_cite()?;
+    let cite_props = CiteProperties::first(DisambiguateState::None);
     let sorting = if says(how, "sorting") {
         Some(Sorting::Macro)
     } else {

@@ -284,7 +284,7 @@ pub(crate) fn answered(
     let style = style(alloc, PLAIN)?;
     let element = element(alloc, words)?;
     let work = described(alloc, cite.entry())?;
-    let props = first_cite(cite.suffix())?;
+    let props = first_cite(cite.suffix());
     let world = World {
         alloc,
         style: &style,

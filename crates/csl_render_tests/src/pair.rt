@@ -206,7 +206,7 @@ fn paired<T: EntryLike, U: EntryLike>(
     left: &T,
     right: &U,
 ) -> Result<Pair, Fail> {
-    let cite = first_cite(None)?;
+    let cite = first_cite(None);
     let layout = layout(alloc, words)?;
     let style = style(alloc, PLAIN)?;
     let scope = Scope::Citation;

@@ -1,10 +1,7 @@
 //! An entry type of these tests' own, and the properties of its cite.
 
 use crate::nodes::variable_named;
-use csl_entry::{
-    CertainCiteProperties, CitationNumber, CiteProperties, DisambiguateState, EntryLike, IbidState,
-    SpeculativeCiteProperties,
-};
+use csl_entry::{CiteProperties, DisambiguateState, EntryLike};
 use csl_style::{
     DateVariable, Kind, NameVariable, NumberVariable, PageVariable, StandardVariable, Variable,
 };
@@ -140,23 +137,9 @@ pub(crate) fn described(alloc: Global, words: &str) -> Result<Work, Fail> {
 }
 
 /// The first cite of an entry, with the year suffix of that place, if any.
-pub(crate) fn first_cite(suffix: Option<u8>) -> Result<CiteProperties<'static>, Fail> {
-    let citation_number = CitationNumber::new(0).ok_or("a citation number")?;
-    Ok(CiteProperties {
-        certain: CertainCiteProperties {
-            first_note_number: None,
-            is_first: true,
-            is_near_note: false,
-            initial_idx: 0,
-        },
-        speculative: SpeculativeCiteProperties {
-            locator: None,
-            citation_number,
-            disambiguation: match suffix {
-                Some(place) => DisambiguateState::YearSuffix(place),
-                None => DisambiguateState::None,
-            },
-            ibid: IbidState::Different,
-        },
+pub(crate) fn first_cite(suffix: Option<u8>) -> CiteProperties<'static> {
+    CiteProperties::first(match suffix {
+        Some(place) => DisambiguateState::YearSuffix(place),
+        None => DisambiguateState::None,
     })
 }

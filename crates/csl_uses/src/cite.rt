@@ -1,18 +1,14 @@
 //! A style that is made as a value, and the cite that it makes of an entry of any type.
 
-ghost use Rattle.std.specs.Prelude.{◌≡◌, IfOk, IfSome};
+ghost use Rattle.std.specs.Prelude.{◌≡◌, IfOk};
 ghost use Rattle.csl_style.specs.View.{view};
 ghost use Rattle.csl_tree.specs.Tokens.{tokens};
-ghost use Rattle.csl_entry.specs.Cite.{cite_state};
-ghost use Rattle.csl_render.specs.Cited.{first_cite, cited};
+ghost use Rattle.csl_render.specs.Cited.{cited};
 ghost use Rattle.csl_uses.specs.Cite.{variable_text, publisher_group, IsHouseStyle};
 
 use crate::error::UseError;
 use csl_context::Context;
-use csl_entry::{
-    CertainCiteProperties, CitationNumber, CiteProperties, DisambiguateState, EntryLike, IbidState,
-    InstanceContext, SpeculativeCiteProperties,
-};
+use csl_entry::{CiteProperties, DisambiguateState, EntryLike, InstanceContext};
 use csl_render::RenderCsl;
 use csl_style::{
     Affixes, FontStyle, Formatting, Group, Layout, LayoutRenderingElement, LongShortForm, Scope,
@@ -84,35 +80,14 @@ pub fn house_style(alloc: Global) -> Result<Style, UseError>
     Ok(style)
 }
 
-/// What a citation says of a cite that no other one stands before.
-pub fn first_cite<'s>() -> Option<CiteProperties<'s>>
-    ensures { IfSome result (λ cite. cite_state cite ≡ first_cite) }
-{
-    Some(CiteProperties {
-        certain: CertainCiteProperties {
-            first_note_number: None,
-            is_first: true,
-            is_near_note: false,
-            initial_idx: 0,
-        },
-        speculative: SpeculativeCiteProperties {
-            locator: None,
-            citation_number: CitationNumber::new(0)?,
-            disambiguation: DisambiguateState::None,
-            ibid: IbidState::Different,
-        },
-    })
-}
-
 /// What the citation layout of a style makes of an entry that is cited for the first time.
 ///
 /// # Errors
 /// [`UseError::Memory`]: there was no memory left, or the entry said so.
-/// [`UseError::NoSuchNumber`]: the citation number is too large.
 pub fn cite<T: EntryLike>(alloc: Global, style: &Style, entry: &T) -> Result<ElemChildren, UseError>
     ensures { IfOk result (λ content. tokens content ≡ cited style.now (T.answers entry.now)) }
 {
-    let cite = first_cite().ok_or(UseError::NoSuchNumber)?;
+    let cite = CiteProperties::first(DisambiguateState::None);
     let instance = InstanceContext {
         entry,
         cite_props: &cite,

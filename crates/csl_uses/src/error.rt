@@ -19,9 +19,6 @@ pub enum UseError {
     /// A day is not on the calendar.
     #[error("no such day")]
     NoSuchDay,
-    /// A citation number is too large.
-    #[error("no such number")]
-    NoSuchNumber,
     /// A style is refused.
     #[error("{0}")]
     Style(StyleError),

@@ -12,10 +12,9 @@ ghost use Rattle.csl_render.specs.Cited.{cited};
 ghost use Rattle.csl_render.specs.Printed.{PrintsSame};
 
 use crate::book::text;
-use crate::cite::first_cite;
 use crate::error::UseError;
 use csl_context::LeftState;
-use csl_entry::EntryLike;
+use csl_entry::{CiteProperties, DisambiguateState, EntryLike};
 use csl_render::{Pair, render_pair};
 use csl_style::{Scope, Style};
 use lit_model::{Entry, EntryType, Memory};
@@ -37,7 +36,6 @@ pub fn metropolis_on_video(alloc: Global) -> Result<Entry, Memory> {
 ///
 /// # Errors
 /// [`UseError::Memory`]: there was no memory left, or an entry said so.
-/// [`UseError::NoSuchNumber`]: the citation number is too large.
 pub fn compare<T: EntryLike, U: EntryLike>(
     alloc: Global,
     style: &Style,
@@ -53,7 +51,7 @@ pub fn compare<T: EntryLike, U: EntryLike>(
     ensures same { IfOk result (λ p. p.alike ≡ true
         → PrintsSame p.left (string_bytes p.left_html) p.right (string_bytes p.right_html)) }
 {
-    let cite = first_cite().ok_or(UseError::NoSuchNumber)?;
+    let cite = CiteProperties::first(DisambiguateState::None);
     let start = LeftState::new(alloc);
     let (layout, scope) = (style.citation(), Scope::Citation);
     let pair = render_pair(
