@@ -1,6 +1,6 @@
 //! Laws of contents. Two texts of one formatting in a row are the text of both. Contents in a row,
-//! in an element and between two others show the leaf text of all that is in them, and hold no
-//! empty leaf and no empty element where those hold none.
+//! in an element and, where they are not empty, between two others show the leaf text of all that
+//! is in them, and hold no empty leaf and no empty element where those hold none.
 
 ghost use Rattle.std.specs.Prelude.{◌≡◌, ◌<◌, ◌++◌, length, IfOk};
 ghost use Rattle.csl_tree.specs.Content.{text_content, IsContent};
