@@ -37,6 +37,7 @@ impl Named for Locator {
         match name {
             "page" => Ok(Locator::Page),
             "chapter" => Ok(Locator::Chapter),
+            "section" => Ok(Locator::Section),
             "custom" => Ok(Locator::Custom),
             _ => Err(Fail::from("no locator")),
         }

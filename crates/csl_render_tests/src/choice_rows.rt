@@ -6,7 +6,7 @@ use std::process::Abort;
 use std::test::Fail;
 
 /// Plain texts.
-static PLAIN: [Row; 33] = [
+static PLAIN: [Row; 35] = [
     // A branch without tests.
     ("( ( 'A ) ( 'B ) )?all", "book", "A"),
     ("( ( 'A ) ( 'B ) )?any", "book", "B"),
@@ -19,6 +19,14 @@ static PLAIN: [Row; 33] = [
     // What is chosen stands under the delimiter that is inherited.
     ("|,;~ ( ( ) ( 'A 'B ) )?any 'C", "book", "A; BC"),
     ("( =pair 'C )|,,~", "book", "AB, C"),
+    // A group in a choice is none to the group around them.
+    ("( genre ( ( ( 'v ) ) )?all )", "book", ""),
+    // A locator that was printed, and is not to be printed again, is still where the cite points.
+    (
+        "#locator ( ( 'p ) ( 'other ) )?all:locator=page",
+        "book @ page:3 suppressing",
+        "3p",
+    ),
     // Numbers.
     ("( ( 'A ) ( 'B ) )?all:is-numeric=title", "title 12", "A"),
     (

@@ -58,7 +58,7 @@ fn gender_of(term: Term) -> Option<GrammarGender> {
 /// A term, its form, its text for one and that for several.
 type TermRow = (Term, TermForm, &'static str, &'static str);
 
-static TERMS: [TermRow; 19] = [
+static TERMS: [TermRow; 20] = [
     (Term::Other(OtherTerm::OpenQuote), TermForm::Long, "“", "“"),
     (Term::Other(OtherTerm::CloseQuote), TermForm::Long, "”", "”"),
     (
@@ -97,6 +97,7 @@ static TERMS: [TermRow; 19] = [
         "chap",
         "chaps",
     ),
+    (Term::Locator(Locator::Section), TermForm::Long, "", ""),
     (MAY, TermForm::Long, "May", "May"),
     (MAY, TermForm::Short, "M.", "M."),
     (JUNE, TermForm::Long, "June", "June"),

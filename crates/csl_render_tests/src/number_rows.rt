@@ -10,7 +10,7 @@ const PAGES: &str = "( &page:short page )|,~";
 const PLACE: &str = "( &locator #locator )|,~";
 
 /// Plain texts.
-static PLAIN: [Row; 47] = [
+static PLAIN: [Row; 50] = [
     // A minimal format keeps of the end of a range what differs from its start, and one digit.
     ("page", "pages 321-328 @ minimal", "321–8"),
     ("page", "pages 42-5 @ minimal", "42–5"),
@@ -53,6 +53,8 @@ static PLAIN: [Row; 47] = [
     // Words are for some numbers alone.
     ("#edition:long-ordinal", "edition 2", "second"),
     ("#edition:long-ordinal", "edition 11", "11th"),
+    // Neither does a number with a text at its side change, nor a text in a number's place.
+    ("#edition:roman", "edition 2nd", "2nd"),
     ("#edition:roman", "edition '2nd", "2nd"),
     ("#edition:roman", "edition 1994", "mcmxciv"),
     // Roman numerals end at 3999.
@@ -60,11 +62,14 @@ static PLAIN: [Row; 47] = [
     ("#edition", "edition 2", "2"),
     ("#edition", "book", ""),
     ("edition", "edition 2", "2"),
-    // A custom locator has no term.
+    // A custom locator has no term, and one of pages has not that of the pages.
     (PLACE, "book @ custom:x", "x"),
+    (PLACE, "book @ page:7", "7"),
     (PLACE, "book @ chapter:3", "chap 3"),
     (PLACE, "book @ chapter:3-4", "chaps 3-4"),
     (PLACE, "book", ""),
+    // A locator without a text is one.
+    ("( 'x #locator )", "book @ chapter:", "x"),
     // A label stands in the singular beside what the caller writes.
     ("&locator", "book @ chapter:*", "chap"),
     // Affixes stand round what is there.
@@ -95,7 +100,7 @@ static TREES: [Row; 10] = [
 const EACH: &str = "( #volume edition page &volume:short &page:short #locator &locator )|,~";
 
 /// Plain texts in each special form.
-static FORMS: [Row; 7] = [
+static FORMS: [Row; 8] = [
     (
         EACH,
         "volume 20; edition 2; pages 7 @ chapter:3",
@@ -133,10 +138,16 @@ static FORMS: [Row; 7] = [
         "volume 20; edition 2; pages 7 @ chapter:3 suffix-alone",
         "vol. p. 3 chap",
     ),
+    // There a label stays though its number is not there, and so does the delimiter before it.
+    (
+        "( #locator &volume:short )|,~",
+        "book @ chapter:3 first-date",
+        "3 ",
+    ),
 ];
 
 /// What is said in dry runs.
-static DRY: [Row; 7] = [
+static DRY: [Row; 9] = [
     ("volume", "volume 20", " prints called non-empty shows"),
     ("volume", "book", " called"),
     ("#volume", "volume 20", " prints called non-empty shows"),
@@ -146,6 +157,10 @@ static DRY: [Row; 7] = [
     // A label calls and shows no variable.
     ("&volume:short", "volume 20", " prints"),
     ("&volume:short", "book", ""),
+    // An empty term is one.
+    ("&locator", "book @ section:3", " prints"),
+    // Where the first date alone is shown a locator shows whatever is asked for.
+    ("#locator", "book @ first-date", " called shows"),
 ];
 
 #[test]

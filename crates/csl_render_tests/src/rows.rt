@@ -111,7 +111,7 @@ static FORMS: [Row; 7] = [
 ];
 
 /// Plain texts.
-static PLAIN: [Row; 12] = [
+static PLAIN: [Row; 15] = [
     (TITLE, TITLED, "(Title: T)"),
     (TITLE, TITLE_ALONE, "(T)"),
     // The suffix keeps its period.
@@ -128,6 +128,14 @@ static PLAIN: [Row; 12] = [
     ("'a.b|q|s|>.", TITLED, "“ab.”"),
     ("=stopped", TITLED, "“a.”,"),
     ("=stopped|s", TITLED, "“a”,"),
+    // A link whose prefix begins its address prints that prefix, though the answer is empty.
+    ("doi", Cite::Of("doi "), ""),
+    (
+        "doi|<https://doi.org/",
+        Cite::Of("doi "),
+        "https://doi.org/",
+    ),
+    ("( doi|<https://doi.org/ )", Cite::Of("doi "), ""),
 ];
 
 static HTML: [Row; 3] = [
