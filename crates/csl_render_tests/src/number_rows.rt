@@ -53,7 +53,7 @@ static PLAIN: [Row; 50] = [
     // Words are for some numbers alone.
     ("#edition:long-ordinal", "edition 2", "second"),
     ("#edition:long-ordinal", "edition 11", "11th"),
-    // Neither does a number with a text at its side change, nor a text in a number's place.
+    // A number with a text at its side does not change, nor does a text in a number's place.
     ("#edition:roman", "edition 2nd", "2nd"),
     ("#edition:roman", "edition '2nd", "2nd"),
     ("#edition:roman", "edition 1994", "mcmxciv"),
@@ -138,7 +138,7 @@ static FORMS: [Row; 8] = [
         "volume 20; edition 2; pages 7 @ chapter:3 suffix-alone",
         "vol. p. 3 chap",
     ),
-    // There a label stays though its number is not there, and so does the delimiter before it.
+    // There a label counts as printed though its number is not there: its delimiter stands.
     (
         "( #locator &volume:short )|,~",
         "book @ chapter:3 first-date",

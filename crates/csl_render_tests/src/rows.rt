@@ -128,7 +128,8 @@ static PLAIN: [Row; 15] = [
     ("'a.b|q|s|>.", TITLED, "“ab.”"),
     ("=stopped", TITLED, "“a.”,"),
     ("=stopped|s", TITLED, "“a”,"),
-    // A link whose prefix begins its address prints that prefix, though the answer is empty.
+    // A link whose prefix begins its address prints that prefix, though the answer is empty. To a
+    // group an empty answer is none.
     ("doi", Cite::Of("doi "), ""),
     (
         "doi|<https://doi.org/",
