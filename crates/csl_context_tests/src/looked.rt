@@ -85,16 +85,21 @@ pub(crate) fn look_and_suppress(ctx: &mut Context<'_, Film>) -> Result<(), Rende
     Ok(())
 }
 
-/// Has looks for printing suppress their variable from then on, and looks for a genre, which the
-/// entry has not.
+/// Whether a look for printing finds a genre, which the entry has not.
+fn has_genre(ctx: &mut Context<'_, Film>) -> Result<bool, RenderError>
+    ensures { OnOk result (ctx.new.outer ≡ ctx.old.outer) }
+{
+    let genre = StandardVariable::Genre;
+    let found = ctx.resolve_standard_variable(LongShortForm::Long, genre)?;
+    Ok(found.is_some())
+}
+
+/// Has looks for printing suppress their variable from then on, and looks for a genre.
 pub(crate) fn suppress_genre(ctx: &mut Context<'_, Film>) -> Result<(), RenderError>
     ensures { OnOk result (ctx.new.outer ≡ ctx.old.outer) }
 {
     let was_suppressing = ctx.start_suppressing_queried_variables();
-    let genre = StandardVariable::Genre;
-    let found = ctx
-        .resolve_standard_variable(LongShortForm::Long, genre)?
-        .is_some();
+    let found = has_genre(ctx)?;
     put(ctx, yes(was_suppressing))?;
     put(ctx, yes(found))
 }

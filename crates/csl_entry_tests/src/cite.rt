@@ -9,9 +9,9 @@ use std::alloc::Global;
 use std::test::Fail;
 
 #[test]
-fn what_belongs_to_a_cite_is_told_apart(rt: HostRuntime) {
+fn locators_are_told_apart(rt: HostRuntime) {
     let five = LocatorPayload::Str("5");
-    let page = SpecificLocator(Locator::Page, LocatorPayload::Str("5"));
+    let page = SpecificLocator(Locator::Page, five);
     for (kind, payload, wanted) in [
         (Locator::Page, five, true),
         (Locator::Line, five, false),
@@ -21,23 +21,32 @@ fn what_belongs_to_a_cite_is_told_apart(rt: HostRuntime) {
         let other = SpecificLocator(kind, payload);
         assert_eq!(rt; page == other, wanted, "{other:?}");
     }
+}
+
+const TITLE: SpecialForm = SpecialForm::VarOnly(Variable::Standard(StandardVariable::Title));
+
+const NOTE: SpecialForm = SpecialForm::VarOnly(Variable::Standard(StandardVariable::Note));
+
+/// Two parts of a cite that are shown, and whether they are one.
+static FORMS: [(SpecialForm, SpecialForm, bool); 4] = [
+    (TITLE, TITLE, true),
+    (TITLE, NOTE, false),
+    (
+        SpecialForm::OnlyFirstDate,
+        SpecialForm::OnlyYearSuffix,
+        false,
+    ),
+    (TITLE, SpecialForm::SuppressAuthor, false),
+];
+
+#[test]
+fn what_belongs_to_a_cite_is_told_apart(rt: HostRuntime) {
     assert_ne!(rt; IbidState::Ibid, IbidState::IbidWithLocator);
     assert_ne!(rt; IbidState::Different, IbidState::Ibid);
     assert_ne!(rt; Sorting::Variable, Sorting::Macro);
-    let title = SpecialForm::VarOnly(Variable::Standard(StandardVariable::Title));
-    let note = SpecialForm::VarOnly(Variable::Standard(StandardVariable::Note));
-    let other_title = SpecialForm::VarOnly(Variable::Standard(StandardVariable::Title));
-    for (form, other, wanted) in [
-        (title, other_title, true),
-        (title, note, false),
-        (
-            SpecialForm::OnlyFirstDate,
-            SpecialForm::OnlyYearSuffix,
-            false,
-        ),
-        (title, SpecialForm::SuppressAuthor, false),
-    ] {
-        assert_eq!(rt; form == other, wanted, "{form:?} and {other:?}");
+    let forms: &[(SpecialForm, SpecialForm, bool)] = &FORMS;
+    for (form, other, wanted) in forms {
+        assert_eq!(rt; *form == *other, *wanted, "{form:?} and {other:?}");
     }
 }
 

@@ -68,20 +68,48 @@ fn bare(alloc: Global, kind: EntryType, wholes: Vec<Entry>) -> Result<Vec<Entry>
 
 /// Says one thing of the work.
 fn state(alloc: Global, work: &mut Entry, word: &str, value: &str) -> Result<(), Fail> {
-    if let Some(field) = text_field(work, word) {
-        *field = Some(text(alloc, value)?);
-    } else if let Some(field) = number_field(work, word) {
-        *field = Some(number(alloc, value)?);
-    } else if let Some(field) = total_field(work, word) {
-        *field = Some(Numeric::new(integer(value)?));
-    } else if let Some(field) = persons_field(work, word) {
-        *field = Some(persons(alloc, value)?);
-    } else if let Some(role) = role_named(word) {
-        affiliate(alloc, work, role, value)?;
-    } else {
-        state_rest(alloc, work, word, value)?;
+    if state_text(alloc, work, word, value)?
+        || state_number(alloc, work, word, value)?
+        || state_persons(alloc, work, word, value)?
+    {
+        return Ok(());
     }
-    Ok(())
+    state_rest(alloc, work, word, value)
+}
+
+/// Says a text of the work, where the word is one's.
+fn state_text(alloc: Global, work: &mut Entry, word: &str, value: &str) -> Result<bool, Fail> {
+    match text_field(work, word) {
+        Some(field) => *field = Some(text(alloc, value)?),
+        None => return Ok(false),
+    }
+    Ok(true)
+}
+
+/// Says a number of the work, or how many of its parts there are, where the word is one's.
+fn state_number(alloc: Global, work: &mut Entry, word: &str, value: &str) -> Result<bool, Fail> {
+    match word {
+        "volumes" => work.volume_total = Some(Numeric::new(integer(value)?)),
+        "total" => work.page_total = Some(Numeric::new(integer(value)?)),
+        _ => match number_field(work, word) {
+            Some(field) => *field = Some(number(alloc, value)?),
+            None => return Ok(false),
+        },
+    }
+    Ok(true)
+}
+
+/// Says persons of the work, where the word is theirs.
+fn state_persons(alloc: Global, work: &mut Entry, word: &str, value: &str) -> Result<bool, Fail> {
+    match word {
+        "authors" => work.authors = Some(persons(alloc, value)?),
+        "editors" => work.editors = Some(persons(alloc, value)?),
+        _ => match role_named(word) {
+            Some(role) => affiliate(alloc, work, role, value)?,
+            None => return Ok(false),
+        },
+    }
+    Ok(true)
 }
 
 /// Says what no field of a sort holds.
@@ -126,24 +154,6 @@ fn number_field<'e>(
         "volume" => Some(&mut work.volume),
         "edition" => Some(&mut work.edition),
         "chapter" => Some(&mut work.chapter),
-        _ => None,
-    }
-}
-
-/// The field of that name, where it says how many there are.
-fn total_field<'e>(work: &'e mut Entry, name: &str) -> Option<&'e mut Option<Numeric>> {
-    match name {
-        "volumes" => Some(&mut work.volume_total),
-        "total" => Some(&mut work.page_total),
-        _ => None,
-    }
-}
-
-/// The field of that name, where it holds persons.
-fn persons_field<'e>(work: &'e mut Entry, name: &str) -> Option<&'e mut Option<Vec<Person>>> {
-    match name {
-        "authors" => Some(&mut work.authors),
-        "editors" => Some(&mut work.editors),
         _ => None,
     }
 }
