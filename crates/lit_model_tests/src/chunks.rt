@@ -17,11 +17,30 @@ fn text(alloc: Global, count: usize, values: [&str; 3]) -> Result<ChunkedString,
     Ok(ChunkedString(chunks))
 }
 
+/// How many chunks a text has, their texts, the whole, and whether it is empty and white space.
+type Row = (usize, [&'static str; 3], &'static str, bool, bool);
+
+static TEXTS: [Row; 8] = [
+    (0, ["", "", ""], "", true, true),
+    (3, ["", "", ""], "", true, true),
+    (
+        3,
+        ["On ", "x^2", " and more"],
+        "On x^2 and more",
+        false,
+        false,
+    ),
+    (3, ["", "x", ""], "x", false, false),
+    (3, [" ", "\n", "\u{3000}"], " \n\u{3000}", false, true),
+    (3, ["\u{a0}", "", ""], "\u{a0}", false, true),
+    (3, [" ", "\u{200b}", " "], " \u{200b} ", false, false),
+    (3, [" ", "", "\u{e9}"], " \u{e9}", false, false),
+];
+
 fn assert_answers(
     rt: &impl Abort,
     alloc: Global,
-    (count, values): (usize, [&str; 3]),
-    (wanted, is_empty, is_white_space): (&str, bool, bool),
+    &(count, values, wanted, is_empty, is_white_space): &Row,
 ) -> Result<(), Memory> {
     let text = text(alloc, count, values)?;
     assert_whether(rt, text.is_empty(), is_empty, wanted);
@@ -33,24 +52,9 @@ fn assert_answers(
 
 #[test]
 fn chunks_are_one_text(rt: HostRuntime) -> Result<(), Memory> {
-    for (count, values, wanted, is_empty, is_white_space) in [
-        (0, ["", "", ""], "", true, true),
-        (3, ["", "", ""], "", true, true),
-        (
-            3,
-            ["On ", "x^2", " and more"],
-            "On x^2 and more",
-            false,
-            false,
-        ),
-        (3, ["", "x", ""], "x", false, false),
-        (3, [" ", "\n", "\u{3000}"], " \n\u{3000}", false, true),
-        (3, ["\u{a0}", "", ""], "\u{a0}", false, true),
-        (3, [" ", "\u{200b}", " "], " \u{200b} ", false, false),
-        (3, [" ", "", "\u{e9}"], " \u{e9}", false, false),
-    ] {
-        let wanted = (wanted, is_empty, is_white_space);
-        assert_answers(&rt, rt.alloc(), (count, values), wanted)?;
+    let texts: &[Row] = &TEXTS;
+    for row in texts {
+        assert_answers(&rt, rt.alloc(), row)?;
     }
     Ok(())
 }

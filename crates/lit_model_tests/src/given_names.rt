@@ -16,12 +16,34 @@ enum Form {
     WithoutHyphens,
 }
 
+/// Two graphemes of several characters each.
+const GRAPHEMES: &str = "e\u{301}\u{1f469}\u{200d}\u{1f467}";
+
+/// Given names, how they are written, the delimiter, and what is written.
+type Row = (&'static str, Form, &'static str, &'static str);
+
+static NAMES: [Row; 10] = [
+    ("Karl J", Form::Marked, ".", "Karl J."),
+    ("E. P.", Form::Marked, ". ", "E. P."),
+    ("E P Karl", Form::Marked, ".", "E. P. Karl"),
+    ("E  P.", Form::Marked, "", "E P"),
+    ("e \u{c9} Jr.", Form::Marked, ". ", "e \u{c9}. Jr."),
+    ("Jean-Luc Marie", Form::Initials, ". ", "J.-L. M."),
+    ("Jean-Luc Marie", Form::WithoutHyphens, ". ", "J. L. M."),
+    (" -Jean--Luc- ", Form::Initials, ".", "J.-L."),
+    (" - ", Form::Initials, ".", ""),
+    (
+        "e\u{301}ric \u{1f469}\u{200d}\u{1f467}x",
+        Form::Initials,
+        "",
+        GRAPHEMES,
+    ),
+];
+
 fn assert_written(
     rt: &impl Abort,
     alloc: Global,
-    given: &str,
-    (form, delimiter): (Form, &str),
-    wanted: &str,
+    &(given, form, delimiter, wanted): &Row,
 ) -> Result<(), Fail> {
     let person = person(alloc, "Nemo", Some(given))?;
     let mut written = String::new(alloc);
@@ -36,25 +58,9 @@ fn assert_written(
 
 #[test]
 fn letters_are_marked_and_initials_are_graphemes(rt: HostRuntime) -> Result<(), Fail> {
-    let graphemes = "e\u{301}\u{1f469}\u{200d}\u{1f467}";
-    for (given, form, delimiter, wanted) in [
-        ("Karl J", Form::Marked, ".", "Karl J."),
-        ("E. P.", Form::Marked, ". ", "E. P."),
-        ("E P Karl", Form::Marked, ".", "E. P. Karl"),
-        ("E  P.", Form::Marked, "", "E P"),
-        ("e \u{c9} Jr.", Form::Marked, ". ", "e \u{c9}. Jr."),
-        ("Jean-Luc Marie", Form::Initials, ". ", "J.-L. M."),
-        ("Jean-Luc Marie", Form::WithoutHyphens, ". ", "J. L. M."),
-        (" -Jean--Luc- ", Form::Initials, ".", "J.-L."),
-        (" - ", Form::Initials, ".", ""),
-        (
-            "e\u{301}ric \u{1f469}\u{200d}\u{1f467}x",
-            Form::Initials,
-            "",
-            graphemes,
-        ),
-    ] {
-        assert_written(&rt, rt.alloc(), given, (form, delimiter), wanted)?;
+    let names: &[Row] = &NAMES;
+    for row in names {
+        assert_written(&rt, rt.alloc(), row)?;
     }
     Ok(())
 }

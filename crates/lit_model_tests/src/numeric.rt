@@ -124,20 +124,28 @@ fn reads_numbers(rt: HostRuntime) -> Result<(), NumericError> {
     Ok(())
 }
 
+/// Texts that are no numbers.
+static REFUSED: [&str; 8] = [
+    "second",
+    "2nd edition",
+    "2147483648",
+    "",
+    " ",
+    "4-",
+    "4 5",
+    "1,,2",
+];
+
+fn assert_refused(rt: &impl Abort, alloc: Global, text: &str) {
+    let error = Numeric::parse(alloc, text).err();
+    assert_eq!(rt; error, Some(NumericError::NotNumeric), "of {text}");
+}
+
 #[test]
 fn refuses_what_is_no_number(rt: HostRuntime) {
-    for text in [
-        "second",
-        "2nd edition",
-        "2147483648",
-        "",
-        " ",
-        "4-",
-        "4 5",
-        "1,,2",
-    ] {
-        let error = Numeric::parse(rt.alloc(), text).err();
-        assert_eq!(rt; error, Some(NumericError::NotNumeric), "of {text}");
+    let refused: &[&str] = &REFUSED;
+    for text in refused {
+        assert_refused(&rt, rt.alloc(), text);
     }
 }
 
@@ -189,12 +197,43 @@ fn written<O: Ordinals>(
     Ok(written)
 }
 
+/// A number, how it is written, and what is written of it.
+type Row = (Number, Way, &'static str);
+
+static WRITTEN: [Row; 14] = [
+    (Number::Read("n4-6 ,9& 12a"), Way::Shown, "n4-6, 9 & 12a"),
+    (
+        Number::Read("n4-6 ,9& 12a"),
+        Way::Sorted,
+        "0004-0006, 0009 & 0012",
+    ),
+    (Number::Of(-3), Way::Sorted, "-003"),
+    (Number::Of(-12345), Way::Value, "-12345"),
+    (Number::Of(1994), Way::Form(NumberForm::Roman), "mcmxciv"),
+    (Number::Of(3999), Way::Form(NumberForm::Roman), "mmmcmxcix"),
+    (Number::Of(4), Way::Form(NumberForm::Roman), "iv"),
+    (Number::Of(4000), Way::Form(NumberForm::Roman), "4000"),
+    (Number::Of(0), Way::Form(NumberForm::Roman), "0"),
+    (Number::Of(-3), Way::Form(NumberForm::Roman), "-3"),
+    (Number::Read("2a"), Way::Form(NumberForm::Roman), "2a"),
+    (
+        Number::Read("2,32"),
+        Way::Form(NumberForm::Ordinal),
+        "2nd, 32nd",
+    ),
+    (
+        Number::Read("2,32"),
+        Way::Form(NumberForm::Numeric),
+        "2, 32",
+    ),
+    (Number::Of(-3), Way::Form(NumberForm::LongOrdinal), "-3nd"),
+];
+
 fn assert_written<O: Ordinals>(
     rt: &impl Abort,
     alloc: Global,
-    given: Number,
-    (way, ordinals): (Way, &O),
-    wanted: &str,
+    &(given, way, wanted): &Row,
+    ordinals: &O,
 ) -> Result<(), Fail> {
     let number = made(alloc, given)?;
     let written = written(alloc, &number, (way, ordinals))?;
@@ -204,36 +243,11 @@ fn assert_written<O: Ordinals>(
 
 #[test]
 fn writes_numbers(rt: HostRuntime) -> Result<(), Fail> {
-    for (number, way, wanted) in [
-        (Number::Read("n4-6 ,9& 12a"), Way::Shown, "n4-6, 9 & 12a"),
-        (
-            Number::Read("n4-6 ,9& 12a"),
-            Way::Sorted,
-            "0004-0006, 0009 & 0012",
-        ),
-        (Number::Of(-3), Way::Sorted, "-003"),
-        (Number::Of(-12345), Way::Value, "-12345"),
-        (Number::Of(1994), Way::Form(NumberForm::Roman), "mcmxciv"),
-        (Number::Of(3999), Way::Form(NumberForm::Roman), "mmmcmxcix"),
-        (Number::Of(4), Way::Form(NumberForm::Roman), "iv"),
-        (Number::Of(4000), Way::Form(NumberForm::Roman), "4000"),
-        (Number::Of(0), Way::Form(NumberForm::Roman), "0"),
-        (Number::Of(-3), Way::Form(NumberForm::Roman), "-3"),
-        (Number::Read("2a"), Way::Form(NumberForm::Roman), "2a"),
-        (
-            Number::Read("2,32"),
-            Way::Form(NumberForm::Ordinal),
-            "2nd, 32nd",
-        ),
-        (
-            Number::Read("2,32"),
-            Way::Form(NumberForm::Numeric),
-            "2, 32",
-        ),
-        (Number::Of(-3), Way::Form(NumberForm::LongOrdinal), "-3nd"),
-    ] {
-        assert_written(&rt, rt.alloc(), number, (way, &Suffix), wanted)?;
+    let rows: &[Row] = &WRITTEN;
+    for row in rows {
+        assert_written(&rt, rt.alloc(), row, &Suffix)?;
     }
-    let long = (Way::Form(NumberForm::LongOrdinal), &Word);
-    assert_written(&rt, rt.alloc(), Number::Read("2,32"), long, "second, 32")
+    let long = Way::Form(NumberForm::LongOrdinal);
+    let row = (Number::Read("2,32"), long, "second, 32");
+    assert_written(&rt, rt.alloc(), &row, &Word)
 }

@@ -81,13 +81,20 @@ fn pages(alloc: Global, text: &str) -> Result<PageRanges, NumericError> {
     Ok(PageRanges { ranges })
 }
 
-/// The number of the first page, whether a term beside the pages is in the plural, and how they
-/// are shown.
+/// A text, its first page, whether a term beside it is in the plural, and how its pages are shown.
+type Row = (&'static str, i32, bool, &'static str);
+
+static PAGES: [Row; 4] = [
+    ("321-328, 7", 321, true, "321-328, 7"),
+    ("7", 7, false, "7"),
+    (", 9", 9, true, ", 9"),
+    ("321–328 ,7& A9", 321, true, "321-328, 7 & A9"),
+];
+
 fn assert_pages(
     rt: &impl Abort,
     alloc: Global,
-    text: &str,
-    (first, is_plural, wanted): (i32, bool, &str),
+    &(text, first, is_plural, wanted): &Row,
 ) -> Result<(), Fail> {
     let pages = pages(alloc, text)?;
     let number = pages.first().and_then(|page| page.value());
@@ -103,13 +110,9 @@ fn assert_pages(
 
 #[test]
 fn pages_have_a_first_and_are_written(rt: HostRuntime) -> Result<(), Fail> {
-    for (text, first, is_plural, shown) in [
-        ("321-328, 7", 321, true, "321-328, 7"),
-        ("7", 7, false, "7"),
-        (", 9", 9, true, ", 9"),
-        ("321–328 ,7& A9", 321, true, "321-328, 7 & A9"),
-    ] {
-        assert_pages(&rt, rt.alloc(), text, (first, is_plural, shown))?;
+    let rows: &[Row] = &PAGES;
+    for row in rows {
+        assert_pages(&rt, rt.alloc(), row)?;
     }
     Ok(())
 }

@@ -67,31 +67,55 @@ fn assert_part(
     Ok(())
 }
 
+/// A name, its particle, and the name without it.
+static PARTICLES: [(&str, &str, &str); 8] = [
+    ("van der Berg", "van der", "Berg"),
+    ("van Gogh", "van", "Gogh"),
+    ("della", "none", "della"),
+    ("Berg van", "none", "Berg van"),
+    ("van  Gogh", "van", " Gogh"),
+    ("van ", "van", ""),
+    ("\u{e9}cole de Paris", "\u{e9}cole de", "Paris"),
+    ("", "none", ""),
+];
+
+fn assert_particle(
+    rt: &impl Abort,
+    alloc: Global,
+    &(name, particle, rest): &(&str, &str, &str),
+) -> Result<(), Memory> {
+    assert_part(rt, alloc, (Asked::Particle, name), particle)?;
+    assert_part(rt, alloc, (Asked::WithoutParticle, name), rest)
+}
+
+/// A name, and the name without its article.
+static ARTICLES: [(&str, &str); 7] = [
+    ("The Times", "Times"),
+    ("The ", "The "),
+    ("the Times", "Times"),
+    ("An Army", "Army"),
+    ("A", "A"),
+    ("Anarchy", "Anarchy"),
+    ("THE TIMES", "THE TIMES"),
+];
+
+fn assert_article(
+    rt: &impl Abort,
+    alloc: Global,
+    &(name, rest): &(&str, &str),
+) -> Result<(), Memory> {
+    assert_part(rt, alloc, (Asked::WithoutArticle, name), rest)
+}
+
 #[test]
 fn particles_and_articles(rt: HostRuntime) -> Result<(), Memory> {
-    for (name, particle, rest) in [
-        ("van der Berg", "van der", "Berg"),
-        ("van Gogh", "van", "Gogh"),
-        ("della", "none", "della"),
-        ("Berg van", "none", "Berg van"),
-        ("van  Gogh", "van", " Gogh"),
-        ("van ", "van", ""),
-        ("\u{e9}cole de Paris", "\u{e9}cole de", "Paris"),
-        ("", "none", ""),
-    ] {
-        assert_part(&rt, rt.alloc(), (Asked::Particle, name), particle)?;
-        assert_part(&rt, rt.alloc(), (Asked::WithoutParticle, name), rest)?;
+    let particles: &[(&str, &str, &str)] = &PARTICLES;
+    for row in particles {
+        assert_particle(&rt, rt.alloc(), row)?;
     }
-    for (name, rest) in [
-        ("The Times", "Times"),
-        ("The ", "The "),
-        ("the Times", "Times"),
-        ("An Army", "Army"),
-        ("A", "A"),
-        ("Anarchy", "Anarchy"),
-        ("THE TIMES", "THE TIMES"),
-    ] {
-        assert_part(&rt, rt.alloc(), (Asked::WithoutArticle, name), rest)?;
+    let articles: &[(&str, &str)] = &ARTICLES;
+    for row in articles {
+        assert_article(&rt, rt.alloc(), row)?;
     }
     Ok(())
 }
@@ -106,26 +130,41 @@ fn is_cjk_or_institutional(
     Ok((person.is_cjk(), person.is_institutional()))
 }
 
+/// Name and given name, whether Chinese, Japanese or Korean, and whether an institution's.
+type Row = (&'static str, Option<&'static str>, bool, bool);
+
+static SCRIPTS: [Row; 9] = [
+    ("\u{5c71}\u{7530}", Some("\u{592a}\u{90ce}"), true, false),
+    ("\u{3084}\u{307e}\u{3060}", Some(""), true, false),
+    ("\u{ae40}", Some("\u{bbfc} 2"), true, false),
+    (
+        "\u{30de}\u{30fc}\u{30af}",
+        Some("\u{4e00}\u{90ce}"),
+        false,
+        false,
+    ),
+    ("\u{5c71}", Some("Taro"), false, false),
+    ("12", Some(""), false, false),
+    ("Gogh", Some("Vincent"), false, false),
+    ("The Times", None, false, true),
+    ("The Times", Some(""), false, false),
+];
+
+fn assert_script(
+    rt: &impl Abort,
+    alloc: Global,
+    &(name, given, is_cjk, is_institutional): &Row,
+) -> Result<(), Memory> {
+    let answer = is_cjk_or_institutional(alloc, name, given)?;
+    assert_eq!(rt; answer, (is_cjk, is_institutional), "of {name}");
+    Ok(())
+}
+
 #[test]
 fn scripts_and_institutions(rt: HostRuntime) -> Result<(), Memory> {
-    for (name, given, is_cjk, is_institutional) in [
-        ("\u{5c71}\u{7530}", Some("\u{592a}\u{90ce}"), true, false),
-        ("\u{3084}\u{307e}\u{3060}", Some(""), true, false),
-        ("\u{ae40}", Some("\u{bbfc} 2"), true, false),
-        (
-            "\u{30de}\u{30fc}\u{30af}",
-            Some("\u{4e00}\u{90ce}"),
-            false,
-            false,
-        ),
-        ("\u{5c71}", Some("Taro"), false, false),
-        ("12", Some(""), false, false),
-        ("Gogh", Some("Vincent"), false, false),
-        ("The Times", None, false, true),
-        ("The Times", Some(""), false, false),
-    ] {
-        let answer = is_cjk_or_institutional(rt.alloc(), name, given)?;
-        assert_eq!(rt; answer, (is_cjk, is_institutional), "of {name}");
+    let scripts: &[Row] = &SCRIPTS;
+    for row in scripts {
+        assert_script(&rt, rt.alloc(), row)?;
     }
     Ok(())
 }

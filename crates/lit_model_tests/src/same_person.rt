@@ -38,23 +38,38 @@ fn shows_kwan(alloc: Global, texts: [&str; 5], comma_suffix: bool) -> Result<boo
     Ok(kwan.shows_same(&person))
 }
 
+/// The texts of a person, whether a comma stands before the suffix, and whether Kwan shows the same.
+type Row = ([&'static str; 5], bool, bool);
+
+static PERSONS: [Row; 10] = [
+    (["Kwan", "Kevin", "van", "Jr.", "KK"], true, true),
+    (["Kwan", "Kevin", "van", "Jr.", "KK"], false, false),
+    (["Kwon", "Kevin", "van", "Jr.", "KK"], true, false),
+    (["Kwan", "Kelvin", "van", "Jr.", "KK"], true, false),
+    (["Kwan", "Kevin", "von", "Jr.", "KK"], true, false),
+    (["Kwan", "Kevin", "van", "Sr.", "KK"], true, false),
+    (["Kwan", "Kevin", "van", "Jr.", "K"], true, false),
+    (["Kwan", "Kevin", "", "Jr.", "KK"], true, false),
+    (["Kwan", "Kevin", "-", "Jr.", "KK"], true, false),
+    (["Kwan", "Kevin", "van", "Jr.", "-"], true, false),
+];
+
+fn assert_shown(
+    rt: &impl Abort,
+    alloc: Global,
+    &(texts, comma_suffix, wanted): &Row,
+) -> Result<(), Memory> {
+    let shows_kwan = shows_kwan(alloc, texts, comma_suffix)?;
+    let [_, _, prefix, _, _] = texts;
+    assert_whether(rt, shows_kwan, wanted, prefix);
+    Ok(())
+}
+
 #[test]
 fn each_text_of_a_person_counts(rt: HostRuntime) -> Result<(), Memory> {
-    for (texts, comma_suffix, wanted) in [
-        (["Kwan", "Kevin", "van", "Jr.", "KK"], true, true),
-        (["Kwan", "Kevin", "van", "Jr.", "KK"], false, false),
-        (["Kwon", "Kevin", "van", "Jr.", "KK"], true, false),
-        (["Kwan", "Kelvin", "van", "Jr.", "KK"], true, false),
-        (["Kwan", "Kevin", "von", "Jr.", "KK"], true, false),
-        (["Kwan", "Kevin", "van", "Sr.", "KK"], true, false),
-        (["Kwan", "Kevin", "van", "Jr.", "K"], true, false),
-        (["Kwan", "Kevin", "", "Jr.", "KK"], true, false),
-        (["Kwan", "Kevin", "-", "Jr.", "KK"], true, false),
-        (["Kwan", "Kevin", "van", "Jr.", "-"], true, false),
-    ] {
-        let shows_kwan = shows_kwan(rt.alloc(), texts, comma_suffix)?;
-        let [_, _, prefix, _, _] = texts;
-        assert_whether(&rt, shows_kwan, wanted, prefix);
+    let persons: &[Row] = &PERSONS;
+    for row in persons {
+        assert_shown(&rt, rt.alloc(), row)?;
     }
     Ok(())
 }
@@ -68,11 +83,20 @@ fn people(alloc: Global, names: &str) -> Result<Vec<Person>, Memory> {
     Ok(people)
 }
 
+/// The names of some persons, those of others, and whether these show the same.
+static LISTS: [(&str, &str, bool); 6] = [
+    ("Kwan Lee", "Kwan Lee", true),
+    ("Kwan Lee", "Lee Kwan", false),
+    ("Kwan", "Kwan Lee", false),
+    ("Kwan Lee", "Kwan", false),
+    ("", "", true),
+    ("", "Kwan", false),
+];
+
 fn assert_lists(
     rt: &impl Abort,
     alloc: Global,
-    (first, second): (&str, &str),
-    wanted: bool,
+    &(first, second, wanted): &(&str, &str, bool),
 ) -> Result<(), Memory> {
     let first = people(alloc, first)?;
     let others = people(alloc, second)?;
@@ -82,15 +106,9 @@ fn assert_lists(
 
 #[test]
 fn lists_of_persons_show_the_same(rt: HostRuntime) -> Result<(), Memory> {
-    for (first, second, wanted) in [
-        ("Kwan Lee", "Kwan Lee", true),
-        ("Kwan Lee", "Lee Kwan", false),
-        ("Kwan", "Kwan Lee", false),
-        ("Kwan Lee", "Kwan", false),
-        ("", "", true),
-        ("", "Kwan", false),
-    ] {
-        assert_lists(&rt, rt.alloc(), (first, second), wanted)?;
+    let lists: &[(&str, &str, bool)] = &LISTS;
+    for row in lists {
+        assert_lists(&rt, rt.alloc(), row)?;
     }
     Ok(())
 }

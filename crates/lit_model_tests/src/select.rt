@@ -23,7 +23,7 @@ enum Asked {
 }
 
 /// An article in a journal, which stands in a series, which stands in a reference work.
-static ARTICLE: [Work; 5] = [
+const ARTICLE: &[Work] = &[
     ("reference", EntryType::Reference, Shown::Year(2001), 0),
     ("series", EntryType::Book, Shown::Nothing, 1),
     ("journal", EntryType::Periodical, Shown::Nothing, 1),
@@ -32,24 +32,24 @@ static ARTICLE: [Work; 5] = [
 ];
 
 /// A chapter without a title, in a scene without one, in a video.
-static CHAPTER: [Work; 3] = [
+const CHAPTER: &[Work] = &[
     ("video", EntryType::Video, Shown::Nothing, 0),
     ("scene", EntryType::Scene, Shown::Nothing, 1),
     ("chapter", EntryType::Chapter, Shown::Nothing, 1),
 ];
 
 /// The same with an empty title.
-static TITLED_CHAPTER: [Work; 3] = [
+const TITLED_CHAPTER: &[Work] = &[
     ("video", EntryType::Video, Shown::Nothing, 0),
     ("scene", EntryType::Scene, Shown::Nothing, 1),
     ("chapter", EntryType::Chapter, Shown::Title(""), 1),
 ];
 
 /// A chapter with no parent.
-static ALONE: [Work; 1] = [("alone", EntryType::Chapter, Shown::Nothing, 0)];
+const ALONE: &[Work] = &[("alone", EntryType::Chapter, Shown::Nothing, 0)];
 
 /// A book under a book and two originals.
-static TRANSLATION: [Work; 4] = [
+const TRANSLATION: &[Work] = &[
     ("book", EntryType::Book, Shown::Nothing, 0),
     ("original", EntryType::Original, Shown::Nothing, 0),
     ("another", EntryType::Original, Shown::Nothing, 0),
@@ -57,7 +57,7 @@ static TRANSLATION: [Work; 4] = [
 ];
 
 /// The same with a date.
-static DATED_TRANSLATION: [Work; 4] = [
+const DATED_TRANSLATION: &[Work] = &[
     ("book", EntryType::Book, Shown::Nothing, 0),
     ("original", EntryType::Original, Shown::Nothing, 0),
     ("another", EntryType::Original, Shown::Nothing, 0),
@@ -105,12 +105,29 @@ fn key_of(entry: Option<&Entry>) -> &str {
     }
 }
 
+/// Works, what the first of them is asked for, and the key of what is found.
+type Row = (&'static [Work], Asked, &'static str);
+
+static FAMILIES: [Row; 12] = [
+    (ARTICLE, Asked::Container, "journal"),
+    (ARTICLE, Asked::Collection, "series"),
+    (ARTICLE, Asked::Full, "article"),
+    (ARTICLE, Asked::Original, "none"),
+    (ARTICLE, Asked::Part, "article"),
+    (ARTICLE, Asked::Chapter, "none"),
+    (CHAPTER, Asked::Full, "video"),
+    (TITLED_CHAPTER, Asked::Full, "chapter"),
+    (ALONE, Asked::Full, "alone"),
+    (TRANSLATION, Asked::Original, "original"),
+    (TRANSLATION, Asked::Dated, "none"),
+    (DATED_TRANSLATION, Asked::Dated, "book"),
+];
+
 /// The key of what is found; there is nothing where it is `none`.
 fn assert_found(
     rt: &impl Abort,
     alloc: Global,
-    (works, asked): (&[Work], Asked),
-    wanted: &str,
+    &(works, asked, wanted): &(&[Work], Asked, &str),
 ) -> Result<(), Memory> {
     let entries = entries(alloc, works)?;
     let Some(entry) = entries.as_slice().first() else {
@@ -124,134 +141,141 @@ fn assert_found(
 
 #[test]
 fn selections_of_families(rt: HostRuntime) -> Result<(), Memory> {
-    for (works, asked, wanted) in [
-        (ARTICLE.as_slice(), Asked::Container, "journal"),
-        (&ARTICLE, Asked::Collection, "series"),
-        (&ARTICLE, Asked::Full, "article"),
-        (&ARTICLE, Asked::Original, "none"),
-        (&ARTICLE, Asked::Part, "article"),
-        (&ARTICLE, Asked::Chapter, "none"),
-        (&CHAPTER, Asked::Full, "video"),
-        (&TITLED_CHAPTER, Asked::Full, "chapter"),
-        (&ALONE, Asked::Full, "alone"),
-        (&TRANSLATION, Asked::Original, "original"),
-        (&TRANSLATION, Asked::Dated, "none"),
-        (&DATED_TRANSLATION, Asked::Dated, "book"),
-    ] {
-        assert_found(&rt, rt.alloc(), (works, asked), wanted)?;
+    let families: &[Row] = &FAMILIES;
+    for row in families {
+        assert_found(&rt, rt.alloc(), row)?;
     }
     Ok(())
 }
+
+/// What is asked for, the types of a work and of its parent, and the key of what is found.
+type Bound = (Asked, EntryType, EntryType, &'static str);
 
 /// What is found of a work of the first type under one of the second.
 fn assert_bound(
     rt: &impl Abort,
     alloc: Global,
-    (asked, child, parent): (Asked, EntryType, EntryType),
-    wanted: &str,
+    &(asked, child, parent, wanted): &Bound,
 ) -> Result<(), Memory> {
     let works = [
         ("parent", parent, Shown::Nothing, 0),
         ("child", child, Shown::Nothing, 1),
     ];
-    assert_found(rt, alloc, (&works, asked), wanted)
+    assert_found(rt, alloc, &(&works, asked, wanted))
+}
+
+/// The types of a work and its parent, and the keys of the container and the collection.
+type Contained = (EntryType, EntryType, &'static str, &'static str);
+
+static CONTAINERS: [Contained; 9] = [
+    (EntryType::Chapter, EntryType::Book, "parent", "none"),
+    (EntryType::Chapter, EntryType::Blog, "parent", "none"),
+    (EntryType::Chapter, EntryType::Periodical, "none", "none"),
+    (EntryType::Anthos, EntryType::Anthology, "parent", "none"),
+    (EntryType::Entry, EntryType::Misc, "parent", "none"),
+    (EntryType::Article, EntryType::Newspaper, "parent", "none"),
+    (EntryType::Book, EntryType::Reference, "parent", "none"),
+    (EntryType::Book, EntryType::Anthology, "none", "parent"),
+    (EntryType::Report, EntryType::Report, "none", "none"),
+];
+
+fn assert_containers(
+    rt: &impl Abort,
+    alloc: Global,
+    &(child, parent, container, collection): &Contained,
+) -> Result<(), Memory> {
+    assert_bound(rt, alloc, &(Asked::Container, child, parent, container))?;
+    assert_bound(rt, alloc, &(Asked::Collection, child, parent, collection))
 }
 
 #[test]
 fn containers(rt: HostRuntime) -> Result<(), Memory> {
-    for (child, parent, container, collection) in [
-        (EntryType::Chapter, EntryType::Book, "parent", "none"),
-        (EntryType::Chapter, EntryType::Blog, "parent", "none"),
-        (EntryType::Chapter, EntryType::Periodical, "none", "none"),
-        (EntryType::Anthos, EntryType::Anthology, "parent", "none"),
-        (EntryType::Entry, EntryType::Misc, "parent", "none"),
-        (EntryType::Article, EntryType::Newspaper, "parent", "none"),
-        (EntryType::Book, EntryType::Reference, "parent", "none"),
-        (EntryType::Book, EntryType::Anthology, "none", "parent"),
-        (EntryType::Report, EntryType::Report, "none", "none"),
-    ] {
-        let alloc = rt.alloc();
-        assert_bound(&rt, alloc, (Asked::Container, child, parent), container)?;
-        assert_bound(&rt, alloc, (Asked::Collection, child, parent), collection)?;
+    let containers: &[Contained] = &CONTAINERS;
+    for row in containers {
+        assert_containers(&rt, rt.alloc(), row)?;
     }
     Ok(())
 }
 
+/// What the clauses of a selection bind.
+static BOUND: [Bound; 15] = [
+    (
+        Asked::Event,
+        EntryType::Performance,
+        EntryType::Exhibition,
+        "parent",
+    ),
+    (
+        Asked::Event,
+        EntryType::Article,
+        EntryType::Conference,
+        "parent",
+    ),
+    (Asked::Event, EntryType::Article, EntryType::Book, "none"),
+    (
+        Asked::Chapter,
+        EntryType::Anthos,
+        EntryType::Anthology,
+        "child",
+    ),
+    (
+        Asked::Chapter,
+        EntryType::Article,
+        EntryType::Proceedings,
+        "child",
+    ),
+    (
+        Asked::Chapter,
+        EntryType::Chapter,
+        EntryType::Proceedings,
+        "none",
+    ),
+    (Asked::Chapter, EntryType::Chapter, EntryType::Book, "child"),
+    (
+        Asked::Part,
+        EntryType::Case,
+        EntryType::Legislation,
+        "child",
+    ),
+    (Asked::Part, EntryType::Case, EntryType::Report, "none"),
+    (
+        Asked::VolumeTitle,
+        EntryType::Article,
+        EntryType::Proceedings,
+        "parent",
+    ),
+    (
+        Asked::VolumeTitle,
+        EntryType::Entry,
+        EntryType::Misc,
+        "parent",
+    ),
+    (
+        Asked::VolumeTitle,
+        EntryType::Chapter,
+        EntryType::Book,
+        "none",
+    ),
+    (
+        Asked::AudioVideo,
+        EntryType::Scene,
+        EntryType::Video,
+        "parent",
+    ),
+    (
+        Asked::AudioVideo,
+        EntryType::Audio,
+        EntryType::Book,
+        "child",
+    ),
+    (Asked::AudioVideo, EntryType::Book, EntryType::Book, "none"),
+];
+
 #[test]
 fn what_clauses_bind(rt: HostRuntime) -> Result<(), Memory> {
-    for (asked, child, parent, wanted) in [
-        (
-            Asked::Event,
-            EntryType::Performance,
-            EntryType::Exhibition,
-            "parent",
-        ),
-        (
-            Asked::Event,
-            EntryType::Article,
-            EntryType::Conference,
-            "parent",
-        ),
-        (Asked::Event, EntryType::Article, EntryType::Book, "none"),
-        (
-            Asked::Chapter,
-            EntryType::Anthos,
-            EntryType::Anthology,
-            "child",
-        ),
-        (
-            Asked::Chapter,
-            EntryType::Article,
-            EntryType::Proceedings,
-            "child",
-        ),
-        (
-            Asked::Chapter,
-            EntryType::Chapter,
-            EntryType::Proceedings,
-            "none",
-        ),
-        (Asked::Chapter, EntryType::Chapter, EntryType::Book, "child"),
-        (
-            Asked::Part,
-            EntryType::Case,
-            EntryType::Legislation,
-            "child",
-        ),
-        (Asked::Part, EntryType::Case, EntryType::Report, "none"),
-        (
-            Asked::VolumeTitle,
-            EntryType::Article,
-            EntryType::Proceedings,
-            "parent",
-        ),
-        (
-            Asked::VolumeTitle,
-            EntryType::Entry,
-            EntryType::Misc,
-            "parent",
-        ),
-        (
-            Asked::VolumeTitle,
-            EntryType::Chapter,
-            EntryType::Book,
-            "none",
-        ),
-        (
-            Asked::AudioVideo,
-            EntryType::Scene,
-            EntryType::Video,
-            "parent",
-        ),
-        (
-            Asked::AudioVideo,
-            EntryType::Audio,
-            EntryType::Book,
-            "child",
-        ),
-        (Asked::AudioVideo, EntryType::Book, EntryType::Book, "none"),
-    ] {
-        assert_bound(&rt, rt.alloc(), (asked, child, parent), wanted)?;
+    let bound: &[Bound] = &BOUND;
+    for row in bound {
+        assert_bound(&rt, rt.alloc(), row)?;
     }
     Ok(())
 }
@@ -268,7 +292,7 @@ fn date_and_url(alloc: Global, works: &[Work]) -> Result<(Option<i32>, bool, usi
 #[test]
 fn the_first_date_of_a_family(rt: HostRuntime) -> Result<(), Memory> {
     // The date of the parent's parent's parent comes before that of the second parent.
-    let answer = date_and_url(rt.alloc(), &ARTICLE)?;
+    let answer = date_and_url(rt.alloc(), ARTICLE)?;
     assert_eq!(rt; answer, (Some(2001), false, 1));
     Ok(())
 }
