@@ -38,7 +38,7 @@ fn shows_kwan(alloc: Global, texts: [&str; 5], comma_suffix: bool) -> Result<boo
     Ok(kwan.shows_same(&person))
 }
 
-/// The texts of a person, whether a comma stands before the suffix, and whether Kwan shows the same.
+/// A person's texts, whether a comma stands before the suffix, and whether Kwan shows the same.
 type Row = ([&'static str; 5], bool, bool);
 
 static PERSONS: [Row; 10] = [
