@@ -20,31 +20,35 @@ fn with_child(alloc: Global, before: &str, child: &str) -> Result<ElemChildren, 
     Ok(all)
 }
 
+/// A tree, a child behind it, and the tree of both.
+static PUSHED: [(&str, &str, &str); 13] = [
+    ("a", "_", "a"),
+    ("a", "$_", "a"),
+    ("a", "@_|u", "a"),
+    ("a", "( )block", "a"),
+    ("", "b", "b"),
+    ("a", "b", "ab"),
+    ("a", "/b", "a /b"),
+    ("/a", "/b", "/ab"),
+    ("$a", "b", "$a b"),
+    ("a", "$b", "a $b"),
+    ("a", "@b|u", "a @b|u"),
+    ("a", "#1", "a #1"),
+    ("a", "( b )block", "a ( b )block"),
+];
+
 fn assert_pushed(
     rt: &impl Abort,
     alloc: Global,
-    (before, child, wanted): (&str, &str, &str),
+    &(before, child, wanted): &(&str, &str, &str),
 ) -> Result<(), Fail> {
     assert_tree(rt, alloc, with_child(alloc, before, child)?, wanted, child)
 }
 
 #[test]
 fn an_empty_child_writes_nothing(rt: HostRuntime) -> Result<(), Fail> {
-    for row in [
-        ("a", "_", "a"),
-        ("a", "$_", "a"),
-        ("a", "@_|u", "a"),
-        ("a", "( )block", "a"),
-        ("", "b", "b"),
-        ("a", "b", "ab"),
-        ("a", "/b", "a /b"),
-        ("/a", "/b", "/ab"),
-        ("$a", "b", "$a b"),
-        ("a", "$b", "a $b"),
-        ("a", "@b|u", "a @b|u"),
-        ("a", "#1", "a #1"),
-        ("a", "( b )block", "a ( b )block"),
-    ] {
+    let pushed: &[(&str, &str, &str)] = &PUSHED;
+    for row in pushed {
         assert_pushed(&rt, rt.alloc(), row)?;
     }
     Ok(())
@@ -63,32 +67,40 @@ fn with_between(alloc: Global, tree: &str, three: [&str; 3]) -> Result<ElemChild
     Ok(all)
 }
 
+/// A tree, the three behind it, and the tree of all.
+type Between = (&'static str, [&'static str; 3], &'static str);
+
+static BETWEEN: [Between; 7] = [
+    ("a", ["b", "", "c"], "a"),
+    ("", ["b", "", "c"], ""),
+    ("a", ["b", "m", "c"], "abmc"),
+    ("a", ["", "m", ""], "am"),
+    ("a", ["/b", "m", "/c"], "a /b m /c"),
+    ("/a", ["/b", "/m", "c"], "/abm c"),
+    ("", ["b", "( m )block", "c"], "b ( m )block c"),
+];
+
 fn assert_between(
     rt: &impl Abort,
     alloc: Global,
-    (tree, three, wanted): (&str, [&str; 3], &str),
+    &(tree, three, wanted): &Between,
 ) -> Result<(), Fail> {
     assert_tree(rt, alloc, with_between(alloc, tree, three)?, wanted, tree)
 }
 
 #[test]
 fn nothing_stands_around_nothing(rt: HostRuntime) -> Result<(), Fail> {
-    for row in [
-        ("a", ["b", "", "c"], "a"),
-        ("", ["b", "", "c"], ""),
-        ("a", ["b", "m", "c"], "abmc"),
-        ("a", ["", "m", ""], "am"),
-        ("a", ["/b", "m", "/c"], "a /b m /c"),
-        ("/a", ["/b", "/m", "c"], "/abm c"),
-        ("", ["b", "( m )block", "c"], "b ( m )block c"),
-    ] {
+    let between: &[Between] = &BETWEEN;
+    for row in between {
         assert_between(&rt, rt.alloc(), row)?;
     }
     Ok(())
 }
 
 /// Whether a tree has children, has text, and ends in white space.
-fn flags(alloc: Global, source: &str) -> Result<(bool, bool, bool), Fail> {
+type Flags = (bool, bool, bool);
+
+fn flags(alloc: Global, source: &str) -> Result<Flags, Fail> {
     let tree = read(alloc, source)?;
     Ok((
         tree.has_children(),
@@ -97,25 +109,38 @@ fn flags(alloc: Global, source: &str) -> Result<(bool, bool, bool), Fail> {
     ))
 }
 
+/// A tree, and its flags.
+static FLAGS: [(&str, Flags); 14] = [
+    ("", (false, false, false)),
+    ("_", (true, false, false)),
+    ("( )", (true, false, false)),
+    ("#1", (true, false, false)),
+    ("a", (true, true, false)),
+    ("a~", (true, true, true)),
+    ("a\u{a0}", (true, true, true)),
+    ("~\u{e9}", (true, true, false)),
+    ("$a~", (true, true, true)),
+    ("@a~|u", (true, true, true)),
+    ("@a|~", (true, true, false)),
+    ("( a ( b~ ):date )block", (true, true, true)),
+    ("( a~ ) ( _ ) #1", (true, true, true)),
+    ("( a~ ) b", (true, true, false)),
+];
+
+fn assert_flags(
+    rt: &impl Abort,
+    alloc: Global,
+    &(source, wanted): &(&str, Flags),
+) -> Result<(), Fail> {
+    assert_eq!(rt; flags(alloc, source)?, wanted, "of {source}");
+    Ok(())
+}
+
 #[test]
 fn the_last_character_may_be_white_space(rt: HostRuntime) -> Result<(), Fail> {
-    for (source, wanted) in [
-        ("", (false, false, false)),
-        ("_", (true, false, false)),
-        ("( )", (true, false, false)),
-        ("#1", (true, false, false)),
-        ("a", (true, true, false)),
-        ("a~", (true, true, true)),
-        ("a\u{a0}", (true, true, true)),
-        ("~\u{e9}", (true, true, false)),
-        ("$a~", (true, true, true)),
-        ("@a~|u", (true, true, true)),
-        ("@a|~", (true, true, false)),
-        ("( a ( b~ ):date )block", (true, true, true)),
-        ("( a~ ) ( _ ) #1", (true, true, true)),
-        ("( a~ ) b", (true, true, false)),
-    ] {
-        assert_eq!(rt; flags(rt.alloc(), source)?, wanted, "of {source}");
+    let rows: &[(&str, Flags)] = &FLAGS;
+    for row in rows {
+        assert_flags(&rt, rt.alloc(), row)?;
     }
     Ok(())
 }

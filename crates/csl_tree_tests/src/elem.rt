@@ -44,24 +44,37 @@ fn are_same(alloc: Global, a: Meta, b: Meta) -> Result<bool, Memory> {
     }
 }
 
+const KNUTH: Meta = Meta::Names("Knuth", NameVariable::Author);
+
+const FIRST: Meta = Meta::Name(NameVariable::Author, 1);
+
+/// Two metas, and whether they are equal.
+static METAS: [(Meta, Meta, bool); 8] = [
+    (KNUTH, KNUTH, true),
+    (KNUTH, Meta::Names("Knuth", NameVariable::Editor), false),
+    (KNUTH, Meta::Names("Lamport", NameVariable::Author), false),
+    (KNUTH, Meta::Date, false),
+    (FIRST, FIRST, true),
+    (FIRST, Meta::Name(NameVariable::Author, 2), false),
+    (FIRST, Meta::Name(NameVariable::Editor, 1), false),
+    (Meta::Entry(1), Meta::Entry(2), false),
+];
+
+fn assert_metas(
+    rt: &impl Abort,
+    alloc: Global,
+    row: usize,
+    &(a, b, same): &(Meta, Meta, bool),
+) -> Result<(), Fail> {
+    assert_eq!(rt; are_same(alloc, a, b)?, same, "in row {row}");
+    Ok(())
+}
+
 #[test]
 fn metas_are_equal_by_value(rt: HostRuntime) -> Result<(), Fail> {
-    let knuth = Meta::Names("Knuth", NameVariable::Author);
-    let first = Meta::Name(NameVariable::Author, 1);
-    for (row, (a, b, same)) in [
-        (knuth, knuth, true),
-        (knuth, Meta::Names("Knuth", NameVariable::Editor), false),
-        (knuth, Meta::Names("Lamport", NameVariable::Author), false),
-        (knuth, Meta::Date, false),
-        (first, first, true),
-        (first, Meta::Name(NameVariable::Author, 2), false),
-        (first, Meta::Name(NameVariable::Editor, 1), false),
-        (Meta::Entry(1), Meta::Entry(2), false),
-    ]
-    .into_iter()
-    .enumerate()
-    {
-        assert_eq!(rt; are_same(rt.alloc(), a, b)?, same, "in row {row}");
+    let metas: &[(Meta, Meta, bool)] = &METAS;
+    for (row, metas) in metas.iter().enumerate() {
+        assert_metas(&rt, rt.alloc(), row, metas)?;
     }
     Ok(())
 }
@@ -134,15 +147,28 @@ fn may_inline(alloc: Global, source: &str) -> Result<bool, Fail> {
     }
 }
 
+/// An element, and whether its children may stand in its place.
+static INLINED: [(&str, bool); 4] = [
+    (MIXED, false),
+    ("( a )block", false),
+    ("( a ):entry", false),
+    ("( a )", true),
+];
+
+fn assert_inlined(
+    rt: &impl Abort,
+    alloc: Global,
+    &(source, wanted): &(&str, bool),
+) -> Result<(), Fail> {
+    assert_eq!(rt; may_inline(alloc, source)?, wanted, "of {source}");
+    Ok(())
+}
+
 #[test]
 fn an_element_that_says_something_stays(rt: HostRuntime) -> Result<(), Fail> {
-    for (source, wanted) in [
-        (MIXED, false),
-        ("( a )block", false),
-        ("( a ):entry", false),
-        ("( a )", true),
-    ] {
-        assert_eq!(rt; may_inline(rt.alloc(), source)?, wanted, "of {source}");
+    let inlined: &[(&str, bool)] = &INLINED;
+    for row in inlined {
+        assert_inlined(&rt, rt.alloc(), row)?;
     }
     Ok(())
 }

@@ -15,6 +15,7 @@ use crate::trees::{assert_tree, read_formatted, read_leaf};
 use csl_style::Display;
 use csl_tree::{ElemChildren, ElemMeta, FlatTree, Formatted, Formatting};
 use std::alloc::Global;
+use std::process::Abort;
 use std::test::Fail;
 
 /// The text of an affix, unless it is missing.
@@ -76,54 +77,71 @@ fn finished(tree: FlatTree) -> Result<ElemChildren, Fail> {
     Ok(tree.finish()?)
 }
 
+/// A script, and the tree that it makes.
+static CALLS: [(&str, &str); 18] = [
+    ("", ""),
+    ("a b", "ab"),
+    ("=a =b", "ab"),
+    ("=a /b c", "a /b c"),
+    ("a _ = $_ @_|u b", "ab"),
+    ("a $b @c|u #1 d", "a $b @c|u #1 d"),
+    ("a [ b ] c", "a ( b )block:date c"),
+    ("[ a [ b ] c ]", "( a ( b )block:date c )block:date"),
+    ("a [ b }<|> c", "a<b>c"),
+    ("a [ /b }<|> c", "a< /b >c"),
+    ("a [ /b }/<|/> /c", "a /<b>c"),
+    ("a [ b }| c", "abc"),
+    ("a [ #1 }<| b", "a< #1 b"),
+    ("[ [ a }<|> [ b }<|> }-|-", "-<a><b>-"),
+    ("[ a [ b }<|> c ] d", "( a<b>c )block:date d"),
+    ("a [ b !", "a"),
+    ("[ a [ b ! c ]", "( ac )block:date"),
+    ("a [ b [ c ] ! d", "ad"),
+];
+
+fn assert_calls(
+    rt: &impl Abort,
+    alloc: Global,
+    &(script, wanted): &(&str, &str),
+) -> Result<(), Fail> {
+    let tree = finished(written(alloc, script)?)?;
+    assert_tree(rt, alloc, tree, wanted, script)
+}
+
 #[test]
 fn the_calls_of_a_script_make_a_tree(rt: HostRuntime) -> Result<(), Fail> {
-    for (script, wanted) in [
-        ("", ""),
-        ("a b", "ab"),
-        ("=a =b", "ab"),
-        ("=a /b c", "a /b c"),
-        ("a _ = $_ @_|u b", "ab"),
-        ("a $b @c|u #1 d", "a $b @c|u #1 d"),
-        ("a [ b ] c", "a ( b )block:date c"),
-        ("[ a [ b ] c ]", "( a ( b )block:date c )block:date"),
-        ("a [ b }<|> c", "a<b>c"),
-        ("a [ /b }<|> c", "a< /b >c"),
-        ("a [ /b }/<|/> /c", "a /<b>c"),
-        ("a [ b }| c", "abc"),
-        ("a [ #1 }<| b", "a< #1 b"),
-        ("[ [ a }<|> [ b }<|> }-|-", "-<a><b>-"),
-        ("[ a [ b }<|> c ] d", "( a<b>c )block:date d"),
-        ("a [ b !", "a"),
-        ("[ a [ b ! c ]", "( ac )block:date"),
-        ("a [ b [ c ] ! d", "ad"),
-    ] {
-        let tree = finished(written(rt.alloc(), script)?)?;
-        assert_tree(&rt, rt.alloc(), tree, wanted, script)?;
+    let calls: &[(&str, &str)] = &CALLS;
+    for row in calls {
+        assert_calls(&rt, rt.alloc(), row)?;
     }
     Ok(())
 }
 
+/// A script of empty parts, and the tree that it makes.
+static EMPTY: [(&str, &str); 8] = [
+    ("[ ]", ""),
+    ("a [ ] b", "ab"),
+    ("a [ _ $_ ] b", "ab"),
+    ("a [ }<|> b", "ab"),
+    ("a [ _ $_ }<|> b", "ab"),
+    ("[ [ ] }<|>", ""),
+    ("[ [ }<|> ]", ""),
+    ("a [ ! b", "ab"),
+];
+
 #[test]
 fn an_empty_part_leaves_nothing(rt: HostRuntime) -> Result<(), Fail> {
-    for (script, wanted) in [
-        ("[ ]", ""),
-        ("a [ ] b", "ab"),
-        ("a [ _ $_ ] b", "ab"),
-        ("a [ }<|> b", "ab"),
-        ("a [ _ $_ }<|> b", "ab"),
-        ("[ [ ] }<|>", ""),
-        ("[ [ }<|> ]", ""),
-        ("a [ ! b", "ab"),
-    ] {
-        let tree = finished(written(rt.alloc(), script)?)?;
-        assert_tree(&rt, rt.alloc(), tree, wanted, script)?;
+    let empty: &[(&str, &str)] = &EMPTY;
+    for row in empty {
+        assert_calls(&rt, rt.alloc(), row)?;
     }
     Ok(())
 }
 
 /// How many parts are open; whether the innermost one is empty, has text, and ends in white space.
-fn flags(alloc: Global, script: &str) -> Result<(usize, bool, bool, bool), Fail> {
+type Flags = (usize, bool, bool, bool);
+
+fn flags(alloc: Global, script: &str) -> Result<Flags, Fail> {
     let tree = written(alloc, script)?;
     Ok((
         tree.depth(),
@@ -133,26 +151,39 @@ fn flags(alloc: Global, script: &str) -> Result<(usize, bool, bool, bool), Fail>
     ))
 }
 
+/// A script, and what is said of the part that is open after it.
+static FLAGS: [(&str, Flags); 15] = [
+    ("", (1, true, false, false)),
+    ("a", (1, false, true, false)),
+    ("a~", (1, false, true, true)),
+    ("a~ [", (2, true, false, false)),
+    ("a~ [ _ $_", (2, true, false, false)),
+    ("a~ [ #1", (2, false, false, false)),
+    ("a~ [ b", (2, false, true, false)),
+    ("a~ [ b ]", (1, false, true, false)),
+    ("a [ b~ ]", (1, false, true, true)),
+    ("a [ b~ }|", (1, false, true, true)),
+    ("a [ b~ }|>", (1, false, true, false)),
+    ("a~ [ #1 ]", (1, false, true, true)),
+    ("a [ b~ !", (1, false, true, false)),
+    ("[ [ ] [ }<|>", (2, true, false, false)),
+    ("[ [ [", (4, true, false, false)),
+];
+
+fn assert_flags(
+    rt: &impl Abort,
+    alloc: Global,
+    &(script, wanted): &(&str, Flags),
+) -> Result<(), Fail> {
+    assert_eq!(rt; flags(alloc, script)?, wanted, "of {script}");
+    Ok(())
+}
+
 #[test]
 fn what_is_said_of_the_innermost_part(rt: HostRuntime) -> Result<(), Fail> {
-    for (script, wanted) in [
-        ("", (1, true, false, false)),
-        ("a", (1, false, true, false)),
-        ("a~", (1, false, true, true)),
-        ("a~ [", (2, true, false, false)),
-        ("a~ [ _ $_", (2, true, false, false)),
-        ("a~ [ #1", (2, false, false, false)),
-        ("a~ [ b", (2, false, true, false)),
-        ("a~ [ b ]", (1, false, true, false)),
-        ("a [ b~ ]", (1, false, true, true)),
-        ("a [ b~ }|", (1, false, true, true)),
-        ("a [ b~ }|>", (1, false, true, false)),
-        ("a~ [ #1 ]", (1, false, true, true)),
-        ("a [ b~ !", (1, false, true, false)),
-        ("[ [ ] [ }<|>", (2, true, false, false)),
-        ("[ [ [", (4, true, false, false)),
-    ] {
-        assert_eq!(rt; flags(rt.alloc(), script)?, wanted, "of {script}");
+    let rows: &[(&str, Flags)] = &FLAGS;
+    for row in rows {
+        assert_flags(&rt, rt.alloc(), row)?;
     }
     Ok(())
 }

@@ -49,11 +49,27 @@ fn answer(alloc: Global, tree: &ElemChildren, asked: Asked) -> Result<ElemChildr
     }
 }
 
+/// A tree, what it is asked, and what is found.
+static SEARCHES: [(&str, Asked, &str); 11] = [
+    (TWO_NAMES, Asked::Names, "( x ):x"),
+    ("a", Asked::Names, ""),
+    // Metas are compared by value.
+    (TWO_NAMES, Asked::Meta("y"), "( y ):y"),
+    (TWO_NAMES, Asked::Meta("z"), ""),
+    (TWO_NAMES, Asked::Meta("date"), ""),
+    (TWO_NAMES, Asked::Any, "( ( x ):x )"),
+    (TWO_NAMES, Asked::Noted, "( x ):x"),
+    (TWO_NAMES, Asked::Nothing, ""),
+    // The last text is that of the last child.
+    ("a @b|", Asked::LastText, ""),
+    ("a ( b )", Asked::LastText, "b"),
+    ("", Asked::LastText, ""),
+];
+
 fn assert_found(
     rt: &impl Abort,
     alloc: Global,
-    (source, asked): (&str, Asked),
-    wanted: &str,
+    &(source, asked, wanted): &(&str, Asked, &str),
 ) -> Result<(), Fail> {
     let answer = answer(alloc, &read(alloc, source)?, asked)?;
     assert_tree(rt, alloc, answer, wanted, source)
@@ -61,22 +77,9 @@ fn assert_found(
 
 #[test]
 fn searches_go_down_first(rt: HostRuntime) -> Result<(), Fail> {
-    for (source, asked, wanted) in [
-        (TWO_NAMES, Asked::Names, "( x ):x"),
-        ("a", Asked::Names, ""),
-        // Metas are compared by value.
-        (TWO_NAMES, Asked::Meta("y"), "( y ):y"),
-        (TWO_NAMES, Asked::Meta("z"), ""),
-        (TWO_NAMES, Asked::Meta("date"), ""),
-        (TWO_NAMES, Asked::Any, "( ( x ):x )"),
-        (TWO_NAMES, Asked::Noted, "( x ):x"),
-        (TWO_NAMES, Asked::Nothing, ""),
-        // The last text is that of the last child.
-        ("a @b|", Asked::LastText, ""),
-        ("a ( b )", Asked::LastText, "b"),
-        ("", Asked::LastText, ""),
-    ] {
-        assert_found(&rt, rt.alloc(), (source, asked), wanted)?;
+    let searches: &[(&str, Asked, &str)] = &SEARCHES;
+    for row in searches {
+        assert_found(&rt, rt.alloc(), row)?;
     }
     Ok(())
 }

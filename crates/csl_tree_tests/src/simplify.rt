@@ -6,7 +6,35 @@ use std::alloc::Global;
 use std::process::Abort;
 use std::test::Fail;
 
-fn assert_round(rt: &impl Abort, alloc: Global, source: &str, wanted: &str) -> Result<(), Fail> {
+/// A tree, and what a round makes of it.
+static ROUNDS: [(&str, &str); 9] = [
+    // A plain element takes two rounds.
+    ("( a b )", "a b"),
+    ("a b", "ab"),
+    ("ab", "ab"),
+    // A text of a plain element joins none before it, and one behind it joins it.
+    ("a ( b ) c", "a bc"),
+    // Texts of equal formatting join.
+    ("a _ b /c /_ d", "ab /c d"),
+    // Texts meet where a plain element was empty.
+    ("a ( ) b", "ab"),
+    // Other children stay.
+    ("_ /_ ( ):date $_", "_ /_ ( ):date $_"),
+    (
+        "a @link|https://example.org #3 $x^2 b",
+        "a @link|https://example.org #3 $x^2 b",
+    ),
+    (
+        "( ( a ( ( b ) ) c )block ):date",
+        "( ( a ( b ) c )block ):date",
+    ),
+];
+
+fn assert_round(
+    rt: &impl Abort,
+    alloc: Global,
+    &(source, wanted): &(&str, &str),
+) -> Result<(), Fail> {
     let once = simplify_children(alloc, &read(alloc, source)?)?;
     assert_tree(rt, alloc, once, wanted, source)
 }
@@ -36,29 +64,9 @@ fn assert_normal(rt: &impl Abort, alloc: Global, source: &str, normal: &str) -> 
 #[test]
 fn rounds_join_texts_and_end_in_one(rt: HostRuntime) -> Result<(), Fail> {
     let alloc = rt.alloc();
-    for (source, once) in [
-        // A plain element takes two rounds.
-        ("( a b )", "a b"),
-        ("a b", "ab"),
-        ("ab", "ab"),
-        // A text of a plain element joins none before it, and one behind it joins it.
-        ("a ( b ) c", "a bc"),
-        // Texts of equal formatting join.
-        ("a _ b /c /_ d", "ab /c d"),
-        // Texts meet where a plain element was empty.
-        ("a ( ) b", "ab"),
-        // Other children stay.
-        ("_ /_ ( ):date $_", "_ /_ ( ):date $_"),
-        (
-            "a @link|https://example.org #3 $x^2 b",
-            "a @link|https://example.org #3 $x^2 b",
-        ),
-        (
-            "( ( a ( ( b ) ) c )block ):date",
-            "( ( a ( b ) c )block ):date",
-        ),
-    ] {
-        assert_round(&rt, alloc, source, once)?;
+    let rounds: &[(&str, &str)] = &ROUNDS;
+    for row in rounds {
+        assert_round(&rt, alloc, row)?;
     }
     for (source, once) in [
         ("( a ( ( b ) ) c )block", "( a ( b ) c )block"),

@@ -123,23 +123,31 @@ fn declarations_in_order(rt: HostRuntime) -> Result<(), Fail> {
     Ok(())
 }
 
+/// A tree, and its HTML.
+static HTML: [(&str, &str); 6] = [
+    ("( A )", "A"),
+    ("( A )block", "<div>A</div>"),
+    ("( A )indent", "<div style=\"padding-left: 4em;\">A</div>"),
+    ("( A )left", "<div style=\"float: left;\">A</div>"),
+    (
+        "( A )right",
+        "<div style=\"float: right; clear: both;\">A</div>",
+    ),
+    (
+        MIXED,
+        "<div><a href=\"https://x.y/?a=1&b=2\"><span style=\"font-style: italic;\">x</span></a>$m$ </div>",
+    ),
+];
+
+fn assert_html(rt: &impl Abort, alloc: Global, &(source, html): &(&str, &str)) -> Result<(), Fail> {
+    assert_written(rt, alloc, (source, BufWriteFormat::Html), html)
+}
+
 #[test]
 fn displays_and_line_breaks_of_a_block(rt: HostRuntime) -> Result<(), Fail> {
-    for (source, html) in [
-        ("( A )", "A"),
-        ("( A )block", "<div>A</div>"),
-        ("( A )indent", "<div style=\"padding-left: 4em;\">A</div>"),
-        ("( A )left", "<div style=\"float: left;\">A</div>"),
-        (
-            "( A )right",
-            "<div style=\"float: right; clear: both;\">A</div>",
-        ),
-        (
-            MIXED,
-            "<div><a href=\"https://x.y/?a=1&b=2\"><span style=\"font-style: italic;\">x</span></a>$m$ </div>",
-        ),
-    ] {
-        assert_written(&rt, rt.alloc(), (source, BufWriteFormat::Html), html)?;
+    let html: &[(&str, &str)] = &HTML;
+    for row in html {
+        assert_html(&rt, rt.alloc(), row)?;
     }
     for (source, plain) in [
         ("( A )block", "\nA\n"),
