@@ -30,15 +30,23 @@ fn same_slot(a: &OrdinalSlot, b: &OrdinalSlot) -> bool
     *a == *b
 }
 
+/// Two slots, and whether they are one.
+static SLOTS: [(OrdinalSlot, OrdinalSlot, bool); 4] = [
+    (OrdinalSlot::Two(3), OrdinalSlot::Two(3), true),
+    (OrdinalSlot::Two(3), OrdinalSlot::Two(4), false),
+    (OrdinalSlot::Two(3), OrdinalSlot::Long(3), false),
+    (OrdinalSlot::Default, OrdinalSlot::Long(3), false),
+];
+
+fn assert_same_slot(rt: &impl Abort, (a, b, wanted): &(OrdinalSlot, OrdinalSlot, bool)) {
+    assert_same(rt, &same_slot(a, b), wanted);
+}
+
 #[test]
 fn slots_are_equal_where_they_are_one(rt: HostRuntime) {
-    for (a, b, wanted) in [
-        (OrdinalSlot::Two(3), OrdinalSlot::Two(3), true),
-        (OrdinalSlot::Two(3), OrdinalSlot::Two(4), false),
-        (OrdinalSlot::Two(3), OrdinalSlot::Long(3), false),
-        (OrdinalSlot::Default, OrdinalSlot::Long(3), false),
-    ] {
-        assert_same(&rt, &same_slot(&a, &b), &wanted);
+    let slots: &[(OrdinalSlot, OrdinalSlot, bool)] = &SLOTS;
+    for row in slots {
+        assert_same_slot(&rt, row);
     }
 }
 
@@ -74,6 +82,26 @@ fn assert_english(
     Ok(())
 }
 
+/// A number, and what it is written as in English.
+static IN_ENGLISH: [(i32, &str); 7] = [
+    (21, "21st"),
+    (112, "112th"),
+    (-3, "-3rd"),
+    (2, "2nd"),
+    (11, "11th"),
+    (0, "0th"),
+    (i32::MIN, "-2147483648th"),
+];
+
+fn assert_in_both_forms(
+    rt: &impl Abort,
+    alloc: Global,
+    &(number, wanted): &(i32, &'static str),
+) -> Result<(), Fail> {
+    assert_english(rt, alloc, (number, NumberForm::Ordinal), wanted)?;
+    assert_english(rt, alloc, (number, NumberForm::LongOrdinal), wanted)
+}
+
 const WHOLE: Option<OrdinalMatch> = Some(OrdinalMatch::WholeNumber);
 
 const LAST_TWO: Option<OrdinalMatch> = Some(OrdinalMatch::LastTwoDigits);
@@ -96,13 +124,28 @@ const BY_GENDER_AND_DIGITS: [LocaleRows<'static>; 2] = [
     SILENT,
 ];
 
+/// Whether a word is asked for, the number, the gender, and the suffix or the word.
+type OrdinalRow = (bool, i32, Option<GrammarGender>, Option<&'static str>);
+
+static ORDINALS: [OrdinalRow; 10] = [
+    (false, 1, FEMININE, Some("re")),
+    (false, 21, MASCULINE, Some("er")),
+    (false, 1, None, Some("st")),
+    (false, 21, None, Some("e")),
+    (false, 108, FEMININE, Some("o")),
+    (false, 118, None, Some("e")),
+    (true, 2, FEMININE, Some("seconde")),
+    (true, 2, MASCULINE, Some("deuxieme")),
+    (true, -2, None, None),
+    (true, 3, None, None),
+];
+
 /// The suffix of a number in these locales, or its word.
 fn assert_ordinal(
     rt: &impl Abort,
     alloc: Global,
     rows: &[LocaleRows<'_>],
-    (is_word, number, gender): (bool, i32, Option<GrammarGender>),
-    wanted: Option<&str>,
+    &(is_word, number, gender, wanted): &OrdinalRow,
 ) -> Result<(), Fail> {
     let locales = locales(alloc, rows)?;
     let ordinals = LocaleOrdinals { locales: &locales };
@@ -117,35 +160,15 @@ fn assert_ordinal(
 
 #[test]
 fn ordinals_by_gender_and_digits(rt: HostRuntime) -> Result<(), Fail> {
-    for (number, wanted) in [
-        (21, "21st"),
-        (112, "112th"),
-        (-3, "-3rd"),
-        (2, "2nd"),
-        (11, "11th"),
-        (0, "0th"),
-        (i32::MIN, "-2147483648th"),
-    ] {
-        for form in [NumberForm::Ordinal, NumberForm::LongOrdinal] {
-            assert_english(&rt, rt.alloc(), (number, form), wanted)?;
-        }
+    let numbers: &[(i32, &'static str)] = &IN_ENGLISH;
+    for row in numbers {
+        assert_in_both_forms(&rt, rt.alloc(), row)?;
     }
-    for (is_word, number, gender, wanted) in [
-        (false, 1, FEMININE, Some("re")),
-        (false, 21, MASCULINE, Some("er")),
-        (false, 1, None, Some("st")),
-        (false, 21, None, Some("e")),
-        (false, 108, FEMININE, Some("o")),
-        (false, 118, None, Some("e")),
-        (true, 2, FEMININE, Some("seconde")),
-        (true, 2, MASCULINE, Some("deuxieme")),
-        (true, -2, None, None),
-        (true, 3, None, None),
-    ] {
-        let rows = &BY_GENDER_AND_DIGITS;
-        assert_ordinal(&rt, rt.alloc(), rows, (is_word, number, gender), wanted)?;
+    let ordinals: &[OrdinalRow] = &ORDINALS;
+    for row in ordinals {
+        assert_ordinal(&rt, rt.alloc(), &BY_GENDER_AND_DIGITS, row)?;
     }
-    assert_ordinal(&rt, rt.alloc(), &[], (false, 3, None), None)
+    assert_ordinal(&rt, rt.alloc(), &[], &(false, 3, None, None))
 }
 
 /// Terms in two locales.

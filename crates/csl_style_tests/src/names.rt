@@ -79,37 +79,60 @@ fn limits(min: u32, first: u32, use_last: bool) -> NameOptions<'static> {
     options.name_options()
 }
 
+/// The limits and whether the last name is kept, the name's index and the count of names, whether
+/// the cite is a later one, and whether the name is left out.
+type Row = (u32, u32, bool, usize, usize, bool, bool);
+
+static NAMES: [Row; 10] = [
+    (3, 1, false, 0, 3, false, false),
+    (3, 1, false, 1, 3, false, true),
+    (3, 1, false, 2, 3, false, true),
+    (3, 1, false, 1, 2, false, false),
+    (3, 1, false, usize::MAX, usize::MAX, true, true),
+    (0, 0, false, 0, 0, false, true),
+    // The last name is kept where another is left out.
+    (3, 1, true, 1, 3, false, true),
+    (3, 1, true, 2, 3, false, false),
+    (3, 2, true, 2, 3, false, true),
+    (3, 2, true, 3, 4, false, false),
+];
+
+fn assert_suppressed(rt: &impl Abort, &(min, first, use_last, idx, len, subsequent, wanted): &Row) {
+    let answer = limits(min, first, use_last).is_suppressed(idx, len, subsequent);
+    assert_same(rt, &answer, &wanted);
+}
+
+/// The least count of names in later cites, the count, whether the cite is a later one, and whether
+/// the second name is left out.
+static SECOND_NAMES: [(Option<u32>, usize, bool, bool); 4] = [
+    (None, 3, false, false),
+    (None, 3, true, true),
+    (None, 2, true, false),
+    (Some(2), 2, true, true),
+];
+
+fn assert_second_suppressed(
+    rt: &impl Abort,
+    &(later_min, len, subsequent, wanted): &(Option<u32>, usize, bool, bool),
+) {
+    let mut options = limits(3, 2, false);
+    options.et_al_subsequent_use_first = Some(1);
+    options.et_al_subsequent_min = later_min;
+    let answer = options.is_suppressed(1, len, subsequent);
+    assert_same(rt, &answer, &wanted);
+}
+
 #[test]
 fn long_lists_lose_names(rt: HostRuntime) {
-    for (min, first, use_last, idx, len, subsequent, wanted) in [
-        (3, 1, false, 0, 3, false, false),
-        (3, 1, false, 1, 3, false, true),
-        (3, 1, false, 2, 3, false, true),
-        (3, 1, false, 1, 2, false, false),
-        (3, 1, false, usize::MAX, usize::MAX, true, true),
-        (0, 0, false, 0, 0, false, true),
-        // The last name is kept where another is left out.
-        (3, 1, true, 1, 3, false, true),
-        (3, 1, true, 2, 3, false, false),
-        (3, 2, true, 2, 3, false, true),
-        (3, 2, true, 3, 4, false, false),
-    ] {
-        let answer = limits(min, first, use_last).is_suppressed(idx, len, subsequent);
-        assert_same(&rt, &answer, &wanted);
+    let names: &[Row] = &NAMES;
+    for row in names {
+        assert_suppressed(&rt, row);
     }
     let options = InheritedNameOptions::default().name_options();
     assert_same(&rt, &options.is_suppressed(7, 9, false), &false);
     // Later cites have limits of their own.
-    for (later_min, len, subsequent, wanted) in [
-        (None, 3, false, false),
-        (None, 3, true, true),
-        (None, 2, true, false),
-        (Some(2), 2, true, true),
-    ] {
-        let mut options = limits(3, 2, false);
-        options.et_al_subsequent_use_first = Some(1);
-        options.et_al_subsequent_min = later_min;
-        let answer = options.is_suppressed(1, len, subsequent);
-        assert_same(&rt, &answer, &wanted);
+    let second_names: &[(Option<u32>, usize, bool, bool)] = &SECOND_NAMES;
+    for row in second_names {
+        assert_second_suppressed(&rt, row);
     }
 }

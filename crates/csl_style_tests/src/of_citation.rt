@@ -4,24 +4,33 @@ use csl_style::{
     DateVariable, FontStyle, FontWeight, Formatting, NameVariable, NumberVariable, PageVariable,
     StandardVariable, Variable,
 };
+use std::process::Abort;
+
+/// A variable, and whether the citation answers it.
+static ANSWERED: [(Variable, bool); 9] = [
+    (Variable::Number(NumberVariable::CitationNumber), true),
+    (
+        Variable::Number(NumberVariable::FirstReferenceNoteNumber),
+        true,
+    ),
+    (Variable::Number(NumberVariable::Locator), true),
+    (Variable::Standard(StandardVariable::YearSuffix), true),
+    (Variable::Number(NumberVariable::Volume), false),
+    (Variable::Standard(StandardVariable::CitationLabel), false),
+    (Variable::Page(PageVariable::Page), false),
+    (Variable::Name(NameVariable::Author), false),
+    (Variable::Date(DateVariable::Issued), false),
+];
+
+fn assert_answered(rt: &impl Abort, &(variable, wanted): &(Variable, bool)) {
+    assert_eq!(rt; variable.is_of_citation(), wanted);
+}
 
 #[test]
 fn the_citation_answers_four_variables(rt: HostRuntime) {
-    for (variable, wanted) in [
-        (Variable::Number(NumberVariable::CitationNumber), true),
-        (
-            Variable::Number(NumberVariable::FirstReferenceNoteNumber),
-            true,
-        ),
-        (Variable::Number(NumberVariable::Locator), true),
-        (Variable::Standard(StandardVariable::YearSuffix), true),
-        (Variable::Number(NumberVariable::Volume), false),
-        (Variable::Standard(StandardVariable::CitationLabel), false),
-        (Variable::Page(PageVariable::Page), false),
-        (Variable::Name(NameVariable::Author), false),
-        (Variable::Date(DateVariable::Issued), false),
-    ] {
-        assert_eq!(rt; variable.is_of_citation(), wanted);
+    let variables: &[(Variable, bool)] = &ANSWERED;
+    for row in variables {
+        assert_answered(&rt, row);
     }
 }
 

@@ -5,6 +5,13 @@ ghost use Rattle.std.specs.Prelude.{◌≡◌, ◌↔◌, IsTrue};
 use crate::asserted::assert_same;
 use csl_style::{Locator, NumberVariable, OtherTerm, Term};
 use lit_model::Season;
+use std::process::Abort;
+
+const SPRING: OtherTerm = OtherTerm::Season(Season::Spring);
+
+const MAY: OtherTerm = OtherTerm::Month(4);
+
+const ISSUE: Term = Term::Number(NumberVariable::Issue);
 
 /// Whether the two terms are equal: they are where they are one.
 fn same_term(a: &Term, b: &Term) -> bool
@@ -20,24 +27,37 @@ fn same_other_term(a: &OtherTerm, b: &OtherTerm) -> bool
     *a == *b
 }
 
+/// Two terms that name no variable, and whether they are one.
+static OTHER_TERMS: [(OtherTerm, OtherTerm, bool); 4] = [
+    (SPRING, SPRING, true),
+    (SPRING, OtherTerm::Season(Season::Summer), false),
+    (MAY, OtherTerm::Month(5), false),
+    (MAY, OtherTerm::And, false),
+];
+
+fn assert_same_other_term(rt: &impl Abort, (a, b, wanted): &(OtherTerm, OtherTerm, bool)) {
+    assert_same(rt, &same_other_term(a, b), wanted);
+}
+
+/// Two terms, and whether they are one.
+static TERMS: [(Term, Term, bool); 3] = [
+    (ISSUE, ISSUE, true),
+    (ISSUE, Term::Locator(Locator::Issue), false),
+    (Term::Other(SPRING), Term::Other(MAY), false),
+];
+
+fn assert_same_term(rt: &impl Abort, (a, b, wanted): &(Term, Term, bool)) {
+    assert_same(rt, &same_term(a, b), wanted);
+}
+
 #[test]
 fn terms_are_equal_where_they_are_one(rt: HostRuntime) {
-    let spring = OtherTerm::Season(Season::Spring);
-    let may = OtherTerm::Month(4);
-    for (a, b, wanted) in [
-        (spring, spring, true),
-        (spring, OtherTerm::Season(Season::Summer), false),
-        (may, OtherTerm::Month(5), false),
-        (may, OtherTerm::And, false),
-    ] {
-        assert_same(&rt, &same_other_term(&a, &b), &wanted);
+    let other_terms: &[(OtherTerm, OtherTerm, bool)] = &OTHER_TERMS;
+    for row in other_terms {
+        assert_same_other_term(&rt, row);
     }
-    let issue = Term::Number(NumberVariable::Issue);
-    for (a, b, wanted) in [
-        (issue, issue, true),
-        (issue, Term::Locator(Locator::Issue), false),
-        (Term::Other(spring), Term::Other(may), false),
-    ] {
-        assert_same(&rt, &same_term(&a, &b), &wanted);
+    let terms: &[(Term, Term, bool)] = &TERMS;
+    for row in terms {
+        assert_same_term(&rt, row);
     }
 }
