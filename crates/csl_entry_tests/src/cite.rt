@@ -6,20 +6,32 @@ use csl_entry::{
 use csl_style::{Locator, NameVariable, StandardVariable, Variable};
 use lit_model::Memory;
 use std::alloc::Global;
+use std::process::Abort;
 use std::test::Fail;
+
+const FIVE: LocatorPayload<'static> = LocatorPayload::Str("5");
+
+/// The kind and the payload of a locator, and whether it is page 5.
+type LocatorRow = (Locator, LocatorPayload<'static>, bool);
+
+static LOCATORS: [LocatorRow; 4] = [
+    (Locator::Page, FIVE, true),
+    (Locator::Line, FIVE, false),
+    (Locator::Page, LocatorPayload::Str("6"), false),
+    (Locator::Page, LocatorPayload::Transparent, false),
+];
+
+fn assert_told_apart(rt: &impl Abort, &(kind, payload, wanted): &LocatorRow) {
+    let page = SpecificLocator(Locator::Page, FIVE);
+    let other = SpecificLocator(kind, payload);
+    assert_eq!(rt; page == other, wanted, "{other:?}");
+}
 
 #[test]
 fn locators_are_told_apart(rt: HostRuntime) {
-    let five = LocatorPayload::Str("5");
-    let page = SpecificLocator(Locator::Page, five);
-    for (kind, payload, wanted) in [
-        (Locator::Page, five, true),
-        (Locator::Line, five, false),
-        (Locator::Page, LocatorPayload::Str("6"), false),
-        (Locator::Page, LocatorPayload::Transparent, false),
-    ] {
-        let other = SpecificLocator(kind, payload);
-        assert_eq!(rt; page == other, wanted, "{other:?}");
+    let locators: &[LocatorRow] = &LOCATORS;
+    for row in locators {
+        assert_told_apart(&rt, row);
     }
 }
 
@@ -92,16 +104,29 @@ fn copy_said(alloc: Global, told: Told) -> Result<(&'static str, usize), Memory>
     Ok(said(&copy))
 }
 
+/// What tells a cite from others, and what its state is.
+static STATES: [(Told, (&str, usize)); 4] = [
+    (Told::ByNothing, ("none", 0)),
+    (Told::ByChoice, ("choose", 0)),
+    (Told::BySuffix(3), ("year suffix", 3)),
+    (Told::ByNames, ("names", 1)),
+];
+
+fn assert_copied(
+    rt: &impl Abort,
+    alloc: Global,
+    &(told, wanted): &(Told, (&'static str, usize)),
+) -> Result<(), Memory> {
+    let copy = copy_said(alloc, told)?;
+    assert_eq!(rt; copy, wanted, "{told:?}");
+    Ok(())
+}
+
 #[test]
 fn a_copy_of_each_state(rt: HostRuntime) -> Result<(), Memory> {
-    for (told, wanted) in [
-        (Told::ByNothing, ("none", 0)),
-        (Told::ByChoice, ("choose", 0)),
-        (Told::BySuffix(3), ("year suffix", 3)),
-        (Told::ByNames, ("names", 1)),
-    ] {
-        let copy = copy_said(rt.alloc(), told)?;
-        assert_eq!(rt; copy, wanted, "{told:?}");
+    let states: &[(Told, (&'static str, usize))] = &STATES;
+    for row in states {
+        assert_copied(&rt, rt.alloc(), row)?;
     }
     Ok(())
 }

@@ -16,6 +16,7 @@ use lit_model::{
 };
 use std::alloc::Global;
 use std::borrow::{Cow, CowStr};
+use std::process::Abort;
 use std::test::Fail;
 
 /// An entry that answers the same to each variable of a sort: a number, pages, or a text. It has
@@ -271,21 +272,40 @@ fn pages(alloc: Global) -> Result<String, Fail> {
     pages_in(alloc, &samples, &props)
 }
 
+const LONG: LongShortForm = LongShortForm::Long;
+
+const SHORT: LongShortForm = LongShortForm::Short;
+
+const SUFFIX: StandardVariable = StandardVariable::YearSuffix;
+
+/// What tells entries apart, the form, the variable, and the text.
+type TextRow = (Told, LongShortForm, StandardVariable, &'static str);
+
+static TEXTS: [TextRow; 6] = [
+    (Told::BySuffix(0), LONG, SUFFIX, "a"),
+    (Told::BySuffix(0), SHORT, SUFFIX, "a"),
+    (Told::ByNames, LONG, SUFFIX, "none"),
+    (Told::ByChoice, LONG, SUFFIX, "none"),
+    (Told::ByNothing, LONG, SUFFIX, "none"),
+    // All else is asked of the entry.
+    (Told::BySuffix(0), LONG, StandardVariable::Title, "`Nature"),
+];
+
+fn assert_text(
+    rt: &impl Abort,
+    alloc: Global,
+    &(told, form, variable, wanted): &TextRow,
+) -> Result<(), Fail> {
+    let text = text(alloc, told, form, variable)?;
+    assert_answer(rt, text.as_str(), wanted, "a text variable");
+    Ok(())
+}
+
 #[test]
 fn texts_of_the_citation_and_of_the_entry(rt: HostRuntime) -> Result<(), Fail> {
-    let suffix = StandardVariable::YearSuffix;
-    let (long, short) = (LongShortForm::Long, LongShortForm::Short);
-    for (told, form, variable, wanted) in [
-        (Told::BySuffix(0), long, suffix, "a"),
-        (Told::BySuffix(0), short, suffix, "a"),
-        (Told::ByNames, long, suffix, "none"),
-        (Told::ByChoice, long, suffix, "none"),
-        (Told::ByNothing, long, suffix, "none"),
-        // All else is asked of the entry.
-        (Told::BySuffix(0), long, StandardVariable::Title, "`Nature"),
-    ] {
-        let text = text(rt.alloc(), told, form, variable)?;
-        assert_answer(&rt, text.as_str(), wanted, "a text variable");
+    let texts: &[TextRow] = &TEXTS;
+    for row in texts {
+        assert_text(&rt, rt.alloc(), row)?;
     }
     let pages = pages(rt.alloc())?;
     assert_answer(&rt, pages.as_str(), "7", "the pages");

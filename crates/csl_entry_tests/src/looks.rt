@@ -12,6 +12,7 @@ use csl_style::{
 };
 use lit_model::{Entry, LongShortForm, MaybeTyped};
 use std::alloc::Global;
+use std::process::Abort;
 use std::test::Fail;
 
 /// What is looked for in a cite.
@@ -109,28 +110,45 @@ const BOOK: &str = "book; authors Ann, Ben; date 2014; volume 3; pages 7-9; titl
 
 const PAMPHLET: &str = "book; volume 'third; pages 'passim";
 
+const VOLUME: Sought = Sought::Number(NumberOrPageVariable::Number(NumberVariable::Volume));
+
+const LOCATOR: Sought = Sought::Number(NumberOrPageVariable::Number(NumberVariable::Locator));
+
+const PAGE: Sought = Sought::Number(NumberOrPageVariable::Page(PageVariable::Page));
+
+const CITED: Sought = Sought::Number(NumberOrPageVariable::Number(NumberVariable::CitationNumber));
+
+/// An entry, what is looked for in its cite, and what the cite answers.
+static ANSWERS: [(&str, Sought, &str); 12] = [
+    (BOOK, VOLUME, "3"),
+    (PAMPHLET, VOLUME, "'third"),
+    ("book", VOLUME, "none"),
+    (BOOK, LOCATOR, "@2"),
+    (BOOK, CITED, "5"),
+    (BOOK, PAGE, "p7-9"),
+    (PAMPHLET, PAGE, "'passim"),
+    ("book", PAGE, "none"),
+    (BOOK, Sought::Names(NameVariable::Author), "Ann Ben "),
+    (BOOK, Sought::Names(NameVariable::Editor), ""),
+    (BOOK, Sought::Year(DateVariable::Issued), "2014"),
+    (BOOK, Sought::Year(DateVariable::Accessed), "none"),
+];
+
+fn assert_found(
+    rt: &impl Abort,
+    alloc: Global,
+    &(description, sought, wanted): &(&'static str, Sought, &'static str),
+) -> Result<(), Fail> {
+    let found = found(alloc, description, sought)?;
+    assert_answer(rt, found.as_str(), wanted, description);
+    Ok(())
+}
+
 #[test]
 fn what_a_cite_answers(rt: HostRuntime) -> Result<(), Fail> {
-    let volume = Sought::Number(NumberOrPageVariable::Number(NumberVariable::Volume));
-    let locator = Sought::Number(NumberOrPageVariable::Number(NumberVariable::Locator));
-    let page = Sought::Number(NumberOrPageVariable::Page(PageVariable::Page));
-    let cited = Sought::Number(NumberOrPageVariable::Number(NumberVariable::CitationNumber));
-    for (description, sought, wanted) in [
-        (BOOK, volume, "3"),
-        (PAMPHLET, volume, "'third"),
-        ("book", volume, "none"),
-        (BOOK, locator, "@2"),
-        (BOOK, cited, "5"),
-        (BOOK, page, "p7-9"),
-        (PAMPHLET, page, "'passim"),
-        ("book", page, "none"),
-        (BOOK, Sought::Names(NameVariable::Author), "Ann Ben "),
-        (BOOK, Sought::Names(NameVariable::Editor), ""),
-        (BOOK, Sought::Year(DateVariable::Issued), "2014"),
-        (BOOK, Sought::Year(DateVariable::Accessed), "none"),
-    ] {
-        let found = found(rt.alloc(), description, sought)?;
-        assert_answer(&rt, found.as_str(), wanted, description);
+    let answers: &[(&'static str, Sought, &'static str)] = &ANSWERS;
+    for row in answers {
+        assert_found(&rt, rt.alloc(), row)?;
     }
     Ok(())
 }
@@ -198,71 +216,86 @@ fn same(alloc: Global, left: &str, right: &str, compared: Compared) -> Result<bo
     same_in(alloc, &left, &right, compared)
 }
 
+/// Two entries, the answer that they are compared by, and whether it shows the same.
+type ComparedRow = (&'static str, &'static str, Compared, bool);
+
+static PAIRS: [ComparedRow; 19] = [
+    (
+        "book; authors Ann, Ben/B",
+        "web; authors Ann, Ben/B",
+        Compared::Authors,
+        true,
+    ),
+    (
+        "book; authors Ann, Ben",
+        "book; authors Ben, Ann",
+        Compared::Authors,
+        false,
+    ),
+    (
+        "book; authors Ann, Ben/B",
+        "book; authors Ann, Ben",
+        Compared::Authors,
+        false,
+    ),
+    (
+        "book; authors Ann",
+        "book; authors Ann, Ben",
+        Compared::Authors,
+        false,
+    ),
+    ("book", "book; authors", Compared::Authors, true),
+    (
+        "book; title A+$b",
+        "book; title A+$b|A",
+        Compared::Title,
+        true,
+    ),
+    (
+        "book; title A+$b",
+        "book; title A+b",
+        Compared::Title,
+        false,
+    ),
+    ("book; title A", "book", Compared::Title, false),
+    ("book", "book", Compared::Title, true),
+    ("book; volume 3", "book; volume 3", Compared::Volume, true),
+    ("book; volume 3", "book; volume '3", Compared::Volume, false),
+    ("book; volume 3", "book", Compared::Volume, false),
+    ("book; pages 7-9", "book; pages 7-9", Compared::Pages, true),
+    ("book; pages 7-9", "book; pages 7,9", Compared::Pages, false),
+    ("book; pages 7", "book; pages '7", Compared::Pages, false),
+    (
+        "book; date 2014",
+        "book; date 2014; title A",
+        Compared::Issued,
+        true,
+    ),
+    (
+        "book; date 2014",
+        "book; date 2015",
+        Compared::Issued,
+        false,
+    ),
+    ("book; date 2014", "book", Compared::Issued, false),
+    ("book", "book", Compared::Issued, true),
+];
+
+fn assert_compared(
+    rt: &impl Abort,
+    alloc: Global,
+    &(left, right, compared, wanted): &ComparedRow,
+) -> Result<(), Fail> {
+    let same = same(alloc, left, right, compared)?;
+    assert_eq!(rt; same, wanted, "{left} and {right}");
+    Ok(())
+}
+
 #[test]
 fn answers_that_show_the_same(rt: HostRuntime) -> Result<(), Fail> {
-    for (left, right, compared, wanted) in [
-        (
-            "book; authors Ann, Ben/B",
-            "web; authors Ann, Ben/B",
-            Compared::Authors,
-            true,
-        ),
-        (
-            "book; authors Ann, Ben",
-            "book; authors Ben, Ann",
-            Compared::Authors,
-            false,
-        ),
-        (
-            "book; authors Ann, Ben/B",
-            "book; authors Ann, Ben",
-            Compared::Authors,
-            false,
-        ),
-        (
-            "book; authors Ann",
-            "book; authors Ann, Ben",
-            Compared::Authors,
-            false,
-        ),
-        ("book", "book; authors", Compared::Authors, true),
-        (
-            "book; title A+$b",
-            "book; title A+$b|A",
-            Compared::Title,
-            true,
-        ),
-        (
-            "book; title A+$b",
-            "book; title A+b",
-            Compared::Title,
-            false,
-        ),
-        ("book; title A", "book", Compared::Title, false),
-        ("book", "book", Compared::Title, true),
-        ("book; volume 3", "book; volume 3", Compared::Volume, true),
-        ("book; volume 3", "book; volume '3", Compared::Volume, false),
-        ("book; volume 3", "book", Compared::Volume, false),
-        ("book; pages 7-9", "book; pages 7-9", Compared::Pages, true),
-        ("book; pages 7-9", "book; pages 7,9", Compared::Pages, false),
-        ("book; pages 7", "book; pages '7", Compared::Pages, false),
-        (
-            "book; date 2014",
-            "book; date 2014; title A",
-            Compared::Issued,
-            true,
-        ),
-        (
-            "book; date 2014",
-            "book; date 2015",
-            Compared::Issued,
-            false,
-        ),
-        ("book; date 2014", "book", Compared::Issued, false),
-        ("book", "book", Compared::Issued, true),
-    ] {
-        let same = same(rt.alloc(), left, right, compared)?;
-        assert_eq!(rt; same, wanted, "{left} and {right}");
+    let pairs: &[ComparedRow] = &PAIRS;
+    for row in pairs {
+        assert_compared(&rt, rt.alloc(), row)?;
     }
     Ok(())
 }

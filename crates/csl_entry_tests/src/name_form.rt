@@ -2,6 +2,15 @@ ghost use Rattle.std.specs.Prelude.{◌≡◌, ◌↔◌, ◌<◌, IsTrue};
 ghost use Rattle.csl_entry.specs.NameForm.{form_place};
 
 use csl_entry::DisambiguatedNameForm;
+use std::process::Abort;
+
+const SHORT: DisambiguatedNameForm = DisambiguatedNameForm::ShortInitialized;
+
+const FULL: DisambiguatedNameForm = DisambiguatedNameForm::ShortFull;
+
+const LONG: DisambiguatedNameForm = DisambiguatedNameForm::LongInitialized;
+
+const LONGEST: DisambiguatedNameForm = DisambiguatedNameForm::LongFull;
 
 /// Whether the first form stands before the second: it does where its place is the lower one.
 fn is_less(a: DisambiguatedNameForm, b: DisambiguatedNameForm) -> bool
@@ -26,31 +35,45 @@ fn forms_stand_in_order(rt: HostRuntime) {
     }
 }
 
+/// A form, and whether it is long.
+static FORMS: [(DisambiguatedNameForm, bool); 5] = [
+    (DisambiguatedNameForm::Count, false),
+    (DisambiguatedNameForm::ShortInitialized, false),
+    (DisambiguatedNameForm::ShortFull, false),
+    (DisambiguatedNameForm::LongInitialized, true),
+    (DisambiguatedNameForm::LongFull, true),
+];
+
+fn assert_long(rt: &impl Abort, &(form, wanted): &(DisambiguatedNameForm, bool)) {
+    assert_eq!(rt; form.is_long(), wanted, "{form:?}");
+}
+
+/// A form, whether given names may be written out, and the fuller form.
+type Row = (DisambiguatedNameForm, bool, Option<DisambiguatedNameForm>);
+
+static FULLER_FORMS: [Row; 8] = [
+    (DisambiguatedNameForm::Count, true, None),
+    (SHORT, false, Some(LONG)),
+    (SHORT, true, Some(LONG)),
+    (FULL, true, Some(LONGEST)),
+    (FULL, false, None),
+    (LONG, true, Some(LONGEST)),
+    (LONG, false, None),
+    (LONGEST, true, None),
+];
+
+fn assert_fuller(rt: &impl Abort, &(form, may_be_full, wanted): &Row) {
+    assert_eq!(rt; form.disambiguate(may_be_full), wanted, "{form:?}");
+}
+
 #[test]
 fn long_forms_are_the_last_two_and_each_has_a_fuller_form(rt: HostRuntime) {
-    for (form, wanted) in [
-        (DisambiguatedNameForm::Count, false),
-        (DisambiguatedNameForm::ShortInitialized, false),
-        (DisambiguatedNameForm::ShortFull, false),
-        (DisambiguatedNameForm::LongInitialized, true),
-        (DisambiguatedNameForm::LongFull, true),
-    ] {
-        assert_eq!(rt; form.is_long(), wanted, "{form:?}");
+    let forms: &[(DisambiguatedNameForm, bool)] = &FORMS;
+    for row in forms {
+        assert_long(&rt, row);
     }
-    let short = DisambiguatedNameForm::ShortInitialized;
-    let full = DisambiguatedNameForm::ShortFull;
-    let long = DisambiguatedNameForm::LongInitialized;
-    let longest = DisambiguatedNameForm::LongFull;
-    for (form, may_be_full, wanted) in [
-        (DisambiguatedNameForm::Count, true, None),
-        (short, false, Some(long)),
-        (short, true, Some(long)),
-        (full, true, Some(longest)),
-        (full, false, None),
-        (long, true, Some(longest)),
-        (long, false, None),
-        (longest, true, None),
-    ] {
-        assert_eq!(rt; form.disambiguate(may_be_full), wanted, "{form:?}");
+    let fuller_forms: &[Row] = &FULLER_FORMS;
+    for row in fuller_forms {
+        assert_fuller(&rt, row);
     }
 }

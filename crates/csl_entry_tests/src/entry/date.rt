@@ -3,6 +3,7 @@ use crate::described::described;
 use csl_entry::EntryLike;
 use csl_style::DateVariable;
 use std::alloc::Global;
+use std::process::Abort;
 use std::test::Fail;
 
 /// The year of the date.
@@ -26,23 +27,38 @@ const DATED_POST: &str = "article; date 2010; \
     also conference; date 2002; \
     also original; date 1999";
 
+/// An entry, a variable, and the year of its date.
+type Row = (&'static str, DateVariable, Option<i32>);
+
+static YEARS: [Row; 10] = [
+    (POST, DateVariable::Accessed, Some(2015)),
+    (POST, DateVariable::EventDate, Some(2002)),
+    (POST, DateVariable::Issued, Some(2001)),
+    (POST, DateVariable::OriginalDate, Some(1999)),
+    (POST, DateVariable::AvailableDate, None),
+    (POST, DateVariable::Submitted, None),
+    // The own date comes first.
+    (DATED_POST, DateVariable::Issued, Some(2010)),
+    ("book; date 2014", DateVariable::Accessed, None),
+    ("book; date 2014", DateVariable::EventDate, None),
+    ("book; date 2014", DateVariable::OriginalDate, None),
+];
+
+fn assert_year(
+    rt: &impl Abort,
+    alloc: Global,
+    &(description, variable, wanted): &Row,
+) -> Result<(), Fail> {
+    let year = year(alloc, description, variable)?;
+    assert_eq!(rt; year, wanted, "{variable:?} of {description}");
+    Ok(())
+}
+
 #[test]
 fn dates_of_an_entry_and_its_parents(rt: HostRuntime) -> Result<(), Fail> {
-    for (description, variable, wanted) in [
-        (POST, DateVariable::Accessed, Some(2015)),
-        (POST, DateVariable::EventDate, Some(2002)),
-        (POST, DateVariable::Issued, Some(2001)),
-        (POST, DateVariable::OriginalDate, Some(1999)),
-        (POST, DateVariable::AvailableDate, None),
-        (POST, DateVariable::Submitted, None),
-        // The own date comes first.
-        (DATED_POST, DateVariable::Issued, Some(2010)),
-        ("book; date 2014", DateVariable::Accessed, None),
-        ("book; date 2014", DateVariable::EventDate, None),
-        ("book; date 2014", DateVariable::OriginalDate, None),
-    ] {
-        let year = year(rt.alloc(), description, variable)?;
-        assert_eq!(rt; year, wanted, "{variable:?} of {description}");
+    let years: &[Row] = &YEARS;
+    for row in years {
+        assert_year(&rt, rt.alloc(), row)?;
     }
     Ok(())
 }

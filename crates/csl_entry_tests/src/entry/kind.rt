@@ -165,18 +165,33 @@ fn narrower_kinds(alloc: Global, description: &str) -> Result<(Option<Kind>, Opt
     Ok((recording_kind(entry), legislation_kind(entry)))
 }
 
+/// An entry, the kind of its recording and the kind of its law.
+type NarrowerRow = (&'static str, Option<Kind>, Option<Kind>);
+
+static NARROWER_KINDS: [NarrowerRow; 6] = [
+    ("audio", Some(Kind::Song), None),
+    ("video; in audio", Some(Kind::Broadcast), None),
+    ("book; publisher", None, None),
+    ("audio; in book; publisher", Some(Kind::MusicalScore), None),
+    ("legislation", None, Some(Kind::Bill)),
+    ("legislation; publisher", None, Some(Kind::Legislation)),
+];
+
+fn assert_narrower_kinds(
+    rt: &impl Abort,
+    alloc: Global,
+    &(description, recording, law): &NarrowerRow,
+) -> Result<(), Fail> {
+    let kinds = narrower_kinds(alloc, description)?;
+    assert_eq!(rt; kinds, (recording, law), "{description}");
+    Ok(())
+}
+
 #[test]
 fn one_kind_of_a_recording_or_a_law(rt: HostRuntime) -> Result<(), Fail> {
-    for (description, recording, law) in [
-        ("audio", Some(Kind::Song), None),
-        ("video; in audio", Some(Kind::Broadcast), None),
-        ("book; publisher", None, None),
-        ("audio; in book; publisher", Some(Kind::MusicalScore), None),
-        ("legislation", None, Some(Kind::Bill)),
-        ("legislation; publisher", None, Some(Kind::Legislation)),
-    ] {
-        let kinds = narrower_kinds(rt.alloc(), description)?;
-        assert_eq!(rt; kinds, (recording, law), "{description}");
+    let kinds: &[NarrowerRow] = &NARROWER_KINDS;
+    for row in kinds {
+        assert_narrower_kinds(&rt, rt.alloc(), row)?;
     }
     Ok(())
 }

@@ -4,6 +4,7 @@ use csl_entry::EntryLike;
 use csl_style::PageVariable;
 use lit_model::MaybeTyped;
 use std::alloc::Global;
+use std::process::Abort;
 use std::test::Fail;
 
 /// The pages; behind `'` a text that is none; and `none` where there is no answer.
@@ -17,17 +18,30 @@ fn pages(alloc: Global, description: &str) -> Result<String, Fail> {
     }
 }
 
+/// A work, and its pages.
+static PAGES: [(&str, &str); 4] = [
+    ("article", "none"),
+    ("article; pages 454", "454"),
+    ("article; pages 'passim", "'passim"),
+    // The pages of a parent are no answer.
+    ("chapter; in book; pages '1-9", "none"),
+];
+
+fn assert_pages(
+    rt: &impl Abort,
+    alloc: Global,
+    &(description, wanted): &(&'static str, &'static str),
+) -> Result<(), Fail> {
+    let pages = pages(alloc, description)?;
+    assert_answer(rt, pages.as_str(), wanted, description);
+    Ok(())
+}
+
 #[test]
 fn pages_on_which_a_work_stands(rt: HostRuntime) -> Result<(), Fail> {
-    for (description, wanted) in [
-        ("article", "none"),
-        ("article; pages 454", "454"),
-        ("article; pages 'passim", "'passim"),
-        // The pages of a parent are no answer.
-        ("chapter; in book; pages '1-9", "none"),
-    ] {
-        let pages = pages(rt.alloc(), description)?;
-        assert_answer(&rt, pages.as_str(), wanted, description);
+    let works: &[(&'static str, &'static str)] = &PAGES;
+    for row in works {
+        assert_pages(&rt, rt.alloc(), row)?;
     }
     Ok(())
 }
