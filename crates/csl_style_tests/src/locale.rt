@@ -244,12 +244,38 @@ const GENDERS_AND_DATES: StyleRows<'static> = StyleRows {
     ..EMPTY
 };
 
+/// A style, a term and a form of dates, and the gender and the parts.
+type GenderRow = (
+    StyleRows<'static>,
+    Term,
+    DateForm,
+    Option<GrammarGender>,
+    Option<DateParts>,
+);
+
+static GENDERS: [GenderRow; 3] = [
+    (
+        GENDERS_AND_DATES,
+        VOLUME,
+        DateForm::Numeric,
+        MASCULINE,
+        Some(DateParts::YearMonth),
+    ),
+    (
+        GENDERS_AND_DATES,
+        AND,
+        DateForm::Text,
+        None,
+        Some(DateParts::Year),
+    ),
+    (EMPTY, AND, DateForm::Text, None, None),
+];
+
 /// The gender of the long form of a term, and the parts of the first localized date of a form.
 fn assert_gender_and_date(
     rt: &impl Abort,
     alloc: Global,
-    (rows, term, form): (StyleRows<'_>, Term, DateForm),
-    (gender, parts): (Option<GrammarGender>, Option<DateParts>),
+    &(rows, term, form, gender, parts): &GenderRow,
 ) -> Result<(), Fail> {
     let style = style(alloc, rows)?;
     assert_same(rt, &style.gender(term), &gender);
@@ -262,26 +288,9 @@ fn assert_gender_and_date(
 #[test]
 fn terms_genders_and_dates_by_locale(rt: HostRuntime) -> Result<(), Fail> {
     assert_texts(&rt, rt.alloc())?;
-    let numeric = Some(DateParts::YearMonth);
-    for (rows, term, form, gender, parts) in [
-        (
-            GENDERS_AND_DATES,
-            VOLUME,
-            DateForm::Numeric,
-            MASCULINE,
-            numeric,
-        ),
-        (
-            GENDERS_AND_DATES,
-            AND,
-            DateForm::Text,
-            None,
-            Some(DateParts::Year),
-        ),
-        (EMPTY, AND, DateForm::Text, None, None),
-    ] {
-        let asked = (rows, term, form);
-        assert_gender_and_date(&rt, rt.alloc(), asked, (gender, parts))?;
+    let rows: &[GenderRow] = &GENDERS;
+    for row in rows {
+        assert_gender_and_date(&rt, rt.alloc(), row)?;
     }
     Ok(())
 }
