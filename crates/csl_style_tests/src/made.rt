@@ -275,14 +275,19 @@ fn nodes(alloc: Global, words: &str) -> Result<Vec<LayoutRenderingElement>, Allo
     Ok(nodes)
 }
 
-/// The macros of these lines, in order: the name of each, and the words of its nodes.
+/// The macro of a line: its name, and the words of its nodes.
+fn macro_of(alloc: Global, line: &str) -> Result<CslMacro, AllocError> {
+    let (name, words) = line.split_once(' ').unwrap_or((line, ""));
+    let name = String::from_str(alloc, name)?;
+    let children = nodes(alloc, words)?;
+    Ok(CslMacro { name, children })
+}
+
+/// The macros of these lines, in order.
 fn macros(alloc: Global, lines: &[&str]) -> Result<Vec<CslMacro>, AllocError> {
     let mut macros = Vec::new(alloc);
     for line in lines {
-        let (name, words) = line.split_once(' ').unwrap_or((*line, ""));
-        let name = String::from_str(alloc, name)?;
-        let children = nodes(alloc, words)?;
-        macros.push(CslMacro { name, children })?;
+        macros.push(macro_of(alloc, line)?)?;
     }
     Ok(macros)
 }

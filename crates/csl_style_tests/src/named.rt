@@ -6,7 +6,7 @@ use csl_style::{
     Affixes, Choose, ChooseBranch, ChooseMatch, Date, DateVariable, Formatting, Group,
     InheritableNameOptions, Kind, Label, Layout, LayoutRenderingElement, NameVariable, Named,
     Names, NamesChild, Number, NumberOrPageVariable, NumberVariable, PageVariable,
-    StandardVariable, Substitute, Text, TextTarget, Variable, VariablelessLabel, named_by,
+    StandardVariable, Style, Substitute, Text, TextTarget, Variable, VariablelessLabel, named_by,
 };
 use lit_model::{LongShortForm, NumberForm};
 use std::alloc::{AllocError, Global};
@@ -19,6 +19,12 @@ fn said(alloc: Global, named: &Named) -> Result<String, Fail> {
         "numbers {:?} pages {:?} standards {:?} names {:?} dates {:?} kinds {:?}",
         named.numbers, named.pages, named.standards, named.names, named.dates, named.kinds
     )?)
+}
+
+/// What a layout of a style names.
+fn named_in(alloc: Global, style: &Style, layout: &Layout) -> Result<String, Fail> {
+    let named = named_by(alloc, style, layout)?;
+    said(alloc, &named)
 }
 
 /// Two macros, of which the first calls the other twice, and one that the style lacks.
@@ -62,8 +68,7 @@ fn assert_line(
         ..EMPTY
     };
     let style = style(alloc, rows)?;
-    let named = named_by(alloc, &style, style.citation())?;
-    let said = said(alloc, &named)?;
+    let said = named_in(alloc, &style, style.citation())?;
     assert_text(rt, Some(said.as_str()), Some(wanted));
     Ok(())
 }
@@ -239,8 +244,7 @@ fn assert_layout(
     wanted: &'static str,
 ) -> Result<(), Fail> {
     let style = style(alloc, EMPTY)?;
-    let named = named_by(alloc, &style, layout)?;
-    let said = said(alloc, &named)?;
+    let said = named_in(alloc, &style, layout)?;
     assert_text(rt, Some(said.as_str()), Some(wanted));
     Ok(())
 }
