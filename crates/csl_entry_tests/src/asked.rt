@@ -1,5 +1,6 @@
 //! What an entry answers, in words.
 
+use crate::asserted::assert_of;
 use lit_model::{ChunkKind, ChunkedString, MaybeTyped, Numeric};
 use std::alloc::Global;
 use std::borrow::Cow;
@@ -8,7 +9,7 @@ use std::test::Fail;
 
 /// Asserts that this is the answer to what was asked.
 pub fn assert_answer(rt: &impl Abort, answer: &str, wanted: &str, asked: &str) {
-    assert_eq!(rt; answer, wanted, "{asked}");
+    assert_of(rt, &answer, &wanted, &asked);
 }
 
 /// The number; behind `'` a text that is no number; and `none` where there is no answer.

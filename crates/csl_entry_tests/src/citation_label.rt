@@ -1,4 +1,5 @@
 use crate::asked::{assert_answer, only};
+use crate::asserted::assert_same;
 use crate::described::described;
 use csl_entry::Alphanumerical;
 use std::alloc::Global;
@@ -139,6 +140,10 @@ fn assert_all(
 fn labels_by_creators_and_years(rt: HostRuntime) -> Result<(), Fail> {
     assert_all(&rt, rt.alloc(), &LABELS)?;
     assert_letters(&rt, rt.alloc(), 1, "book; date 2014; authors Kwan", "K14")?;
-    assert_eq!(rt; Alphanumerical::default(), Alphanumerical { letters: 3 });
+    assert_same(
+        &rt,
+        &Alphanumerical::default(),
+        &Alphanumerical { letters: 3 },
+    );
     Ok(())
 }

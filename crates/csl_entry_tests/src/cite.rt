@@ -1,3 +1,4 @@
+use crate::asserted::{assert_of, assert_same};
 use csl_entry::{
     CertainCiteProperties, CitationNumber, CiteProperties, DisambiguateState,
     DisambiguatedNameForm, IbidState, LocatorPayload, NameDisambiguationProperties, NoteNumber,
@@ -24,7 +25,7 @@ static LOCATORS: [LocatorRow; 4] = [
 fn assert_told_apart(rt: &impl Abort, &(kind, payload, wanted): &LocatorRow) {
     let page = SpecificLocator(Locator::Page, FIVE);
     let other = SpecificLocator(kind, payload);
-    assert_eq!(rt; page == other, wanted, "{other:?}");
+    assert_of(rt, &(page == other), &wanted, &other);
 }
 
 #[test]
@@ -53,12 +54,13 @@ static FORMS: [(SpecialForm, SpecialForm, bool); 4] = [
 
 #[test]
 fn what_belongs_to_a_cite_is_told_apart(rt: HostRuntime) {
-    assert_ne!(rt; IbidState::Ibid, IbidState::IbidWithLocator);
-    assert_ne!(rt; IbidState::Different, IbidState::Ibid);
-    assert_ne!(rt; Sorting::Variable, Sorting::Macro);
+    let (ibid, with_locator) = (IbidState::Ibid, IbidState::IbidWithLocator);
+    assert_same(&rt, &(ibid == with_locator), &false);
+    assert_same(&rt, &(IbidState::Different == IbidState::Ibid), &false);
+    assert_same(&rt, &(Sorting::Variable == Sorting::Macro), &false);
     let forms: &[(SpecialForm, SpecialForm, bool)] = &FORMS;
     for (form, other, wanted) in forms {
-        assert_eq!(rt; *form == *other, *wanted, "{form:?} and {other:?}");
+        assert_of(&rt, &(*form == *other), wanted, &(form, other));
     }
 }
 
@@ -118,7 +120,7 @@ fn assert_copied(
     &(told, wanted): &(Told, (&'static str, usize)),
 ) -> Result<(), Memory> {
     let copy = copy_said(alloc, told)?;
-    assert_eq!(rt; copy, wanted, "{told:?}");
+    assert_of(rt, &copy, &wanted, &told);
     Ok(())
 }
 
@@ -185,8 +187,12 @@ fn said_of_the_first() -> (Certain, Speculative<'static>) {
 #[test]
 fn what_the_first_cite_says(rt: HostRuntime) {
     let (certain, speculative) = said_of_the_first();
-    assert_eq!(rt; certain, (None, true, false, 0));
-    assert_eq!(rt; speculative, ("choose", None, 0, IbidState::Different));
+    assert_same(&rt, &certain, &(None, true, false, 0));
+    assert_same(
+        &rt,
+        &speculative,
+        &("choose", None, 0, IbidState::Different),
+    );
 }
 
 /// What a copy says.
@@ -198,8 +204,12 @@ fn copied(alloc: Global) -> Result<(Certain, Speculative<'static>), Fail> {
 #[test]
 fn a_copy_of_what_a_citation_says(rt: HostRuntime) -> Result<(), Fail> {
     let (certain, speculative) = copied(rt.alloc())?;
-    assert_eq!(rt; certain, (NoteNumber::new(6), true, false, 2));
+    assert_same(&rt, &certain, &(NoteNumber::new(6), true, false, 2));
     let page = SpecificLocator(Locator::Page, LocatorPayload::Str("5"));
-    assert_eq!(rt; speculative, ("choose", Some(page), 4, IbidState::Ibid));
+    assert_same(
+        &rt,
+        &speculative,
+        &("choose", Some(page), 4, IbidState::Ibid),
+    );
     Ok(())
 }

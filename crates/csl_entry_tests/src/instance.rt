@@ -1,4 +1,5 @@
 use crate::asked::{assert_answer, number_said, only, text_said};
+use crate::asserted::assert_same;
 use crate::cite::{Told, state};
 use crate::described::pieces;
 use csl_entry::{
@@ -219,9 +220,10 @@ fn two_numbers(alloc: Global, page: &str) -> Result<Option<(Separated, Separated
 #[test]
 fn a_locator_of_two_numbers(rt: HostRuntime) -> Result<(), Fail> {
     let numbers = two_numbers(rt.alloc(), "3-5")?;
-    assert_eq!(rt;
-        numbers,
-        Some(((3, Some(NumericDelimiter::Hyphen)), (5, None)))
+    assert_same(
+        &rt,
+        &numbers,
+        &Some(((3, Some(NumericDelimiter::Hyphen)), (5, None))),
     );
     Ok(())
 }

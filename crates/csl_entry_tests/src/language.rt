@@ -1,4 +1,5 @@
 use crate::asked::{assert_answer, only};
+use crate::asserted::assert_of;
 use crate::described::described;
 use csl_entry::{EntryLike, csl_language};
 use lit_model::LanguageIdentifier;
@@ -47,10 +48,11 @@ fn english_is_told_from_other_languages(rt: HostRuntime) -> Result<(), Fail> {
         ("book; language en-US", Some(true)),
         ("book; language de", Some(false)),
     ] {
-        assert_eq!(rt;
-            is_english(rt.alloc(), description)?,
-            wanted,
-            "{description}"
+        assert_of(
+            &rt,
+            &is_english(rt.alloc(), description)?,
+            &wanted,
+            &description,
         );
     }
     Ok(())

@@ -6,6 +6,8 @@ mod alike;
 #[cfg(test)]
 mod asked;
 #[cfg(test)]
+mod asserted;
+#[cfg(test)]
 mod citation_label;
 #[cfg(test)]
 mod cite;

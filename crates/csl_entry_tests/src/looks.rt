@@ -1,4 +1,5 @@
 use crate::asked::{assert_answer, borrowed, number_said, only};
+use crate::asserted::assert_of;
 use crate::described::described;
 use crate::instance::cited;
 use csl_entry::{
@@ -287,7 +288,7 @@ fn assert_compared(
     &(left, right, compared, wanted): &ComparedRow,
 ) -> Result<(), Fail> {
     let same = same(alloc, left, right, compared)?;
-    assert_eq!(rt; same, wanted, "{left} and {right}");
+    assert_of(rt, &same, &wanted, &(left, right));
     Ok(())
 }
 

@@ -1,6 +1,7 @@
 ghost use Rattle.std.specs.Prelude.{◌≡◌, ◌↔◌, ◌<◌, IsTrue};
 ghost use Rattle.csl_entry.specs.NameForm.{form_place};
 
+use crate::asserted::assert_of;
 use csl_entry::DisambiguatedNameForm;
 use std::process::Abort;
 
@@ -29,8 +30,8 @@ fn forms_stand_in_order(rt: HostRuntime) {
         DisambiguatedNameForm::LongFull,
     ];
     for pair in forms.windows(2) {
-        assert_eq!(rt; is_less(pair[0], pair[1]), true, "{pair:?}");
-        assert_eq!(rt; is_less(pair[1], pair[0]), false, "{pair:?}");
+        assert_of(&rt, &is_less(pair[0], pair[1]), &true, &pair);
+        assert_of(&rt, &is_less(pair[1], pair[0]), &false, &pair);
         assert_ne!(rt; pair[0], pair[1]);
     }
 }
@@ -45,7 +46,7 @@ static FORMS: [(DisambiguatedNameForm, bool); 5] = [
 ];
 
 fn assert_long(rt: &impl Abort, &(form, wanted): &(DisambiguatedNameForm, bool)) {
-    assert_eq!(rt; form.is_long(), wanted, "{form:?}");
+    assert_of(rt, &form.is_long(), &wanted, &form);
 }
 
 /// A form, whether given names may be written out, and the fuller form.
@@ -63,7 +64,7 @@ static FULLER_FORMS: [Row; 8] = [
 ];
 
 fn assert_fuller(rt: &impl Abort, &(form, may_be_full, wanted): &Row) {
-    assert_eq!(rt; form.disambiguate(may_be_full), wanted, "{form:?}");
+    assert_of(rt, &form.disambiguate(may_be_full), &wanted, &form);
 }
 
 #[test]

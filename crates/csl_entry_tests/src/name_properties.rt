@@ -4,6 +4,7 @@ ghost use Rattle.csl_entry.specs.declared.name_form.DisambiguatedNameForm.TheVar
 ghost use Rattle.csl_entry.specs.contracts.name_properties.NameDisambiguationPropertiesHash.TheImpl.{hash_input-value as hash_properties};
 
 use crate::asked::assert_answer;
+use crate::asserted::{assert_of, assert_same};
 use csl_entry::{DisambiguatedNameForm, NameDisambiguationProperties};
 use csl_style::NameVariable;
 use lit_model::Memory;
@@ -80,7 +81,7 @@ fn parts_are_answered_and_equal_by_value(rt: HostRuntime) -> Result<(), Memory> 
         ),
     ] {
         let equal = copy_equals(rt.alloc(), variable, last)?;
-        assert_eq!(rt; equal, wanted, "{variable:?} {last:?}");
+        assert_of(&rt, &equal, &wanted, &(variable, last));
     }
     Ok(())
 }
@@ -247,9 +248,21 @@ fn names_of_the_variable_are_told_apart(rt: HostRuntime) -> Result<(), Fail> {
 fn one_form_on_the_author_holds_one_place(rt: HostRuntime) -> Result<(), Memory> {
     let author = [NameVariable::Author];
     let one = made(rt.alloc(), DisambiguatedNameForm::LongFull, &author, "L")?;
-    assert_eq!(rt; one.can_disambiguate(NameVariable::Author, &[0]), true);
-    assert_eq!(rt; one.can_disambiguate(NameVariable::Author, &[1]), false);
-    assert_eq!(rt; one.can_disambiguate(NameVariable::Editor, &[1]), true);
+    assert_same(
+        &rt,
+        &one.can_disambiguate(NameVariable::Author, &[0]),
+        &true,
+    );
+    assert_same(
+        &rt,
+        &one.can_disambiguate(NameVariable::Author, &[1]),
+        &false,
+    );
+    assert_same(
+        &rt,
+        &one.can_disambiguate(NameVariable::Editor, &[1]),
+        &true,
+    );
     Ok(())
 }
 

@@ -1,6 +1,7 @@
 ghost use Rattle.std.specs.Prelude.{◌≡◌, ◌↔◌, IsTrue};
 ghost use Rattle.csl_entry.specs.NumberResult.{result_view, number_or_page_view};
 
+use crate::asserted::{assert_of, assert_same};
 use csl_entry::{NumberOrPageVariableResult, NumberVariableResult};
 use lit_model::{MaybeTyped, Numeric, PageRanges};
 use std::alloc::Global;
@@ -98,7 +99,7 @@ fn assert_in_order(rt: &impl Abort, alloc: Global, rows: &[(Answer, Answer)]) ->
     for (first, second) in rows {
         let compared = compared(alloc, *first, *second)?;
         let wanted = (Ordering::Less, Ordering::Greater, false);
-        assert_eq!(rt; compared, wanted, "{first:?} and {second:?}");
+        assert_of(rt, &compared, &wanted, &(first, second));
     }
     Ok(())
 }
@@ -114,7 +115,7 @@ fn answers_in_order_and_at_one_place(rt: HostRuntime) -> Result<(), Fail> {
     ] {
         let compared = compared(rt.alloc(), first, second)?;
         let wanted = (Ordering::Equal, Ordering::Equal, are_equal);
-        assert_eq!(rt; compared, wanted, "{first:?} and {second:?}");
+        assert_of(&rt, &compared, &wanted, &(first, second));
     }
     Ok(())
 }
@@ -183,17 +184,17 @@ fn equal_answers_are_of_one_kind_and_copies_are_equal(rt: HostRuntime) -> Result
         (Answer::Index(7), false),
     ] {
         let equals = equals_borrowed(rt.alloc(), 7, answer)?;
-        assert_eq!(rt; equals, wanted, "{answer:?}");
+        assert_of(&rt, &equals, &wanted, &answer);
     }
-    assert_eq!(rt; copy_of_borrowed(rt.alloc(), 7)?, (true, true));
+    assert_same(&rt, &copy_of_borrowed(rt.alloc(), 7)?, &(true, true));
     for answer in [
         Answer::Spelled("a1-2b"),
         Answer::Text("second"),
         Answer::Index(3),
     ] {
-        assert_eq!(rt; equals_copy(rt.alloc(), answer)?, true, "{answer:?}");
+        assert_of(&rt, &equals_copy(rt.alloc(), answer)?, &true, &answer);
     }
     // Pages are no number.
-    assert_eq!(rt; kinds_compared(rt.alloc())?, (false, true, true));
+    assert_same(&rt, &kinds_compared(rt.alloc())?, &(false, true, true));
     Ok(())
 }

@@ -1,3 +1,4 @@
+use crate::asserted::assert_same;
 use csl_entry::{CitationNumber, NoteNumber};
 use std::process::Abort;
 
@@ -14,9 +15,9 @@ fn assert_is_number(
     &(number, is_citation_number, is_note_number): &(u32, bool, bool),
 ) {
     let citation = CitationNumber::new(number).map(|it| it.get());
-    assert_eq!(rt; citation, is_citation_number.then_some(number));
+    assert_same(rt, &citation, &is_citation_number.then_some(number));
     let note = NoteNumber::new(number).map(|it| it.get());
-    assert_eq!(rt; note, is_note_number.then_some(number));
+    assert_same(rt, &note, &is_note_number.then_some(number));
 }
 
 #[test]

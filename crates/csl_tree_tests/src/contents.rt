@@ -1,5 +1,6 @@
 //! What is pushed into contents, and what these say of their text.
 
+use crate::asserted::assert_of;
 use crate::trees::{assert_tree, read};
 use csl_tree::ElemChildren;
 use std::alloc::Global;
@@ -132,7 +133,7 @@ fn assert_flags(
     alloc: Global,
     &(source, wanted): &(&str, Flags),
 ) -> Result<(), Fail> {
-    assert_eq!(rt; flags(alloc, source)?, wanted, "of {source}");
+    assert_of(rt, &flags(alloc, source)?, &wanted, &source);
     Ok(())
 }
 

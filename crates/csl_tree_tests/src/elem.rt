@@ -3,6 +3,7 @@
 ghost use Rattle.std.specs.Prelude.{◌≡◌, ◌↔◌, IsTrue};
 ghost use Rattle.csl_tree.specs.Tokens.{meta_of};
 
+use crate::asserted::assert_of;
 use crate::trees::{MIXED, names, read};
 use csl_style::NameVariable;
 use csl_tree::{ElemChild, ElemMeta};
@@ -66,7 +67,7 @@ fn assert_metas(
     row: usize,
     &(a, b, same): &(Meta, Meta, bool),
 ) -> Result<(), Fail> {
-    assert_eq!(rt; are_same(alloc, a, b)?, same, "in row {row}");
+    assert_of(rt, &are_same(alloc, a, b)?, &same, &row);
     Ok(())
 }
 
@@ -116,7 +117,7 @@ fn answers(alloc: Global, source: &str) -> Result<Vec<Asked>, Fail> {
 
 fn assert_answers(rt: &impl Abort, alloc: Global, source: &str, wanted: Asked) -> Result<(), Fail> {
     for answer in &answers(alloc, source)? {
-        assert_eq!(rt; *answer, wanted, "of {source}");
+        assert_of(rt, answer, &wanted, &source);
     }
     Ok(())
 }
@@ -160,7 +161,7 @@ fn assert_inlined(
     alloc: Global,
     &(source, wanted): &(&str, bool),
 ) -> Result<(), Fail> {
-    assert_eq!(rt; may_inline(alloc, source)?, wanted, "of {source}");
+    assert_of(rt, &may_inline(alloc, source)?, &wanted, &source);
     Ok(())
 }
 

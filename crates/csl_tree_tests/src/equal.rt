@@ -7,6 +7,7 @@ ghost use Rattle.csl_tree.specs.contracts.elem.ElemChildrenHash.TheImpl.{hash_in
 ghost use Rattle.csl_tree.specs.contracts.elem.ElemHash.TheImpl.{hash_input-value as hash_elem};
 ghost use Rattle.csl_tree.specs.contracts.elem.ElemChildHash.TheImpl.{hash_input-value as hash_child};
 
+use crate::asserted::assert_of;
 use crate::trees::read;
 use csl_tree::{Elem, ElemChild, ElemChildren};
 use std::alloc::Global;
@@ -98,11 +99,7 @@ fn assert_rows(
     wanted: bool,
 ) -> Result<(), Fail> {
     for (a, b) in rows {
-        assert_eq!(rt;
-            are_same(alloc, *a, *b)?,
-            (wanted, wanted),
-            "of {a} and {b}"
-        );
+        assert_of(rt, &are_same(alloc, *a, *b)?, &(wanted, wanted), &(a, b));
     }
     Ok(())
 }

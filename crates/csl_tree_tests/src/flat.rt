@@ -11,6 +11,7 @@
 //! | `=a` | the text `a` is pushed as a text |
 //! | any other | a child is pushed, as the descriptions of trees say it |
 
+use crate::asserted::{assert_of, assert_same};
 use crate::trees::{assert_tree, read_formatted, read_leaf};
 use csl_style::Display;
 use csl_tree::{ElemChildren, ElemMeta, FlatTree, Formatted, Formatting};
@@ -175,7 +176,7 @@ fn assert_flags(
     alloc: Global,
     &(script, wanted): &(&str, Flags),
 ) -> Result<(), Fail> {
-    assert_eq!(rt; flags(alloc, script)?, wanted, "of {script}");
+    assert_of(rt, &flags(alloc, script)?, &wanted, &script);
     Ok(())
 }
 
@@ -202,7 +203,7 @@ fn thousand(alloc: Global) -> Result<FlatTree, Fail> {
 #[test]
 fn a_thousand_splices_are_one_text(rt: HostRuntime) -> Result<(), Fail> {
     let tree = finished(thousand(rt.alloc())?)?;
-    assert_eq!(rt; tree.str_len(), 3000);
-    assert_eq!(rt; tree.0.len(), 1);
+    assert_same(&rt, &tree.str_len(), &3000);
+    assert_same(&rt, &tree.0.len(), &1);
     Ok(())
 }

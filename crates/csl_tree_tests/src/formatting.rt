@@ -3,6 +3,7 @@
 ghost use Rattle.std.specs.Prelude.{◌≡◌, ◌↔◌, IsTrue};
 ghost use Rattle.csl_tree.specs.Tokens.{text_tokens};
 
+use crate::asserted::{assert_of, assert_same};
 use csl_style::{FontStyle, FontVariant, FontWeight, TextDecoration, VerticalAlign, formatting};
 use csl_tree::{Formatted, Formatting};
 use lit_model::Memory;
@@ -58,15 +59,15 @@ fn texts_and_formattings_are_equal_by_value(rt: HostRuntime) -> Result<(), Fail>
     assert!(rt; !same_formatting(BARE, ITALIC));
     for (other, of_other, same) in [("a", BARE, true), ("b", BARE, false), ("a", ITALIC, false)] {
         let is_same = are_same(rt.alloc(), "a", BARE, other, of_other)?;
-        assert_eq!(rt; is_same, same, "{other} in {of_other:?}");
+        assert_of(&rt, &is_same, &same, &(other, of_other));
     }
     Ok(())
 }
 
 #[test]
 fn defaults_say_nothing_and_own_attributes_go_over_the_base(rt: HostRuntime) {
-    assert_eq!(rt; Formatting::default(), BARE);
-    assert_eq!(rt; BARE.apply(formatting::Formatting::default()), BARE);
+    assert_same(&rt, &Formatting::default(), &BARE);
+    assert_same(&rt, &BARE.apply(formatting::Formatting::default()), &BARE);
     let own = formatting::Formatting {
         font_style: Some(FontStyle::Normal),
         font_weight: Some(FontWeight::Bold),
@@ -84,5 +85,5 @@ fn defaults_say_nothing_and_own_attributes_go_over_the_base(rt: HostRuntime) {
         text_decoration: None,
         vertical_align: Some(VerticalAlign::Sup),
     };
-    assert_eq!(rt; own.apply(base), both);
+    assert_same(&rt, &own.apply(base), &both);
 }

@@ -1,5 +1,6 @@
 //! The first element of names, lent to be written.
 
+use crate::asserted::assert_of;
 use crate::trees::{assert_tree, read};
 use csl_tree::{ElemChildren, ElemMeta};
 use std::alloc::Global;
@@ -26,7 +27,7 @@ fn assert_noted(
 ) -> Result<(), Fail> {
     let mut tree = read(alloc, source)?;
     let is_lent = note_label(&mut tree);
-    assert_eq!(rt; is_lent, lent, "of {source}");
+    assert_of(rt, &is_lent, &lent, &source);
     assert_tree(rt, alloc, tree, wanted, source)
 }
 

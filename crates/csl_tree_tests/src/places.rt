@@ -1,5 +1,6 @@
 //! The last text, lent to be written.
 
+use crate::asserted::assert_of;
 use crate::trees::{assert_tree, read};
 use csl_tree::ElemChildren;
 use std::alloc::Global;
@@ -31,7 +32,7 @@ fn assert_extended(
     wanted: &str,
 ) -> Result<(), Fail> {
     let (tree, is_lent) = extended(alloc, source, "c")?;
-    assert_eq!(rt; is_lent, lent, "of {source}");
+    assert_of(rt, &is_lent, &lent, &source);
     assert_tree(rt, alloc, tree, wanted, source)
 }
 

@@ -1,5 +1,6 @@
 //! The nonempty stack.
 
+use crate::asserted::assert_same;
 use csl_tree::NonEmptyStack;
 use std::alloc::Global;
 use std::num::NonZeroUsize;
@@ -39,7 +40,7 @@ fn drain(alloc: Global) -> Result<(usize, Vec<u8>, Vec<u8>), Fail> {
 }
 
 fn assert_items(rt: &impl Abort, items: &[u8], wanted: &[u8]) {
-    assert_eq!(rt; items, wanted);
+    assert_same(rt, &items, &wanted);
 }
 
 /// What two calls of `pop` take of a default item and 7, the last item that is left, and all.
@@ -67,17 +68,17 @@ fn write_items(alloc: Global) -> Result<(Vec<u8>, bool), Fail> {
 #[test]
 fn a_stack_keeps_its_last_item(rt: HostRuntime) -> Result<(), Fail> {
     let (len, taken, left) = drain(rt.alloc())?;
-    assert_eq!(rt; len, 4);
+    assert_same(&rt, &len, &4);
     assert_items(&rt, taken.as_slice(), &[3, 4]);
     assert_items(&rt, left.as_slice(), &[1, 2]);
     let (first, second, last, kept) = pop_twice(rt.alloc())?;
-    assert_eq!(rt; first, Some(7));
-    assert_eq!(rt; second, None);
-    assert_eq!(rt; last, 0);
+    assert_same(&rt, &first, &Some(7));
+    assert_same(&rt, &second, &None);
+    assert_same(&rt, &last, &0);
     assert_items(&rt, kept.as_slice(), &[0]);
     let (items, has_other) = write_items(rt.alloc())?;
     assert_items(&rt, items.as_slice(), &[10, 2, 30, 40]);
-    assert_eq!(rt; has_other, false);
-    assert_eq!(rt; NonEmptyStack::new(rt.alloc(), 5u8)?.finish(), 5);
+    assert_same(&rt, &has_other, &false);
+    assert_same(&rt, &NonEmptyStack::new(rt.alloc(), 5u8)?.finish(), &5);
     Ok(())
 }

@@ -1,5 +1,6 @@
 //! Dates.
 
+use crate::asserted::assert_same;
 use lit_model::{Date, Season};
 use std::process::Abort;
 
@@ -22,7 +23,7 @@ static DATES: [(Parts, bool); 4] = [
 fn assert_date(rt: &impl Abort, &(given, is_date): &(Parts, bool)) {
     let (year, month, day, season, approximate) = given;
     let date = Date::new(year, month, day, season, approximate);
-    assert_eq!(rt; date.as_ref().map(parts), is_date.then_some(given));
+    assert_same(rt, &date.as_ref().map(parts), &is_date.then_some(given));
 }
 
 #[test]

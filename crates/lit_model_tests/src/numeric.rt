@@ -4,6 +4,7 @@ ghost use Rattle.std.specs.Prelude.{◌≡◌, ◌↔◌, IsTrue, Some, None, co
 ghost use Rattle.lit_model.specs.Numeric.{numeric_view};
 ghost use Rattle.lit_model.specs.contracts.numeric.NumericHash.TheImpl.{hash_input-value as hash_number};
 
+use crate::asserted::assert_of;
 use crate::samples::{assert_text, assert_whether};
 use lit_model::{
     GrammarGender, NumberForm, Numeric, NumericDelimiter, NumericError, NumericValue, Ordinals,
@@ -78,10 +79,11 @@ fn assert_read(
     (prefix, suffix): (&str, &str),
 ) -> Result<(), NumericError> {
     let number = Numeric::parse(alloc, text)?;
-    assert_eq!(rt;
-        (number.value(), number.will_transform()),
-        wanted,
-        "of {text}"
+    assert_of(
+        rt,
+        &(number.value(), number.will_transform()),
+        &wanted,
+        &text,
     );
     assert_text(rt, text_of(&number.prefix), prefix, text);
     assert_text(rt, text_of(&number.suffix), suffix, text);
@@ -138,7 +140,7 @@ static REFUSED: [&str; 8] = [
 
 fn assert_refused(rt: &impl Abort, alloc: Global, text: &str) {
     let error = Numeric::parse(alloc, text).err();
-    assert_eq!(rt; error, Some(NumericError::NotNumeric), "of {text}");
+    assert_of(rt, &error, &Some(NumericError::NotNumeric), &text);
 }
 
 #[test]

@@ -4,6 +4,7 @@ ghost use Rattle.std.specs.Prelude.{◌≡◌, ◌↔◌, IsTrue};
 ghost use Rattle.lit_model.specs.Page.{pages_view};
 ghost use Rattle.lit_model.specs.contracts.page.PageRangesHash.TheImpl.{hash_input-value as hash_pages};
 
+use crate::asserted::assert_of;
 use crate::samples::{assert_text, assert_whether};
 use lit_model::{Numeric, NumericError, PageRanges, PageRangesPart};
 use std::alloc::Global;
@@ -65,7 +66,7 @@ fn reads_pages(rt: HostRuntime) -> Result<(), NumericError> {
 fn refuses_what_is_no_page(rt: HostRuntime) {
     for text in ["", "i-iv", "1-2-3", "1,", "-3", "1 2", "4&", "1,&2"] {
         let error = PageRanges::parse(rt.alloc(), text).err();
-        assert_eq!(rt; error, Some(NumericError::NotNumeric), "of {text}");
+        assert_of(&rt, &error, &Some(NumericError::NotNumeric), &text);
     }
 }
 
@@ -98,10 +99,11 @@ fn assert_pages(
 ) -> Result<(), Fail> {
     let pages = pages(alloc, text)?;
     let number = pages.first().and_then(|page| page.value());
-    assert_eq!(rt;
-        (number, pages.is_plural()),
-        (Some(first), is_plural),
-        "of {text}"
+    assert_of(
+        rt,
+        &(number, pages.is_plural()),
+        &(Some(first), is_plural),
+        &text,
     );
     let shown = format!(in alloc; "{pages}")?;
     assert_text(rt, shown.as_str(), wanted, text);

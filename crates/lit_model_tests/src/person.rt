@@ -4,6 +4,7 @@ ghost use Rattle.std.specs.Prelude.{◌≡◌, ◌↔◌, IsTrue};
 ghost use Rattle.lit_model.specs.Person.{named, role_of, group_of};
 ghost use Rattle.lit_model.specs.contracts.person.PersonHash.TheImpl.{hash_input-value as hash_person};
 
+use crate::asserted::assert_of;
 use crate::samples::{assert_text, assert_whether, person};
 use lit_model::{Memory, Person, PersonRole, PersonsWithRoles};
 use std::alloc::Global;
@@ -156,7 +157,7 @@ fn assert_script(
     &(name, given, is_cjk, is_institutional): &Row,
 ) -> Result<(), Memory> {
     let answer = is_cjk_or_institutional(alloc, name, given)?;
-    assert_eq!(rt; answer, (is_cjk, is_institutional), "of {name}");
+    assert_of(rt, &answer, &(is_cjk, is_institutional), &name);
     Ok(())
 }
 
@@ -219,11 +220,11 @@ fn is_muse_copy_or_writer(alloc: Global) -> Result<(bool, bool), Memory> {
 fn persons_groups_and_roles_are_equal_by_their_texts(rt: HostRuntime) -> Result<(), Memory> {
     for (loses, wanted) in [(false, true), (true, false)] {
         let group = is_group_its_copy(rt.alloc(), loses)?;
-        assert_eq!(rt; group, (wanted, false), "of a group and its copy");
+        assert_of(&rt, &group, &(wanted, false), &"a group and its copy");
         let person = is_person_its_copy(rt.alloc(), loses)?;
         assert_whether(&rt, person, wanted, "a person and a copy");
     }
     let muse = is_muse_copy_or_writer(rt.alloc())?;
-    assert_eq!(rt; muse, (true, false), "of a muse");
+    assert_of(&rt, &muse, &(true, false), &"a muse");
     Ok(())
 }

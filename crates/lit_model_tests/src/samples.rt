@@ -1,5 +1,6 @@
 //! What the tests are made of, and how an answer is compared.
 
+use crate::asserted::assert_of;
 use lit_model::{
     ChunkKind, ChunkedString, Date, Entry, EntryType, FormatString, Memory, Person, StringChunk,
 };
@@ -96,5 +97,5 @@ pub fn assert_text(rt: &impl Abort, answer: &str, wanted: &str, of: &str) {
 
 /// The answer is this yes or no.
 pub fn assert_whether(rt: &impl Abort, answer: bool, wanted: bool, of: &str) {
-    assert_eq!(rt; answer, wanted, "of {of}");
+    assert_of(rt, &answer, &wanted, &of);
 }

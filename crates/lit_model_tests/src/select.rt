@@ -1,5 +1,6 @@
 //! What is selected of a work and its parents.
 
+use crate::asserted::{assert_of, assert_same};
 use crate::samples::{Shown, Work, assert_text, entries, person};
 use lit_model::select::{audio_video, chapter, event, part, volume_title};
 use lit_model::{Bind, Clause, Entry, EntryType, Field, Memory, PersonRole, PersonsWithRoles};
@@ -135,7 +136,7 @@ fn assert_found(
     };
     let (found, is_some) = answer(entry, asked);
     let wanted = (wanted, wanted != "none");
-    assert_eq!(rt; (key_of(found), is_some), wanted, "{asked:?} of {works:?}");
+    assert_of(rt, &(key_of(found), is_some), &wanted, &(asked, works));
     Ok(())
 }
 
@@ -293,7 +294,7 @@ fn date_and_url(alloc: Global, works: &[Work]) -> Result<(Option<i32>, bool, usi
 fn the_first_date_of_a_family(rt: HostRuntime) -> Result<(), Memory> {
     // The date of the parent's parent's parent comes before that of the second parent.
     let answer = date_and_url(rt.alloc(), ARTICLE)?;
-    assert_eq!(rt; answer, (Some(2001), false, 1));
+    assert_same(&rt, &answer, &(Some(2001), false, 1));
     Ok(())
 }
 

@@ -6,6 +6,7 @@ ghost use Rattle.lit_model.specs.Date.{date_parts};
 ghost use Rattle.url.specs.Canonical.{IsCanonical};
 ghost use Rattle.url.specs.Parts.{serialize};
 
+use crate::asserted::assert_same;
 use crate::samples::{assert_text, assert_whether, text};
 use lit_model::{
     ChunkKind, Date, FormatString, LanguageIdentifier, Memory, Publisher, QualifiedUrl,
@@ -192,6 +193,6 @@ fn sources_are_equal_by_their_texts(rt: HostRuntime) -> Result<(), Memory> {
 
 #[test]
 fn addresses_of_one_text_are_equal(rt: HostRuntime) -> Result<(), Memory> {
-    assert_eq!(rt; hosts_and_equality(rt.alloc())?, (true, true, true));
+    assert_same(&rt, &hosts_and_equality(rt.alloc())?, &(true, true, true));
     Ok(())
 }

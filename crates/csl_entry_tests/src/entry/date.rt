@@ -1,4 +1,5 @@
 use crate::asked::{borrowed, only};
+use crate::asserted::assert_of;
 use crate::described::described;
 use csl_entry::EntryLike;
 use csl_style::DateVariable;
@@ -50,7 +51,7 @@ fn assert_year(
     &(description, variable, wanted): &Row,
 ) -> Result<(), Fail> {
     let year = year(alloc, description, variable)?;
-    assert_eq!(rt; year, wanted, "{variable:?} of {description}");
+    assert_of(rt, &year, &wanted, &(variable, description));
     Ok(())
 }
 

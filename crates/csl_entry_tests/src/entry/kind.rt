@@ -1,4 +1,5 @@
 use crate::asked::{assert_answer, only};
+use crate::asserted::assert_of;
 use crate::described::described;
 use csl_entry::{EntryLike, legislation_kind, recording_kind};
 use csl_style::Kind;
@@ -183,7 +184,7 @@ fn assert_narrower_kinds(
     &(description, recording, law): &NarrowerRow,
 ) -> Result<(), Fail> {
     let kinds = narrower_kinds(alloc, description)?;
-    assert_eq!(rt; kinds, (recording, law), "{description}");
+    assert_of(rt, &kinds, &(recording, law), &description);
     Ok(())
 }
 

@@ -1,4 +1,5 @@
 use crate::asked::{assert_answer, only, text_said};
+use crate::asserted::assert_of;
 use crate::described::described;
 use csl_entry::EntryLike;
 use csl_style::StandardVariable;
@@ -330,7 +331,7 @@ fn texts_that_an_entry_holds_are_lent(rt: HostRuntime) -> Result<(), Fail> {
         (StandardVariable::CitationKey, Some(false)),
     ] {
         let borrowed = is_borrowed(rt.alloc(), CHAPTER, variable)?;
-        assert_eq!(rt; borrowed, wanted, "{variable:?}");
+        assert_of(&rt, &borrowed, &wanted, &variable);
     }
     Ok(())
 }
