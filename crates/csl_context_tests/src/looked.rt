@@ -12,17 +12,12 @@ use lit_model::LongShortForm;
 /// Which of five variables are found by silent looks.
 fn found(ctx: &Context<'_, Film>) -> Result<[bool; 5], RenderError> {
     let title = ctx.peek_standard_variable(LongShortForm::Short, StandardVariable::Title)?;
-    let number = ctx.peek_number_variable(NumberVariable::Volume)?;
-    let page = ctx.peek_page_variable(PageVariable::Page)?;
-    let date = ctx.peek_date_variable(DateVariable::Issued)?;
-    let names = ctx.peek_name_variable(NameVariable::Director)?;
-    Ok([
-        title.is_some(),
-        number.is_some(),
-        page.is_some(),
-        date.is_some(),
-        !names.is_empty(),
-    ])
+    let title = title.is_some();
+    let number = ctx.peek_number_variable(NumberVariable::Volume)?.is_some();
+    let page = ctx.peek_page_variable(PageVariable::Page)?.is_some();
+    let date = ctx.peek_date_variable(DateVariable::Issued)?.is_some();
+    let names = !ctx.peek_name_variable(NameVariable::Director)?.is_empty();
+    Ok([title, number, page, date, names])
 }
 
 /// Writes them. A silent look that is refused memory leaves the context as it was, so the context

@@ -186,6 +186,18 @@ fn compared<T: EntryLike, U: EntryLike>(
     Ok(if alike { ALIKE } else { NOT_ALIKE })
 }
 
+/// Whether the work that is described answers alike to another.
+fn compared_with<T: EntryLike>(
+    alloc: Global,
+    left: &T,
+    right: &str,
+    variables: &[Variable],
+    kind: Option<Kind>,
+) -> Result<&'static str, Fail> {
+    let rights = described(alloc, right)?;
+    Ok(compared(alloc, left, only(&rights)?, variables, kind)?)
+}
+
 fn assert_alike(
     rt: &impl Abort,
     alloc: Global,
@@ -195,8 +207,7 @@ fn assert_alike(
     wanted: &'static str,
 ) -> Result<(), Fail> {
     let lefts = described(alloc, left)?;
-    let rights = described(alloc, right)?;
-    let answer = compared(alloc, only(&lefts)?, only(&rights)?, variables, kind)?;
+    let answer = compared_with(alloc, only(&lefts)?, right, variables, kind)?;
     assert_answer(rt, answer, wanted, right);
     Ok(())
 }

@@ -46,15 +46,21 @@ fn chain(alloc: Global, works: &str) -> Result<Vec<Entry>, Fail> {
 
 /// The work, a part of these.
 fn part_of(alloc: Global, clauses: &str, wholes: Vec<Entry>) -> Result<Vec<Entry>, Fail> {
-    let mut clauses = clauses.split("; ");
-    let mut works = bare(alloc, type_named(clauses.next().unwrap_or(""))?, wholes)?;
-    for clause in clauses {
-        let (word, value) = clause.split_once(' ').unwrap_or((clause, ""));
-        if let Some(work) = works.last_mut() {
-            state(alloc, work, word, value)?;
-        }
+    let (name, rest) = clauses.split_once("; ").unwrap_or((clauses, ""));
+    let mut works = bare(alloc, type_named(name)?, wholes)?;
+    if let (Some(work), true) = (works.last_mut(), !rest.is_empty()) {
+        state_all(alloc, work, rest)?;
     }
     Ok(works)
+}
+
+/// Says all that the clauses say of the work.
+fn state_all(alloc: Global, work: &mut Entry, clauses: &str) -> Result<(), Fail> {
+    for clause in clauses.split("; ") {
+        let (word, value) = clause.split_once(' ').unwrap_or((clause, ""));
+        state(alloc, work, word, value)?;
+    }
+    Ok(())
 }
 
 /// A work of that type, a part of these.

@@ -93,39 +93,44 @@ fn between(
     Ok(all)
 }
 
+fn some_markup(alloc: Global) -> Result<ElemChildren, Fail> {
+    Ok(one_markup(alloc, String::from_str(alloc, "m")?)?)
+}
+
+fn some_link(alloc: Global) -> Result<ElemChildren, Fail> {
+    let text = Formatting::default().add_text(String::from_str(alloc, "l")?);
+    Ok(one_link(alloc, text, String::from_str(alloc, "u")?)?)
+}
+
+fn some_row(alloc: Global) -> Result<ElemChildren, Fail> {
+    let one = read(alloc, "$m a")?;
+    Ok(in_a_row(alloc, one, read(alloc, "b ( c )")?)?)
+}
+
+fn some_element(alloc: Global) -> Result<ElemChildren, Fail> {
+    let meta = names(alloc, "Knuth", NameVariable::Author)?;
+    let inside = read(alloc, "a")?;
+    Ok(in_an_element(alloc, inside, Some(Display::Block), Some(meta))?)
+}
+
+fn some_between(alloc: Global) -> Result<ElemChildren, Fail> {
+    let before = read(alloc, "x~")?;
+    let middle = read(alloc, "a")?;
+    Ok(between(alloc, before, middle, read(alloc, "b")?)?)
+}
+
 #[test]
 fn contents_in_a_row_in_an_element_and_between_others(rt: HostRuntime) -> Result<(), Fail> {
-    let alloc = rt.alloc();
-    let plain = Formatting::default();
-    assert_tree(
-        &rt,
-        alloc,
-        texts_in_a_row(alloc, "a", "b", plain)?,
-        "ab",
-        "two texts",
-    )?;
-    assert_tree(
-        &rt,
-        alloc,
-        texts_in_a_row(alloc, "", "", plain)?,
-        "",
-        "no texts",
-    )?;
-    let markup = one_markup(alloc, String::from_str(alloc, "m")?)?;
-    assert_tree(&rt, alloc, markup, "$m", "a markup")?;
-    let text = plain.add_text(String::from_str(alloc, "l")?);
-    let link = one_link(alloc, text, String::from_str(alloc, "u")?)?;
-    assert_tree(&rt, alloc, link, "@l|u", "a link")?;
-    let row = in_a_row(alloc, read(alloc, "$m a")?, read(alloc, "b ( c )")?)?;
-    assert_tree(&rt, alloc, row, "$m ab ( c )", "contents in a row")?;
-    let meta = names(alloc, "Knuth", NameVariable::Author)?;
-    let elem = in_an_element(alloc, read(alloc, "a")?, Some(Display::Block), Some(meta))?;
-    assert_tree(&rt, alloc, elem, "( a )block:Knuth", "an element")?;
-    let all = between(
-        alloc,
-        read(alloc, "x~")?,
-        read(alloc, "a")?,
-        read(alloc, "b")?,
-    )?;
-    assert_tree(&rt, alloc, all, "x~ab", "between others")
+    let (alloc, plain) = (rt.alloc(), Formatting::default());
+    let texts = texts_in_a_row(alloc, "a", "b", plain)?;
+    assert_tree(&rt, alloc, texts, "ab", "two texts")?;
+    let texts = texts_in_a_row(alloc, "", "", plain)?;
+    assert_tree(&rt, alloc, texts, "", "no texts")?;
+    assert_tree(&rt, alloc, some_markup(alloc)?, "$m", "a markup")?;
+    assert_tree(&rt, alloc, some_link(alloc)?, "@l|u", "a link")?;
+    let wanted = "$m ab ( c )";
+    assert_tree(&rt, alloc, some_row(alloc)?, wanted, "contents in a row")?;
+    let wanted = "( a )block:Knuth";
+    assert_tree(&rt, alloc, some_element(alloc)?, wanted, "an element")?;
+    assert_tree(&rt, alloc, some_between(alloc)?, "x~ab", "between others")
 }
