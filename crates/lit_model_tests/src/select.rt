@@ -3,7 +3,9 @@
 use crate::asserted::{assert_of, assert_same};
 use crate::samples::{Shown, Work, assert_text, entries, person};
 use lit_model::select::{audio_video, chapter, event, part, volume_title};
-use lit_model::{Bind, Clause, Entry, EntryType, Field, Memory, PersonRole, PersonsWithRoles};
+use lit_model::{
+    Bind, Clause, Entry, EntryType, Field, Memory, Person, PersonRole, PersonsWithRoles,
+};
 use std::alloc::Global;
 use std::process::Abort;
 
@@ -298,17 +300,29 @@ fn the_first_date_of_a_family(rt: HostRuntime) -> Result<(), Memory> {
     Ok(())
 }
 
-fn group(alloc: Global, name: &str, role: PersonRole) -> Result<PersonsWithRoles, Memory> {
+/// A person, alone in a list.
+fn alone(alloc: Global, name: &str) -> Result<Vec<Person>, Memory> {
     let mut names = Vec::new(alloc);
     names.push(person(alloc, name, None)?)?;
+    Ok(names)
+}
+
+/// A director, or a writer.
+fn group(alloc: Global, name: &str, is_director: bool) -> Result<PersonsWithRoles, Memory> {
+    let names = alone(alloc, name)?;
+    let role = if is_director {
+        PersonRole::Director
+    } else {
+        PersonRole::Writer
+    };
     Ok(PersonsWithRoles { names, role })
 }
 
 fn crew(alloc: Global) -> Result<Vec<PersonsWithRoles>, Memory> {
     let mut groups = Vec::new(alloc);
-    groups.push(group(alloc, "Ann", PersonRole::Director)?)?;
-    groups.push(group(alloc, "Ben", PersonRole::Writer)?)?;
-    groups.push(group(alloc, "Cid", PersonRole::Director)?)?;
+    groups.push(group(alloc, "Ann", true)?)?;
+    groups.push(group(alloc, "Ben", false)?)?;
+    groups.push(group(alloc, "Cid", true)?)?;
     Ok(groups)
 }
 
