@@ -59,22 +59,26 @@ fn slanted(font_style: Option<FontStyle>) -> Formatting {
     }
 }
 
+fn new_name(alloc: Global, form: NameForm) -> Name {
+    let mut name = Name::new(alloc);
+    name.options.form = Some(form);
+    name
+}
+
+fn new_label(form: TermForm) -> VariablelessLabel {
+    let mut label = VariablelessLabel::default();
+    label.form = form;
+    label
+}
+
 fn new_child(alloc: Global, child: Child) -> NamesChild {
     match child {
-        Child::Name(form) => {
-            let mut name = Name::new(alloc);
-            name.options.form = Some(form);
-            NamesChild::Name(name)
-        }
+        Child::Name(form) => NamesChild::Name(new_name(alloc, form)),
         Child::EtAl(term) => NamesChild::EtAl(EtAl {
             term,
             formatting: Formatting::default(),
         }),
-        Child::Label(form) => {
-            let mut label = VariablelessLabel::default();
-            label.form = form;
-            NamesChild::Label(label)
-        }
+        Child::Label(form) => NamesChild::Label(new_label(form)),
         Child::Substitute => NamesChild::Substitute(Substitute {
             children: Vec::new(alloc),
         }),

@@ -22,10 +22,12 @@ const UNSET: Level<'static> = Level {
 };
 
 fn options(alloc: Global, level: Level<'_>) -> Result<InheritableNameOptions, AllocError> {
-    let mut options = InheritableNameOptions::default();
-    options.form = level.form;
-    options.delimiter = copy_text(alloc, level.delimiter)?;
-    Ok(options)
+    let delimiter = copy_text(alloc, level.delimiter)?;
+    Ok(InheritableNameOptions {
+        form: level.form,
+        delimiter,
+        ..InheritableNameOptions::default()
+    })
 }
 
 /// A style with these set for all of it, for its citation and for its bibliography.

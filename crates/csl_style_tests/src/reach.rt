@@ -1,8 +1,7 @@
 //! Which layouts reach a text of the year suffix.
 
-use crate::asserted::assert_same;
 use crate::made::{EMPTY, StyleRows, style};
-use csl_style::Scope;
+use csl_style::{Scope, StyleError};
 use std::alloc::Global;
 use std::process::Abort;
 use std::test::Fail;
@@ -20,7 +19,9 @@ const TITLE: &str = "@title; @title";
 const SUFFIX: &str = "@title; @year-suffix";
 
 /// A scope, the lines of the layouts, and what is answered for that scope of the style.
-static ROWS: [(Scope, &str, Option<&str>, bool); 19] = [
+type Row = (Scope, &'static str, Option<&'static str>, bool);
+
+static ROWS: [Row; 19] = [
     (Scope::Citation, TITLE, None, true),
     (Scope::Citation, SUFFIX, None, false),
     (Scope::Citation, "@title; group @year-suffix", None, false),
@@ -68,12 +69,13 @@ static ROWS: [(Scope, &str, Option<&str>, bool); 19] = [
     (Scope::Bibliography, SUFFIX, None, true),
 ];
 
-fn assert_implicit<'s>(
-    rt: &impl Abort,
+/// Whether the suffix is printed implicitly in that scope of a style of these layouts.
+fn is_implicit<'s>(
     alloc: Global,
-    (scope, citation, bibliography): (Scope, &'s str, Option<&'s str>),
-    wanted: bool,
-) -> Result<(), Fail> {
+    scope: Scope,
+    citation: &'s str,
+    bibliography: Option<&'s str>,
+) -> Result<bool, StyleError> {
     let rows = StyleRows {
         macros: MACROS,
         citation,
@@ -81,15 +83,21 @@ fn assert_implicit<'s>(
         ..EMPTY
     };
     let style = style(alloc, rows)?;
-    let answer = style.renders_year_suffix_implicitly(scope);
-    assert_same(rt, &(citation, answer), &(citation, wanted));
-    Ok(())
+    Ok(style.renders_year_suffix_implicitly(scope))
+}
+
+fn assert_implicit(rt: &impl Abort, answer: bool, row: &Row) {
+    let (_, citation, bibliography, wanted) = row;
+    assert_eq!(rt; answer, *wanted, "of {citation} and {bibliography:?}");
 }
 
 #[test]
 fn a_text_of_the_suffix_is_reached_wherever_it_stands(rt: HostRuntime) -> Result<(), Fail> {
-    for (scope, citation, bibliography, wanted) in ROWS {
-        assert_implicit(&rt, rt.alloc(), (scope, citation, bibliography), wanted)?;
+    let rows: &[Row] = &ROWS;
+    for row in rows {
+        let (scope, citation, bibliography, _) = *row;
+        let answer = is_implicit(rt.alloc(), scope, citation, bibliography)?;
+        assert_implicit(&rt, answer, row);
     }
     Ok(())
 }

@@ -40,7 +40,13 @@ const TWO_RETURNS: Option<&str> = Some("the macro '2' leads back to itself");
 const CHICAGO: Option<&str> = Some("Chicago page formats are not supported");
 
 /// A page format, the lines of the macros, and the refusal.
-static REFUSALS: [(Option<PageRangeFormat>, &[&str], Option<&str>); 11] = [
+type Refusal = (
+    Option<PageRangeFormat>,
+    &'static [&'static str],
+    Option<&'static str>,
+);
+
+static REFUSALS: [Refusal; 11] = [
     // A macro that calls itself is named.
     (None, &["v 'word", "u absent", "s v s"], S_RETURNS),
     // A macro that only leads to a cycle is not named.
@@ -65,9 +71,10 @@ static REFUSALS: [(Option<PageRangeFormat>, &[&str], Option<&str>); 11] = [
 
 #[test]
 fn cycles_of_macros_and_chicago_pages_are_refused(rt: HostRuntime) -> Result<(), Fail> {
-    for (format, macros, wanted) in REFUSALS {
-        let answer = refusal(rt.alloc(), format, macros)?;
-        assert_text(&rt, answer.as_deref(), wanted);
+    let rows: &[Refusal] = &REFUSALS;
+    for (format, macros, wanted) in rows {
+        let answer = refusal(rt.alloc(), *format, *macros)?;
+        assert_text(&rt, answer.as_deref(), *wanted);
     }
     Ok(())
 }
@@ -84,13 +91,18 @@ const PARTS: StyleRows<'static> = StyleRows {
     }],
 };
 
+/// The text of a value.
+fn value(target: &TextTarget) -> Option<&str> {
+    match target {
+        TextTarget::Value { val } => Some(val.as_str()),
+        _ => None,
+    }
+}
+
 /// The text of a value that stands alone.
 fn only_value(elements: &[LayoutRenderingElement]) -> Option<&str> {
     match elements.first() {
-        Some(LayoutRenderingElement::Text(text)) => match &text.target {
-            TextTarget::Value { val } => Some(val.as_str()),
-            _ => None,
-        },
+        Some(LayoutRenderingElement::Text(text)) => value(&text.target),
         _ => None,
     }
 }
