@@ -177,16 +177,23 @@ fn said(alloc: Global, act: Act, next: Option<Act>) -> Result<String, Fail> {
 type Refusals = ([Option<RenderError>; 4], [bool; 2]);
 
 fn refusals_in<'s>(world: World<'s>) -> Result<Refusals, Fail> {
-    let (cite, form) = (instance(world), LongShortForm::Long);
-    let mut ctx = Context::new(world.alloc, world.style, cite, Scope::Citation)?;
-    let looked = ctx.peek_standard_variable(form, UNANSWERED).err();
+    let mut ctx = Context::new(world.alloc, world.style, instance(world), Scope::Citation)?;
+    let looked = refused_look(&ctx);
     let had_failed = ctx.has_failed();
-    let printed = ctx.resolve_standard_variable(form, UNANSWERED).err();
+    let printed = ctx
+        .resolve_standard_variable(LongShortForm::Long, UNANSWERED)
+        .err();
     let written = ctx.push_str("a").err();
     let has_failed = ctx.has_failed();
     ctx.fail();
     let errors = [looked, printed, written, ctx.finish().err()];
     Ok((errors, [had_failed, has_failed]))
+}
+
+/// What a silent look answers for which the entry has no memory.
+fn refused_look(ctx: &Context<'_, Film>) -> Option<RenderError> {
+    ctx.peek_standard_variable(LongShortForm::Long, UNANSWERED)
+        .err()
 }
 
 /// The same in a world that is made for it.

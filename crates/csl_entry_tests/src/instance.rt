@@ -122,6 +122,10 @@ pub fn cited<'s>(
     disambiguation: DisambiguateState,
 ) -> Result<CiteProperties<'s>, Fail> {
     let citation_number = CitationNumber::new(4).ok_or("a citation number")?;
+    let locator = match page {
+        Some(page) => Some(SpecificLocator(Locator::Page, page)),
+        None => None,
+    };
     Ok(CiteProperties {
         certain: CertainCiteProperties {
             first_note_number,
@@ -130,7 +134,7 @@ pub fn cited<'s>(
             initial_idx: 2,
         },
         speculative: SpeculativeCiteProperties {
-            locator: page.map(|page| SpecificLocator(Locator::Page, page)),
+            locator,
             citation_number,
             disambiguation,
             ibid: IbidState::Different,
