@@ -9,7 +9,7 @@ use lit_model::{
 };
 use std::alloc::Global;
 
-const NUMBERS: [NumberVariable; 17] = [
+static NUMBERS: [NumberVariable; 17] = [
     NumberVariable::ChapterNumber,
     NumberVariable::CitationNumber,
     NumberVariable::CollectionNumber,
@@ -29,7 +29,7 @@ const NUMBERS: [NumberVariable; 17] = [
     NumberVariable::Volume,
 ];
 
-const TEXTS: [StandardVariable; 47] = [
+static TEXTS: [StandardVariable; 47] = [
     StandardVariable::Abstract,
     StandardVariable::Annote,
     StandardVariable::Archive,
@@ -79,7 +79,7 @@ const TEXTS: [StandardVariable; 47] = [
     StandardVariable::YearSuffix,
 ];
 
-const NAMES: [NameVariable; 27] = [
+static NAMES: [NameVariable; 27] = [
     NameVariable::Author,
     NameVariable::Chair,
     NameVariable::CollectionEditor,
@@ -109,7 +109,7 @@ const NAMES: [NameVariable; 27] = [
     NameVariable::Translator,
 ];
 
-const DATES: [DateVariable; 6] = [
+static DATES: [DateVariable; 6] = [
     DateVariable::Accessed,
     DateVariable::AvailableDate,
     DateVariable::EventDate,
@@ -146,52 +146,73 @@ fn persons(alloc: Global, size: usize) -> Result<Vec<Person>> {
     Ok(persons)
 }
 
-/// An article of a journal, with so many authors and translators.
-pub fn article(alloc: Global, size: usize) -> Result<Entry> {
-    let mut journal = Entry::new(alloc, "journal", EntryType::Periodical)?;
-    journal.title = Some(text(alloc, "Il Nuovo Cimento")?);
-    journal.volume = Some(MaybeTyped::Typed(Numeric::new(20)));
-    let mut entry = Entry::new(alloc, "article", EntryType::Article)?;
-    entry.title = Some(text(alloc, "Vortices")?);
-    entry.authors = Some(persons(alloc, size)?);
-    let translators = PersonsWithRoles {
-        names: persons(alloc, size)?,
-        role: PersonRole::Translator,
-    };
-    entry.affiliated = Some(vec![in alloc; translators]?);
-    entry.date = Date::new(1961, Some(4), None, None, false);
-    entry.parents = vec![in alloc; journal]?;
-    Ok(entry)
+/// A periodical with a title and a volume, alone in a list.
+fn journals(alloc: Global) -> Result<Vec<Entry>> {
+    let mut journals = Vec::new(alloc);
+    journals.push(Entry::new(alloc, "journal", EntryType::Periodical)?)?;
+    if let Some(journal) = journals.last_mut() {
+        journal.title = Some(text(alloc, "Il Nuovo Cimento")?);
+        journal.volume = Some(MaybeTyped::Typed(Numeric::new(20)));
+    }
+    Ok(journals)
 }
 
-/// How many number, page and date variables have an answer.
+/// So many translators.
+fn translators(alloc: Global, size: usize) -> Result<Vec<PersonsWithRoles>> {
+    let names = persons(alloc, size)?;
+    let role = PersonRole::Translator;
+    Ok(vec![in alloc; PersonsWithRoles { names, role }]?)
+}
+
+/// Says of an article who made it, and where and when it came out.
+fn state(alloc: Global, article: &mut Entry, size: usize) -> Result<()> {
+    article.title = Some(text(alloc, "Vortices")?);
+    article.authors = Some(persons(alloc, size)?);
+    article.affiliated = Some(translators(alloc, size)?);
+    article.date = Date::new(1961, Some(4), None, None, false);
+    article.parents = journals(alloc)?;
+    Ok(())
+}
+
+/// An article of a journal, with so many authors and translators.
+pub fn article(alloc: Global, size: usize) -> Result<Entry> {
+    let mut article = Entry::new(alloc, "article", EntryType::Article)?;
+    state(alloc, &mut article, size)?;
+    Ok(article)
+}
+
+/// How many number variables have an answer.
 fn numbers<T: EntryLike>(alloc: Global, entry: &T) -> Result<usize> {
+    let variables: &[NumberVariable] = &NUMBERS;
     let mut found: usize = 0;
-    for variable in NUMBERS {
-        if entry.resolve_number_variable(alloc, variable)?.is_some() {
+    for variable in variables {
+        if entry.resolve_number_variable(alloc, *variable)?.is_some() {
             found = found.saturating_add(1);
         }
     }
-    for variable in DATES {
-        if entry.resolve_date_variable(alloc, variable)?.is_some() {
+    Ok(found)
+}
+
+/// How many page and date variables have an answer.
+fn pages_and_dates<T: EntryLike>(alloc: Global, entry: &T) -> Result<usize> {
+    let variables: &[DateVariable] = &DATES;
+    let pages = entry.resolve_page_variable(alloc, PageVariable::Page)?;
+    let mut found: usize = if pages.is_some() { 1 } else { 0 };
+    for variable in variables {
+        if entry.resolve_date_variable(alloc, *variable)?.is_some() {
             found = found.saturating_add(1);
         }
-    }
-    if entry
-        .resolve_page_variable(alloc, PageVariable::Page)?
-        .is_some()
-    {
-        found = found.saturating_add(1);
     }
     Ok(found)
 }
 
 /// How many standard variables have an answer in a form.
 fn texts<T: EntryLike>(alloc: Global, entry: &T, form: LongShortForm) -> Result<usize> {
+    let variables: &[StandardVariable] = &TEXTS;
     let mut found: usize = 0;
-    for variable in TEXTS {
+    for variable in variables {
         if entry
-            .resolve_standard_variable(alloc, form, variable)?
+            .resolve_standard_variable(alloc, form, *variable)?
             .is_some()
         {
             found = found.saturating_add(1);
@@ -202,9 +223,10 @@ fn texts<T: EntryLike>(alloc: Global, entry: &T, form: LongShortForm) -> Result<
 
 /// How many persons all name variables answer.
 fn names<T: EntryLike>(alloc: Global, entry: &T) -> Result<usize> {
+    let variables: &[NameVariable] = &NAMES;
     let mut found: usize = 0;
-    for variable in NAMES {
-        let persons = entry.resolve_name_variable(alloc, variable)?;
+    for variable in variables {
+        let persons = entry.resolve_name_variable(alloc, *variable)?;
         found = found.saturating_add(persons.len());
     }
     Ok(found)
@@ -213,11 +235,13 @@ fn names<T: EntryLike>(alloc: Global, entry: &T) -> Result<usize> {
 /// Asks an entry for every variable, each text in both forms, and counts the answers.
 fn answer_count<T: EntryLike>(alloc: Global, entry: &T) -> Result<usize> {
     let numbers = numbers(alloc, entry)?;
+    let dated = pages_and_dates(alloc, entry)?;
     let long = texts(alloc, entry, LongShortForm::Long)?;
     let short = texts(alloc, entry, LongShortForm::Short)?;
     let names = names(alloc, entry)?;
     Ok(
         numbers
+            .saturating_add(dated)
             .saturating_add(long)
             .saturating_add(short)
             .saturating_add(names),

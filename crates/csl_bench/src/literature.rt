@@ -95,7 +95,10 @@ fn entry(alloc: Global, size: usize) -> Result<Entry> {
 }
 
 fn author_count(entry: &Entry) -> usize {
-    entry.authors().map_or(0, |authors| authors.len())
+    match entry.authors() {
+        Some(authors) => authors.len(),
+        None => 0,
+    }
 }
 
 fn authors_of_copy(alloc: Global, entry: &Entry) -> Result<usize> {

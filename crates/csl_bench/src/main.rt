@@ -25,7 +25,7 @@ const SMALL: usize = 10;
 const MANY_PARENTS: usize = 2000;
 
 /// The works, by name, and the size in which each is done without words.
-const WORKS: [(&str, usize); 22] = [
+static WORKS: [(&'static str, usize); 22] = [
     ("numeric", SMALL),
     ("pages", SMALL),
     ("initials", SMALL),
@@ -92,8 +92,9 @@ fn run(rt: &(impl Env + Print + AllocGlobal)) -> Result<()> {
         (Some(work), Some(size)) => report(rt, work.as_str(), size.parse::<usize>()?),
         (Some(_), None) => bail!("csl_bench WORK N"),
         _ => {
-            for (work, size) in WORKS {
-                report(rt, work, size)?;
+            let works: &[(&'static str, usize)] = &WORKS;
+            for (work, size) in works {
+                report(rt, *work, *size)?;
             }
             Ok(())
         }
