@@ -19,7 +19,9 @@ abbrev pub truth_text : Bool → List ℕ
 truth_text true = codes "true"
 truth_text false = codes "false"
 
--- The text answers the words: what the style of the command makes of the title or of the built-in entry, as it is written; the label, with three letters, of the built-in entry; whether that entry is of the kind.
+-- The text answers the words: what the style of the command makes of the title or of the built-in
+-- entry, as it is written; the label, with three letters, of the built-in entry; whether that entry
+-- is of the kind.
 abbrev pub IsAnswer : Verdict → List ℕ → Type 0
 IsAnswer (title_in title format) text = (content : List Token) × IsTitleContent title content × (text ≡ written format content)
 IsAnswer (cite_in entry style format) text = (content : List Token) × IsEntryContent entry style content × (text ≡ written format content)
@@ -47,7 +49,8 @@ complaint (unknown word) = Some (codes "unknown: " ++ word)
 abbrev pub out_of_memory : List ℕ
 out_of_memory = codes "out of memory"
 
--- ---- what a writer took that takes a text by `gives`: a line, the answer, what is said of words that were refused
+-- ---- what a writer took that takes a text by `gives`: a line, the answer, what is said of words
+-- that were refused
 
 abbrev pub TakesLine : {W : Type 0} → (W → List ℕ → W → Type 0) → W → List ℕ → W → Type 0
 TakesLine gives old text new = WritesInCalls gives old (line text) new

@@ -16,7 +16,8 @@ use Rattle.csl_answers.specs.declared.words.Command.TheVariants as commands
 use Rattle.csl_answers.specs.declared.words.WordsError.{WordsError}
 use Rattle.csl_answers.specs.declared.words.WordsError.TheVariants.{Missing, Unknown}
 
--- What is asked for: a title in a format, a cite of an entry by a style in a format, the label of an entry, whether an entry is of a kind. Or a word is missing, or unknown.
+-- What is asked for: a title in a format, a cite of an entry by a style in a format, the label of
+-- an entry, whether an entry is of a kind. Or a word is missing, or unknown.
 pub data Verdict : Type 0 where
   title_in : List ℕ → BufWriteFormat → Verdict
   cite_in : BuiltIn → BuiltInStyle → BufWriteFormat → Verdict

@@ -117,7 +117,8 @@ author_date = group (Some (codes ", ")) (affixed (around (codes "(") (codes ")")
 abbrev pub editors : Node
 editors = persons_by Editor []
 
--- The first has the family name first. Where there are none, the editors stand in, and are written as they are.
+-- The first has the family name first. Where there are none, the editors stand in, and are written
+-- as they are.
 abbrev pub authors : Node
 authors = persons_by Author (a_name (name_by (joined_by_and None (Some First))) ∷ a_substitute (node editors no_nodes) ∷ [])
 

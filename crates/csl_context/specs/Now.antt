@@ -26,7 +26,8 @@ use Rattle.csl_context.specs.declared.mark.Mark.{Mark}
 use Rattle.csl_context.specs.declared.error.RenderError.{RenderError}
 use Rattle.csl_context.specs.declared.error.RenderError.TheVariants.{Memory, Failed}
 
--- What never changes; the innermost open part and those around it, from the inside out; what is inherited, with what lies under
+-- What never changes; the innermost open part and those around it, from the inside out; what is
+-- inherited, with what lies under
 -- each inherited value, from the inside out; the state; whether the context has failed.
 pub record Now (T : Type 0) : Type 0 where
   pub style : StyleParts
@@ -90,7 +91,8 @@ begun style scope entry cite sorting special state = record {
 
 -- ---- how a call ends
 
--- A call failed: for want of memory, which fails the context, or since the context had failed, which changes nothing.
+-- A call failed: for want of memory, which fails the context, or since the context had failed,
+-- which changes nothing.
 abbrev pub FailsAs : {T : Type 0} → RenderError → Now T → Now T → Type 0
 FailsAs Memory old new = (old.failed ≡ false) × (new.failed ≡ true)
 FailsAs Failed old new = (old.failed ≡ true) × (new ≡ old)
@@ -137,7 +139,8 @@ dropped inh c = []
 abbrev pub turned : {T : Type 0} → Now T → Now T
 turned now = record now { inherited = record now.inherited { in_quotes = not now.inherited.in_quotes } }
 
--- the context whose innermost part, the inside of quotes, is closed, and stands in quotes in the part around it
+-- the context whose innermost part, the inside of quotes, is closed, and stands in quotes in the
+-- part around it
 unfoldable pub with_quotes : {T : Type 0} → Option (List ℕ) → Now T → Now T
 with_quotes suffix now = closed_into (quoted_in now.style now.inherited suffix now.inner) now now.outer
 

@@ -1,4 +1,5 @@
--- Quotes around a content, and a comma or period behind them (CSL 1.0.2, Quotes; Locale: punctuation-in-quote).
+-- Quotes around a content, and a comma or period behind them (CSL 1.0.2, Quotes; Locale:
+-- punctuation-in-quote).
 use Rattle.std.specs.Prelude.{ℕ, Bool, true, false, ◌||◌, ◌&&◌, ◌==◌, List, [], ◌∷◌, Option, Some, None, is_some, option_map, if◌then◌else◌}
 use Rattle.lit_model.specs.Characters.{comma_char, dot_char}
 use Rattle.csl_style.specs.declared.term.OtherTerm.{OtherTerm}
@@ -48,7 +49,8 @@ moved_front style (Some suffix) = if is_punctuation_in_quote style.locales then 
 abbrev pub has_moved : StyleParts → Option (List ℕ) → List Token → Bool
 has_moved style suffix c = is_some (moved_front style suffix) && has_children c
 
--- Quoted: the content in quotes, with the front of the suffix that stands behind it, where that is moved
+-- Quoted: the content in quotes, with the front of the suffix that stands behind it, where that is
+-- moved
 abbrev pub quoted_in : StyleParts → Inherited → Option (List ℕ) → List Token → List Token
 quoted_in style inh suffix c =
     affixed (text_in_if inh (quote style (opening inh.in_quotes)))

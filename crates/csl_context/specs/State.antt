@@ -1,4 +1,5 @@
--- What a node leaves for those after it, and what it inherits from those around it (CSL 1.0.2, Formatting, Delimiter, Inheritable
+-- What a node leaves for those after it, and what it inherits from those around it (CSL 1.0.2,
+-- Formatting, Delimiter, Inheritable
 -- Name Options, Quotes, Strip-periods; Names: substitute; Date: the first date of a cite).
 use Rattle.std.specs.Prelude.{ℕ, Bool, List, Option, if◌then◌else◌}
 use Rattle.std.specs.BTreeSet.{insert_key}
@@ -11,7 +12,8 @@ use Rattle.csl_style.specs.NameOptions.{SetOptions}
 use Rattle.csl_tree.specs.declared.formatting.Formatting.{Formatting}
 use Rattle.csl_entry.specs.NameProperties.{NameProperties}
 
--- The variables that answer nothing any more; whether a look for printing adds its own to them; whether a date was rendered, be it to nothing; the
+-- The variables that answer nothing any more; whether a look for printing adds its own to them;
+-- whether a date was rendered, be it to nothing; the
 -- names that were printed first.
 pub record State : Type 0 where
   pub suppressed : List Variable
@@ -26,11 +28,13 @@ variable_cmp = cmp-value.it
 abbrev pub is_suppressed : State → Variable → Bool
 is_suppressed s v = list_any (is_at (variable_cmp v)) s.suppressed
 
--- the state after a look for printing: while the switch is on, the variable is suppressed from then on
+-- the state after a look for printing: while the switch is on, the variable is suppressed from then
+-- on
 abbrev pub looked : Variable → State → State
 looked v s = record s { suppressed = if s.suppressing then insert_key variable_cmp s.suppressed v else s.suppressed }
 
--- The formatting of what is written here; the delimiter between children, if any; the options of names that are set; whether
+-- The formatting of what is written here; the delimiter between children, if any; the options of
+-- names that are set; whether
 -- quotes stand around it, an odd number of them; whether its texts lose their periods.
 pub record Inherited : Type 0 where
   pub formatting : Formatting

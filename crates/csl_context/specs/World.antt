@@ -1,4 +1,5 @@
--- What stays as it is while a cite is rendered, and what is found in it (CSL 1.0.2, Terms, Ordinals, Macro; Appendix IV: Variables).
+-- What stays as it is while a cite is rendered, and what is found in it (CSL 1.0.2, Terms,
+-- Ordinals, Macro; Appendix IV: Variables).
 use Rattle.std.specs.Prelude.{ℕ, Bool, true, false, List, [], Option, None, map, option_map, if◌then◌else◌}
 use Rattle.lit_model.specs.declared.text.LongShortForm.{LongShortForm}
 use Rattle.lit_model.specs.declared.numeric.NumberForm.{NumberForm}

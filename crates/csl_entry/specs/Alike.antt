@@ -1,4 +1,5 @@
--- When two entries answer alike what is named, whatever their types (CSL 1.0.2, Appendix III: Types; Appendix IV: Variables).
+-- When two entries answer alike what is named, whatever their types (CSL 1.0.2, Appendix III:
+-- Types; Appendix IV: Variables).
 use Rattle.std.specs.Prelude.{◌≡◌, true, List, [], ◌∷◌}
 use Rattle.lit_model.specs.declared.text.LongShortForm.{LongShortForm}
 use Rattle.csl_style.specs.Named.{Asked, a_variable, a_kind, NamedSet}

@@ -1,4 +1,5 @@
--- What an entry answers (CSL 1.0.2, Appendix III: Types; Appendix IV: Variables), without where the answers lie in memory.
+-- What an entry answers (CSL 1.0.2, Appendix III: Types; Appendix IV: Variables), without where the
+-- answers lie in memory.
 -- Its key and its language stand apart: they are no answers.
 use Rattle.std.specs.Prelude.{Bool, List, Option}
 use Rattle.std.specs.Cow.{cow_value}

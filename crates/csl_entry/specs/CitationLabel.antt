@@ -22,7 +22,8 @@ use Rattle.csl_entry.specs.EntryDate.{issued, visit_date}
 abbrev pub first_letters : ℕ → List ℕ → List ℕ
 first_letters n text = concat (take n (graphemes true text))
 
--- one creator: the first n letters of the name; two or three: the first letter of each; more: the first n letters of the first name, and `+`; none: the first n letters of another text
+-- one creator: the first n letters of the name; two or three: the first letter of each; more: the
+-- first n letters of the first name, and `+`; none: the first n letters of another text
 abbrev pub creators_part : ℕ → List ℕ → List Named → List ℕ
 creators_part n other [] = first_letters n other
 creators_part n other (p ∷ []) = first_letters n p.name
@@ -34,7 +35,8 @@ creators_part n other (p ∷ q ∷ r ∷ s ∷ more) = first_letters n p.name ++
 abbrev pub alphabetic : List ℕ → List ℕ
 alphabetic key = encode_utf8_all (filter is_alphabetic (chars key))
 
--- what stands in for the creators: the organization, else the title, both in full; else the letters of the key
+-- what stands in for the creators: the organization, else the title, both in full; else the letters
+-- of the key
 abbrev pub stand_in_of : Option FormatString → Option FormatString → List ℕ → List ℕ
 stand_in_of (Some organization) title key = text_of (chunks organization.value)
 stand_in_of None (Some title) key = text_of (chunks title.value)

@@ -1,4 +1,5 @@
--- What a citation says of a cite beside its entry, without where it lies in memory (CSL 1.0.2, Choose: position; Locators;
+-- What a citation says of a cite beside its entry, without where it lies in memory (CSL 1.0.2,
+-- Choose: position; Locators;
 -- Appendix IV: Number Variables; Disambiguation).
 use Rattle.std.specs.Prelude.{ℕ, Bool, List, None, Option, false, option_map, true}
 use Rattle.csl_style.specs.declared.taxonomy.Locator.{Locator}

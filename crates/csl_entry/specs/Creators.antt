@@ -1,4 +1,5 @@
--- The creators of a work, by whom its label is made (CSL 1.0.2, Appendix IV: Standard Variables, citation-label).
+-- The creators of a work, by whom its label is made (CSL 1.0.2, Appendix IV: Standard Variables,
+-- citation-label).
 use Rattle.std.specs.Prelude.{List, [], ◌∷◌, ◌++◌, map, Option, Some, None, Vec, if◌then◌else◌}
 use Rattle.std.specs.declared.alloc.Global.{Global}
 use Rattle.lit_model.specs.declared.entry.Entry.{Entry, out-Entry}
@@ -25,7 +26,8 @@ or_else (p ∷ ps) others = p ∷ ps
 abbrev pub series : List Rule
 series = record { own = Video ∷ []; fields = Issue ∷ Volume ∷ []; parent = Some (Video ∷ []); bind = Parent } ∷ []
 
--- of an episode of a series: directors and then writers, or else the series' executive producers; of another video: directors, or else executive producers
+-- of an episode of a series: directors and then writers, or else the series' executive producers;
+-- of another video: directors, or else executive producers
 abbrev pub video_makers : Entry → Option Entry → List Person
 video_makers e (Some s) = or_else (in_role Director e ++ in_role Writer e) (in_role ExecutiveProducer s)
 video_makers e None = or_else (in_role Director e) (in_role ExecutiveProducer e)

@@ -1,4 +1,5 @@
--- The kinds of an entry (CSL 1.0.2, Appendix III: Types): how its own type, and the types of the works that
+-- The kinds of an entry (CSL 1.0.2, Appendix III: Types): how its own type, and the types of the
+-- works that
 -- it is directly a part of, make it of a kind. It may be of several kinds, or of none.
 use Rattle.std.specs.Prelude.{◌≡◌, Bool, false, not, ◌&&◌, ◌||◌, ◌==◌, List, [], ◌∷◌, length, map, filter, is_some}
 use Rattle.std.specs.List.{list_any}
@@ -12,7 +13,8 @@ use Rattle.lit_model.specs.Work.{Own, works}
 use Rattle.csl_style.specs.declared.taxonomy.Kind.{Kind}
 use Rattle.csl_style.specs.declared.taxonomy.Kind.TheVariants as kind
 
--- what tells the kinds of an entry: its own type, the types of the works that it is directly a part of, and whether it has a publisher and an address
+-- what tells the kinds of an entry: its own type, the types of the works that it is directly a part
+-- of, and whether it has a publisher and an address
 pub record Typing : Type 0 where
   pub own : EntryType
   pub parents : List EntryType
@@ -102,7 +104,8 @@ is_blog_post y = stands_in (Blog ∷ []) y
 abbrev pub is_post : Typing → Bool
 is_post y = is_a Post y || stands_in (Thread ∷ []) y
 
--- a site, a blog or a thread, anything in a site or a blog, and what is of no type of its own but has an address
+-- a site, a blog or a thread, anything in a site or a blog, and what is of no type of its own but
+-- has an address
 abbrev pub is_online : Typing → Bool
 is_online y =
     (is_a Misc y && y.has_address)

@@ -1,4 +1,5 @@
--- What an entry answers to the standard variables (CSL 1.0.2, Appendix IV: Variables, Standard Variables).
+-- What an entry answers to the standard variables (CSL 1.0.2, Appendix IV: Variables, Standard
+-- Variables).
 use Rattle.std.specs.Prelude.{ℕ, List, [], ◌∷◌, Option, Some, None, option_map, option_and_then, string_bytes, codes}
 use Rattle.csl_style.specs.declared.taxonomy.StandardVariable.{StandardVariable}
 use Rattle.csl_style.specs.declared.taxonomy.StandardVariable.TheVariants as var

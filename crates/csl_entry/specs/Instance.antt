@@ -1,4 +1,5 @@
--- What a cite answers to a variable: the citation answers four of them, the entry all the others (CSL 1.0.2, Appendix IV:
+-- What a cite answers to a variable: the citation answers four of them, the entry all the others
+-- (CSL 1.0.2, Appendix IV:
 -- Variables; Locators; Disambiguation: disambiguate-add-year-suffix).
 use Rattle.std.specs.Prelude.{◌≡◌, ℕ, false, ◌+◌, List, Option, Some, None, option_map, pos}
 use Rattle.csl_style.specs.declared.taxonomy.NumberVariable.{NumberVariable}
@@ -50,7 +51,8 @@ instance_of answers cite = record {
 abbrev pub plain_number : ℕ → ResultView
 plain_number n = regular (typed (record { value = one (pos n); prefix = None; suffix = None }))
 
--- what a locator answers: the number that its text stands for, or else the text; what the caller writes for the cite of that index
+-- what a locator answers: the number that its text stands for, or else the text; what the caller
+-- writes for the cite of that index
 abbrev pub locator_answer : ℕ → Payload → ResultView
 locator_answer index (printed bytes) = regular (numeric_or_text bytes)
 locator_answer index left_open = transparent index
@@ -88,7 +90,8 @@ look_names i v = i.answers.names v
 abbrev pub look_date : Instance → DateVariable → Option Parts
 look_date i v = i.answers.dates v
 
--- ---- on what a look depends: on the citation, and on that one answer where the variable is not the citation's
+-- ---- on what a look depends: on the citation, and on that one answer where the variable is not
+-- the citation's
 
 abbrev pub NumberAlike : Instance → Instance → NumberVariable → Type 0
 NumberAlike i j v = is_of_citation (variable.Number v) ≡ false → i.answers.numbers v ≡ j.answers.numbers v

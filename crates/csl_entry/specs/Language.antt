@@ -1,4 +1,5 @@
--- The language of an entry (CSL 1.0.2, Appendix IV: Standard Variables, language; Title Case Conversion).
+-- The language of an entry (CSL 1.0.2, Appendix IV: Standard Variables, language; Title Case
+-- Conversion).
 use Rattle.std.specs.Prelude.{ℕ, Bool, List, [], ◌++◌, Option, Some, None, option_map, codes, bytes_eq}
 use Rattle.lit_model.specs.declared.entry.Entry.{Entry, out-Entry}
 use Rattle.lit_model.specs.Source.{Language, language_of}

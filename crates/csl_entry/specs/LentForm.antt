@@ -30,6 +30,7 @@ lends_list s i r = Lends properties.the_row list_row s r (λ v. record s.now { n
 abbrev pub lends_shown : MutBor FormList → ℕ → MutBor DisambiguatedNameForm → Fml
 lends_shown s i r = Lends list_row form.the_row s r (λ w. with_item s.now i (Some w))
 
--- the properties end with the last form behind r in the place that was lent, and nothing else changes
+-- the properties end with the last form behind r in the place that was lent, and nothing else
+-- changes
 abbrev pub lends_form : MutBor NameDisambiguationProperties → ℕ → Option (MutBor DisambiguatedNameForm) → Fml
 lends_form s i r = LendsSo properties.the_row form.the_row s r (λ n w. OnSome r (name_properties n ≡ with_form i (name_properties s.now) w)) (λ n. name_properties n ≡ name_properties s.now)

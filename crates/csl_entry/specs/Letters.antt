@@ -1,4 +1,5 @@
--- The letters of a year suffix (CSL 1.0.2, Disambiguation: disambiguate-add-year-suffix): the words over
+-- The letters of a year suffix (CSL 1.0.2, Disambiguation: disambiguate-add-year-suffix): the words
+-- over
 -- a to z, by length and then by alphabet.
 use Rattle.std.specs.Prelude.{ℕ, zero, suc, reverse, if◌then◌else◌, ◌==◌, ◌+◌, ◌-◌, ◌*◌, ◌^◌, ◌<◌, ◌≤◌, ◌≡◌, ◌⊎◌, List, [], ◌∷◌, length}
 

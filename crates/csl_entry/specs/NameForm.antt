@@ -22,7 +22,8 @@ shows_given_name ShortFull = false
 shows_given_name LongInitialized = true
 shows_given_name LongFull = true
 
--- the form that shows more of the name, where there is one; a full given name is shown only where it may be
+-- the form that shows more of the name, where there is one; a full given name is shown only where
+-- it may be
 abbrev pub fuller_form : Bool → DisambiguatedNameForm → Option DisambiguatedNameForm
 fuller_form full Count = None
 fuller_form full ShortInitialized = Some LongInitialized
@@ -34,7 +35,8 @@ fuller_form full LongFull = None
 abbrev pub form_cmp : DisambiguatedNameForm → DisambiguatedNameForm → Ordering
 form_cmp a b = nat_cmp (form_place a) (form_place b)
 
--- the form that tells a name further apart from others, where there is one: an absent name is shown in the default form
+-- the form that tells a name further apart from others, where there is one: an absent name is shown
+-- in the default form
 abbrev pub further_form : DisambiguatedNameForm → Option DisambiguatedNameForm → Option DisambiguatedNameForm
 further_form default None = Some default
 further_form default (Some form) = fuller_form true form

@@ -1,4 +1,5 @@
--- In which forms the names of a cite are shown (CSL 1.0.2, Disambiguation: disambiguate-add-names, disambiguate-add-givenname).
+-- In which forms the names of a cite are shown (CSL 1.0.2, Disambiguation: disambiguate-add-names,
+-- disambiguate-add-givenname).
 use Rattle.std.specs.Prelude.{ℕ, ◌+◌, ◌-◌, ◌<◌, List, [], ◌∷◌, ◌++◌, length, take, drop, map, count_by, position, ◌==◌, nat_lt, nat_le, Option, Some, None, is_some, IsSomeAnd, unwrap_or, slice_get, slice_set, slice_index_or, option_and_then, All, if◌then◌else◌}
 use Rattle.std.specs.List.{flat_map, sum_by, enumerate_from}
 use Rattle.std.specs.Option.{option_cmp, option_map, option_map_or, ForSome}
@@ -16,7 +17,8 @@ use Rattle.csl_entry.specs.NameForm.{form_cmp, told_apart}
 abbrev pub Forms : Type 0
 Forms = List (Option DisambiguatedNameForm)
 
--- the form of a name that comes to be shown, the variables, and for each list of names the form of each name, where it is shown
+-- the form of a name that comes to be shown, the variables, and for each list of names the form of
+-- each name, where it is shown
 pub record NameProperties : Type 0 where
   pub default_form : DisambiguatedNameForm
   pub variables : List NameVariable
@@ -84,7 +86,8 @@ with_told_apart variable places p = record p {
 abbrev pub shown_count : NameProperties → ℕ
 shown_count p = sum_by (count_by is_some) p.lists
 
--- lists of forms by the first place at which they differ; an absent form stands first, and a list before a longer one
+-- lists of forms by the first place at which they differ; an absent form stands first, and a list
+-- before a longer one
 abbrev pub forms_cmp : Forms → Forms → Ordering
 forms_cmp = slice_cmp (option_cmp form_cmp)
 
@@ -112,7 +115,8 @@ with_form_at i form (forms ∷ lists) =
 abbrev pub with_form : ℕ → NameProperties → DisambiguatedNameForm → NameProperties
 with_form i p form = if is_some (form_at i p) then record p { lists = with_form_at i form p.lists } else record p { default_form = form }
 
--- the list in which the i-th of all forms stands, and its place there, where it is not absent; lists are counted from n on
+-- the list in which the i-th of all forms stands, and its place there, where it is not absent;
+-- lists are counted from n on
 abbrev pub shown_from : ℕ → ℕ → List Forms → Option (ℕ × ℕ)
 shown_from n i [] = None
 shown_from n i (forms ∷ lists) =

@@ -1,4 +1,5 @@
--- What a cite answers to a number variable (CSL 1.0.2, Number Variables), without where it lies in memory, and how two such answers stand in order (CSL 1.0.2, Sorting).
+-- What a cite answers to a number variable (CSL 1.0.2, Number Variables), without where it lies in
+-- memory, and how two such answers stand in order (CSL 1.0.2, Sorting).
 use Rattle.std.specs.Prelude.{◌≡◌, ℕ, List, Bool, true, false, IsTrue}
 use Rattle.std.specs.Cmp.Lexicographic.{slice_cmp}
 use Rattle.std.specs.Option.{option_cmp}
@@ -47,7 +48,8 @@ number_or_page_view (Page pages) = page (maybe_view pages_view pages)
 abbrev pub text_order : List ℕ → List ℕ → Ordering
 text_order s t = slice_cmp nat_cmp s t
 
--- numbers by the list of them, then by what stands before it, then by what stands after it; an absent text stands before one that is present, and what separates the numbers counts for nothing
+-- numbers by the list of them, then by what stands before it, then by what stands after it; an
+-- absent text stands before one that is present, and what separates the numbers counts for nothing
 abbrev pub numeric_order : NumericView → NumericView → Ordering
 numeric_order v w = ordering_then (slice_cmp int_cmp (numbers v.value) (numbers w.value))
     (ordering_then (option_cmp text_order v.prefix w.prefix) (option_cmp text_order v.suffix w.suffix))
@@ -66,7 +68,8 @@ csl_order (regular x) (transparent j) = Less
 csl_order (transparent i) (regular y) = Greater
 csl_order (transparent i) (transparent j) = nat_cmp i j
 
--- The laws of an order: swapping two values reverses it, and what stands before a third value through a second stands before it. Two values may stand at one place.
+-- The laws of an order: swapping two values reverses it, and what stands before a third value
+-- through a second stands before it. Two values may stand at one place.
 pub record IsOrder {X : Type 0} (order : X → X → Ordering) : Type 0 where
   pub swapped : (a b : X) → order b a ≡ ordering_reverse (order a b)
   pub chained : (a b c : X) → IsTrue (is_le (order a b)) → IsTrue (is_le (order b c)) → IsTrue (is_le (order a c))

@@ -1,4 +1,5 @@
--- The numbers of citations and of notes (CSL 1.0.2, Appendix IV: Number Variables). Each is an i32 when
+-- The numbers of citations and of notes (CSL 1.0.2, Appendix IV: Number Variables). Each is an i32
+-- when
 -- it is printed; a citation's is printed one higher, since it counts from 0.
 use Rattle.std.specs.Prelude.{ℕ, ◌≤◌}
 use Rattle.csl_entry.specs.declared.numbers.CitationNumber.{CitationNumber}

@@ -1,4 +1,5 @@
--- What an answer to a number or page variable prints (CSL 1.0.2, Text: variable; Number; Number Variables).
+-- What an answer to a number or page variable prints (CSL 1.0.2, Text: variable; Number; Number
+-- Variables).
 use Rattle.std.specs.Prelude.{ℕ, List, Option, None, option_map, string_bytes}
 use Rattle.lit_model.specs.declared.numeric.GrammarGender.{GrammarGender}
 use Rattle.lit_model.specs.declared.numeric.NumberForm.{NumberForm}

@@ -1,4 +1,5 @@
--- What stands around the body of a node that has no quotes (CSL 1.0.2, Formatting, Affixes, Display, Strip-periods).
+-- What stands around the body of a node that has no quotes (CSL 1.0.2, Formatting, Affixes,
+-- Display, Strip-periods).
 use Rattle.std.specs.Prelude.{Bool, ◌||◌, List, Some}
 use Rattle.csl_style.specs.Dressing.{Dressing}
 use Rattle.csl_tree.specs.Content.{boxed}

@@ -1,4 +1,5 @@
--- Conditions (CSL 1.0.2, Choose): what the tests of a branch answer, how a match takes them together, and which nodes are chosen.
+-- Conditions (CSL 1.0.2, Choose): what the tests of a branch answer, how a match takes them
+-- together, and which nodes are chosen.
 -- Each look is silent, and in the long form.
 use Rattle.std.specs.Prelude.{Bool, true, false, not, ◌==◌, List, [], ◌∷◌, ◌++◌, map, length, Option, Some, None, is_some, chars, if◌then◌else◌}
 use Rattle.std.specs.List.{list_all, list_any}

@@ -87,7 +87,8 @@ abbrev pub behind_first : (Bool → Bool) → List Bool → List Bool
 behind_first p [] = []
 behind_first p (b ∷ bs) = if p b then bs else behind_first p bs
 
--- A match reads up to the condition that decides it: for All the first that does not hold, for Any and None the first that does.
+-- A match reads up to the condition that decides it: for All the first that does not hold, for Any
+-- and None the first that does.
 abbrev pub behind_deciding : ChooseMatch → List Bool → List Bool
 behind_deciding matched.All bs = behind_first not bs
 behind_deciding matched.Any bs = behind_first (λ b. b) bs
@@ -102,7 +103,8 @@ abbrev pub ReadsAt : {T : Type 0} → Now T → Option Bool → Option (Result B
 ReadsAt now None r = r ≡ None
 ReadsAt now (Some b) r = MatchOption r ⊥ (λ x. MatchResult x (λ c. (now.failed ≡ false) × (c ≡ b)) (λ e. FailsSilently e now))
 
--- The first condition that is left, or an error, behind which nothing is left; none where nothing is left, and nothing from then on.
+-- The first condition that is left, or an error, behind which nothing is left; none where nothing
+-- is left, and nothing from then on.
 abbrev pub Reads : {T : Type 0} → (T → Answers) → BranchConditionIter T → Option (Result Bool RenderError) → BranchConditionIter T → Type 0
 Reads answers s r t =
     (context_of t ≡ context_of s) × MatchOption r ((conditions_left answers s ≡ []) × (conditions_left answers t ≡ []))

@@ -27,7 +27,8 @@ abbrev pub nine_places : ℤ → List ℕ
 nine_places (pos n) = with_zeros 9 (decimal n)
 nine_places (negsuc n) = hyphen_char ∷ with_zeros 8 (decimal (suc n))
 
--- The years before year 0 stand before all others. They are counted from far enough back that the later one has the larger number.
+-- The years before year 0 stand before all others. They are counted from far enough back that the
+-- later one has the larger number.
 abbrev pub year_key : ℤ → List ℕ
 year_key (pos n) = codes "P" ++ nine_places (pos n)
 year_key (negsuc n) = codes "N" ++ nine_places (pos 2147483647 +ℤ negsuc n)
@@ -43,7 +44,8 @@ place_key (Some n) = two_digits (n + 1)
 abbrev pub lists_part : List DatePartNode → DatePartName → Bool
 lists_part ps name = list_any (λ p. sameb the_type p.name name) ps
 
--- the parts that a key has: with a form those that the date itself names, whatever a locale says; else all of a variable, and of a macro
+-- the parts that a key has: with a form those that the date itself names, whatever a locale says;
+-- else all of a variable, and of a macro
 -- those that the date lists
 abbrev keyed_parts : Option DateForm → Sorting → DateNode → DatePartName → Bool
 keyed_parts (Some form) for n part = names_part (unwrap_or n.parts upto.YearMonthDay) part

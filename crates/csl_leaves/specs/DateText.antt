@@ -1,4 +1,5 @@
--- What the value of a date's part prints (CSL 1.0.2, Date; Date-part; Localized Date Formats; Ordinals; AD and BC; Seasons), before any affix.
+-- What the value of a date's part prints (CSL 1.0.2, Date; Date-part; Localized Date Formats;
+-- Ordinals; AD and BC; Seasons), before any affix.
 -- Months and days count from 0; year 0 is the year before year 1.
 use Rattle.std.specs.Prelude.{ℕ, ◌+◌, ◌%◌, suc, zero, Bool, true, false, not, ◌&&◌, ◌||◌, ◌==◌, nat_lt, List, [], ◌++◌, map, ℤ, pos, negsuc, Option, Some, None, is_some, unwrap_or, codes, decimal, if◌then◌else◌}
 use Rattle.lit_model.specs.declared.date.Season.{Season}
@@ -67,7 +68,8 @@ is_short (Some Ordinal) = false
 is_short (Some Long) = false
 is_short (Some Short) = true
 
--- a year from 1 on: in full with its era before 1000, from there on plainly or by its last two digits
+-- a year from 1 on: in full with its era before 1000, from there on plainly or by its last two
+-- digits
 abbrev pub common_year : Bool → List ℕ → ℕ → List ℕ
 common_year short ad n = if nat_lt n 1000 then decimal n ++ ad else (if short then two_digits (n % 100) else decimal n)
 

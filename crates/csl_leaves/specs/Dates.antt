@@ -1,4 +1,5 @@
--- Dates (CSL 1.0.2, Date; Date-part; Localized Date Formats; Sorting; Disambiguation: disambiguate-add-year-suffix): what a date says, shows
+-- Dates (CSL 1.0.2, Date; Date-part; Localized Date Formats; Sorting; Disambiguation:
+-- disambiguate-add-year-suffix): what a date says, shows
 -- and makes.
 use Rattle.std.specs.Prelude.{ℕ, Bool, true, false, not, ◌&&◌, List, [], ◌∷◌, ◌++◌, map, Option, Some, None, option_map, is_some, unwrap_or, find, if◌then◌else◌}
 use Rattle.std.specs.Option.{option_or}
@@ -45,8 +46,10 @@ abbrev pub is_own : Option DateVariable → Variable → Bool
 is_own None asked = false
 is_own (Some v) asked = same_variable (variable.Date v) asked
 
--- A date shows the variable that is asked for where it is its own, and where no other one alone is to be shown. Under the two forms
--- for dates and for suffixes the first date of a cite shows every variable, and no later one shows any.
+-- A date shows the variable that is asked for where it is its own, and where no other one alone is
+-- to be shown. Under the two forms
+-- for dates and for suffixes the first date of a cite shows every variable, and no later one shows
+-- any.
 abbrev pub date_shown : Option SpecialForm → Bool → Option DateVariable → Variable → Bool
 date_shown None first own asked = is_own own asked
 date_shown (Some (VarOnly only)) first own asked = is_own own asked && is_own own only
@@ -108,7 +111,8 @@ abbrev pub formatting_over : Option DatePartNode → partial.Formatting → part
 formatting_over None f = f
 formatting_over (Some own) f = over own.formatting f
 
--- The node's own part, where it has one of that name, gives the form, set or not, and its formatting over that of the localized one,
+-- The node's own part, where it has one of that name, gives the form, set or not, and its
+-- formatting over that of the localized one,
 -- whose affixes and stripping stay.
 abbrev pub part_over : List DatePartNode → DatePartNode → DatePartNode
 part_over own p = record p {
@@ -135,7 +139,8 @@ whole_formatting own (Some l) = over own l.dressing.formatting
 abbrev pub dressing_over : Dressing → Option DateNode → Dressing
 dressing_over own l = record own { formatting = whole_formatting own.formatting l }
 
--- The localized date gives the parts in order and the delimiter between them; the node its affixes and its place on the page. Which parts
+-- The localized date gives the parts in order and the delimiter between them; the node its affixes
+-- and its place on the page. Which parts
 -- are written, and the formatting, are the node's over those of the localized date.
 abbrev pub date_over : DateNode → Option DateNode → DateNode
 date_over n l = record n {

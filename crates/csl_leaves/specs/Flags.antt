@@ -53,7 +53,8 @@ either a b = info_of (a.prints || b.prints) (flags
     (a.flags.used_macro || b.flags.used_macro)
     (a.flags.non_empty_group || b.flags.non_empty_group))
 
--- what a child says as its parent counts it: its group flag says whether it is itself a group that prints
+-- what a child says as its parent counts it: its group flag says whether it is itself a group that
+-- prints
 abbrev pub counted : Bool → Info → Info
 counted is_group i = info_of i.prints (flags i.flags.called i.flags.non_empty i.flags.used_macro (is_group && i.prints))
 

@@ -101,7 +101,8 @@ is_other_number (variable.Date u) v = false
 abbrev pub unless_locator : NumberOrPageVariable → Option Bool
 unless_locator v = if is_locator v then None else Some true
 
--- what a special form says without a look: no label stands beside another number than the one alone, and any other label but that of
+-- what a special form says without a look: no label stands beside another number than the one
+-- alone, and any other label but that of
 -- a locator stays
 abbrev pub said_by_form : Option SpecialForm → NumberOrPageVariable → Option Bool
 said_by_form None v = None

@@ -26,7 +26,8 @@ use Rattle.csl_leaves.specs.Text.{Made, made, same_variable, is_left_by_only}
 
 -- ---- dry runs
 
--- A number of a variable shows the one that is asked for where it is that one, and where no other one alone is to be shown. The two
+-- A number of a variable shows the one that is asked for where it is that one, and where no other
+-- one alone is to be shown. The two
 -- forms for dates and for suffixes show each number of a locator, and no other.
 abbrev pub is_shown : Option SpecialForm → Variable → Variable → Bool
 is_shown None own asked = same_variable own asked
@@ -50,7 +51,8 @@ number_info w s n = number_said (if shows_own w n then is_some (number_or_page_l
 
 -- ---- rendering
 
--- the text by which an answer is sorted, unless it is no number and no pages: each number in four places at least, with nothing
+-- the text by which an answer is sorted, unless it is no number and no pages: each number in four
+-- places at least, with nothing
 -- around it; pages in full
 abbrev pub sort_text : NumberOrPageView → Option (List ℕ)
 sort_text (number (regular (typed n))) = Some (value_text (integer_text true) n.value)

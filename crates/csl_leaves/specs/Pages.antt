@@ -1,4 +1,5 @@
--- Pages in the format of a style (CSL 1.0.2, Terms: page-range-delimiter; Appendix V: Page Range Formats), by their bytes.
+-- Pages in the format of a style (CSL 1.0.2, Terms: page-range-delimiter; Appendix V: Page Range
+-- Formats), by their bytes.
 use Rattle.std.specs.Prelude.{ℕ, ◌-◌, min, Bool, false, ◌&&◌, ◌==◌, nat_eq, List, [], ◌∷◌, ◌++◌, length, take, drop, map, chars, encode_utf8_all, Option, Some, None, unwrap_or, codes, if◌then◌else◌}
 use Rattle.std.specs.Char.{is_ascii_digit}
 use Rattle.std.specs.List.{list_all, flat_map, common_prefix_len}
@@ -31,7 +32,8 @@ filled from to = take (length from - length to) from ++ to
 abbrev pub shortened : ℕ → List ℕ → List ℕ → List ℕ
 shortened kept from to = drop (min (common_prefix_len nat_eq from to) (length to - kept)) to
 
--- how many digits of an end a format keeps, where it drops those that repeat. No style has one of the last two.
+-- how many digits of an end a format keeps, where it drops those that repeat. No style has one of
+-- the last two.
 abbrev pub kept_digits : Option PageRangeFormat → Option ℕ
 kept_digits None = None
 kept_digits (Some Expanded) = None

@@ -1,4 +1,5 @@
--- Texts (CSL 1.0.2, Text; Affixes; Quotes; Strip-periods): what a text that calls no macro finds, says, shows and makes.
+-- Texts (CSL 1.0.2, Text; Affixes; Quotes; Strip-periods): what a text that calls no macro finds,
+-- says, shows and makes.
 use Rattle.std.specs.Prelude.{ℕ, Bool, true, false, not, ◌&&◌, ◌||◌, ◌==◌, List, [], ◌++◌, length, Option, Some, None, option_map, is_some, codes, bytes_eq, if◌then◌else◌}
 use denote.Enum.Bare.{sameb}
 use Rattle.lit_model.specs.Text.{Chunk}
@@ -92,7 +93,8 @@ shows_macro_affixes (Some SuppressAuthor) = true
 
 -- ---- what a text finds
 
--- the answer to a standard variable, the answer to one that holds a number or pages, the text of a term, the value that the style
+-- the answer to a standard variable, the answer to one that holds a number or pages, the text of a
+-- term, the value that the style
 -- gives
 pub data Found : Type 0 where
   answer : StandardVariable → List Chunk → Found

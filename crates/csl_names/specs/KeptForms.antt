@@ -1,4 +1,5 @@
--- In which forms a names node writes its names, and that they are kept for those who tell cites apart (CSL 1.0.2, Disambiguation:
+-- In which forms a names node writes its names, and that they are kept for those who tell cites
+-- apart (CSL 1.0.2, Disambiguation:
 -- disambiguate-add-names, disambiguate-add-givenname).
 use Rattle.std.specs.Prelude.{Bool, not, List, Option, Some, None, if◌then◌else◌}
 use Rattle.std.specs.Option.{unwrap_or, option_or}

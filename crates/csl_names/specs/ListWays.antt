@@ -1,4 +1,5 @@
--- How a list of names is written by a style (CSL 1.0.2, Name, Et-al): what the Name, the options and the terms of the style say.
+-- How a list of names is written by a style (CSL 1.0.2, Name, Et-al): what the Name, the options
+-- and the terms of the style say.
 use Rattle.std.specs.Prelude.{ℕ, Bool, false, List, [], Option, Some, None, codes, is_some, unwrap_or}
 use Rattle.lit_model.specs.Person.{Named}
 use Rattle.csl_style.specs.declared.names.NameAnd.{NameAnd}
@@ -15,7 +16,8 @@ use Rattle.csl_context.specs.World.{term_in}
 use Rattle.csl_names.specs.NameList.{ListHow, Forms, with_names}
 use Rattle.csl_names.specs.Ways.{name_way}
 
--- the word before the last name, where there is to be one: an ampersand, or the term, or nothing where the style lacks it
+-- the word before the last name, where there is to be one: an ampersand, or the term, or nothing
+-- where the style lacks it
 abbrev pub and_word : StyleParts → Option NameAnd → Option (List ℕ)
 and_word style None = None
 and_word style (Some Symbol) = Some (codes "&")

@@ -1,5 +1,7 @@
--- A list of names (CSL 1.0.2, Name: and, delimiter, delimiter-precedes-et-al, delimiter-precedes-last, et-al-use-last,
--- name-as-sort-order; Et-al): which names are shown, what stands before each, and what stands for those that are left out.
+-- A list of names (CSL 1.0.2, Name: and, delimiter, delimiter-precedes-et-al,
+-- delimiter-precedes-last, et-al-use-last,
+-- name-as-sort-order; Et-al): which names are shown, what stands before each, and what stands for
+-- those that are left out.
 use Rattle.std.specs.Prelude.{ℕ, ◌+◌, ◌-◌, Bool, true, false, ◌&&◌, ◌==◌, nat_lt, nat_le, min, List, [], ◌∷◌, ◌++◌, length, Option, Some, None, option_map, is_none, slice_get, codes, if◌then◌else◌}
 use Rattle.std.specs.List.{position}
 use Rattle.lit_model.specs.Person.{Named}
@@ -19,8 +21,10 @@ use Rattle.csl_names.specs.declared.list.ListStyle.{ListStyle}
 use Rattle.csl_names.specs.Piece.{Piece, word, gap, whole, with_pieces}
 use Rattle.csl_names.specs.OneName.{NameHow, name_how, name_content}
 
--- The variable; how each name is written; what stands between two names; the word before the last one, where there is to be one; when
--- a delimiter stands before that word and before `et al.`; whether the last name is kept; which names begin with the family name; the
+-- The variable; how each name is written; what stands between two names; the word before the last
+-- one, where there is to be one; when
+-- a delimiter stands before that word and before `et al.`; whether the last name is kept; which
+-- names begin with the family name; the
 -- text of `et al.`, where the style has one, and its formatting.
 pub record ListHow : Type 0 where
   pub variable : NameVariable
@@ -97,7 +101,8 @@ precedes Never order names shown = false
 abbrev pub delimiter_of : ListHow → Piece
 delimiter_of how = word how.delimiter plain
 
--- before the last name at a place: the word behind a delimiter or a space, and a gap; the delimiter, where there is no word
+-- before the last name at a place: the word behind a delimiter or a space, and a gap; the
+-- delimiter, where there is no word
 abbrev pub last_join : ListHow → ℕ → Option (List ℕ) → List Piece
 last_join how place None = delimiter_of how ∷ []
 last_join how place (Some and) =
@@ -154,7 +159,8 @@ kept_last inh how persons form (Some p) =
 abbrev pub last_form : ListHow → Forms → Option DisambiguatedNameForm
 last_form how forms = if how.use_last then form_at forms (length forms - 1) else None
 
--- behind the names, of which that at a place is the first without a form; a sort key has no `et al.`
+-- behind the names, of which that at a place is the first without a form; a sort key has no `et
+-- al.`
 abbrev pub cut_end : Inherited → ListHow → ℕ → Forms → List Named → Option DisambiguatedNameForm → List Piece
 cut_end inh how names forms persons (Some form) = kept_last inh how persons form (slice_get persons (length persons - 1))
 cut_end inh how names forms persons None = if how.name.sorting then [] else others how names (min names (length persons)) how.et_al
@@ -170,7 +176,8 @@ name_list inh how persons forms =
     names_from inh how (whole_count (first_absent forms) (length persons)) forms 0 persons
     ++ list_end inh how forms persons (first_absent forms)
 
--- a context behind one name, and behind the list: a gap of the list looks at what is written in the innermost open part
+-- a context behind one name, and behind the list: a gap of the list looks at what is written in the
+-- innermost open part
 abbrev pub with_whole : {T : Type 0} → ListHow → DisambiguatedNameForm → Bool → ℕ → Named → Now T → Now T
 with_whole how form reversed place p now = with_pieces (one_whole now.inherited how form reversed place p ∷ []) now
 

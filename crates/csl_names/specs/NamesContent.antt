@@ -1,4 +1,5 @@
--- What a names node writes of its lists (CSL 1.0.2, Names; Label in Names; Affixes; Display; Name: form).
+-- What a names node writes of its lists (CSL 1.0.2, Names; Label in Names; Affixes; Display; Name:
+-- form).
 use Rattle.std.specs.Prelude.{ℕ, ◌+◌, Bool, true, false, not, ◌&&◌, ◌||◌, ◌==◌, List, [], ◌∷◌, length, Option, Some, None, slice_get, decimal, if◌then◌else◌}
 use Rattle.std.specs.Option.{unwrap_or, option_or}
 use Rattle.lit_model.specs.Person.{Named}
@@ -64,7 +65,8 @@ in_label l inh = record (under l.formatting inh) { stripping = l.strip_periods |
 abbrev pub label_content : LabelNode → List ℕ → Inherited → List Token
 label_content l term inh = affixed_in (under l.formatting inh) l.affixes (text_in (in_label l inh) term)
 
--- the term of the label of a list: that of its variable, in the plural where there is not one person
+-- the term of the label of a list: that of its variable, in the plural where there is not one
+-- person
 abbrev pub list_term : StyleParts → LabelNode → NameVariable → ℕ → Option (List ℕ)
 list_term style l v count = term_in style (terms.Name v) l.form (not (count == 1))
 
@@ -137,7 +139,8 @@ written_by Long style sorting cite vs how ls inh = with_lists style sorting how 
 abbrev pub lists_meta : Lists → Option Meta
 lists_meta ls = Some (of_names ls)
 
--- the box of a names node that has persons, around the affixed lists, in a style and a cite, for a sort key or not
+-- the box of a names node that has persons, around the affixed lists, in a style and a cite, for a
+-- sort key or not
 abbrev pub names_content : StyleParts → Bool → CiteState → NamesNode → Lists → Inherited → List Token
 names_content style sorting cite n ls inh = boxed n.dressing.display (lists_meta ls)
     (affixed_in (inside n.dressing inh) n.dressing.affixes

@@ -1,4 +1,5 @@
--- In which form each name of a names node is written, which are left out, and when none is written (CSL 1.0.2, Name: form,
+-- In which form each name of a names node is written, which are left out, and when none is written
+-- (CSL 1.0.2, Name: form,
 -- initialize, et-al-min and those after it).
 use Rattle.std.specs.Prelude.{ℕ, ◌+◌, Bool, false, not, ◌&&◌, ◌||◌, ◌==◌, nat_le, min, List, [], ◌∷◌, map, length, count_by, Option, Some, None, is_some, if◌then◌else◌}
 use Rattle.std.specs.List.{list_all, range_with_len}
@@ -26,7 +27,8 @@ form_by Long initialized = if initialized then forms.LongInitialized else forms.
 abbrev pub default_form : UsedOptions → DisambiguatedNameForm
 default_form o = form_by o.form (is_initialized o)
 
--- the form of the name at a place of a list so long, in a first or in a later cite; a name that is left out has none
+-- the form of the name at a place of a list so long, in a first or in a later cite; a name that is
+-- left out has none
 abbrev pub form_in : UsedOptions → Bool → ℕ → ℕ → Option DisambiguatedNameForm
 form_in o later len place = if is_suppressed o place len later then None else Some (default_form o)
 

@@ -1,4 +1,5 @@
--- The lists of persons of a names node, one for each of its variables (CSL 1.0.2, Names; Name Variables: editortranslator).
+-- The lists of persons of a names node, one for each of its variables (CSL 1.0.2, Names; Name
+-- Variables: editortranslator).
 use Rattle.std.specs.Prelude.{Bool, true, false, ◌&&◌, ◌||◌, List, [], ◌∷◌, is_some, if◌then◌else◌}
 use Rattle.std.specs.List.{list_all}
 use Rattle.std.specs.Cmp.Lexicographic.{pointwise}

@@ -1,4 +1,5 @@
--- One name: its texts and gaps (CSL 1.0.2, Name; Name-part; name-as-sort-order; demote-non-dropping-particle; initialize-with;
+-- One name: its texts and gaps (CSL 1.0.2, Name; Name-part; name-as-sort-order;
+-- demote-non-dropping-particle; initialize-with;
 -- sort-separator).
 use Rattle.std.specs.Prelude.{ℕ, Bool, true, false, ◌||◌, List, [], ◌∷◌, ◌++◌, Option, Some, None, option_map, if◌then◌else◌}
 use Rattle.lit_model.specs.Person.{Named}
@@ -30,7 +31,8 @@ part_how p = record {
   affixes = record { prefix = option_map (λ t. t.now) p.prefix; suffix = option_map (λ t. t.now) p.suffix };
 }
 
--- The two parts; what stands behind a family name that comes first; what follows an initial, where given names are cut down;
+-- The two parts; what stands behind a family name that comes first; what follows an initial, where
+-- given names are cut down;
 -- whether initials keep a hyphen; whether a particle goes behind; whether a sort key is made.
 pub record NameHow : Type 0 where
   pub given : PartHow

@@ -1,4 +1,5 @@
--- A text that is read from the left: its texts, the gaps between them, and contents that stand as they are (CSL 1.0.2, Name).
+-- A text that is read from the left: its texts, the gaps between them, and contents that stand as
+-- they are (CSL 1.0.2, Name).
 use Rattle.std.specs.Prelude.{ℕ, List, [], ◌∷◌, Option, Some, None}
 use Rattle.csl_style.specs.declared.formatting.Formatting as partial
 use Rattle.csl_tree.specs.Formatting.{over}

@@ -1,4 +1,5 @@
--- How a name is written by a style: what a Name, the options of names, the style's settings and sorting say (CSL 1.0.2, Name;
+-- How a name is written by a style: what a Name, the options of names, the style's settings and
+-- sorting say (CSL 1.0.2, Name;
 -- Name-part; demote-non-dropping-particle; initialize-with-hyphen).
 use Rattle.std.specs.Prelude.{Bool, true, false, Option, Some, None, is_some}
 use Rattle.lit_model.specs.Person.{Named}

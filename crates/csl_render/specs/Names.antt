@@ -1,4 +1,5 @@
--- Names (CSL 1.0.2, Names; Substitute; Label in Names; Name: et-al-min and those after it): what a names node says, shows and makes.
+-- Names (CSL 1.0.2, Names; Substitute; Label in Names; Name: et-al-min and those after it): what a
+-- names node says, shows and makes.
 use Rattle.std.specs.Prelude.{ℕ, Bool, true, false, not, ◌&&◌, ◌||◌, List, [], Option, Some, None, is_some, if◌then◌else◌}
 use Rattle.std.specs.List.{list_any}
 use denote.Enum.Bare.{sameb}
@@ -72,14 +73,16 @@ substitutes_it v (instead fs is) = any_names_it v fs
 abbrev pub insteads_of : (List ℕ → Option Fulls) → Names → Insteads
 insteads_of env n = fill_substitutes env (names_node n) (names_substitutes n)
 
--- a node as it stands in the substitute of another one, where that is a names node without children; else as it stands elsewhere
+-- a node as it stands in the substitute of another one, where that is a names node without
+-- children; else as it stands elsewhere
 abbrev pub standing_in : NamesNode → Full → Option NamesNode → Full
 standing_in original f None = f
 standing_in original f (Some own) = shorthand own (in_place_of original own)
 
 -- ---- special forms
 
--- Where one variable alone is to be shown, names of another one are refused; where there are no persons, those of the substitute count.
+-- Where one variable alone is to be shown, names of another one are refused; where there are no
+-- persons, those of the substitute count.
 abbrev pub refuses_alone : Variable → NamesNode → Bool → Insteads → Bool
 refuses_alone (variable.Standard v) n empty is = true
 refuses_alone (variable.Number v) n empty is = true
@@ -120,7 +123,8 @@ in_substitute n inh = record (within n.dressing.formatting inh) { options = opti
 abbrev pub suppressing_from : State → State
 suppressing_from s = record s { suppressing = true }
 
--- the substitute's content in the node's box; from then on looks suppress their variable as they did before
+-- the substitute's content in the node's box; from then on looks suppress their variable as they
+-- did before
 abbrev pub substitute_made : NamesNode → Lists → Made → State → Made
 substitute_made n ls m s = made (boxed n.dressing.display (lists_meta ls) m.content) (record m.state { suppressing = s.suppressing })
 

@@ -1,4 +1,5 @@
--- What a layout makes of a cite, whatever its entry, that begins with what another rendering left (CSL 1.0.2, Layout).
+-- What a layout makes of a cite, whatever its entry, that begins with what another rendering left
+-- (CSL 1.0.2, Layout).
 use Rattle.std.specs.Prelude.{◌≡◌, ℕ, List, Option}
 use Rattle.csl_style.specs.declared.element.Layout.{Layout}
 use Rattle.csl_style.specs.declared.style.settings.Scope.{Scope}

@@ -1,4 +1,5 @@
--- What a node says in a dry run, what it shows, and what it makes (CSL 1.0.2, Rendering Elements; Group; Layout; Macro; Choose; Names).
+-- What a node says in a dry run, what it shows, and what it makes (CSL 1.0.2, Rendering Elements;
+-- Group; Layout; Macro; Choose; Names).
 use Rattle.std.specs.Prelude.{ℕ, Bool, true, false, ◌||◌, List, [], Option, Some, None, if◌then◌else◌}
 use Rattle.csl_style.specs.declared.taxonomy.Variable.{Variable}
 use Rattle.csl_style.specs.Dressing.{AffixTexts, Dressing, TextDressing}

@@ -1,4 +1,5 @@
--- Which places of a style's macros are called, each as often as it is: the graph in which cycles are searched.
+-- Which places of a style's macros are called, each as often as it is: the graph in which cycles
+-- are searched.
 use Rattle.std.specs.Prelude.{◌≡◌, ℕ, zero, suc, ◌<◌, List, [], ◌∷◌, ◌++◌, length}
 use Rattle.std.specs.Option.{option_to_list}
 use Rattle.csl_style.specs.Reaches.{Graph, row_at}

@@ -1,4 +1,5 @@
--- What stands around the text that a node prints (CSL 1.0.2, Formatting, Affixes, Display, Quotes, Strip-periods), as data.
+-- What stands around the text that a node prints (CSL 1.0.2, Formatting, Affixes, Display, Quotes,
+-- Strip-periods), as data.
 use Rattle.std.specs.Prelude.{ℕ, Bool, List, Option, option_map, String, string_bytes}
 use Rattle.std.specs.Option.{option_or}
 use Rattle.std.specs.declared.alloc.Global.{Global}
@@ -31,7 +32,8 @@ pub record TextDressing : Type 0 where
   pub quotes : Bool
   pub strip_periods : Bool
 
--- what is set, else what the other has, of a formatting and of affixes; the place on the page is its own
+-- what is set, else what the other has, of a formatting and of affixes; the place on the page is
+-- its own
 abbrev pub dressing_over : Dressing → Dressing → Dressing
 dressing_over d base = record {
   formatting = over d.formatting base.formatting;

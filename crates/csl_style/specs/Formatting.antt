@@ -1,4 +1,5 @@
--- One formatting over another (CSL 1.0.2, Formatting): each attribute that is set, else that of the base.
+-- One formatting over another (CSL 1.0.2, Formatting): each attribute that is set, else that of the
+-- base.
 use Rattle.std.specs.Option.{option_or}
 use Rattle.csl_style.specs.declared.formatting.Formatting.{Formatting}
 

@@ -1,4 +1,5 @@
--- Which macros lead to which (CSL 1.0.2, Macro): by the names that the first macro of a name calls, in its groups, in each branch of a
+-- Which macros lead to which (CSL 1.0.2, Macro): by the names that the first macro of a name calls,
+-- in its groups, in each branch of a
 -- choose and where none is chosen, and in each substitute of names.
 use Rattle.std.specs.Prelude.{◌≡◌, ℕ, List, Option, Some, None, ◌⊎◌}
 use Rattle.csl_style.specs.Node.{Node, text, call, number, label, date, names, choose, group, Nodes, no_nodes, node, Branches, no_branches, otherwise, branch, Substitutes, no_substitutes, substitute}

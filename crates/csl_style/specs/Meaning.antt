@@ -1,4 +1,5 @@
--- What a macro's name stands for (CSL 1.0.2, Macro): what the first macro of that name holds, with each name in it followed too.
+-- What a macro's name stands for (CSL 1.0.2, Macro): what the first macro of that name holds, with
+-- each name in it followed too.
 use Rattle.std.specs.Prelude.{◌≡◌, ℕ, zero, suc, nat_lt, Bool, true, ◌&&◌, List, [], ◌∷◌, length, slice_index, Option, Some, None, option_map, if◌then◌else◌}
 use Rattle.std.specs.Str.{bytes_eq}
 use Rattle.csl_style.specs.Node.{Node, text, call, number, label, date, names, choose, group, Nodes, no_nodes, node, Branches, no_branches, otherwise, branch, Substitutes, no_substitutes, substitute, Fulls, fills}
@@ -61,7 +62,8 @@ abbrev pub body_below : (List ℕ → Option ℕ) → ℕ → Option Nodes → B
 body_below rank r None = true
 body_below rank r (Some ns) = all_below rank r ns
 
--- Ranks: a number for each place of the list, below their count. The first macro of each name calls only first macros of lower rank,
+-- Ranks: a number for each place of the list, below their count. The first macro of each name calls
+-- only first macros of lower rank,
 -- or names that the style lacks.
 pub record AreRanks (ds : List Definition) (ranks : List ℕ) : Type 0 where
   pub each : length ranks ≡ length ds

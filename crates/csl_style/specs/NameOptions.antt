@@ -1,4 +1,5 @@
--- The options of names: which count, and which names they leave out (CSL 1.0.2, Inheritable Name Options; Name: et-al-min and those after it).
+-- The options of names: which count, and which names they leave out (CSL 1.0.2, Inheritable Name
+-- Options; Name: et-al-min and those after it).
 use Rattle.std.specs.Prelude.{ℕ, ◌+◌, Bool, true, false, not, ◌&&◌, ◌==◌, nat_le, List, [], Option, Some, None, option_map, unwrap_or, string_bytes, codes, if◌then◌else◌}
 use Rattle.std.specs.Option.{option_or}
 use Rattle.csl_style.specs.declared.names.NameForm.{NameForm}

@@ -1,4 +1,5 @@
--- What a style names of an entry: the variables and kinds that are written in it (CSL 1.0.2, Rendering Elements; Choose; Substitute).
+-- What a style names of an entry: the variables and kinds that are written in it (CSL 1.0.2,
+-- Rendering Elements; Choose; Substitute).
 -- A set is a function that says what is in it.
 use Rattle.std.specs.Prelude.{ℕ, Bool, false, not, ◌&&◌, ◌||◌, List, [], ◌∷◌, Option, Some, None}
 use Rattle.std.specs.BTreeMap.{is_at}

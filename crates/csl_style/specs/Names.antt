@@ -1,4 +1,5 @@
--- How a names node writes its persons (CSL 1.0.2, Names, Name, Et-al, Label, Substitute, Inheritable Name Options), as data.
+-- How a names node writes its persons (CSL 1.0.2, Names, Name, Et-al, Label, Substitute,
+-- Inheritable Name Options), as data.
 use Rattle.std.specs.Prelude.{ℕ, Bool, List, [], ◌∷◌, map, Option, Some, None}
 use Rattle.std.specs.Option.{option_or}
 use Rattle.csl_style.specs.declared.formatting.Formatting.{Formatting}
@@ -59,7 +60,8 @@ pub record NamesLabel : Type 0 where
   pub label : LabelNode
   pub is_behind : Bool
 
--- A names node but its substitutes. It may hold several name children: the first one writes the names.
+-- A names node but its substitutes. It may hold several name children: the first one writes the
+-- names.
 pub record NamesNode : Type 0 where
   pub variables : List NameVariable
   pub options : SetOptions
@@ -76,8 +78,10 @@ first_of (x ∷ xs) = Some x
 abbrev pub first_name : NamesNode → Option NameNode
 first_name n = first_of n.name_children
 
--- A names node without children in a substitute, under the node that it stands in for: it has that node's name, et al. and label,
--- its own variables and place on the page, and all else field by field from itself, else from that node.
+-- A names node without children in a substitute, under the node that it stands in for: it has that
+-- node's name, et al. and label,
+-- its own variables and place on the page, and all else field by field from itself, else from that
+-- node.
 abbrev pub in_place_of : NamesNode → NamesNode → NamesNode
 in_place_of original own = record {
   variables = own.variables;

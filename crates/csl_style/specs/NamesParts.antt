@@ -1,4 +1,5 @@
--- The parts of a names node (CSL 1.0.2, Names, Name, Et-al, Label, Substitute): its own, and those of the node that it stands in for.
+-- The parts of a names node (CSL 1.0.2, Names, Name, Et-al, Label, Substitute): its own, and those
+-- of the node that it stands in for.
 use Rattle.std.specs.Prelude.{ℕ, Bool, false, List, [], ◌∷◌, map, Option, Some, None, option_map, find}
 use denote.Bor.{Bor}
 use denote.Enum.Bare.{sameb}

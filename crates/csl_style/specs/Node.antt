@@ -1,4 +1,5 @@
--- The nodes of a style (CSL 1.0.2, Rendering Elements) as data, in two forms: as they are written, and with what each macro holds
+-- The nodes of a style (CSL 1.0.2, Rendering Elements) as data, in two forms: as they are written,
+-- and with what each macro holds
 -- in the place of its name.
 use Rattle.std.specs.Prelude.{ℕ, ◌+◌, suc, Bool, true, false, ◌&&◌, is_none, List, [], ◌∷◌, Option, Some, None, if◌then◌else◌}
 use Rattle.lit_model.specs.declared.text.LongShortForm.{LongShortForm}
@@ -187,7 +188,8 @@ abbrev mutual
 abbrev pub fill_layout : (List ℕ → Option Fulls) → LayoutNode → FullLayout
 fill_layout env l = record { delimiter = l.delimiter; formatting = l.formatting; elements = fills env l.elements }
 
--- A count of what is inside, by which a recursion falls. A names node without children counts alike in a substitute and elsewhere.
+-- A count of what is inside, by which a recursion falls. A names node without children counts alike
+-- in a substitute and elsewhere.
 abbrev mutual
   pub size : Full → ℕ
   size (printed t d) = 0

@@ -5,7 +5,8 @@ use Rattle.csl_style.specs.declared.taxonomy.Variable.TheVariants as variable
 use Rattle.csl_style.specs.declared.taxonomy.NumberVariable.TheVariants.{CitationNumber, FirstReferenceNoteNumber, Locator}
 use Rattle.csl_style.specs.declared.taxonomy.StandardVariable.TheVariants.{YearSuffix}
 
--- the number of the entry in the list, the note that cites it first, the place that is cited, and what tells entries of a year apart
+-- the number of the entry in the list, the note that cites it first, the place that is cited, and
+-- what tells entries of a year apart
 abbrev pub is_of_citation : Variable → Bool
 is_of_citation (variable.Number CitationNumber) = true
 is_of_citation (variable.Number FirstReferenceNoteNumber) = true

@@ -14,7 +14,8 @@ use Rattle.csl_style.specs.declared.locale.ordinals.OrdinalGroup.{OrdinalGroup}
 use Rattle.csl_style.specs.declared.locale.ordinals.OrdinalGroup.TheVariants.{Between, Slot}
 use Rattle.csl_style.specs.Locale.{OrdinalView}
 
--- the digits of a number that are compared with a slot: the last for the slots 0 to 9 and the last two for 10 to 99, unless the ordinal says which
+-- the digits of a number that are compared with a slot: the last for the slots 0 to 9 and the last
+-- two for 10 to 99, unless the ordinal says which
 abbrev pub digits_for : Option OrdinalMatch → ℕ → ℕ → ℕ
 digits_for None slot n = if nat_lt slot 10 then n % 10 else n % 100
 digits_for (Some LastDigit) slot n = n % 10

@@ -1,4 +1,5 @@
--- What a style's layouts reach: each macro in the place of its name (CSL 1.0.2, Macro), and the text of the year suffix in them
+-- What a style's layouts reach: each macro in the place of its name (CSL 1.0.2, Macro), and the
+-- text of the year suffix in them
 -- (Disambiguation: the suffix stands where such a text does, and else behind the first year).
 use Rattle.std.specs.Prelude.{ℕ, Bool, true, false, not, ◌||◌, List, Option, Some, None, option_map}
 use Rattle.csl_style.specs.declared.taxonomy.Variable.{Variable}
@@ -27,7 +28,8 @@ prints_year_suffix (of_variable v form) = is_year_suffix v
 prints_year_suffix (of_term t form plural) = false
 prints_year_suffix (of_value bs) = false
 
--- A text of the year suffix stands in it: also in a branch that is never chosen, and in a substitute that is never taken.
+-- A text of the year suffix stands in it: also in a branch that is never chosen, and in a
+-- substitute that is never taken.
 abbrev mutual
   pub has_year_suffix : Full → Bool
   has_year_suffix (printed t d) = prints_year_suffix t

@@ -1,4 +1,5 @@
--- Which places of a graph lead to which: the macros of a style, and those that each calls (CSL 1.0.2, Macros).
+-- Which places of a graph lead to which: the macros of a style, and those that each calls (CSL
+-- 1.0.2, Macros).
 use Rattle.std.specs.Prelude.{◌≡◌, ℕ, zero, suc, ◌<◌, List, [], ◌∷◌, length, slice_index, slice_index_or, Vec, Bool, true, false, All, Contains}
 use Rattle.std.specs.declared.alloc.Global.{Global}
 

@@ -1,4 +1,5 @@
--- What a style sets for a scope (CSL 1.0.2, Inheritable Name Options) and by its first locale (Locale: style-options).
+-- What a style sets for a scope (CSL 1.0.2, Inheritable Name Options) and by its first locale
+-- (Locale: style-options).
 use Rattle.std.specs.Prelude.{Bool, false, List, [], ◌∷◌}
 use Rattle.csl_style.specs.declared.locale.Locale.{Locale}
 use Rattle.csl_style.specs.declared.names.options.InheritableNameOptions.{InheritableNameOptions}
@@ -12,16 +13,19 @@ abbrev pub scope_names : Scope → StyleSettings → InheritableNameOptions
 scope_names Citation s = s.citation_names
 scope_names Bibliography s = s.bibliography_names
 
--- the options that each names node of the scope inherits: the scope's own over those of the whole style
+-- the options that each names node of the scope inherits: the scope's own over those of the whole
+-- style
 abbrev pub base_options : Scope → StyleSettings → SetOptions
 base_options scope s = options_over (own_options (scope_names scope s)) (own_options s.names)
 
--- a comma or period behind a closing quote goes before it, by the first locale; not where there is no locale
+-- a comma or period behind a closing quote goes before it, by the first locale; not where there is
+-- no locale
 abbrev pub is_punctuation_in_quote : List Locale → Bool
 is_punctuation_in_quote [] = false
 is_punctuation_in_quote (l ∷ ls) = l.punctuation_in_quote
 
--- only the first day of a month is written as an ordinal, by the first locale; each is where there is no locale
+-- only the first day of a month is written as an ordinal, by the first locale; each is where there
+-- is no locale
 abbrev pub are_day_ordinals_limited : List Locale → Bool
 are_day_ordinals_limited [] = false
 are_day_ordinals_limited (l ∷ ls) = l.limit_day_ordinals_to_day_1

@@ -48,7 +48,8 @@ abbrev pub is_chicago : Option PageRangeFormat → Bool
 is_chicago None = false
 is_chicago (Some format) = is_chicago_format format
 
--- Why a style is refused: for the first macro that leads back to itself; where there is none, for a Chicago page format.
+-- Why a style is refused: for the first macro that leads back to itself; where there is none, for a
+-- Chicago page format.
 -- Memory may lack before either is seen.
 abbrev pub IsRefusal : Option PageRangeFormat → List Definition → StyleError → Type 0
 IsRefusal format ds Memory = ⊤

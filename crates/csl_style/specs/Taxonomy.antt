@@ -1,4 +1,5 @@
--- The names of the kinds of entries, and the variables (CSL 1.0.2, Appendix III: Types; Appendix IV: Variables).
+-- The names of the kinds of entries, and the variables (CSL 1.0.2, Appendix III: Types; Appendix
+-- IV: Variables).
 use Rattle.std.specs.Prelude.{ℕ, List, codes}
 use Rattle.csl_style.specs.declared.taxonomy.Kind.{Kind}
 use Rattle.csl_style.specs.declared.taxonomy.Kind.TheVariants as kinds

@@ -46,6 +46,7 @@ term_text locales term form plural = option_map (entry_text plural) (found_term 
 abbrev pub long_gender : Term → TermView → Option GrammarGender
 long_gender term t = if is_term term Long t then t.gender else None
 
--- the gender of what the term names: the first that the term has in the long form, over the locales in order
+-- the gender of what the term names: the first that the term has in the long form, over the locales
+-- in order
 abbrev pub term_gender : List (List TermView) → Term → Option GrammarGender
 term_gender locales term = first_some (first_some (long_gender term)) locales

@@ -95,7 +95,8 @@ first_et_al (an_et_al e ∷ cs) = Some e
 first_et_al (a_label l ∷ cs) = first_et_al cs
 first_et_al (a_substitute ns ∷ cs) = first_et_al cs
 
--- The first label stands behind the names where a name child comes before it: `behind` says that one came already.
+-- The first label stands behind the names where a name child comes before it: `behind` says that
+-- one came already.
 abbrev pub first_label : Bool → List Child → Option NamesLabel
 first_label behind [] = None
 first_label behind (a_name n ∷ cs) = first_label true cs

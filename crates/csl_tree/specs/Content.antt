@@ -77,7 +77,8 @@ abbrev pub affixed : List Token → List Token → List Token → List Token
 affixed prefix suffix [] = []
 affixed prefix suffix (t ∷ ts) = prefix ++> ((t ∷ ts) ++> suffix)
 
--- a content as the calls leave it: leaves that are not empty, and elements around contents that are not nothing
+-- a content as the calls leave it: leaves that are not empty, and elements around contents that are
+-- not nothing
 pub data IsContent : List Token → Type 0 where
   nothing : IsContent []
   text_then : (b : ℕ) (bs : List ℕ) (f : Formatting) (rest : List Token) → IsContent rest → IsContent (text (b ∷ bs) f ∷ rest)

@@ -15,7 +15,8 @@ use Rattle.csl_tree.specs.contracts.elem.ElemChildren as children
 use Rattle.csl_tree.specs.contracts.elem.ElemChild as child
 use Rattle.csl_tree.specs.contracts.elem.Elem as elem_rows
 
--- where a child has the first element of names: nowhere, it is the one, or below it at the end of a path
+-- where a child has the first element of names: nowhere, it is the one, or below it at the end of a
+-- path
 pub data Found : Type 0 where
   absent : Found
   here : Found

@@ -1,4 +1,5 @@
--- Places in a tree that are lent to be written: the children at the end of a path, and the tree with others there.
+-- Places in a tree that are lent to be written: the children at the end of a path, and the tree
+-- with others there.
 use Rattle.std.specs.Prelude.{ℕ, ◌-◌, Bool, List, [], ◌∷◌, Option, Some, None, length, is_some, unwrap_or, slice_index_or}
 use Rattle.std.specs.Vec.{with_item}
 use Rattle.std.specs.Borrow.{Fml, MutBor, Lends, LendsIf}
@@ -85,7 +86,8 @@ last c = length c.0.items - 1
 abbrev pub ends_in_elem : ElemChildren → Bool
 ends_in_elem c = is_some (children_of (child_at c (last c)))
 
--- the path to the children among which the tree ends: down the last child as long as that is an element
+-- the path to the children among which the tree ends: down the last child as long as that is an
+-- element
 abbrev pub child_path : ElemChild-F (Option (List ℕ)) (List ℕ) (List ℕ) → Option (List ℕ)
 child_path (Text t) = None
 child_path (Elem p) = Some p

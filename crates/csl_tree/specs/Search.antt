@@ -14,7 +14,8 @@ use Rattle.csl_tree.specs.declared.elem.ElemChild.TheVariants as variants
 use Rattle.csl_tree.specs.declared.elem.Elem as elem
 use Rattle.csl_tree.specs.declared.elem.ElemChildren.{ElemChildren}
 
--- One level of a tree, each part beside its own preorder: a child that is an element gives the element and then what is inside.
+-- One level of a tree, each part beside its own preorder: a child that is an element gives the
+-- element and then what is inside.
 abbrev pub Walk : Type 0
 Walk = List elem.Elem
 
@@ -91,7 +92,8 @@ is_names e = of_names (elem.out-Elem e).meta
 abbrev pub has_meta : elem.Elem → Bool
 has_meta e = is_some (elem.out-Elem e).meta
 
--- Last text: the last child where that is a text, the last text inside it where it is an element, else none.
+-- Last text: the last child where that is a text, the last text inside it where it is an element,
+-- else none.
 abbrev pub last_of : List (Option Formatted) → Option Formatted
 last_of [] = None
 last_of (t ∷ []) = t

@@ -1,4 +1,5 @@
--- Simplification of a tree: one round of it, the value that it keeps, and when there is nothing left to do.
+-- Simplification of a tree: one round of it, the value that it keeps, and when there is nothing
+-- left to do.
 use Rattle.std.specs.Prelude.{ℕ, zero, suc, ◌+◌, Bool, true, false, not, ◌&&◌, List, [], ◌∷◌, ◌++◌, map, Option, Some, None, if◌then◌else◌}
 use Rattle.csl_style.specs.declared.formatting.Display.{Display}
 use Rattle.csl_tree.specs.declared.formatting.Formatting.{Formatting}
@@ -26,11 +27,13 @@ with_text (text_then cs g t) bs f = if is_nothing t && same_formatting g f then 
 with_text (leaf_then l t) bs f = leaf_then l (with_text t bs f)
 with_text (element_then d m inside t) bs f = element_then d m inside (with_text t bs f)
 
--- a plain element stands for its children as they are, any other for itself with what a round leaves inside
+-- a plain element stands for its children as they are, any other for itself with what a round
+-- leaves inside
 abbrev pub stands_for : Option Display → Option Meta → Tree → Tree → Tree
 stands_for d m inside rounded = if is_plain d m then inside else element_then d m rounded nothing
 
--- One round: each element stands for what it does, and each child that is a text joins a text of equal formatting
+-- One round: each element stands for what it does, and each child that is a text joins a text of
+-- equal formatting
 -- before it, which may be a plain element's; that of a plain element joins none.
 abbrev pub round_behind : Tree → Tree → Tree
 round_behind before nothing = before
@@ -52,7 +55,8 @@ with_inside e t = element_then (elem.out-Elem e).display (optional_meta (elem.ou
 abbrev pub apart : List ℕ → Formatting → List Token
 apart bs f = map (λ b. text (b ∷ []) f) bs
 
--- The styled value: each byte of a text with its formatting, the other leaves, and the elements that are not plain
+-- The styled value: each byte of a text with its formatting, the other leaves, and the elements
+-- that are not plain
 -- around their own styled value. It does not show how the texts are cut, nor the plain elements.
 abbrev pub styled : Tree → List Token
 styled nothing = []

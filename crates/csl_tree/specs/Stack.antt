@@ -1,4 +1,5 @@
--- What a stack ends as, once a `&mut` into it has ended, and the last item that a predicate accepts.
+-- What a stack ends as, once a `&mut` into it has ended, and the last item that a predicate
+-- accepts.
 use Rattle.std.specs.Prelude.{Bool, true, false, ◌+◌, ◌≤◌, ◌≡◌, ℕ, ◌<◌, List, length, Option, slice_index_or, slice_set, IfSome}
 use Rattle.std.specs.Borrow.{Bor, Fml, RattleType, MutBor, Lends, LendsSo}
 use Rattle.std.specs.Fn.{Shared, FnReturnsAt}
@@ -21,6 +22,7 @@ module _ (T : RattleType) (s : MutBor (List T.Denot)) where
   abbrev pub lends_item : ℕ → MutBor T.Denot → Fml
   lends_item i r = Lends (the_row T) T s r (slice_set s.now i)
 
-  -- the item behind r is the last that the predicate accepts, and that one has the last value behind r; at `None` the stack stays
+  -- the item behind r is the last that the predicate accepts, and that one has the last value
+  -- behind r; at `None` the stack stays
   abbrev pub lends_accepted : {F : Type 0} → Shared F (Bor T.Denot × Unit {0}) Bool → F → Option (MutBor T.Denot) → Fml
   lends_accepted calls f r = LendsSo (the_row T) T s r (λ n w. IfSome r (λ x. (i : ℕ) × IsLastAccepted calls f s.now i x.now × (n ≡ slice_set s.now i w))) (λ n. n ≡ s.now)

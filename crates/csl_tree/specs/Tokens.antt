@@ -1,4 +1,5 @@
--- An output tree as a list of tokens: each text, and around each element where it opens and where it closes.
+-- An output tree as a list of tokens: each text, and around each element where it opens and where
+-- it closes.
 -- It forgets how the texts are stored, and nothing else.
 use Rattle.std.specs.Prelude.{ℕ, Bool, true, false, not, List, [], ◌∷◌, ◌++◌, Option, Some, None, ◌==◌, string_bytes, length, map, Vec}
 use Rattle.std.specs.List.{flat_map, list_any, list_all, last_or}
@@ -129,7 +130,8 @@ abbrev pub has_children : List Token → Bool
 has_children [] = false
 has_children (t ∷ ts) = true
 
--- nothing stands in an empty text, markup or link, or in an element of such; a transparent is not empty
+-- nothing stands in an empty text, markup or link, or in an element of such; a transparent is not
+-- empty
 abbrev pub is_empty_token : Token → Bool
 is_empty_token (text bs f) = length bs == 0
 is_empty_token (solid (markup bs)) = length bs == 0

@@ -27,7 +27,8 @@ first_grapheme piece = slice_get (graphemes true piece) 0
 abbrev pub initials_of : List ℕ → List (List ℕ)
 initials_of word = filter_map first_grapheme (slice_split (λ b. b == hyphen_char) word)
 
--- What stands between the initials of a word: the given text; where hyphens are kept, that text without its trailing white space, and a hyphen.
+-- What stands between the initials of a word: the given text; where hyphens are kept, that text
+-- without its trailing white space, and a hyphen.
 abbrev pub between : List ℕ → Bool → List ℕ
 between text hyphen = if hyphen then trim_end text ++ codes "-" else text
 
@@ -37,7 +38,8 @@ word_initials text hyphen [] = []
 word_initials text hyphen (g ∷ []) = g
 word_initials text hyphen (g ∷ h ∷ gs) = g ++ (between text hyphen ++ word_initials text hyphen (h ∷ gs))
 
--- Those of words, each of which has some: the given text stands behind each word's, and at the end without its trailing white space.
+-- Those of words, each of which has some: the given text stands behind each word's, and at the end
+-- without its trailing white space.
 abbrev pub all_initials : List ℕ → Bool → List (List (List ℕ)) → List ℕ
 all_initials text hyphen [] = []
 all_initials text hyphen (w ∷ []) = word_initials text hyphen w ++ trim_end text

@@ -1,4 +1,5 @@
--- How the words of a given name are written one after another: each behind the gap that the one before it left.
+-- How the words of a given name are written one after another: each behind the gap that the one
+-- before it left.
 use Rattle.std.specs.Prelude.{ℕ, List, [], ◌∷◌, ◌++◌, Option, Some, None, codes, length, drop, if◌then◌else◌}
 use Rattle.std.specs.Str.{trim_end}
 use Rattle.lit_model.specs.FirstNames.{single_letter, lettered_last, ends_in_white_space}

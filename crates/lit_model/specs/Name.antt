@@ -1,4 +1,5 @@
--- The parts of a person's name: particle, article, and whether it is of an institution or in a CJK script.
+-- The parts of a person's name: particle, article, and whether it is of an institution or in a CJK
+-- script.
 use Rattle.std.specs.Prelude.{ℕ, Bool, true, false, not, ◌&&◌, ◌==◌, List, [], ◌∷◌, ◌++◌, filter, drop, length, Option, Some, None, is_some, unwrap_or, codes, nat_lt, chars, if◌then◌else◌}
 use Rattle.std.specs.Option.{option_or}
 use Rattle.std.specs.List.{list_all, slice_split, join_with_byte, starts_with}

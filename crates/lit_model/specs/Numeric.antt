@@ -41,7 +41,8 @@ only_number [] = None
 only_number (n ∷ []) = Some n
 only_number (n ∷ m ∷ more) = None
 
--- whether a term beside the numbers is in the plural: several are, and where they count things, one above 1 is
+-- whether a term beside the numbers is in the plural: several are, and where they count things, one
+-- above 1 is
 abbrev pub plural : Bool → List ℤ → Bool
 plural counts [] = false
 plural counts (n ∷ []) = counts && int_lt (pos 1) n
@@ -81,7 +82,8 @@ pub record SpellsInteger (n : ℤ) (cs : List ℕ) : Type 0 where
   pub fits : digits_value 10 cs < 2 ^ 31
   pub is : n ≡ pos (digits_value 10 cs)
 
--- The last number has no delimiter. Each other one has one, with white space round it or none, before the numbers that follow.
+-- The last number has no delimiter. Each other one has one, with white space round it or none,
+-- before the numbers that follow.
 abbrev pub SpellsIntegers : List (ℤ × Option NumericDelimiter) → List ℕ → Type 0
 SpellsIntegers [] cs = ⊥
 SpellsIntegers (x ∷ []) cs = (x.1 ≡ None) × SpellsInteger x.0 cs
@@ -99,7 +101,8 @@ abbrev pub SpellsAffix : (ℕ → Bool) → Option (List ℕ) → List ℕ → T
 SpellsAffix p None cs = cs ≡ []
 SpellsAffix p (Some bytes) cs = (0 < length cs) × Only p cs × (bytes ≡ encode_utf8_all cs)
 
--- The characters spell the value: white space or none, the prefix, the numbers, the suffix, white space or none.
+-- The characters spell the value: white space or none, the prefix, the numbers, the suffix, white
+-- space or none.
 pub record Spells (v : NumericView) (cs : List ℕ) : Type 0 where
   pub before : List ℕ
   pub prefix : List ℕ

@@ -8,7 +8,8 @@ use Rattle.lit_model.specs.Numeric.{NumericView, is_bare}
 use Rattle.lit_model.specs.NumericText.{value_text, numeric_text}
 use Rattle.lit_model.specs.Roman.{roman, has_roman}
 
--- what a locale answers of a number and a gender: the suffix of the ordinal, or the whole long ordinal
+-- what a locale answers of a number and a gender: the suffix of the ordinal, or the whole long
+-- ordinal
 abbrev pub OrdinalTexts : Type 0
 OrdinalTexts = ℤ → Option GrammarGender → Option (List ℕ)
 

@@ -122,7 +122,8 @@ SpellsParts (p ∷ s ∷ q ∷ more) cs = (item : List ℕ) × (before : List �
     × (cs ≡ item ++ (before ++ (c ∷ (behind ++ rest))))
     × SpellsItem p item × IsBlank before × SpellsSeparator s c × IsBlank behind × SpellsParts (q ∷ more) rest
 
--- The characters spell the pages: white space or none, the items and separators, white space or none.
+-- The characters spell the pages: white space or none, the items and separators, white space or
+-- none.
 pub record SpellsPages (parts : List PartView) (cs : List ℕ) : Type 0 where
   pub before : List ℕ
   pub inner : List ℕ

@@ -2,7 +2,8 @@
 use Rattle.std.specs.Prelude.{ℕ, ◌-◌, ◌/◌, ◌%◌, ◌==◌, Bool, ◌&&◌, nat_lt, if◌then◌else◌, List, [], ◌∷◌, ◌++◌, replicate}
 use Rattle.lit_model.specs.Characters.{letter_c, letter_d, letter_i, letter_l, letter_m, letter_v, letter_x}
 
--- a digit by the letters for one, five and ten of its place: four is one before five, nine one before ten
+-- a digit by the letters for one, five and ten of its place: four is one before five, nine one
+-- before ten
 abbrev pub roman_digit : ℕ → ℕ → ℕ → ℕ → List ℕ
 roman_digit i v x d =
     if d == 4 then i ∷ v ∷ [] else (if d == 9 then i ∷ x ∷ [] else (if nat_lt d 5 then replicate d i else v ∷ replicate (d - 5) i))

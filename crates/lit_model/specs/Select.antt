@@ -76,7 +76,8 @@ parent_of own parents = record { own = own; fields = []; parent = Some parents; 
 abbrev pub child_of : List EntryType → List EntryType → Rule
 child_of own parents = record { own = own; fields = []; parent = Some parents; bind = Child }
 
--- the work that holds this one: the book of a chapter, the journal of an article, the site of anything
+-- the work that holds this one: the book of a chapter, the journal of an article, the site of
+-- anything
 abbrev pub container : List Rule
 container =
     parent_of (Chapter ∷ []) (Book ∷ Anthology ∷ Proceedings ∷ [])
@@ -151,10 +152,12 @@ abbrev pub first_full : List (Entry × (Entry → Entry)) → Entry → Entry
 first_full [] e = e
 first_full (p ∷ ps) e = p.1 p.0
 
--- One entry, given each parent with the whole of it: an untitled chapter or scene stands for its first parent's whole, anything else for itself.
+-- One entry, given each parent with the whole of it: an untitled chapter or scene stands for its
+-- first parent's whole, anything else for itself.
 abbrev pub full_step : Entry-F (Entry × (Entry → Entry)) → Entry → Entry
 full_step x e = if is_untitled_part e then first_full x.parents.items e else e
 
--- the whole that an entry is a part of: from an untitled chapter or scene up to the first parent, as long as there is one
+-- the whole that an entry is a part of: from an untitled chapter or scene up to the first parent,
+-- as long as there is one
 abbrev pub full_of : Entry → Entry
 full_of e = para-Entry (Entry → Entry) full_step e e

@@ -80,7 +80,8 @@ pub record Work : Type 0 where
 abbrev pub work_of : Entry → Work
 work_of e = record { own = own_of e; parent_count = length (parents_of e) }
 
--- The entry and its parents in preorder. Two entries show the same list exactly where they agree in every field, at every level.
+-- The entry and its parents in preorder. Two entries show the same list exactly where they agree in
+-- every field, at every level.
 abbrev pub works : Entry → List Work
 works e = map work_of (preorder e)
 
@@ -97,6 +98,7 @@ spelled_of e = record {
   parent_count = length (parents_of e);
 }
 
--- The same of the entry and its parents, in preorder. Two addresses of one text may differ in their parts, so this tells less than `works`.
+-- The same of the entry and its parents, in preorder. Two addresses of one text may differ in their
+-- parts, so this tells less than `works`.
 abbrev pub spelled : Entry → List Spelled
 spelled e = map spelled_of (preorder e)
