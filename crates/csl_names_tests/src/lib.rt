@@ -11,3 +11,5 @@ mod made;
 mod names;
 #[cfg(test)]
 mod said;
+#[cfg(test)]
+mod written;

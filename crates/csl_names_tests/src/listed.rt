@@ -15,10 +15,10 @@
 //! Persons are said one behind the other, with `; ` between them. Their forms are letters: `L` the
 //! whole name, `S` and `1` the short form and that of a count, and `.` none.
 
-use crate::made::{person, says};
+use crate::made::{made_style, person, says};
 use csl_entry::DisambiguatedNameForm;
 use csl_style::{
-    DelimiterBehavior, EtAl, FontStyle, Formatting, InheritedNameOptions, Layout, Locale, NameAnd,
+    DelimiterBehavior, EtAl, FontStyle, Formatting, InheritedNameOptions, Locale, NameAnd,
     NameAsSortOrder, NameOptions, OtherTerm, Style, StyleSettings, Term, TermEntry, TermForm,
 };
 use lit_model::{Memory, Person};
@@ -98,34 +98,33 @@ fn term(alloc: Global, term: OtherTerm, text: &str) -> Result<TermEntry, Memory>
     })
 }
 
-/// The one locale: `and` and `et al.`, or no terms.
-fn locales(alloc: Global, words: &str) -> Result<Vec<Locale>, Memory> {
+/// The terms `and` and `et al.`, or none.
+fn terms(alloc: Global, words: &str) -> Result<Vec<TermEntry>, Memory> {
     let others = if says(words, "no-text") { "" } else { "et al." };
     let mut terms = Vec::new(alloc);
     if !says(words, "no-terms") {
         terms.push(term(alloc, OtherTerm::And, "and")?)?;
         terms.push(term(alloc, OtherTerm::EtAl, others)?)?;
     }
-    let locale = Locale {
-        terms,
+    Ok(terms)
+}
+
+/// The one locale, with these terms.
+fn locales(alloc: Global, words: &str) -> Result<Vec<Locale>, Memory> {
+    let mut locales = Vec::with_capacity(alloc, 1)?;
+    locales.push(Locale {
+        terms: terms(alloc, words)?,
         ordinals: Vec::new(alloc),
         dates: Vec::new(alloc),
         punctuation_in_quote: false,
         limit_day_ordinals_to_day_1: false,
-    };
-    Ok(vec![in alloc; locale]?)
+    })?;
+    Ok(locales)
 }
 
 /// The style of these words, without nodes.
 pub(crate) fn style_with_terms(alloc: Global, words: &str) -> Result<Style, Fail> {
-    let locales = locales(alloc, words)?;
-    let citation = Layout {
-        elements: Vec::new(alloc),
-        delimiter: None,
-        formatting: Formatting::default(),
-    };
-    let (settings, macros) = (StyleSettings::default(), Vec::new(alloc));
-    Ok(Style::new(alloc, settings, macros, citation, None, locales)?)
+    made_style(alloc, StyleSettings::default(), locales(alloc, words)?)
 }
 
 /// The persons of these words.
@@ -151,6 +150,9 @@ pub(crate) fn forms(
     alloc: Global,
     letters: &str,
 ) -> Result<Vec<Option<DisambiguatedNameForm>>, Memory> {
-    let forms = letters.chars().map(form).collect(alloc)?;
+    let mut forms = Vec::new(alloc);
+    for letter in letters.chars() {
+        forms.push(form(letter))?;
+    }
     Ok(forms)
 }

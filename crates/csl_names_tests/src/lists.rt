@@ -1,19 +1,8 @@
 //! Lists of names, behind a text or not.
 
-ghost use Rattle.std.specs.Prelude.{◌≡◌, OnOk};
-
-use crate::listed::{et_al, forms, options, persons, style_with_terms};
-use crate::made::{name, says};
-use crate::said::say;
-use csl_context::{Context, RenderError};
-use csl_entry::{
-    CiteProperties, DisambiguateState, DisambiguatedNameForm, InstanceContext, Sorting,
-};
-use csl_names::write_name_list;
-use csl_style::{Name, NameVariable, Scope, Style};
-use lit_model::Person;
+use crate::listed::style_with_terms;
+use crate::written::{Asked, assert_written};
 use std::alloc::Global;
-use std::borrow::Cow;
 use std::process::Abort;
 use std::test::Fail;
 
@@ -175,104 +164,31 @@ static BEHIND: [(&str, ListRow); 3] = [
     ("by ", ("", THREE, "S..", "by~ [ Ferrante ]0 ~et~al.")),
 ];
 
-/// What a list is made of.
-#[derive(Clone, Copy)]
-struct Listed<'n> {
-    name: &'n Name,
-    persons: &'n [Cow<'n, Person>],
-    forms: &'n [Option<DisambiguatedNameForm>],
-}
-
-/// Writes a text, and then the list.
-fn write_behind(
-    ctx: &mut Context<'_, bool>,
-    before: &str,
-    words: &str,
-    list: Listed<'_>,
-) -> Result<(), RenderError>
-    ensures { OnOk result (ctx.new.outer ≡ ctx.old.outer) }
-{
-    ctx.push_str(before)?;
-    let (options, et_al, variable) = (options(words), et_al(words), NameVariable::Author);
-    write_name_list(
-        ctx,
-        list.name,
-        options,
-        &et_al,
-        variable,
-        list.persons,
-        list.forms,
-    )
-}
-
-/// What is written of a list, in words.
-fn said(
-    alloc: Global,
-    style: &Style,
-    cite_props: &CiteProperties<'_>,
-    before: &str,
-    words: &str,
-    list: Listed<'_>,
-) -> Result<String, Fail> {
-    let sorting = if says(words, "sorting") {
-        Some(Sorting::Macro)
-    } else {
-        None
-    };
-    let instance = InstanceContext {
-        entry: &true,
-        cite_props,
-        sorting,
-        kind: None,
-    };
-    let mut ctx = Context::new(alloc, style, instance, Scope::Citation)?;
-    write_behind(&mut ctx, before, words, list)?;
-    let rendered = ctx.finish()?;
-    Ok(say(alloc, &rendered.content)?)
-}
-
-/// What is written of a row behind a text, in words.
-fn written(alloc: Global, before: &str, row: ListRow) -> Result<String, Fail> {
-    let (words, who, letters, _) = row;
-    let style = style_with_terms(alloc, words)?;
-    let cite_props = CiteProperties::first(DisambiguateState::None);
-    let name = name(alloc, words)?;
-    let persons = persons(alloc, who)?;
-    let forms = forms(alloc, letters)?;
-    let list = Listed {
-        name: &name,
-        persons: &persons,
-        forms: &forms,
-    };
-    said(alloc, &style, &cite_props, before, words, list)
-}
-
-fn assert_row(rt: &impl Abort, alloc: Global, before: &str, row: ListRow) -> Result<(), Fail> {
-    let said = written(alloc, before, row)?;
-    assert_eq!(rt; said.as_str(), row.3, "{row:?}");
-    Ok(())
-}
-
-fn assert_all(rt: &impl Abort, alloc: Global, rows: &[ListRow]) -> Result<(), Fail> {
-    for row in rows {
-        assert_row(rt, alloc, "", *row)?;
-    }
-    Ok(())
-}
-
-fn assert_behind(
+fn assert_list(
     rt: &impl Abort,
     alloc: Global,
-    rows: &[(&'static str, ListRow)],
+    before: &str,
+    &(words, who, letters, wanted): &ListRow,
 ) -> Result<(), Fail> {
-    for (before, row) in rows {
-        assert_row(rt, alloc, *before, *row)?;
-    }
-    Ok(())
+    let style = style_with_terms(alloc, words)?;
+    let asked = Asked {
+        before,
+        words,
+        who,
+        forms: Some(letters),
+    };
+    assert_written(rt, alloc, &style, &asked, wanted)
 }
 
 #[test]
 fn a_list_shows_who_has_a_form(rt: HostRuntime) -> Result<(), Fail> {
-    assert_all(&rt, rt.alloc(), &ROWS)?;
-    assert_behind(&rt, rt.alloc(), &BEHIND)
+    let rows: &[ListRow] = &ROWS;
+    for row in rows {
+        assert_list(&rt, rt.alloc(), "", row)?;
+    }
+    let rows: &[(&'static str, ListRow)] = &BEHIND;
+    for (before, row) in rows {
+        assert_list(&rt, rt.alloc(), *before, row)?;
+    }
+    Ok(())
 }

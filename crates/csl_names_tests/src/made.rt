@@ -20,7 +20,7 @@
 use csl_entry::DisambiguatedNameForm;
 use csl_style::{
     Affixes, DemoteNonDroppingParticle, FontStyle, Formatting, InheritableNameOptions, Layout,
-    Name, NamePart, NamePartName, Style, StyleSettings,
+    Locale, Name, NamePart, NamePartName, Style, StyleSettings,
 };
 use lit_model::{Memory, Person};
 use std::alloc::Global;
@@ -57,18 +57,24 @@ pub(crate) fn says(words: &str, said: &str) -> bool {
 
 /// The person of these words.
 pub(crate) fn person(alloc: Global, words: &str) -> Result<Person, Fail> {
-    let name = text_of(alloc, words, "f=")?.ok_or("a name")?;
-    let given_name = text_of(alloc, words, "g=")?;
-    let prefix = text_of(alloc, words, "p=")?;
-    let suffix = text_of(alloc, words, "s=")?;
-    Ok(Person {
-        name,
-        given_name,
-        prefix,
-        suffix,
+    let mut person = Person {
+        name: text_of(alloc, words, "f=")?.ok_or("a name")?,
+        given_name: None,
+        prefix: None,
+        suffix: None,
         alias: None,
         comma_suffix: says(words, "comma"),
-    })
+    };
+    state_rest(alloc, &mut person, words)?;
+    Ok(person)
+}
+
+/// Says all but the name of the person.
+fn state_rest(alloc: Global, person: &mut Person, words: &str) -> Result<(), Memory> {
+    person.given_name = text_of(alloc, words, "g=")?;
+    person.prefix = text_of(alloc, words, "p=")?;
+    person.suffix = text_of(alloc, words, "s=")?;
+    Ok(())
 }
 
 /// A part, by its marks.
@@ -95,20 +101,31 @@ fn part(
     })
 }
 
-/// The Name of these words.
-pub(crate) fn name(alloc: Global, words: &str) -> Result<Name, Fail> {
-    let given = part(alloc, words, NamePartName::Given, ("G<", "G>", "G/"))?;
-    let family = part(alloc, words, NamePartName::Family, ("F<", "F>", "F/"))?;
+/// The parts of a Name, by their marks.
+fn parts(alloc: Global, words: &str) -> Result<Vec<NamePart>, Memory> {
+    let mut parts = Vec::with_capacity(alloc, 2)?;
+    parts.push(part(alloc, words, NamePartName::Given, ("G<", "G>", "G/"))?)?;
+    parts.push(part(alloc, words, NamePartName::Family, ("F<", "F>", "F/"))?)?;
+    Ok(parts)
+}
+
+fn name_options(alloc: Global, words: &str) -> Result<InheritableNameOptions, Memory> {
     let initialize_with = text_of(alloc, words, "with=")?;
     let sort_separator = text_of(alloc, words, "sep=")?;
+    Ok(InheritableNameOptions {
+        initialize_with,
+        sort_separator,
+        ..InheritableNameOptions::default()
+    })
+}
+
+/// The Name of these words.
+pub(crate) fn name(alloc: Global, words: &str) -> Result<Name, Memory> {
+    let parts = parts(alloc, words)?;
     Ok(Name {
-        options: InheritableNameOptions {
-            initialize_with,
-            sort_separator,
-            ..InheritableNameOptions::default()
-        },
+        options: name_options(alloc, words)?,
         formatting: Formatting::default(),
-        parts: vec![in alloc; given, family]?,
+        parts,
     })
 }
 
@@ -143,11 +160,19 @@ pub(crate) fn style(alloc: Global, words: &str) -> Result<Style, Fail> {
         initialize_with_hyphen: !says(words, "no-hyphen"),
         ..StyleSettings::default()
     };
+    made_style(alloc, settings, Vec::new(alloc))
+}
+
+/// A style without nodes.
+pub(crate) fn made_style(
+    alloc: Global,
+    settings: StyleSettings,
+    locales: Vec<Locale>,
+) -> Result<Style, Fail> {
     let citation = Layout {
         elements: Vec::new(alloc),
         delimiter: None,
         formatting: Formatting::default(),
     };
-    let macros = Vec::new(alloc);
-    Ok(Style::new(alloc, settings, macros, citation, None, Vec::new(alloc))?)
+    Ok(Style::new(alloc, settings, Vec::new(alloc), citation, None, locales)?)
 }

@@ -1,16 +1,7 @@
 //! One name each, behind a text.
 
-ghost use Rattle.std.specs.Prelude.{◌≡◌, OnOk};
-
-use crate::made::{form, name, person, says, style};
-use crate::said::say;
-use csl_context::{Context, RenderError};
-use csl_entry::{
-    CiteProperties, DisambiguateState, DisambiguatedNameForm, InstanceContext, Sorting,
-};
-use csl_names::write_name;
-use csl_style::{Name, Scope};
-use lit_model::Person;
+use crate::made::style;
+use crate::written::{Asked, assert_written};
 use std::alloc::Global;
 use std::process::Abort;
 use std::test::Fail;
@@ -141,54 +132,26 @@ static ROWS: [NameRow; 49] = [
     ("G<[ G>] reversed", "f=X s=Jr.", "=X,~Jr."),
 ];
 
-/// Writes `=`, and then the name.
-fn write_behind(
-    ctx: &mut Context<'_, bool>,
-    name: &Name,
-    person: &Person,
-    form: DisambiguatedNameForm,
-    reversed: bool,
-) -> Result<(), RenderError>
-    ensures { OnOk result (ctx.new.outer ≡ ctx.old.outer) }
-{
-    ctx.push_str("=")?;
-    let options = name.options.as_inherited().name_options();
-    write_name(ctx, name, options, person, form, reversed)
-}
-
-/// What is written of a row, in words.
-fn written(alloc: Global, row: NameRow) -> Result<String, Fail> {
-    let (how, who, _) = row;
-    let style = style(alloc, how)?;
-    let cite_props = CiteProperties::first(DisambiguateState::None);
-    let sorting = if says(how, "sorting") {
-        Some(Sorting::Macro)
-    } else {
-        None
+fn assert_name(
+    rt: &impl Abort,
+    alloc: Global,
+    &(words, who, wanted): &NameRow,
+) -> Result<(), Fail> {
+    let style = style(alloc, words)?;
+    let asked = Asked {
+        before: "=",
+        words,
+        who,
+        forms: None,
     };
-    let instance = InstanceContext {
-        entry: &true,
-        cite_props: &cite_props,
-        sorting,
-        kind: None,
-    };
-    let name = name(alloc, how)?;
-    let person = person(alloc, who)?;
-    let mut ctx = Context::new(alloc, &style, instance, Scope::Citation)?;
-    write_behind(&mut ctx, &name, &person, form(how), says(how, "reversed"))?;
-    let rendered = ctx.finish()?;
-    Ok(say(alloc, &rendered.content)?)
-}
-
-fn assert_all(rt: &impl Abort, alloc: Global, rows: &[NameRow]) -> Result<(), Fail> {
-    for row in rows {
-        let said = written(alloc, *row)?;
-        assert_eq!(rt; said.as_str(), row.2);
-    }
-    Ok(())
+    assert_written(rt, alloc, &style, &asked, wanted)
 }
 
 #[test]
 fn a_name_is_written_by_its_style(rt: HostRuntime) -> Result<(), Fail> {
-    assert_all(&rt, rt.alloc(), &ROWS)
+    let rows: &[NameRow] = &ROWS;
+    for row in rows {
+        assert_name(&rt, rt.alloc(), row)?;
+    }
+    Ok(())
 }

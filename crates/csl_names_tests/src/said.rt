@@ -24,7 +24,10 @@ fn say_elem(elem: &Elem, said: &mut String) -> Result<(), Memory> {
     say_children(&elem.children, said)?;
     said.push_str(" ]")?;
     match &elem.meta {
-        Some(ElemMeta::Name(_, place)) => Ok(write!(said, "{}", *place).map_err(|_| Memory)?),
+        Some(ElemMeta::Name(_, place)) => match write!(said, "{}", *place) {
+            Ok(()) => Ok(()),
+            Err(_) => Err(Memory),
+        },
         _ => Ok(said.push('?')?),
     }
 }

@@ -1,0 +1,160 @@
+//! What is written of a name or of a list of names, in words.
+
+ghost use Rattle.std.specs.Prelude.{◌≡◌, OnOk};
+
+use crate::listed::{et_al, forms, options, persons};
+use crate::made::{form, name, says};
+use crate::said::say;
+use csl_context::{Context, RenderError};
+use csl_entry::{
+    CiteProperties, DisambiguateState, DisambiguatedNameForm, InstanceContext, Sorting,
+};
+use csl_names::{write_name, write_name_list};
+use csl_style::{Name, NameVariable, Scope, Style};
+use lit_model::Person;
+use std::alloc::Global;
+use std::borrow::Cow;
+use std::process::Abort;
+use std::test::Fail;
+
+/// A name or a list that is to be written, in words.
+#[derive(Clone, Copy)]
+pub(crate) struct Asked<'r> {
+    /// What stands before it.
+    pub before: &'r str,
+    /// How it is written.
+    pub words: &'r str,
+    /// The person, or the persons.
+    pub who: &'r str,
+    /// Of a list, the form of each person.
+    pub forms: Option<&'r str>,
+}
+
+/// Who is written.
+#[derive(Clone, Copy)]
+enum Who<'n> {
+    One(&'n Person),
+    /// Persons, and the form of each.
+    List(&'n [Cow<'n, Person>], &'n [Option<DisambiguatedNameForm>]),
+}
+
+/// In which style and for which cite it is written.
+#[derive(Clone, Copy)]
+struct Place<'n> {
+    style: &'n Style,
+    cite_props: &'n CiteProperties<'n>,
+}
+
+/// Writes a text, and then the name or the list.
+fn write_behind(
+    ctx: &mut Context<'_, bool>,
+    asked: &Asked<'_>,
+    name: &Name,
+    who: Who<'_>,
+) -> Result<(), RenderError>
+    ensures { OnOk result (ctx.new.outer ≡ ctx.old.outer) }
+{
+    ctx.push_str(asked.before)?;
+    match who {
+        Who::One(person) => {
+            let options = name.options.as_inherited().name_options();
+            let reversed = says(asked.words, "reversed");
+            write_name(ctx, name, options, person, form(asked.words), reversed)
+        }
+        Who::List(persons, forms) => {
+            let (options, et_al) = (options(asked.words), et_al(asked.words));
+            write_name_list(
+                ctx,
+                name,
+                options,
+                &et_al,
+                NameVariable::Author,
+                persons,
+                forms,
+            )
+        }
+    }
+}
+
+/// What is written of them, in words.
+fn said(
+    alloc: Global,
+    place: Place<'_>,
+    asked: &Asked<'_>,
+    name: &Name,
+    who: Who<'_>,
+) -> Result<String, Fail> {
+    let sorting = if says(asked.words, "sorting") {
+        Some(Sorting::Macro)
+    } else {
+        None
+    };
+    let instance = InstanceContext {
+        entry: &true,
+        cite_props: place.cite_props,
+        sorting,
+        kind: None,
+    };
+    let mut ctx = Context::new(alloc, place.style, instance, Scope::Citation)?;
+    write_behind(&mut ctx, asked, name, who)?;
+    let rendered = ctx.finish()?;
+    Ok(say(alloc, &rendered.content)?)
+}
+
+/// What is written of persons in these forms.
+fn in_forms(
+    alloc: Global,
+    place: Place<'_>,
+    asked: &Asked<'_>,
+    name: &Name,
+    persons: &[Cow<'_, Person>],
+    letters: &str,
+) -> Result<String, Fail> {
+    let forms = forms(alloc, letters)?;
+    said(alloc, place, asked, name, Who::List(persons, &forms))
+}
+
+/// What is written of the one or the list.
+fn of_persons(
+    alloc: Global,
+    place: Place<'_>,
+    asked: &Asked<'_>,
+    name: &Name,
+) -> Result<String, Fail> {
+    let persons = persons(alloc, asked.who)?;
+    if let Some(letters) = asked.forms {
+        return in_forms(alloc, place, asked, name, &persons, letters);
+    }
+    let person = persons.first().ok_or("a person")?;
+    said(alloc, place, asked, name, Who::One(person.as_ref()))
+}
+
+/// What is written at that place.
+fn at_place(alloc: Global, place: Place<'_>, asked: &Asked<'_>) -> Result<String, Fail> {
+    let name = name(alloc, asked.words)?;
+    of_persons(alloc, place, asked, &name)
+}
+
+/// What is written in that style.
+fn written(alloc: Global, style: &Style, asked: &Asked<'_>) -> Result<String, Fail> {
+    let cite_props = CiteProperties::first(DisambiguateState::None);
+    let place = Place {
+        style,
+        cite_props: &cite_props,
+    };
+    at_place(alloc, place, asked)
+}
+
+/// Asserts what is written in that style.
+pub(crate) fn assert_written(
+    rt: &impl Abort,
+    alloc: Global,
+    style: &Style,
+    asked: &Asked<'_>,
+    wanted: &str,
+) -> Result<(), Fail> {
+    let written = written(alloc, style, asked)?;
+    let (words, who) = (asked.words, asked.who);
+    assert_eq!(rt; written.as_str(), wanted, "{words}: {who}");
+    Ok(())
+}
