@@ -3,12 +3,17 @@
 use std::fmt::Debug;
 use std::process::Abort;
 
+/// What was answered of something is what is wanted.
+pub(crate) fn assert_of<T: Debug + PartialEq>(rt: &impl Abort, answer: &T, wanted: &T, of: &str) {
+    assert_eq!(rt; answer, wanted, "of {of:?}");
+}
+
 /// What was answered is what is wanted.
 pub(crate) fn assert_same<T: Debug + PartialEq>(rt: &impl Abort, answer: &T, wanted: &T) {
-    assert_eq!(rt; answer, wanted);
+    assert_of(rt, answer, wanted, "one value");
 }
 
 /// The text that was answered, if any, is the one that is wanted.
 pub(crate) fn assert_text(rt: &impl Abort, answer: Option<&str>, wanted: Option<&str>) {
-    assert_eq!(rt; answer, wanted);
+    assert_same(rt, &answer, &wanted);
 }

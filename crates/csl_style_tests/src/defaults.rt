@@ -6,6 +6,7 @@ use csl_style::{
     FontVariant, FontWeight, LabelPluralize, LongShortForm, Name, NameForm, OtherTerm,
     PageRangeFormat, StyleSettings, TermForm, TextDecoration, VariablelessLabel, VerticalAlign,
 };
+use std::process::Abort;
 
 #[test]
 fn options_have_their_defaults(rt: HostRuntime) {
@@ -33,20 +34,28 @@ fn options_have_their_defaults(rt: HostRuntime) {
     );
 }
 
-#[test]
-fn names_and_settings_of_which_nothing_is_said(rt: HostRuntime) {
-    let name = Name::new(rt.alloc());
-    assert_same(&rt, &name.options.form, &None);
-    assert_same(&rt, &name.parts.len(), &0);
-    assert_same(&rt, &EtAl::default().term, &OtherTerm::EtAl);
-    assert_same(&rt, &VariablelessLabel::default().form, &TermForm::Long);
-    let settings = StyleSettings::default();
-    assert_same(&rt, &settings.page_range_format, &None);
+fn assert_name(rt: &impl Abort, name: &Name) {
+    assert_same(rt, &name.options.form, &None);
+    assert_same(rt, &name.parts.len(), &0);
+}
+
+fn assert_settings(rt: &impl Abort, settings: &StyleSettings) {
+    assert_same(rt, &settings.page_range_format, &None);
     assert_same(
-        &rt,
+        rt,
         &settings.demote_non_dropping_particle,
         &DemoteNonDroppingParticle::DisplayAndSort,
     );
-    assert_same(&rt, &settings.initialize_with_hyphen, &true);
-    assert_same(&rt, &settings.names.et_al_min, &None);
+    assert_same(rt, &settings.initialize_with_hyphen, &true);
+    assert_same(rt, &settings.names.et_al_min, &None);
+}
+
+#[test]
+fn names_and_settings_of_which_nothing_is_said(rt: HostRuntime) {
+    let name = Name::new(rt.alloc());
+    assert_name(&rt, &name);
+    assert_same(&rt, &EtAl::default().term, &OtherTerm::EtAl);
+    assert_same(&rt, &VariablelessLabel::default().form, &TermForm::Long);
+    let settings = StyleSettings::default();
+    assert_settings(&rt, &settings);
 }

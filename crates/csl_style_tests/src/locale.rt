@@ -5,7 +5,7 @@ ghost use Rattle.std.specs.Prelude.{◌≡◌, ◌↔◌, IsTrue};
 use crate::asserted::{assert_same, assert_text};
 use crate::made::{EMPTY, LocaleRows, SILENT, StyleRows, locales, style};
 use csl_style::{
-    DateForm, DateParts, LocaleOrdinals, Locator, NumberVariable, OrdinalMatch, OrdinalSlot,
+    Date, DateForm, DateParts, LocaleOrdinals, Locator, NumberVariable, OrdinalMatch, OrdinalSlot,
     OtherTerm, Style, Term, TermForm,
 };
 use lit_model::{GrammarGender, NumberForm, Numeric, Ordinals};
@@ -67,17 +67,16 @@ const ENGLISH: [LocaleRows<'static>; 2] = [
     },
 ];
 
-/// What a number is written as in English in a form.
-fn assert_english(
+/// What a number is written as in a form.
+fn assert_written(
     rt: &impl Abort,
     alloc: Global,
+    ordinals: &LocaleOrdinals<'_>,
     (number, form): (i32, NumberForm),
     wanted: &str,
 ) -> Result<(), Fail> {
-    let locales = locales(alloc, &ENGLISH)?;
     let mut text = String::new(alloc);
-    let ordinals = LocaleOrdinals { locales: &locales };
-    Numeric::new(number).with_form(&mut text, form, None, &ordinals)?;
+    Numeric::new(number).with_form(&mut text, form, None, ordinals)?;
     assert_text(rt, Some(text.as_str()), Some(wanted));
     Ok(())
 }
@@ -96,10 +95,27 @@ static IN_ENGLISH: [(i32, &str); 7] = [
 fn assert_in_both_forms(
     rt: &impl Abort,
     alloc: Global,
+    ordinals: &LocaleOrdinals<'_>,
     &(number, wanted): &(i32, &'static str),
 ) -> Result<(), Fail> {
-    assert_english(rt, alloc, (number, NumberForm::Ordinal), wanted)?;
-    assert_english(rt, alloc, (number, NumberForm::LongOrdinal), wanted)
+    assert_written(rt, alloc, ordinals, (number, NumberForm::Ordinal), wanted)?;
+    assert_written(
+        rt,
+        alloc,
+        ordinals,
+        (number, NumberForm::LongOrdinal),
+        wanted,
+    )
+}
+
+fn assert_english(rt: &impl Abort, alloc: Global) -> Result<(), Fail> {
+    let locales = locales(alloc, &ENGLISH)?;
+    let ordinals = LocaleOrdinals { locales: &locales };
+    let numbers: &[(i32, &'static str)] = &IN_ENGLISH;
+    for row in numbers {
+        assert_in_both_forms(rt, alloc, &ordinals, row)?;
+    }
+    Ok(())
 }
 
 const WHOLE: Option<OrdinalMatch> = Some(OrdinalMatch::WholeNumber);
@@ -140,35 +156,41 @@ static ORDINALS: [OrdinalRow; 10] = [
     (true, 3, None, None),
 ];
 
-/// The suffix of a number in these locales, or its word.
+/// The suffix of a number, or its word.
 fn assert_ordinal(
     rt: &impl Abort,
-    alloc: Global,
-    rows: &[LocaleRows<'_>],
+    ordinals: &LocaleOrdinals<'_>,
     &(is_word, number, gender, wanted): &OrdinalRow,
-) -> Result<(), Fail> {
-    let locales = locales(alloc, rows)?;
-    let ordinals = LocaleOrdinals { locales: &locales };
+) {
     let answer = if is_word {
         ordinals.long(number, gender)
     } else {
         ordinals.lookup(number, gender)
     };
     assert_text(rt, answer, wanted);
+}
+
+fn assert_by_gender_and_digits(rt: &impl Abort, alloc: Global) -> Result<(), Fail> {
+    let locales = locales(alloc, &BY_GENDER_AND_DIGITS)?;
+    let ordinals = LocaleOrdinals { locales: &locales };
+    let rows: &[OrdinalRow] = &ORDINALS;
+    for row in rows {
+        assert_ordinal(rt, &ordinals, row);
+    }
     Ok(())
+}
+
+fn assert_without_locales(rt: &impl Abort) {
+    let ordinals = LocaleOrdinals { locales: &[] };
+    assert_ordinal(rt, &ordinals, &(false, 3, None, None));
 }
 
 #[test]
 fn ordinals_by_gender_and_digits(rt: HostRuntime) -> Result<(), Fail> {
-    let numbers: &[(i32, &'static str)] = &IN_ENGLISH;
-    for row in numbers {
-        assert_in_both_forms(&rt, rt.alloc(), row)?;
-    }
-    let ordinals: &[OrdinalRow] = &ORDINALS;
-    for row in ordinals {
-        assert_ordinal(&rt, rt.alloc(), &BY_GENDER_AND_DIGITS, row)?;
-    }
-    assert_ordinal(&rt, rt.alloc(), &[], &(false, 3, None, None))
+    assert_english(&rt, rt.alloc())?;
+    assert_by_gender_and_digits(&rt, rt.alloc())?;
+    assert_without_locales(&rt);
+    Ok(())
 }
 
 /// Terms in two locales.
@@ -194,7 +216,9 @@ const TERMS: StyleRows<'static> = StyleRows {
 };
 
 /// A term, its form, whether there are several, and the text.
-static TEXTS: [(Term, TermForm, bool, Option<&str>); 8] = [
+type TextRow = (Term, TermForm, bool, Option<&'static str>);
+
+static TEXTS: [TextRow; 8] = [
     (AND, TermForm::Short, false, Some("and")),
     (AND, TermForm::Long, true, Some("and")),
     (VOLUME, TermForm::Long, false, Some("volume")),
@@ -205,19 +229,20 @@ static TEXTS: [(Term, TermForm, bool, Option<&str>); 8] = [
     (PAGE, TermForm::Long, false, None),
 ];
 
-fn assert_terms(
-    rt: &impl Abort,
-    style: &Style,
-    rows: &[(Term, TermForm, bool, Option<&'static str>)],
-) {
-    for (term, form, plural, wanted) in rows {
-        assert_text(rt, style.term(*term, *form, *plural), *wanted);
+fn assert_term(rt: &impl Abort, style: &Style, &(term, form, plural, wanted): &TextRow) {
+    assert_text(rt, style.term(term, form, plural), wanted);
+}
+
+fn assert_terms(rt: &impl Abort, style: &Style) {
+    let rows: &[TextRow] = &TEXTS;
+    for row in rows {
+        assert_term(rt, style, row);
     }
 }
 
 fn assert_texts(rt: &impl Abort, alloc: Global) -> Result<(), Fail> {
-    let style = style(alloc, TERMS)?;
-    assert_terms(rt, &style, &TEXTS);
+    let style = style(alloc, &TERMS)?;
+    assert_terms(rt, &style);
     Ok(())
 }
 
@@ -246,7 +271,7 @@ const GENDERS_AND_DATES: StyleRows<'static> = StyleRows {
 
 /// A style, a term and a form of dates, and the gender and the parts.
 type GenderRow = (
-    StyleRows<'static>,
+    &'static StyleRows<'static>,
     Term,
     DateForm,
     Option<GrammarGender>,
@@ -255,33 +280,45 @@ type GenderRow = (
 
 static GENDERS: [GenderRow; 3] = [
     (
-        GENDERS_AND_DATES,
+        &GENDERS_AND_DATES,
         VOLUME,
         DateForm::Numeric,
         MASCULINE,
         Some(DateParts::YearMonth),
     ),
     (
-        GENDERS_AND_DATES,
+        &GENDERS_AND_DATES,
         AND,
         DateForm::Text,
         None,
         Some(DateParts::Year),
     ),
-    (EMPTY, AND, DateForm::Text, None, None),
+    (&EMPTY, AND, DateForm::Text, None, None),
 ];
+
+fn parts_of(date: Option<&Date>) -> Option<DateParts> {
+    match date {
+        Some(date) => date.parts,
+        None => None,
+    }
+}
 
 /// The gender of the long form of a term, and the parts of the first localized date of a form.
 fn assert_gender_and_date(
     rt: &impl Abort,
-    alloc: Global,
-    &(rows, term, form, gender, parts): &GenderRow,
-) -> Result<(), Fail> {
-    let style = style(alloc, rows)?;
+    style: &Style,
+    &(_, term, form, gender, parts): &GenderRow,
+) {
     assert_same(rt, &style.gender(term), &gender);
-    let answer = style.localized_date(form);
-    assert_same(rt, &answer.is_some(), &parts.is_some());
-    assert_same(rt, &answer.and_then(|date| date.parts), &parts);
+    let is_localized = style.localized_date(form).is_some();
+    assert_same(rt, &is_localized, &parts.is_some());
+    let answer = parts_of(style.localized_date(form));
+    assert_same(rt, &answer, &parts);
+}
+
+fn assert_genders(rt: &impl Abort, alloc: Global, row: &GenderRow) -> Result<(), Fail> {
+    let style = style(alloc, row.0)?;
+    assert_gender_and_date(rt, &style, row);
     Ok(())
 }
 
@@ -290,7 +327,7 @@ fn terms_genders_and_dates_by_locale(rt: HostRuntime) -> Result<(), Fail> {
     assert_texts(&rt, rt.alloc())?;
     let rows: &[GenderRow] = &GENDERS;
     for row in rows {
-        assert_gender_and_date(&rt, rt.alloc(), row)?;
+        assert_genders(&rt, rt.alloc(), row)?;
     }
     Ok(())
 }

@@ -1,10 +1,11 @@
 //! Styles and locales from plain words.
 
 use csl_style::{
-    Affixes, Choose, ChooseBranch, ChooseMatch, CslMacro, Date, DateForm, DateParts, Formatting,
-    Group, InheritableNameOptions, Layout, LayoutRenderingElement, Locale, NameVariable, Names,
-    NamesChild, OrdinalMatch, OrdinalSlot, OrdinalTerm, PageRangeFormat, StandardVariable, Style,
-    StyleError, StyleSettings, Substitute, Term, TermEntry, TermForm, Text, TextTarget, Variable,
+    Affixes, Choose, ChooseBranch, ChooseMatch, CslMacro, Date, DateForm, DateParts, DateVariable,
+    Formatting, Group, InheritableNameOptions, Layout, LayoutRenderingElement, Locale,
+    NameVariable, Names, NamesChild, OrdinalMatch, OrdinalSlot, OrdinalTerm, PageRangeFormat,
+    StandardVariable, Style, StyleError, StyleSettings, Substitute, Term, TermEntry, TermForm,
+    Text, TextTarget, Variable,
 };
 use lit_model::{GrammarGender, LongShortForm};
 use std::alloc::{AllocError, Global};
@@ -45,18 +46,30 @@ pub(crate) const SILENT: LocaleRows<'static> = LocaleRows {
     limit_day_ordinals_to_day_1: false,
 };
 
-/// A localized date without parts.
-fn date(alloc: Global, form: DateForm, parts: DateParts) -> Date {
+/// A date without parts of its own.
+pub(crate) fn date(
+    alloc: Global,
+    variable: Option<DateVariable>,
+    form: Option<DateForm>,
+    parts: Option<DateParts>,
+) -> Date {
     Date {
-        variable: None,
-        form: Some(form),
-        parts: Some(parts),
+        variable,
+        form,
+        parts,
         date_part: Vec::new(alloc),
         delimiter: None,
         formatting: Formatting::default(),
         affixes: Affixes::default(),
         display: None,
     }
+}
+
+/// A list of one item.
+pub(crate) fn one<T: Drop>(alloc: Global, item: T) -> Result<Vec<T>, AllocError> {
+    let mut items = Vec::new(alloc);
+    items.push(item)?;
+    Ok(items)
 }
 
 /// A copy of a text, if there is one.
@@ -67,30 +80,43 @@ pub(crate) fn copy_text(alloc: Global, text: Option<&str>) -> Result<Option<Stri
     }
 }
 
+fn term(
+    alloc: Global,
+    &(term, form, single, multiple, gender): &TermRow<'_>,
+) -> Result<TermEntry, AllocError> {
+    Ok(TermEntry {
+        term,
+        form,
+        single: String::from_str(alloc, single)?,
+        multiple: copy_text(alloc, multiple)?,
+        gender,
+    })
+}
+
 fn terms(alloc: Global, rows: &[TermRow<'_>]) -> Result<Vec<TermEntry>, AllocError> {
     let mut terms = Vec::new(alloc);
-    for (term, form, single, multiple, gender) in rows {
-        let single = String::from_str(alloc, *single)?;
-        terms.push(TermEntry {
-            term: *term,
-            form: *form,
-            single,
-            multiple: copy_text(alloc, *multiple)?,
-            gender: *gender,
-        })?;
+    for row in rows {
+        terms.push(term(alloc, row)?)?;
     }
     Ok(terms)
 }
 
+fn ordinal(
+    alloc: Global,
+    &(slot, matching, gender, text): &OrdinalRow<'_>,
+) -> Result<OrdinalTerm, AllocError> {
+    Ok(OrdinalTerm {
+        slot,
+        matching,
+        gender,
+        text: String::from_str(alloc, text)?,
+    })
+}
+
 fn ordinals(alloc: Global, rows: &[OrdinalRow<'_>]) -> Result<Vec<OrdinalTerm>, AllocError> {
     let mut ordinals = Vec::new(alloc);
-    for (slot, matching, gender, text) in rows {
-        ordinals.push(OrdinalTerm {
-            slot: *slot,
-            matching: *matching,
-            gender: *gender,
-            text: String::from_str(alloc, *text)?,
-        })?;
+    for row in rows {
+        ordinals.push(ordinal(alloc, row)?)?;
     }
     Ok(ordinals)
 }
@@ -98,12 +124,12 @@ fn ordinals(alloc: Global, rows: &[OrdinalRow<'_>]) -> Result<Vec<OrdinalTerm>, 
 fn dates(alloc: Global, rows: &[(DateForm, DateParts)]) -> Result<Vec<Date>, AllocError> {
     let mut dates = Vec::new(alloc);
     for (form, parts) in rows {
-        dates.push(date(alloc, *form, *parts))?;
+        dates.push(date(alloc, None, Some(*form), Some(*parts)))?;
     }
     Ok(dates)
 }
 
-fn locale(alloc: Global, rows: LocaleRows<'_>) -> Result<Locale, AllocError> {
+fn locale(alloc: Global, rows: &LocaleRows<'_>) -> Result<Locale, AllocError> {
     let terms = terms(alloc, rows.terms)?;
     let ordinals = ordinals(alloc, rows.ordinals)?;
     Ok(Locale {
@@ -119,7 +145,7 @@ fn locale(alloc: Global, rows: LocaleRows<'_>) -> Result<Locale, AllocError> {
 pub(crate) fn locales(alloc: Global, rows: &[LocaleRows<'_>]) -> Result<Vec<Locale>, AllocError> {
     let mut locales = Vec::new(alloc);
     for row in rows {
-        locales.push(locale(alloc, *row)?)?;
+        locales.push(locale(alloc, row)?)?;
     }
     Ok(locales)
 }
@@ -173,20 +199,40 @@ pub(crate) fn branch(
 }
 
 /// Names of authors, and what stands in their place.
-fn names_or(
+pub(crate) fn names_or(
     alloc: Global,
     children: Vec<LayoutRenderingElement>,
 ) -> Result<LayoutRenderingElement, AllocError> {
     let substitute = NamesChild::Substitute(Substitute { children });
+    names(alloc, NameVariable::Author, one(alloc, substitute)?)
+}
+
+/// Names of a variable.
+pub(crate) fn names(
+    alloc: Global,
+    variable: NameVariable,
+    children: Vec<NamesChild>,
+) -> Result<LayoutRenderingElement, AllocError> {
     Ok(LayoutRenderingElement::Names(Names {
-        children: vec![in alloc; substitute]?,
-        variable: vec![in alloc; NameVariable::Author]?,
+        variable: vec![in alloc; variable]?,
+        children,
         options: InheritableNameOptions::default(),
         delimiter: None,
         formatting: Formatting::default(),
         affixes: Affixes::default(),
         display: None,
     }))
+}
+
+/// A group of these.
+pub(crate) fn group(children: Vec<LayoutRenderingElement>) -> LayoutRenderingElement {
+    LayoutRenderingElement::Group(Group {
+        children,
+        delimiter: None,
+        formatting: Formatting::default(),
+        affixes: Affixes::default(),
+        display: None,
+    })
 }
 
 /// The node that holds these.
@@ -203,7 +249,7 @@ fn node_around(
         })),
         Around::ElseIf(told) => Ok(LayoutRenderingElement::Choose(Choose {
             if_: branch(ChooseMatch::All, told, Vec::new(alloc)),
-            else_if: vec![in alloc; branch(ChooseMatch::All, told, children)]?,
+            else_if: one(alloc, branch(ChooseMatch::All, told, children))?,
             otherwise: None,
         })),
         Around::Else(told) => Ok(LayoutRenderingElement::Choose(Choose {
@@ -211,13 +257,7 @@ fn node_around(
             else_if: Vec::new(alloc),
             otherwise: Some(children),
         })),
-        Around::Group => Ok(LayoutRenderingElement::Group(Group {
-            children,
-            delimiter: None,
-            formatting: Formatting::default(),
-            affixes: Affixes::default(),
-            display: None,
-        })),
+        Around::Group => Ok(group(children)),
         Around::Substitute => names_or(alloc, children),
     }
 }
@@ -245,34 +285,48 @@ fn target(alloc: Global, word: &str) -> Result<TextTarget, AllocError> {
     })
 }
 
-/// A text node of a word.
-fn text(alloc: Global, word: &str) -> Result<LayoutRenderingElement, AllocError> {
-    Ok(LayoutRenderingElement::Text(Text {
-        target: target(alloc, word)?,
+/// A text node of a target.
+pub(crate) fn text(target: TextTarget) -> LayoutRenderingElement {
+    LayoutRenderingElement::Text(Text {
+        target,
         formatting: Formatting::default(),
         affixes: Affixes::default(),
         display: None,
         quotes: false,
         strip_periods: false,
-    }))
+    })
+}
+
+/// The texts among the words.
+fn texts(alloc: Global, words: &[&str]) -> Result<Vec<LayoutRenderingElement>, AllocError> {
+    let mut texts = Vec::new(alloc);
+    for word in words {
+        if read_around(*word).is_none() {
+            texts.push(text(target(alloc, *word)?))?;
+        }
+    }
+    Ok(texts)
+}
+
+/// The nodes within all that the words say to stand around them.
+fn nodes_around(
+    alloc: Global,
+    words: &[&str],
+    inside: Vec<LayoutRenderingElement>,
+) -> Result<Vec<LayoutRenderingElement>, AllocError> {
+    let mut nodes = inside;
+    for word in words.iter().rev() {
+        if let Some(around) = read_around(*word) {
+            nodes = one(alloc, node_around(alloc, around, nodes)?)?;
+        }
+    }
+    Ok(nodes)
 }
 
 /// The nodes that the words name: what stands around, from the outside in, and then the texts.
 fn nodes(alloc: Global, words: &str) -> Result<Vec<LayoutRenderingElement>, AllocError> {
     let words: Vec<&str> = words.split_whitespace().collect(alloc)?;
-    let mut nodes = Vec::new(alloc);
-    for word in &words {
-        if read_around(*word).is_none() {
-            nodes.push(text(alloc, *word)?)?;
-        }
-    }
-    for word in words.iter().rev() {
-        if let Some(around) = read_around(*word) {
-            let node = node_around(alloc, around, nodes)?;
-            nodes = vec![in alloc; node]?;
-        }
-    }
-    Ok(nodes)
+    nodes_around(alloc, &words, texts(alloc, &words)?)
 }
 
 /// The macro of a line: its name, and the words of its nodes.
@@ -299,11 +353,16 @@ fn layout(alloc: Global, line: &str) -> Result<Layout, AllocError> {
         let mut nodes = nodes(alloc, words)?;
         elements.append(&mut nodes)?;
     }
-    Ok(Layout {
+    Ok(layout_of(elements))
+}
+
+/// A layout of these.
+pub(crate) fn layout_of(elements: Vec<LayoutRenderingElement>) -> Layout {
+    Layout {
         elements,
         delimiter: None,
         formatting: Formatting::default(),
-    })
+    }
 }
 
 /// What a style says: its page format, a line for each macro and each layout, its locales.
@@ -326,7 +385,7 @@ pub(crate) const EMPTY: StyleRows<'static> = StyleRows {
 };
 
 /// The style of these rows.
-pub(crate) fn style(alloc: Global, rows: StyleRows<'_>) -> Result<Style, StyleError> {
+pub(crate) fn style(alloc: Global, rows: &StyleRows<'_>) -> Result<Style, StyleError> {
     let macros = macros(alloc, rows.macros)?;
     let locales = locales(alloc, rows.locales)?;
     let citation = layout(alloc, rows.citation)?;
@@ -334,7 +393,9 @@ pub(crate) fn style(alloc: Global, rows: StyleRows<'_>) -> Result<Style, StyleEr
         Some(line) => Some(layout(alloc, line)?),
         None => None,
     };
-    let mut settings = StyleSettings::default();
-    settings.page_range_format = rows.format;
+    let settings = StyleSettings {
+        page_range_format: rows.format,
+        ..StyleSettings::default()
+    };
     Style::new(alloc, settings, macros, citation, bibliography, locales)
 }

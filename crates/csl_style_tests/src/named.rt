@@ -1,12 +1,13 @@
 //! What layouts name.
 
 use crate::asserted::assert_text;
-use crate::made::{EMPTY, StyleRows, branch, style};
+use crate::made::{
+    EMPTY, StyleRows, branch, date, group, layout_of, names, names_or, one, style, text,
+};
 use csl_style::{
-    Affixes, Choose, ChooseBranch, ChooseMatch, Date, DateVariable, Formatting, Group,
-    InheritableNameOptions, Kind, Label, Layout, LayoutRenderingElement, NameVariable, Named,
-    Names, NamesChild, Number, NumberOrPageVariable, NumberVariable, PageVariable,
-    StandardVariable, Style, Substitute, Text, TextTarget, Variable, VariablelessLabel, named_by,
+    Affixes, Choose, ChooseBranch, ChooseMatch, DateVariable, Formatting, Kind, Label, Layout,
+    LayoutRenderingElement, NameVariable, Named, Number, NumberOrPageVariable, NumberVariable,
+    PageVariable, StandardVariable, Style, TextTarget, Variable, VariablelessLabel, named_by,
 };
 use lit_model::{LongShortForm, NumberForm};
 use std::alloc::{AllocError, Global};
@@ -25,6 +26,18 @@ fn said(alloc: Global, named: &Named) -> Result<String, Fail> {
 fn named_in(alloc: Global, style: &Style, layout: &Layout) -> Result<String, Fail> {
     let named = named_by(alloc, style, layout)?;
     said(alloc, &named)
+}
+
+fn assert_said(
+    rt: &impl Abort,
+    alloc: Global,
+    style: &Style,
+    layout: &Layout,
+    wanted: &'static str,
+) -> Result<(), Fail> {
+    let said = named_in(alloc, style, layout)?;
+    assert_text(rt, Some(said.as_str()), Some(wanted));
+    Ok(())
 }
 
 /// Two macros, of which the first calls the other twice, and one that the style lacks.
@@ -67,10 +80,8 @@ fn assert_line(
         citation: line,
         ..EMPTY
     };
-    let style = style(alloc, rows)?;
-    let said = named_in(alloc, &style, style.citation())?;
-    assert_text(rt, Some(said.as_str()), Some(wanted));
-    Ok(())
+    let style = style(alloc, &rows)?;
+    assert_said(rt, alloc, &style, style.citation(), wanted)
 }
 
 #[test]
@@ -82,137 +93,136 @@ fn nodes_are_named_wherever_they_stand(rt: HostRuntime) -> Result<(), Fail> {
     Ok(())
 }
 
-fn text(variable: Variable) -> LayoutRenderingElement {
-    LayoutRenderingElement::Text(Text {
-        target: TextTarget::Variable {
-            var: variable,
+/// A node that holds no others.
+enum Leaf {
+    Text(Variable),
+    Number(NumberOrPageVariable),
+    Label(NumberOrPageVariable),
+    Issued,
+}
+
+fn make_leaf(alloc: Global, leaf: &Leaf) -> LayoutRenderingElement {
+    match *leaf {
+        Leaf::Text(var) => text(TextTarget::Variable {
+            var,
             form: LongShortForm::Long,
-        },
-        formatting: Formatting::default(),
-        affixes: Affixes::default(),
-        display: None,
-        quotes: false,
-        strip_periods: false,
-    })
+        }),
+        Leaf::Number(variable) => LayoutRenderingElement::Number(Number {
+            variable,
+            form: NumberForm::Numeric,
+            formatting: Formatting::default(),
+            affixes: Affixes::default(),
+            display: None,
+        }),
+        Leaf::Label(variable) => LayoutRenderingElement::Label(Label {
+            variable,
+            label: VariablelessLabel::default(),
+        }),
+        Leaf::Issued => {
+            LayoutRenderingElement::Date(date(alloc, Some(DateVariable::Issued), None, None))
+        }
+    }
 }
 
-fn number(variable: NumberOrPageVariable) -> LayoutRenderingElement {
-    LayoutRenderingElement::Number(Number {
-        variable,
-        form: NumberForm::Numeric,
-        formatting: Formatting::default(),
-        affixes: Affixes::default(),
-        display: None,
-    })
-}
-
-fn label(variable: NumberOrPageVariable) -> LayoutRenderingElement {
-    LayoutRenderingElement::Label(Label {
-        variable,
-        label: VariablelessLabel::default(),
-    })
-}
-
-fn issued(alloc: Global) -> LayoutRenderingElement {
-    LayoutRenderingElement::Date(Date {
-        variable: Some(DateVariable::Issued),
-        form: None,
-        parts: None,
-        date_part: Vec::new(alloc),
-        delimiter: None,
-        formatting: Formatting::default(),
-        affixes: Affixes::default(),
-        display: None,
-    })
-}
-
-fn group(children: Vec<LayoutRenderingElement>) -> LayoutRenderingElement {
-    LayoutRenderingElement::Group(Group {
-        children,
-        delimiter: None,
-        formatting: Formatting::default(),
-        affixes: Affixes::default(),
-        display: None,
-    })
-}
-
-fn names(
+/// Appends these.
+fn push_leaves(
     alloc: Global,
-    variable: NameVariable,
-    children: Vec<NamesChild>,
-) -> Result<LayoutRenderingElement, AllocError> {
-    Ok(LayoutRenderingElement::Names(Names {
-        variable: vec![in alloc; variable]?,
-        children,
-        options: InheritableNameOptions::default(),
-        delimiter: None,
-        formatting: Formatting::default(),
-        affixes: Affixes::default(),
-        display: None,
-    }))
+    nodes: &mut Vec<LayoutRenderingElement>,
+    leaves: &[Leaf],
+) -> Result<(), AllocError> {
+    for row in leaves {
+        nodes.push(make_leaf(alloc, row))?;
+    }
+    Ok(())
 }
+
+fn leaves(alloc: Global, rows: &[Leaf]) -> Result<Vec<LayoutRenderingElement>, AllocError> {
+    let mut nodes = Vec::new(alloc);
+    push_leaves(alloc, &mut nodes, rows)?;
+    Ok(nodes)
+}
+
+/// Appends a group of these.
+fn push_group(
+    alloc: Global,
+    nodes: &mut Vec<LayoutRenderingElement>,
+    rows: &[Leaf],
+) -> Result<(), AllocError> {
+    Ok(nodes.push(group(leaves(alloc, rows)?))?)
+}
+
+const VOLUME: NumberOrPageVariable = NumberOrPageVariable::Number(NumberVariable::Volume);
+
+const PAGE: NumberOrPageVariable = NumberOrPageVariable::Page(PageVariable::Page);
 
 fn author_or_editor(alloc: Global) -> Result<LayoutRenderingElement, AllocError> {
     let editor = names(alloc, NameVariable::Editor, Vec::new(alloc))?;
-    let children = vec![in alloc; editor]?;
-    let substitute = NamesChild::Substitute(Substitute { children });
-    names(alloc, NameVariable::Author, vec![in alloc; substitute]?)
-}
-
-fn layout(elements: Vec<LayoutRenderingElement>) -> Layout {
-    Layout {
-        elements,
-        delimiter: None,
-        formatting: Formatting::default(),
-    }
+    names_or(alloc, one(alloc, editor)?)
 }
 
 /// The author, and the year of issue.
 fn author_date(alloc: Global) -> Result<Layout, AllocError> {
     let author = names(alloc, NameVariable::Author, Vec::new(alloc))?;
-    let parts = vec![in alloc; author, issued(alloc)]?;
-    Ok(layout(vec![in alloc; group(parts)]?))
+    let mut parts = one(alloc, author)?;
+    push_leaves(alloc, &mut parts, &[Leaf::Issued])?;
+    Ok(layout_of(one(alloc, group(parts))?))
 }
 
-/// Authors or else editors, title, container, volume, pages, date of issue; and the DOI.
+static TITLES: [Leaf; 2] = [
+    Leaf::Text(Variable::Standard(StandardVariable::Title)),
+    Leaf::Text(Variable::Standard(StandardVariable::ContainerTitle)),
+];
+
+static OF_VOLUME: [Leaf; 2] = [Leaf::Label(VOLUME), Leaf::Number(VOLUME)];
+
+static OF_PAGES: [Leaf; 2] = [
+    Leaf::Label(PAGE),
+    Leaf::Text(Variable::Page(PageVariable::Page)),
+];
+
+static OF_DOI: [Leaf; 1] = [Leaf::Text(Variable::Standard(StandardVariable::DOI))];
+
+/// Appends title, container, volume, pages, date of issue.
+fn push_parts(alloc: Global, parts: &mut Vec<LayoutRenderingElement>) -> Result<(), AllocError> {
+    push_leaves(alloc, parts, &TITLES)?;
+    push_group(alloc, parts, &OF_VOLUME)?;
+    push_group(alloc, parts, &OF_PAGES)?;
+    push_leaves(alloc, parts, &[Leaf::Issued])
+}
+
+/// Authors or else editors, title, container, volume, pages, date of issue.
+fn parts_of_reference(alloc: Global) -> Result<Vec<LayoutRenderingElement>, AllocError> {
+    let mut parts = one(alloc, author_or_editor(alloc)?)?;
+    push_parts(alloc, &mut parts)?;
+    Ok(parts)
+}
+
+/// The parts of a reference, and the DOI.
 fn reference(alloc: Global) -> Result<Layout, AllocError> {
-    let volume = NumberOrPageVariable::Number(NumberVariable::Volume);
-    let page = NumberOrPageVariable::Page(PageVariable::Page);
-    let volume = vec![in alloc; label(volume), number(volume)]?;
-    let pages = vec![in alloc; label(page), text(Variable::Page(PageVariable::Page))]?;
-    let parts = vec![in alloc;
-        author_or_editor(alloc)?,
-        text(Variable::Standard(StandardVariable::Title)),
-        text(Variable::Standard(StandardVariable::ContainerTitle)),
-        group(volume),
-        group(pages),
-        issued(alloc),
-    ]?;
-    let doi = vec![in alloc; text(Variable::Standard(StandardVariable::DOI))]?;
-    Ok(layout(vec![in alloc; group(parts), group(doi)]?))
+    let mut elements = one(alloc, group(parts_of_reference(alloc)?))?;
+    push_group(alloc, &mut elements, &OF_DOI)?;
+    Ok(layout_of(elements))
 }
 
 /// Where the entry is a book with a numeric edition.
 fn numeric_book(alloc: Global) -> Result<ChooseBranch, AllocError> {
-    let edition = vec![in alloc; Variable::Number(NumberVariable::Edition)]?;
-    let book = vec![in alloc; Kind::Book]?;
-    let mut branch = branch(ChooseMatch::All, None, Vec::new(alloc));
-    branch.is_numeric = Some(edition);
-    branch.type_ = Some(book);
-    Ok(branch)
+    Ok(ChooseBranch {
+        is_numeric: Some(vec![in alloc; Variable::Number(NumberVariable::Edition)]?),
+        type_: Some(vec![in alloc; Kind::Book]?),
+        ..branch(ChooseMatch::All, None, Vec::new(alloc))
+    })
 }
 
 /// Where the date of issue is uncertain, or there are pages or a locator.
 fn uncertain_or_placed(alloc: Global) -> Result<ChooseBranch, AllocError> {
-    let dates = vec![in alloc; DateVariable::Issued]?;
-    let placed = vec![in alloc;
-        Variable::Page(PageVariable::Page),
-        Variable::Number(NumberVariable::Locator),
-    ]?;
-    let mut branch = branch(ChooseMatch::Any, None, Vec::new(alloc));
-    branch.is_uncertain_date = Some(dates);
-    branch.variable = Some(placed);
-    Ok(branch)
+    Ok(ChooseBranch {
+        is_uncertain_date: Some(vec![in alloc; DateVariable::Issued]?),
+        variable: Some(vec![in alloc;
+            Variable::Page(PageVariable::Page),
+            Variable::Number(NumberVariable::Locator),
+        ]?),
+        ..branch(ChooseMatch::Any, None, Vec::new(alloc))
+    })
 }
 
 /// A layout of a choice of one branch.
@@ -222,20 +232,17 @@ fn choice(alloc: Global, if_: ChooseBranch) -> Result<Layout, AllocError> {
         else_if: Vec::new(alloc),
         otherwise: None,
     });
-    Ok(layout(vec![in alloc; choose]?))
+    Ok(layout_of(one(alloc, choose)?))
 }
 
 /// Numbers that the citation answers, one of the entry, and its pages as a number.
-fn numbers(alloc: Global) -> Result<Layout, AllocError> {
-    let elements = vec![in alloc;
-        number(NumberOrPageVariable::Number(NumberVariable::CitationNumber)),
-        number(NumberOrPageVariable::Number(NumberVariable::FirstReferenceNoteNumber)),
-        label(NumberOrPageVariable::Number(NumberVariable::Locator)),
-        number(NumberOrPageVariable::Number(NumberVariable::Volume)),
-        number(NumberOrPageVariable::Page(PageVariable::Page)),
-    ]?;
-    Ok(layout(elements))
-}
+static NUMBERS: [Leaf; 5] = [
+    Leaf::Number(NumberOrPageVariable::Number(NumberVariable::CitationNumber)),
+    Leaf::Number(NumberOrPageVariable::Number(NumberVariable::FirstReferenceNoteNumber)),
+    Leaf::Label(NumberOrPageVariable::Number(NumberVariable::Locator)),
+    Leaf::Number(VOLUME),
+    Leaf::Number(PAGE),
+];
 
 fn assert_layout(
     rt: &impl Abort,
@@ -243,10 +250,18 @@ fn assert_layout(
     layout: &Layout,
     wanted: &'static str,
 ) -> Result<(), Fail> {
-    let style = style(alloc, EMPTY)?;
-    let said = named_in(alloc, &style, layout)?;
-    assert_text(rt, Some(said.as_str()), Some(wanted));
-    Ok(())
+    let style = style(alloc, &EMPTY)?;
+    assert_said(rt, alloc, &style, layout, wanted)
+}
+
+fn assert_choice(
+    rt: &impl Abort,
+    alloc: Global,
+    branch: ChooseBranch,
+    wanted: &'static str,
+) -> Result<(), Fail> {
+    let layout = choice(alloc, branch)?;
+    assert_layout(rt, alloc, &layout, wanted)
 }
 
 #[test]
@@ -274,25 +289,23 @@ fn reference_names_authors_and_editors(rt: HostRuntime) -> Result<(), Fail> {
 
 #[test]
 fn tests_of_branches_are_named(rt: HostRuntime) -> Result<(), Fail> {
-    let numeric = choice(rt.alloc(), numeric_book(rt.alloc())?)?;
-    assert_layout(
+    assert_choice(
         &rt,
         rt.alloc(),
-        &numeric,
+        numeric_book(rt.alloc())?,
         "numbers {Edition} pages {} standards {} names {} dates {} kinds {Book}",
     )?;
-    let uncertain = choice(rt.alloc(), uncertain_or_placed(rt.alloc())?)?;
-    assert_layout(
+    assert_choice(
         &rt,
         rt.alloc(),
-        &uncertain,
+        uncertain_or_placed(rt.alloc())?,
         "numbers {} pages {Page} standards {} names {} dates {Issued} kinds {}",
     )
 }
 
 #[test]
 fn what_the_citation_answers_is_not_named(rt: HostRuntime) -> Result<(), Fail> {
-    let layout = numbers(rt.alloc())?;
+    let layout = layout_of(leaves(rt.alloc(), &NUMBERS)?);
     assert_layout(
         &rt,
         rt.alloc(),

@@ -31,27 +31,31 @@ fn options_that_are_not_set_have_their_defaults(rt: HostRuntime) {
     assert_text(&rt, Some(options.sort_separator), Some(", "));
 }
 
-/// Options with these delimiters of names and of their lists.
-fn with_delimiters(
-    alloc: Global,
-    delimiter: Option<&str>,
-    names_delimiter: Option<&str>,
-) -> Result<InheritableNameOptions, AllocError> {
-    let delimiter = copy_text(alloc, delimiter)?;
-    let names_delimiter = copy_text(alloc, names_delimiter)?;
+/// Options that a node inherits: two delimiters and a limit.
+fn around(alloc: Global) -> Result<InheritableNameOptions, AllocError> {
     Ok(InheritableNameOptions {
-        delimiter,
-        names_delimiter,
+        delimiter: copy_text(alloc, Some("; "))?,
+        names_delimiter: copy_text(alloc, Some(" | "))?,
+        et_al_min: Some(4),
         ..InheritableNameOptions::default()
     })
 }
 
+/// A node's own options: an empty delimiter and a form.
+fn own(alloc: Global) -> InheritableNameOptions {
+    InheritableNameOptions {
+        delimiter: Some(String::new(alloc)),
+        form: Some(NameForm::Short),
+        ..InheritableNameOptions::default()
+    }
+}
+
 /// What counts where a node's own options stand over those around it.
-fn assert_own_options_count(rt: &impl Abort, alloc: Global) -> Result<(), AllocError> {
-    let mut around = with_delimiters(alloc, Some("; "), Some(" | "))?;
-    around.et_al_min = Some(4);
-    let mut own = with_delimiters(alloc, Some(""), None)?;
-    own.form = Some(NameForm::Short);
+fn assert_own_options_count(
+    rt: &impl Abort,
+    own: &InheritableNameOptions,
+    around: &InheritableNameOptions,
+) {
     let options = own.apply(around.as_inherited());
     assert_text(rt, Some(options.names_delimiter()), Some(" | "));
     let options = options.name_options();
@@ -59,12 +63,13 @@ fn assert_own_options_count(rt: &impl Abort, alloc: Global) -> Result<(), AllocE
     assert_same(rt, &options.form, &NameForm::Short);
     assert_same(rt, &options.et_al_min, &Some(4));
     assert_text(rt, Some(options.sort_separator), Some(", "));
-    Ok(())
 }
 
 #[test]
 fn own_options_stand_over_inherited_ones(rt: HostRuntime) -> Result<(), Fail> {
-    assert_own_options_count(&rt, rt.alloc())?;
+    let around = around(rt.alloc())?;
+    let own = own(rt.alloc());
+    assert_own_options_count(&rt, &own, &around);
     Ok(())
 }
 
@@ -115,9 +120,11 @@ fn assert_second_suppressed(
     rt: &impl Abort,
     &(later_min, len, subsequent, wanted): &(Option<u32>, usize, bool, bool),
 ) {
-    let mut options = limits(3, 2, false);
-    options.et_al_subsequent_use_first = Some(1);
-    options.et_al_subsequent_min = later_min;
+    let options = NameOptions {
+        et_al_subsequent_use_first: Some(1),
+        et_al_subsequent_min: later_min,
+        ..limits(3, 2, false)
+    };
     let answer = options.is_suppressed(1, len, subsequent);
     assert_same(rt, &answer, &wanted);
 }

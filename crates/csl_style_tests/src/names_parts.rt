@@ -12,7 +12,6 @@ use std::process::Abort;
 use std::test::Fail;
 
 /// A child of names, told from others of its sort by one of its options.
-#[derive(Clone, Copy)]
 enum Child {
     Name(NameForm),
     EtAl(OtherTerm),
@@ -31,18 +30,17 @@ type Found = (
 );
 
 /// What a names node sets beside its children.
-#[derive(Clone, Copy)]
-struct Own<'s> {
+struct Own {
     variable: NameVariable,
     form: Option<NameForm>,
-    delimiter: Option<&'s str>,
+    delimiter: Option<&'static str>,
     font_style: Option<FontStyle>,
-    prefix: Option<&'s str>,
-    suffix: Option<&'s str>,
+    prefix: Option<&'static str>,
+    suffix: Option<&'static str>,
     display: Option<Display>,
 }
 
-const SILENT: Own<'static> = Own {
+const SILENT: Own = Own {
     variable: NameVariable::Author,
     form: None,
     delimiter: None,
@@ -66,13 +64,14 @@ fn new_name(alloc: Global, form: NameForm) -> Name {
 }
 
 fn new_label(form: TermForm) -> VariablelessLabel {
-    let mut label = VariablelessLabel::default();
-    label.form = form;
-    label
+    VariablelessLabel {
+        form,
+        ..VariablelessLabel::default()
+    }
 }
 
-fn new_child(alloc: Global, child: Child) -> NamesChild {
-    match child {
+fn new_child(alloc: Global, child: &Child) -> NamesChild {
+    match *child {
         Child::Name(form) => NamesChild::Name(new_name(alloc, form)),
         Child::EtAl(term) => NamesChild::EtAl(EtAl {
             term,
@@ -85,124 +84,169 @@ fn new_child(alloc: Global, child: Child) -> NamesChild {
     }
 }
 
-fn names(alloc: Global, own: Own<'_>, rows: &[Child]) -> Result<Names, AllocError> {
+fn new_children(alloc: Global, rows: &[Child]) -> Result<Vec<NamesChild>, AllocError> {
     let mut children = Vec::new(alloc);
     for row in rows {
-        children.push(new_child(alloc, *row))?;
+        children.push(new_child(alloc, row))?;
     }
-    let mut options = InheritableNameOptions::default();
-    options.form = own.form;
-    let prefix = copy_text(alloc, own.prefix)?;
-    let suffix = copy_text(alloc, own.suffix)?;
+    Ok(children)
+}
+
+fn affixes(alloc: Global, own: &Own) -> Result<Affixes, AllocError> {
+    Ok(Affixes {
+        prefix: copy_text(alloc, own.prefix)?,
+        suffix: copy_text(alloc, own.suffix)?,
+    })
+}
+
+fn names(alloc: Global, own: &Own, rows: &[Child]) -> Result<Names, AllocError> {
     Ok(Names {
-        delimiter: copy_text(alloc, own.delimiter)?,
         variable: vec![in alloc; own.variable]?,
-        children,
-        options,
+        delimiter: copy_text(alloc, own.delimiter)?,
+        affixes: affixes(alloc, own)?,
+        children: new_children(alloc, rows)?,
+        options: InheritableNameOptions {
+            form: own.form,
+            ..InheritableNameOptions::default()
+        },
         formatting: slanted(own.font_style),
-        affixes: Affixes { prefix, suffix },
         display: own.display,
     })
 }
 
-fn find_parts(alloc: Global, rows: &[Child]) -> Result<Found, AllocError> {
-    let names = names(alloc, SILENT, rows)?;
-    let parts = names.parts();
-    let name = match parts.name() {
+/// The form of the name that counts.
+fn form_of_name(parts: &NamesParts<'_>) -> Option<NameForm> {
+    match parts.name() {
         Some(name) => name.options.form,
         None => None,
-    };
-    let et_al = match parts.et_al() {
-        Some(et_al) => Some(et_al.term),
-        None => None,
-    };
-    let label = match parts.label() {
+    }
+}
+
+/// The form of the label that counts, and whether it stands behind the names.
+fn placed_label(parts: &NamesParts<'_>) -> Option<(TermForm, bool)> {
+    match parts.label() {
         Some(placed) => Some((placed.label.form, placed.is_behind)),
         None => None,
-    };
-    Ok((
-        name,
-        et_al,
-        label,
-        names.substitute().is_some(),
-        names.is_childless(),
-    ))
+    }
+}
+
+fn et_al_term(parts: &NamesParts<'_>) -> Option<OtherTerm> {
+    match parts.et_al() {
+        Some(et_al) => Some(et_al.term),
+        None => None,
+    }
+}
+
+fn assert_found(rt: &impl Abort, names: &Names, wanted: &Found) {
+    let (form, term, label, has_substitute, is_childless) = wanted;
+    let parts = names.parts();
+    assert_same(rt, &form_of_name(&parts), form);
+    assert_same(rt, &et_al_term(&parts), term);
+    assert_same(rt, &placed_label(&parts), label);
+    assert_same(rt, &names.substitute().is_some(), has_substitute);
+    assert_same(rt, &names.is_childless(), is_childless);
+}
+
+const NAME: Child = Child::Name(NameForm::Long);
+
+const COUNT: Child = Child::Name(NameForm::Count);
+
+const AND_OTHERS: Child = Child::EtAl(OtherTerm::AndOthers);
+
+const SHORT: Child = Child::Label(TermForm::Short);
+
+const VERB: Child = Child::Label(TermForm::Verb);
+
+const LONG: Option<NameForm> = Some(NameForm::Long);
+
+/// Children of names, and what is found of them.
+static CHILDREN: [(&[Child], Found); 6] = [
+    (&[], (None, None, None, false, true)),
+    (
+        &[COUNT, Child::EtAl(OtherTerm::EtAl), NAME, AND_OTHERS],
+        (
+            Some(NameForm::Count),
+            Some(OtherTerm::EtAl),
+            None,
+            false,
+            false,
+        ),
+    ),
+    (
+        &[SHORT, NAME, VERB],
+        (LONG, None, Some((TermForm::Short, false)), false, false),
+    ),
+    (
+        &[NAME, VERB, SHORT],
+        (LONG, None, Some((TermForm::Verb, true)), false, false),
+    ),
+    (
+        &[AND_OTHERS, SHORT],
+        (
+            None,
+            Some(OtherTerm::AndOthers),
+            Some((TermForm::Short, false)),
+            false,
+            false,
+        ),
+    ),
+    (&[Child::Substitute], (None, None, None, true, false)),
+];
+
+fn assert_children(
+    rt: &impl Abort,
+    alloc: Global,
+    (children, wanted): &(&'static [Child], Found),
+) -> Result<(), AllocError> {
+    let names = names(alloc, &SILENT, *children)?;
+    assert_found(rt, &names, wanted);
+    Ok(())
 }
 
 #[test]
 fn of_each_sort_the_first_child_counts(rt: HostRuntime) -> Result<(), Fail> {
-    let (long, count) = (NameForm::Long, NameForm::Count);
-    let (et_al, and_others) = (OtherTerm::EtAl, OtherTerm::AndOthers);
-    let (short, verb) = (TermForm::Short, TermForm::Verb);
-    let first_two = [
-        Child::Name(count),
-        Child::EtAl(et_al),
-        Child::Name(long),
-        Child::EtAl(and_others),
-    ];
-    let before = [Child::Label(short), Child::Name(long), Child::Label(verb)];
-    let behind = [Child::Name(long), Child::Label(verb), Child::Label(short)];
-    let no_name = [Child::EtAl(and_others), Child::Label(short)];
-    let rows: [(&[Child], Found); 6] = [
-        (&[], (None, None, None, false, true)),
-        (&first_two, (Some(count), Some(et_al), None, false, false)),
-        (
-            &before,
-            (Some(long), None, Some((short, false)), false, false),
-        ),
-        (
-            &behind,
-            (Some(long), None, Some((verb, true)), false, false),
-        ),
-        (
-            &no_name,
-            (None, Some(and_others), Some((short, false)), false, false),
-        ),
-        (&[Child::Substitute], (None, None, None, true, false)),
-    ];
-    for (children, wanted) in rows {
-        let found = find_parts(rt.alloc(), children)?;
-        assert_same(&rt, &found, &wanted);
+    let rows: &[(&'static [Child], Found)] = &CHILDREN;
+    for row in rows {
+        assert_children(&rt, rt.alloc(), row)?;
     }
     Ok(())
 }
 
 /// What parts of editors say of themselves: forms, texts, and how they are shown.
-type Told<'s> = (
-    [Option<NameForm>; 2],
-    [Option<&'s str>; 3],
-    (Option<FontStyle>, Option<Display>),
-);
-
-fn assert_told(rt: &impl Abort, parts: NamesParts<'_>, (forms, texts, shown): Told<'_>) {
-    assert_same(rt, &parts.variables.first(), &Some(&NameVariable::Editor));
-    let name = match parts.name() {
-        Some(name) => name.options.form,
-        None => None,
-    };
-    assert_same(rt, &[parts.options.form, name], &forms);
-    let [delimiter, prefix, suffix] = texts;
-    assert_text(rt, parts.delimiter, delimiter);
-    assert_text(rt, parts.prefix, prefix);
-    assert_text(rt, parts.suffix, suffix);
-    let answer = (parts.formatting.font_style, parts.display);
-    assert_same(rt, &answer, &shown);
+struct Told {
+    form: Option<NameForm>,
+    form_of_name: Option<NameForm>,
+    delimiter: Option<&'static str>,
+    prefix: Option<&'static str>,
+    suffix: Option<&'static str>,
+    font_style: Option<FontStyle>,
+    display: Option<Display>,
 }
 
-/// What editors say that stand in for authors with the name of a count.
+fn assert_told(rt: &impl Abort, parts: &NamesParts<'_>, wanted: &Told) {
+    assert_same(rt, &parts.variables.first(), &Some(&NameVariable::Editor));
+    assert_same(rt, &parts.options.form, &wanted.form);
+    assert_same(rt, &form_of_name(parts), &wanted.form_of_name);
+    assert_text(rt, parts.delimiter, wanted.delimiter);
+    assert_text(rt, parts.prefix, wanted.prefix);
+    assert_text(rt, parts.suffix, wanted.suffix);
+    assert_same(rt, &parts.formatting.font_style, &wanted.font_style);
+    assert_same(rt, &parts.display, &wanted.display);
+}
+
+/// What editors say that stand in for others.
 fn assert_in_place(
     rt: &impl Abort,
     alloc: Global,
-    own: Own<'_>,
-    wanted: Told<'_>,
-) -> Result<(), Fail> {
-    let original = names(alloc, AUTHORS, &[Child::Name(NameForm::Count)])?;
+    original: &Names,
+    (own, wanted): &(Own, Told),
+) -> Result<(), AllocError> {
     let own = names(alloc, own, &[])?;
-    assert_told(rt, own.parts_in_place_of(original.parts()), wanted);
+    assert_told(rt, &own.parts_in_place_of(original.parts()), wanted);
     Ok(())
 }
 
-const AUTHORS: Own<'static> = Own {
+const AUTHORS: Own = Own {
     variable: NameVariable::Author,
     form: Some(NameForm::Short),
     delimiter: Some("; "),
@@ -212,12 +256,12 @@ const AUTHORS: Own<'static> = Own {
     display: Some(Display::Block),
 };
 
-const SILENT_EDITORS: Own<'static> = Own {
+const SILENT_EDITORS: Own = Own {
     variable: NameVariable::Editor,
     ..SILENT
 };
 
-const EDITORS: Own<'static> = Own {
+const EDITORS: Own = Own {
     variable: NameVariable::Editor,
     form: Some(NameForm::Long),
     delimiter: Some(", "),
@@ -227,31 +271,48 @@ const EDITORS: Own<'static> = Own {
     display: Some(Display::Indent),
 };
 
+/// What editors set, and what they say that stand in for authors with the name of a count.
+static SHORTHANDS: [(Own, Told); 2] = [
+    (
+        SILENT_EDITORS,
+        Told {
+            form: Some(NameForm::Short),
+            form_of_name: Some(NameForm::Count),
+            delimiter: Some("; "),
+            prefix: Some("("),
+            suffix: Some(")"),
+            font_style: Some(FontStyle::Italic),
+            display: None,
+        },
+    ),
+    (
+        EDITORS,
+        Told {
+            form: Some(NameForm::Long),
+            form_of_name: Some(NameForm::Count),
+            delimiter: Some(", "),
+            prefix: Some("["),
+            suffix: Some(")"),
+            font_style: Some(FontStyle::Normal),
+            display: Some(Display::Indent),
+        },
+    ),
+];
+
 #[test]
 fn a_shorthand_has_its_own_before_those_of_the_original(rt: HostRuntime) -> Result<(), Fail> {
-    let count = Some(NameForm::Count);
-    let of_original = (
-        [Some(NameForm::Short), count],
-        [Some("; "), Some("("), Some(")")],
-        (Some(FontStyle::Italic), None),
-    );
-    let of_all = (
-        [Some(NameForm::Long), count],
-        [Some(", "), Some("["), Some(")")],
-        (Some(FontStyle::Normal), Some(Display::Indent)),
-    );
-    for (own, wanted) in [(SILENT_EDITORS, of_original), (EDITORS, of_all)] {
-        assert_in_place(&rt, rt.alloc(), own, wanted)?;
+    let original = names(rt.alloc(), &AUTHORS, &[Child::Name(NameForm::Count)])?;
+    let rows: &[(Own, Told)] = &SHORTHANDS;
+    for row in rows {
+        assert_in_place(&rt, rt.alloc(), &original, row)?;
     }
     Ok(())
 }
 
-/// The formatting of a part of a name with these.
-fn part_style(
-    alloc: Global,
-    rows: &[(NamePartName, FontStyle)],
-    wanted: NamePartName,
-) -> Result<Option<FontStyle>, AllocError> {
+/// A part of a name, and its slant.
+type Part = (NamePartName, FontStyle);
+
+fn name_of_parts(alloc: Global, rows: &[Part]) -> Result<Name, AllocError> {
     let mut name = Name::new(alloc);
     for (part, font_style) in rows {
         name.parts.push(NamePart {
@@ -260,31 +321,56 @@ fn part_style(
             affixes: Affixes::default(),
         })?;
     }
-    match name.part(wanted) {
-        Some(part) => Ok(part.formatting.font_style),
-        None => Ok(None),
+    Ok(name)
+}
+
+/// The slant of a part of a name.
+fn slant(name: &Name, part: NamePartName) -> Option<FontStyle> {
+    match name.part(part) {
+        Some(part) => part.formatting.font_style,
+        None => None,
     }
+}
+
+const FAMILY: Part = (NamePartName::Family, FontStyle::Italic);
+
+const GIVEN: Part = (NamePartName::Given, FontStyle::Normal);
+
+const LATER: Part = (NamePartName::Given, FontStyle::Italic);
+
+/// The parts of a name, one that is asked for, and its slant.
+type PartRow = (&'static [Part], NamePartName, Option<FontStyle>);
+
+static PARTS: [PartRow; 4] = [
+    (&[], NamePartName::Given, None),
+    (&[FAMILY], NamePartName::Given, None),
+    (
+        &[FAMILY, GIVEN, LATER],
+        NamePartName::Given,
+        Some(FontStyle::Normal),
+    ),
+    (
+        &[GIVEN, FAMILY, LATER],
+        NamePartName::Family,
+        Some(FontStyle::Italic),
+    ),
+];
+
+fn assert_slant(
+    rt: &impl Abort,
+    alloc: Global,
+    (parts, asked, wanted): &PartRow,
+) -> Result<(), AllocError> {
+    let name = name_of_parts(alloc, *parts)?;
+    assert_same(rt, &slant(&name, *asked), wanted);
+    Ok(())
 }
 
 #[test]
 fn of_a_name_part_the_first_counts(rt: HostRuntime) -> Result<(), Fail> {
-    let (italic, normal) = (FontStyle::Italic, FontStyle::Normal);
-    let family = (NamePartName::Family, italic);
-    let given = (NamePartName::Given, normal);
-    let later = (NamePartName::Given, italic);
-    let rows: [(
-        &[(NamePartName, FontStyle)],
-        NamePartName,
-        Option<FontStyle>,
-    ); 4] = [
-        (&[], NamePartName::Given, None),
-        (&[family], NamePartName::Given, None),
-        (&[family, given, later], NamePartName::Given, Some(normal)),
-        (&[given, family, later], NamePartName::Family, Some(italic)),
-    ];
-    for (parts, name, wanted) in rows {
-        let answer = part_style(rt.alloc(), parts, name)?;
-        assert_same(&rt, &answer, &wanted);
+    let rows: &[PartRow] = &PARTS;
+    for row in rows {
+        assert_slant(&rt, rt.alloc(), row)?;
     }
     Ok(())
 }

@@ -50,10 +50,8 @@ fn variable_in_node(variable: NumberOrPageVariable) -> Option<NumberOrPageVariab
 
 #[test]
 fn a_number_may_be_of_pages(rt: HostRuntime) {
-    for variable in [
-        NumberOrPageVariable::Page(PageVariable::Page),
-        NumberOrPageVariable::Number(NumberVariable::Volume),
-    ] {
-        assert_same(&rt, &variable_in_node(variable), &Some(variable));
-    }
+    let page = NumberOrPageVariable::Page(PageVariable::Page);
+    assert_same(&rt, &variable_in_node(page), &Some(page));
+    let volume = NumberOrPageVariable::Number(NumberVariable::Volume);
+    assert_same(&rt, &variable_in_node(volume), &Some(volume));
 }

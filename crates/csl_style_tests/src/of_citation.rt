@@ -1,5 +1,6 @@
 //! The variables that the citation answers, and one formatting over two others.
 
+use crate::asserted::assert_same;
 use csl_style::{
     DateVariable, FontStyle, FontWeight, Formatting, NameVariable, NumberVariable, PageVariable,
     StandardVariable, Variable,
@@ -22,8 +23,8 @@ static ANSWERED: [(Variable, bool); 9] = [
     (Variable::Date(DateVariable::Issued), false),
 ];
 
-fn assert_answered(rt: &impl Abort, &(variable, wanted): &(Variable, bool)) {
-    assert_eq!(rt; variable.is_of_citation(), wanted);
+fn assert_answered(rt: &impl Abort, (variable, wanted): &(Variable, bool)) {
+    assert_same(rt, &variable.is_of_citation(), wanted);
 }
 
 #[test]
@@ -34,30 +35,21 @@ fn the_citation_answers_four_variables(rt: HostRuntime) {
     }
 }
 
+/// A formatting that sets these alone.
+fn formatting(font_style: Option<FontStyle>, font_weight: Option<FontWeight>) -> Formatting {
+    Formatting {
+        font_style,
+        font_weight,
+        ..Formatting::default()
+    }
+}
+
 #[test]
 fn two_formattings_over_a_third(rt: HostRuntime) {
-    let slanted = Formatting {
-        font_style: Some(FontStyle::Italic),
-        ..Formatting::default()
-    };
-    let bold = Formatting {
-        font_style: Some(FontStyle::Normal),
-        font_weight: Some(FontWeight::Bold),
-        ..Formatting::default()
-    };
-    let light = Formatting {
-        font_weight: Some(FontWeight::Light),
-        ..Formatting::default()
-    };
-    let wanted = Formatting {
-        font_style: Some(FontStyle::Italic),
-        font_weight: Some(FontWeight::Bold),
-        ..Formatting::default()
-    };
-    for answer in [
-        slanted.apply(bold).apply(light),
-        slanted.apply(bold.apply(light)),
-    ] {
-        assert_eq!(rt; answer, wanted);
-    }
+    let slanted = formatting(Some(FontStyle::Italic), None);
+    let bold = formatting(Some(FontStyle::Normal), Some(FontWeight::Bold));
+    let light = formatting(None, Some(FontWeight::Light));
+    let wanted = formatting(Some(FontStyle::Italic), Some(FontWeight::Bold));
+    assert_same(&rt, &slanted.apply(bold).apply(light), &wanted);
+    assert_same(&rt, &slanted.apply(bold.apply(light)), &wanted);
 }

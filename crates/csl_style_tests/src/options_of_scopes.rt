@@ -1,103 +1,119 @@
 //! What a style sets for a scope, and by its first locale.
 
 use crate::asserted::{assert_same, assert_text};
-use crate::made::{EMPTY, LocaleRows, SILENT, StyleRows, copy_text, style};
-use csl_style::{
-    Formatting, InheritableNameOptions, Layout, NameForm, Scope, Style, StyleError, StyleSettings,
-};
+use crate::made::{EMPTY, LocaleRows, SILENT, StyleRows, copy_text, layout_of, style};
+use csl_style::{InheritableNameOptions, NameForm, Scope, Style, StyleError, StyleSettings};
 use std::alloc::{AllocError, Global};
 use std::process::Abort;
 use std::test::Fail;
 
 /// A level at which an option may be set.
-#[derive(Clone, Copy)]
-struct Level<'s> {
+struct Level {
     form: Option<NameForm>,
-    delimiter: Option<&'s str>,
+    delimiter: Option<&'static str>,
 }
 
-const UNSET: Level<'static> = Level {
+const UNSET: Level = Level {
     form: None,
     delimiter: None,
 };
 
-fn options(alloc: Global, level: Level<'_>) -> Result<InheritableNameOptions, AllocError> {
-    let delimiter = copy_text(alloc, level.delimiter)?;
+const ALL: Level = Level {
+    form: Some(NameForm::Short),
+    delimiter: Some("; "),
+};
+
+const OWN: Level = Level {
+    form: Some(NameForm::Count),
+    delimiter: Some(""),
+};
+
+const FORM_ALONE: Level = Level {
+    form: Some(NameForm::Long),
+    delimiter: None,
+};
+
+/// What is set for all of a style, for its citation and for its bibliography.
+type Levels = (Level, Level, Level);
+
+fn options(alloc: Global, level: &Level) -> Result<InheritableNameOptions, AllocError> {
     Ok(InheritableNameOptions {
         form: level.form,
-        delimiter,
+        delimiter: copy_text(alloc, level.delimiter)?,
         ..InheritableNameOptions::default()
     })
 }
 
-/// A style with these set for all of it, for its citation and for its bibliography.
-fn style_of(alloc: Global, levels: [Level<'_>; 3]) -> Result<Style, StyleError> {
-    let [all, citation, bibliography] = levels;
-    let all = options(alloc, all)?;
-    let citation = options(alloc, citation)?;
-    let bibliography = options(alloc, bibliography)?;
+fn settings(
+    alloc: Global,
+    (all, citation, bibliography): &Levels,
+) -> Result<StyleSettings, AllocError> {
     let mut settings = StyleSettings::default();
-    settings.names = all;
-    settings.citation_names = citation;
-    settings.bibliography_names = bibliography;
-    let layout = Layout {
-        elements: Vec::new(alloc),
-        delimiter: None,
-        formatting: Formatting::default(),
-    };
+    settings.names = options(alloc, all)?;
+    settings.citation_names = options(alloc, citation)?;
+    settings.bibliography_names = options(alloc, bibliography)?;
+    Ok(settings)
+}
+
+/// A style in which these are set.
+fn style_of(alloc: Global, levels: &Levels) -> Result<Style, StyleError> {
+    let settings = settings(alloc, levels)?;
     Style::new(
         alloc,
         settings,
         Vec::new(alloc),
-        layout,
+        layout_of(Vec::new(alloc)),
         None,
         Vec::new(alloc),
     )
 }
 
-/// The form and the delimiter that names of a scope inherit.
-fn assert_inherited(
+/// The form and the delimiter of names.
+type Inherited = (Option<NameForm>, Option<&'static str>);
+
+const OF_NONE: Inherited = (None, None);
+
+const OF_ALL: Inherited = (Some(NameForm::Short), Some("; "));
+
+const OF_OWN: Inherited = (Some(NameForm::Count), Some(""));
+
+const OF_BOTH: Inherited = (Some(NameForm::Long), Some("; "));
+
+/// A scope, what is set, and what names of the scope inherit.
+type ScopeRow = (Scope, Levels, Inherited);
+
+static SCOPES: [ScopeRow; 8] = [
+    (Scope::Citation, (UNSET, UNSET, UNSET), OF_NONE),
+    (Scope::Citation, (ALL, UNSET, UNSET), OF_ALL),
+    (Scope::Citation, (ALL, OWN, UNSET), OF_OWN),
+    (Scope::Citation, (ALL, UNSET, OWN), OF_ALL),
+    (Scope::Bibliography, (ALL, OWN, UNSET), OF_ALL),
+    (Scope::Bibliography, (ALL, UNSET, OWN), OF_OWN),
+    (Scope::Bibliography, (ALL, OWN, FORM_ALONE), OF_BOTH),
+    (Scope::Bibliography, (UNSET, OWN, UNSET), OF_NONE),
+];
+
+fn assert_inherited(rt: &impl Abort, style: &Style, scope: Scope, wanted: &Inherited) {
+    let base = style.base_name_options(scope);
+    assert_same(rt, &base.form, &wanted.0);
+    assert_text(rt, base.delimiter, wanted.1);
+}
+
+fn assert_scope(
     rt: &impl Abort,
     alloc: Global,
-    (scope, levels): (Scope, [Level<'_>; 3]),
-    (form, delimiter): (Option<NameForm>, Option<&str>),
+    (scope, levels, wanted): &ScopeRow,
 ) -> Result<(), Fail> {
     let style = style_of(alloc, levels)?;
-    let base = style.base_name_options(scope);
-    assert_same(rt, &base.form, &form);
-    assert_text(rt, base.delimiter, delimiter);
+    assert_inherited(rt, &style, *scope, wanted);
     Ok(())
 }
 
 #[test]
 fn a_scope_comes_before_the_style(rt: HostRuntime) -> Result<(), Fail> {
-    let all = Level {
-        form: Some(NameForm::Short),
-        delimiter: Some("; "),
-    };
-    let own = Level {
-        form: Some(NameForm::Count),
-        delimiter: Some(""),
-    };
-    let form_alone = Level {
-        form: Some(NameForm::Long),
-        delimiter: None,
-    };
-    let of_all = (Some(NameForm::Short), Some("; "));
-    let of_own = (Some(NameForm::Count), Some(""));
-    let of_both = (Some(NameForm::Long), Some("; "));
-    let rows = [
-        (Scope::Citation, [UNSET, UNSET, UNSET], (None, None)),
-        (Scope::Citation, [all, UNSET, UNSET], of_all),
-        (Scope::Citation, [all, own, UNSET], of_own),
-        (Scope::Citation, [all, UNSET, own], of_all),
-        (Scope::Bibliography, [all, own, UNSET], of_all),
-        (Scope::Bibliography, [all, UNSET, own], of_own),
-        (Scope::Bibliography, [all, own, form_alone], of_both),
-        (Scope::Bibliography, [UNSET, own, UNSET], (None, None)),
-    ];
-    for (scope, levels, wanted) in rows {
-        assert_inherited(&rt, rt.alloc(), (scope, levels), wanted)?;
+    let rows: &[ScopeRow] = &SCOPES;
+    for row in rows {
+        assert_scope(&rt, rt.alloc(), row)?;
     }
     Ok(())
 }
@@ -120,29 +136,36 @@ const BOTH: LocaleRows<'static> = LocaleRows {
     ..SILENT
 };
 
-/// Whether punctuation goes into quotes, and whether only the first day is an ordinal.
+/// Locales, whether punctuation goes into quotes, and whether only the first day is an ordinal.
+type LocaleRow = (&'static [LocaleRows<'static>], bool, bool);
+
+static LOCALES: [LocaleRow; 4] = [
+    (&[], false, false),
+    (&[QUOTES], true, false),
+    (&[DAYS, QUOTES], false, true),
+    (&[SILENT, BOTH], false, false),
+];
+
 fn assert_by_locales(
     rt: &impl Abort,
     alloc: Global,
-    locales: &[LocaleRows<'_>],
-    wanted: (bool, bool),
+    (locales, quotes, days): &LocaleRow,
 ) -> Result<(), Fail> {
-    let style = style(alloc, StyleRows { locales, ..EMPTY })?;
-    let quotes = style.is_punctuation_in_quote();
-    assert_same(rt, &(quotes, style.are_day_ordinals_limited()), &wanted);
+    let rows = StyleRows {
+        locales: *locales,
+        ..EMPTY
+    };
+    let style = style(alloc, &rows)?;
+    assert_same(rt, &style.is_punctuation_in_quote(), quotes);
+    assert_same(rt, &style.are_day_ordinals_limited(), days);
     Ok(())
 }
 
 #[test]
 fn the_first_locale_says(rt: HostRuntime) -> Result<(), Fail> {
-    let rows: [(&[LocaleRows<'_>], (bool, bool)); 4] = [
-        (&[], (false, false)),
-        (&[QUOTES], (true, false)),
-        (&[DAYS, QUOTES], (false, true)),
-        (&[SILENT, BOTH], (false, false)),
-    ];
-    for (locales, wanted) in rows {
-        assert_by_locales(&rt, rt.alloc(), locales, wanted)?;
+    let rows: &[LocaleRow] = &LOCALES;
+    for row in rows {
+        assert_by_locales(&rt, rt.alloc(), row)?;
     }
     Ok(())
 }

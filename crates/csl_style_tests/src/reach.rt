@@ -1,5 +1,6 @@
 //! Which layouts reach a text of the year suffix.
 
+use crate::asserted::assert_of;
 use crate::made::{EMPTY, StyleRows, style};
 use csl_style::{Scope, StyleError};
 use std::alloc::Global;
@@ -82,22 +83,17 @@ fn is_implicit<'s>(
         bibliography,
         ..EMPTY
     };
-    let style = style(alloc, rows)?;
+    let style = style(alloc, &rows)?;
     Ok(style.renders_year_suffix_implicitly(scope))
-}
-
-fn assert_implicit(rt: &impl Abort, answer: bool, row: &Row) {
-    let (_, citation, bibliography, wanted) = row;
-    assert_eq!(rt; answer, *wanted, "of {citation} and {bibliography:?}");
 }
 
 #[test]
 fn a_text_of_the_suffix_is_reached_wherever_it_stands(rt: HostRuntime) -> Result<(), Fail> {
     let rows: &[Row] = &ROWS;
     for row in rows {
-        let (scope, citation, bibliography, _) = *row;
+        let (scope, citation, bibliography, wanted) = *row;
         let answer = is_implicit(rt.alloc(), scope, citation, bibliography)?;
-        assert_implicit(&rt, answer, row);
+        assert_of(&rt, &answer, &wanted, citation);
     }
     Ok(())
 }

@@ -22,7 +22,7 @@ fn refusal(
         macros,
         ..EMPTY
     };
-    match style(alloc, rows) {
+    match style(alloc, &rows) {
         Ok(_) => Ok(None),
         Err(StyleError::Memory) => Err(Memory),
         Err(error) => Ok(Some(format!(in alloc; "{}", error)?)),
@@ -159,9 +159,8 @@ fn assert_texts(rt: &impl Abort, style: &Style, rows: &[(Part<'static>, Option<&
 }
 
 /// The style of parts hands out what it was made of.
-fn assert_parts(rt: &impl Abort, alloc: Global) -> Result<(), StyleError> {
-    let style = style(alloc, PARTS)?;
-    assert_texts(rt, &style, &TEXTS);
+fn assert_parts(rt: &impl Abort, style: &Style) {
+    assert_texts(rt, style, &TEXTS);
     style.acyclic();
     let format = style.settings().page_range_format;
     assert_same(rt, &format, &Some(PageRangeFormat::MinimalTwo));
@@ -173,39 +172,50 @@ fn assert_parts(rt: &impl Abort, alloc: Global) -> Result<(), StyleError> {
         None => None,
     };
     assert_same(rt, &quotes, &Some(true));
-    Ok(())
 }
 
 const AND: Term = Term::Other(OtherTerm::And);
 
 const BY: Term = Term::Other(OtherTerm::By);
 
-/// What a style with one locale answers, which has a term and an ordinal.
-fn assert_locale_is_asked(rt: &impl Abort, alloc: Global) -> Result<(), StyleError> {
-    let feminine = Some(GrammarGender::Feminine);
-    let rows = StyleRows {
-        locales: &[LocaleRows {
-            terms: &[(AND, TermForm::Long, "and", None, feminine)],
-            ordinals: &[(OrdinalSlot::Default, None, None, "th")],
-            ..SILENT
-        }],
-        ..EMPTY
-    };
-    let style = style(alloc, rows)?;
+const FEMININE: Option<GrammarGender> = Some(GrammarGender::Feminine);
+
+/// A style with one locale, which has a term and an ordinal.
+const OF_LOCALE: StyleRows<'static> = StyleRows {
+    locales: &[LocaleRows {
+        terms: &[(AND, TermForm::Long, "and", None, FEMININE)],
+        ordinals: &[(OrdinalSlot::Default, None, None, "th")],
+        ..SILENT
+    }],
+    ..EMPTY
+};
+
+fn assert_locale_is_asked(rt: &impl Abort, style: &Style) {
     assert_text(rt, style.term(AND, TermForm::Short, true), Some("and"));
     assert_text(rt, style.term(BY, TermForm::Long, false), None);
-    assert_same(rt, &style.gender(AND), &feminine);
+    assert_same(rt, &style.gender(AND), &FEMININE);
     assert_text(rt, style.ordinal(-4, None), Some("th"));
     assert_same(rt, &style.localized_date(DateForm::Text).is_some(), &false);
     assert_same(rt, &style.bibliography().is_some(), &false);
-    let bibliography = style.layout(Scope::Bibliography);
-    assert_same(rt, &bibliography.is_some(), &false);
+    let has_bibliography = style.layout(Scope::Bibliography).is_some();
+    assert_same(rt, &has_bibliography, &false);
+}
+
+fn assert_style_of_parts(rt: &impl Abort, alloc: Global) -> Result<(), StyleError> {
+    let style = style(alloc, &PARTS)?;
+    assert_parts(rt, &style);
+    Ok(())
+}
+
+fn assert_style_of_locale(rt: &impl Abort, alloc: Global) -> Result<(), StyleError> {
+    let style = style(alloc, &OF_LOCALE)?;
+    assert_locale_is_asked(rt, &style);
     Ok(())
 }
 
 #[test]
 fn a_style_hands_out_what_it_was_made_of_and_asks_its_locales(rt: HostRuntime) -> Result<(), Fail> {
-    assert_parts(&rt, rt.alloc())?;
-    assert_locale_is_asked(&rt, rt.alloc())?;
+    assert_style_of_parts(&rt, rt.alloc())?;
+    assert_style_of_locale(&rt, rt.alloc())?;
     Ok(())
 }

@@ -3,7 +3,6 @@
 use crate::asserted::assert_text;
 use crate::made::{EMPTY, LocaleRows, SILENT, StyleRows, style};
 use csl_style::{OrdinalSlot, Style};
-use std::alloc::Global;
 use std::process::Abort;
 use std::test::Fail;
 
@@ -26,27 +25,31 @@ fn both(style: &Style, number: i32) -> (Option<&str>, Option<&str>) {
     (ordinals.suffix(number, None), ordinals.word(number, None))
 }
 
-fn assert_both(
-    rt: &impl Abort,
-    alloc: Global,
-    number: i32,
-    wanted: (Option<&str>, Option<&str>),
-) -> Result<(), Fail> {
-    let style = style(alloc, ROWS)?;
-    let (suffix, word) = both(&style, number);
-    assert_text(rt, suffix, wanted.0);
-    assert_text(rt, word, wanted.1);
-    Ok(())
+/// A number, its suffix and its word.
+type Row = (i32, Option<&'static str>, Option<&'static str>);
+
+static NUMBERS: [Row; 3] = [
+    (3, Some("rd"), Some("third")),
+    (23, Some("rd"), None),
+    (4, Some("th"), None),
+];
+
+fn assert_both(rt: &impl Abort, style: &Style, &(number, wanted_suffix, wanted_word): &Row) {
+    let (suffix, word) = both(style, number);
+    assert_text(rt, suffix, wanted_suffix);
+    assert_text(rt, word, wanted_word);
+}
+
+fn assert_all(rt: &impl Abort, style: &Style) {
+    let rows: &[Row] = &NUMBERS;
+    for row in rows {
+        assert_both(rt, style, row);
+    }
 }
 
 #[test]
 fn ordinals_outlive_the_value_that_is_asked(rt: HostRuntime) -> Result<(), Fail> {
-    for (number, wanted) in [
-        (3, (Some("rd"), Some("third"))),
-        (23, (Some("rd"), None)),
-        (4, (Some("th"), None)),
-    ] {
-        assert_both(&rt, rt.alloc(), number, wanted)?;
-    }
+    let style = style(rt.alloc(), &ROWS)?;
+    assert_all(&rt, &style);
     Ok(())
 }

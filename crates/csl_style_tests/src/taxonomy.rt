@@ -3,7 +3,7 @@
 ghost use Rattle.std.specs.Prelude.{◌≡◌, ◌↔◌, IsTrue};
 ghost use Rattle.std.specs.declared.cmp.Ordering.TheVariants.{Equal};
 
-use crate::asserted::assert_same;
+use crate::asserted::{assert_of, assert_same};
 use csl_style::{
     DateVariable, Kind, NameVariable, NumberOrPageVariable, NumberVariable, PageVariable,
     StandardVariable, Term, Variable,
@@ -88,41 +88,37 @@ static KINDS: [(&str, Option<Kind>); 51] = [
     ("legal-case", None),
 ];
 
-fn assert_kinds(rt: &impl Abort, rows: &[(&'static str, Option<Kind>)]) {
-    for (name, kind) in rows {
-        assert_same(rt, &(*name, Kind::from_name(*name)), &(*name, *kind));
+#[test]
+fn kinds_by_their_names(rt: HostRuntime) {
+    let kinds: &[(&'static str, Option<Kind>)] = &KINDS;
+    for (name, wanted) in kinds {
+        assert_of(&rt, &Kind::from_name(*name), wanted, *name);
     }
 }
 
-#[test]
-fn kinds_by_their_names(rt: HostRuntime) {
-    assert_kinds(&rt, &KINDS);
-}
+const TITLE: Variable = Variable::Standard(StandardVariable::Title);
+
+const SHORT_TITLE: Variable = Variable::Standard(StandardVariable::TitleShort);
+
+const ISSUED: Variable = Variable::Date(DateVariable::Issued);
 
 #[test]
 fn variables_are_equal_where_they_are_one(rt: HostRuntime) {
-    let title = Variable::Standard(StandardVariable::Title);
-    let short = Variable::Standard(StandardVariable::TitleShort);
-    let issued = Variable::Date(DateVariable::Issued);
-    for (a, b, wanted) in [
-        (title, title, true),
-        (title, issued, false),
-        (title, short, false),
-    ] {
-        assert_same(&rt, &same_variable(&a, &b), &wanted);
-    }
-    for (a, b, wanted) in [
-        (title, title, Ordering::Equal),
-        (title, issued, Ordering::Less),
-    ] {
-        assert_same(&rt, &order(&a, &b), &wanted);
-    }
-    for (a, b, wanted) in [
-        (Kind::Book, Kind::Book, true),
-        (Kind::Book, Kind::ReviewBook, false),
-    ] {
-        assert_same(&rt, &same_kind(&a, &b), &wanted);
-    }
+    assert_same(&rt, &same_variable(&TITLE, &TITLE), &true);
+    assert_same(&rt, &same_variable(&TITLE, &ISSUED), &false);
+    assert_same(&rt, &same_variable(&TITLE, &SHORT_TITLE), &false);
+    assert_same(&rt, &order(&TITLE, &TITLE), &Ordering::Equal);
+    assert_same(&rt, &order(&TITLE, &ISSUED), &Ordering::Less);
+    assert_same(&rt, &same_kind(&Kind::Book, &Kind::Book), &true);
+    assert_same(&rt, &same_kind(&Kind::Book, &Kind::ReviewBook), &false);
+}
+
+fn assert_variable(rt: &impl Abort, answer: Variable, wanted: Variable) {
+    assert_same(rt, &answer, &wanted);
+}
+
+fn assert_term(rt: &impl Abort, answer: Term, wanted: Term) {
+    assert_same(rt, &answer, &wanted);
 }
 
 #[test]
@@ -132,33 +128,22 @@ fn each_sort_of_variable_is_a_variable_and_has_its_term(rt: HostRuntime) {
     let page = PageVariable::Page;
     let issued = DateVariable::Issued;
     let editor = NameVariable::Editor;
-    for (variable, wanted) in [
-        (Variable::from(title), Variable::Standard(title)),
-        (Variable::from(volume), Variable::Number(volume)),
-        (Variable::from(page), Variable::Page(page)),
-        (Variable::from(issued), Variable::Date(issued)),
-        (Variable::from(editor), Variable::Name(editor)),
-        (
-            NumberOrPageVariable::Number(volume).into(),
-            Variable::Number(volume),
-        ),
-        (
-            NumberOrPageVariable::Page(page).into(),
-            Variable::Page(page),
-        ),
-    ] {
-        assert_same(&rt, &variable, &wanted);
-    }
-    for (term, wanted) in [
-        (Term::from(volume), Term::Number(volume)),
-        (Term::from(page), Term::Page(page)),
-        (Term::from(editor), Term::Name(editor)),
-        (
-            NumberOrPageVariable::Number(volume).into(),
-            Term::Number(volume),
-        ),
-        (NumberOrPageVariable::Page(page).into(), Term::Page(page)),
-    ] {
-        assert_same(&rt, &term, &wanted);
-    }
+    assert_variable(&rt, Variable::from(title), Variable::Standard(title));
+    assert_variable(&rt, Variable::from(volume), Variable::Number(volume));
+    assert_variable(&rt, Variable::from(page), Variable::Page(page));
+    assert_variable(&rt, Variable::from(issued), Variable::Date(issued));
+    assert_variable(&rt, Variable::from(editor), Variable::Name(editor));
+    assert_term(&rt, Term::from(volume), Term::Number(volume));
+    assert_term(&rt, Term::from(page), Term::Page(page));
+    assert_term(&rt, Term::from(editor), Term::Name(editor));
+    let volume_or_page = NumberOrPageVariable::Number(volume);
+    assert_variable(
+        &rt,
+        Variable::from(volume_or_page),
+        Variable::Number(volume),
+    );
+    assert_term(&rt, Term::from(volume_or_page), Term::Number(volume));
+    let volume_or_page = NumberOrPageVariable::Page(page);
+    assert_variable(&rt, Variable::from(volume_or_page), Variable::Page(page));
+    assert_term(&rt, Term::from(volume_or_page), Term::Page(page));
 }
