@@ -1,11 +1,11 @@
 //! Works over what an entry answers.
 
-use anyhow::Result;
+use crate::style::alone;
 use csl_entry::{Alphanumerical, EntryLike};
 use csl_style::{DateVariable, NameVariable, NumberVariable, PageVariable, StandardVariable};
 use lit_model::{
     ChunkKind, ChunkedString, Date, Entry, EntryType, FormatString, LongShortForm, MaybeTyped,
-    Numeric, Person, PersonRole, PersonsWithRoles, StringChunk,
+    Memory, Numeric, Person, PersonRole, PersonsWithRoles, StringChunk,
 };
 use std::alloc::Global;
 
@@ -118,19 +118,19 @@ static DATES: [DateVariable; 6] = [
     DateVariable::Submitted,
 ];
 
-fn text(alloc: Global, text: &str) -> Result<FormatString> {
+fn text(alloc: Global, text: &str) -> Result<FormatString, Memory> {
     let chunk = StringChunk {
         value: String::from_str(alloc, text)?,
         kind: ChunkKind::Normal,
     };
     Ok(FormatString {
-        value: ChunkedString(vec![in alloc; chunk]?),
+        value: ChunkedString(alone(alloc, chunk)?),
         short: None,
     })
 }
 
 /// So many persons of one name.
-fn persons(alloc: Global, size: usize) -> Result<Vec<Person>> {
+fn persons(alloc: Global, size: usize) -> Result<Vec<Person>, Memory> {
     let mut persons = Vec::new(alloc);
     for _ in 0..size {
         let name = String::from_str(alloc, "Kwan")?;
@@ -147,7 +147,7 @@ fn persons(alloc: Global, size: usize) -> Result<Vec<Person>> {
 }
 
 /// A periodical with a title and a volume, alone in a list.
-fn journals(alloc: Global) -> Result<Vec<Entry>> {
+fn journals(alloc: Global) -> Result<Vec<Entry>, Memory> {
     let mut journals = Vec::new(alloc);
     journals.push(Entry::new(alloc, "journal", EntryType::Periodical)?)?;
     if let Some(journal) = journals.last_mut() {
@@ -158,14 +158,14 @@ fn journals(alloc: Global) -> Result<Vec<Entry>> {
 }
 
 /// So many translators.
-fn translators(alloc: Global, size: usize) -> Result<Vec<PersonsWithRoles>> {
+fn translators(alloc: Global, size: usize) -> Result<Vec<PersonsWithRoles>, Memory> {
     let names = persons(alloc, size)?;
     let role = PersonRole::Translator;
-    Ok(vec![in alloc; PersonsWithRoles { names, role }]?)
+    alone(alloc, PersonsWithRoles { names, role })
 }
 
 /// Says of an article who made it, and where and when it came out.
-fn state(alloc: Global, article: &mut Entry, size: usize) -> Result<()> {
+fn state(alloc: Global, article: &mut Entry, size: usize) -> Result<(), Memory> {
     article.title = Some(text(alloc, "Vortices")?);
     article.authors = Some(persons(alloc, size)?);
     article.affiliated = Some(translators(alloc, size)?);
@@ -175,14 +175,14 @@ fn state(alloc: Global, article: &mut Entry, size: usize) -> Result<()> {
 }
 
 /// An article of a journal, with so many authors and translators.
-pub fn article(alloc: Global, size: usize) -> Result<Entry> {
+pub fn article(alloc: Global, size: usize) -> Result<Entry, Memory> {
     let mut article = Entry::new(alloc, "article", EntryType::Article)?;
     state(alloc, &mut article, size)?;
     Ok(article)
 }
 
 /// How many number variables have an answer.
-fn numbers<T: EntryLike>(alloc: Global, entry: &T) -> Result<usize> {
+fn numbers<T: EntryLike>(alloc: Global, entry: &T) -> Result<usize, Memory> {
     let variables: &[NumberVariable] = &NUMBERS;
     let mut found: usize = 0;
     for variable in variables {
@@ -194,7 +194,7 @@ fn numbers<T: EntryLike>(alloc: Global, entry: &T) -> Result<usize> {
 }
 
 /// How many page and date variables have an answer.
-fn pages_and_dates<T: EntryLike>(alloc: Global, entry: &T) -> Result<usize> {
+fn pages_and_dates<T: EntryLike>(alloc: Global, entry: &T) -> Result<usize, Memory> {
     let variables: &[DateVariable] = &DATES;
     let pages = entry.resolve_page_variable(alloc, PageVariable::Page)?;
     let mut found: usize = if pages.is_some() { 1 } else { 0 };
@@ -207,7 +207,7 @@ fn pages_and_dates<T: EntryLike>(alloc: Global, entry: &T) -> Result<usize> {
 }
 
 /// How many standard variables have an answer in a form.
-fn texts<T: EntryLike>(alloc: Global, entry: &T, form: LongShortForm) -> Result<usize> {
+fn texts<T: EntryLike>(alloc: Global, entry: &T, form: LongShortForm) -> Result<usize, Memory> {
     let variables: &[StandardVariable] = &TEXTS;
     let mut found: usize = 0;
     for variable in variables {
@@ -222,7 +222,7 @@ fn texts<T: EntryLike>(alloc: Global, entry: &T, form: LongShortForm) -> Result<
 }
 
 /// How many persons all name variables answer.
-fn names<T: EntryLike>(alloc: Global, entry: &T) -> Result<usize> {
+fn names<T: EntryLike>(alloc: Global, entry: &T) -> Result<usize, Memory> {
     let variables: &[NameVariable] = &NAMES;
     let mut found: usize = 0;
     for variable in variables {
@@ -233,7 +233,7 @@ fn names<T: EntryLike>(alloc: Global, entry: &T) -> Result<usize> {
 }
 
 /// Asks an entry for every variable, each text in both forms, and counts the answers.
-fn answer_count<T: EntryLike>(alloc: Global, entry: &T) -> Result<usize> {
+fn answer_count<T: EntryLike>(alloc: Global, entry: &T) -> Result<usize, Memory> {
     let numbers = numbers(alloc, entry)?;
     let dated = pages_and_dates(alloc, entry)?;
     let long = texts(alloc, entry, LongShortForm::Long)?;
@@ -249,18 +249,28 @@ fn answer_count<T: EntryLike>(alloc: Global, entry: &T) -> Result<usize> {
 }
 
 /// Asks an article with many authors and translators for every variable, and counts the answers.
-pub fn answers(alloc: Global, size: usize) -> Result<usize> {
+pub fn answers(alloc: Global, size: usize) -> Result<usize, Memory> {
     let entry = article(alloc, size)?;
     answer_count(alloc, &entry)
 }
 
-/// Labels an article of four authors many times, and counts the bytes of the labels.
-pub fn labels(alloc: Global, size: usize) -> Result<usize> {
-    let entry = article(alloc, 4)?;
+/// How many bytes the label of an entry has.
+fn label_size(alloc: Global, entry: &Entry) -> Result<usize, Memory> {
+    let label = Alphanumerical::new().citation(alloc, entry)?;
+    Ok(label.len())
+}
+
+/// Labels an entry so many times, and counts the bytes of the labels.
+fn label_sizes(alloc: Global, entry: &Entry, size: usize) -> Result<usize, Memory> {
     let mut bytes: usize = 0;
     for _ in 0..size {
-        let label = Alphanumerical::new().citation(alloc, &entry)?;
-        bytes = bytes.saturating_add(label.len());
+        bytes = bytes.saturating_add(label_size(alloc, entry)?);
     }
     Ok(bytes)
+}
+
+/// Labels an article of four authors many times, and counts the bytes of the labels.
+pub fn labels(alloc: Global, size: usize) -> Result<usize, Memory> {
+    let entry = article(alloc, 4)?;
+    label_sizes(alloc, &entry, size)
 }

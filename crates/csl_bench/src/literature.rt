@@ -1,14 +1,12 @@
 //! Works over the literature model. Each makes its input by repeating a unit, and does one call
 //! on it.
 
-use anyhow::{Result, bail};
-use lit_model::{
-    Date, Entry, EntryType, Memory, Numeric, NumericError, NumericValue, PageRanges, Person,
-};
+use crate::error::WorkError;
+use lit_model::{Date, Entry, EntryType, Memory, Numeric, NumericValue, PageRanges, Person};
 use std::alloc::Global;
 
 /// A text of so many units, and its end.
-fn repetition(alloc: Global, unit: &str, size: usize, end: &str) -> Result<String> {
+fn repetition(alloc: Global, unit: &str, size: usize, end: &str) -> Result<String, Memory> {
     let mut text = String::new(alloc);
     for _ in 0..size {
         text.push_str(unit)?;
@@ -18,30 +16,23 @@ fn repetition(alloc: Global, unit: &str, size: usize, end: &str) -> Result<Strin
 }
 
 /// Reads a list of numbers, and counts them.
-pub fn numeric(alloc: Global, size: usize) -> Result<usize> {
+pub fn numeric(alloc: Global, size: usize) -> Result<usize, WorkError> {
     let text = repetition(alloc, "17, ", size, "4")?;
-    match Numeric::parse(alloc, text.as_str()) {
-        Ok(numeric) => match &numeric.value {
-            NumericValue::Number(_) => Ok(1),
-            NumericValue::Set(numbers) => Ok(numbers.len()),
-        },
-        Err(NumericError::Memory) => bail!("out of memory"),
-        Err(NumericError::NotNumeric) => bail!("not numeric"),
+    let numeric = Numeric::parse(alloc, text.as_str())?;
+    match &numeric.value {
+        NumericValue::Number(_) => Ok(1),
+        NumericValue::Set(numbers) => Ok(numbers.len()),
     }
 }
 
 /// Many page ranges, and a page.
-pub fn page_ranges(alloc: Global, size: usize) -> Result<PageRanges> {
+pub fn page_ranges(alloc: Global, size: usize) -> Result<PageRanges, WorkError> {
     let text = repetition(alloc, "321-328, ", size, "7")?;
-    match PageRanges::parse(alloc, text.as_str()) {
-        Ok(pages) => Ok(pages),
-        Err(NumericError::Memory) => bail!("out of memory"),
-        Err(NumericError::NotNumeric) => bail!("no pages"),
-    }
+    Ok(PageRanges::parse(alloc, text.as_str())?)
 }
 
 /// Reads a list of page ranges, and counts its parts.
-pub fn pages(alloc: Global, size: usize) -> Result<usize> {
+pub fn pages(alloc: Global, size: usize) -> Result<usize, WorkError> {
     let pages = page_ranges(alloc, size)?;
     Ok(pages.ranges.len())
 }
@@ -58,7 +49,7 @@ fn person(name: String, given_name: String) -> Person {
 }
 
 /// Writes the initials of many given names, and counts their bytes.
-pub fn initials(alloc: Global, size: usize) -> Result<usize> {
+pub fn initials(alloc: Global, size: usize) -> Result<usize, WorkError> {
     let name = String::from_str(alloc, "Kwan")?;
     let given_name = repetition(alloc, "Jean-Luc ", size, "Marie")?;
     let mut written = String::new(alloc);
@@ -67,28 +58,32 @@ pub fn initials(alloc: Global, size: usize) -> Result<usize> {
 }
 
 /// Finds the particle of a name of many words, and counts its bytes.
-pub fn particle(alloc: Global, size: usize) -> Result<usize> {
+pub fn particle(alloc: Global, size: usize) -> Result<usize, WorkError> {
     let name = repetition(alloc, "van der ", size, "Berg")?;
     let given_name = String::from_str(alloc, "Vincent")?;
     match person(name, given_name).name_particle() {
         Some(particle) => Ok(particle.len()),
-        None => bail!("no particle"),
+        None => Err(WorkError::Unexpected("no particle")),
     }
 }
 
+fn author(alloc: Global) -> Result<Person, Memory> {
+    let name = String::from_str(alloc, "Kwan")?;
+    let given_name = String::from_str(alloc, "Kevin")?;
+    Ok(person(name, given_name))
+}
+
 /// So many authors of one name.
-pub fn authors(alloc: Global, size: usize) -> Result<Vec<Person>> {
+pub fn authors(alloc: Global, size: usize) -> Result<Vec<Person>, Memory> {
     let mut authors = Vec::new(alloc);
     for _ in 0..size {
-        let name = String::from_str(alloc, "Kwan")?;
-        let given_name = String::from_str(alloc, "Kevin")?;
-        authors.push(person(name, given_name))?;
+        authors.push(author(alloc)?)?;
     }
     Ok(authors)
 }
 
 /// An entry with many authors.
-fn entry(alloc: Global, size: usize) -> Result<Entry> {
+fn entry(alloc: Global, size: usize) -> Result<Entry, Memory> {
     let mut entry = Entry::new(alloc, "crazy-rich", EntryType::Book)?;
     entry.authors = Some(authors(alloc, size)?);
     Ok(entry)
@@ -101,13 +96,13 @@ fn author_count(entry: &Entry) -> usize {
     }
 }
 
-fn authors_of_copy(alloc: Global, entry: &Entry) -> Result<usize> {
+fn authors_of_copy(alloc: Global, entry: &Entry) -> Result<usize, Memory> {
     let copy = entry.clone(alloc)?;
     Ok(author_count(&copy))
 }
 
 /// Copies an entry with many authors, and counts those of the copy.
-pub fn clone_entry(alloc: Global, size: usize) -> Result<usize> {
+pub fn clone_entry(alloc: Global, size: usize) -> Result<usize, Memory> {
     let entry = entry(alloc, size)?;
     authors_of_copy(alloc, &entry)
 }
@@ -143,14 +138,14 @@ fn copied(alloc: Global, works: &[Entry]) -> Result<Vec<Entry>, Memory> {
 
 /// Copies a chain of parents, compares it, looks for the date at the copy's end, and answers how
 /// many parents there are.
-pub fn family(alloc: Global, size: usize) -> Result<usize> {
+pub fn family(alloc: Global, size: usize) -> Result<usize, WorkError> {
     let works = chain(alloc, size)?;
     let copies = copied(alloc, &works)?;
     if copies != works {
-        bail!("the copy differs");
+        return Err(WorkError::Unexpected("the copy differs"));
     }
     match copies.as_slice() {
         [copy, ..] if copy.date_any().is_some() => Ok(size),
-        _ => bail!("no date"),
+        _ => Err(WorkError::Unexpected("no date")),
     }
 }

@@ -7,15 +7,17 @@
 
 mod cite;
 mod entry;
+mod error;
 mod literature;
 mod pair;
 mod render;
 mod style;
 mod tree;
 
-use anyhow::{Result, bail};
+use error::WorkError;
 use std::alloc::Global;
 use std::env;
+use std::process::ExitCode;
 use std::rt::Env;
 
 /// The size of a work that is done without words.
@@ -51,56 +53,75 @@ static WORKS: [(&'static str, usize); 22] = [
 ];
 
 /// Does a work, and answers its checksum.
-fn checksum(alloc: Global, work: &str, size: usize) -> Result<usize> {
+fn checksum(alloc: Global, work: &str, size: usize) -> Result<usize, WorkError> {
     match work {
         "numeric" => literature::numeric(alloc, size),
         "pages" => literature::pages(alloc, size),
         "initials" => literature::initials(alloc, size),
         "particle" => literature::particle(alloc, size),
-        "clone_entry" => literature::clone_entry(alloc, size),
+        "clone_entry" => Ok(literature::clone_entry(alloc, size)?),
         "family" => literature::family(alloc, size),
-        "stack" => tree::stack(alloc, size),
-        "drain" => tree::drain(alloc, size),
-        "search" => tree::search(alloc, size),
-        "search_deep" => tree::search_deep(alloc, size),
-        "simplify" => tree::simplify(alloc, size),
-        "simplify_deep" => tree::simplify_deep(alloc, size),
+        "stack" => Ok(tree::stack(alloc, size)?),
+        "drain" => Ok(tree::drain(alloc, size)?),
+        "search" => Ok(tree::search(alloc, size)?),
+        "search_deep" => Ok(tree::search_deep(alloc, size)?),
+        "simplify" => Ok(tree::simplify(alloc, size)?),
+        "simplify_deep" => Ok(tree::simplify_deep(alloc, size)?),
         "style_chain" => style::chain(alloc, size),
         "style_dense" => style::dense(alloc, size),
-        "answers" => entry::answers(alloc, size),
-        "labels" => entry::labels(alloc, size),
+        "answers" => Ok(entry::answers(alloc, size)?),
+        "labels" => Ok(entry::labels(alloc, size)?),
         "render" => render::render(alloc, size),
         "pages_rendered" => render::pages_rendered(alloc, size),
         "named" => pair::named(alloc, size),
         "pair" => pair::pair(alloc, size),
         "cite" => cite::cite(alloc, size),
         "reference" => cite::reference(alloc, size),
-        _ => bail!("no such work: {work}"),
+        _ => Err(WorkError::Unexpected("no such work")),
     }
 }
 
-fn report(rt: &(impl Print + AllocGlobal), work: &str, size: usize) -> Result<()> {
+fn report(rt: &(impl Print + AllocGlobal), work: &str, size: usize) -> Result<(), WorkError> {
     let sum = checksum(rt.alloc(), work, size)?;
-    rt.println(format_args!("{work} {size}: {sum}"))?;
+    match rt.println(format_args!("{work} {size}: {sum}")) {
+        Ok(()) => Ok(()),
+        Err(_) => Err(WorkError::Unexpected("no standard output")),
+    }
+}
+
+/// Does each work once.
+fn report_all(rt: &(impl Print + AllocGlobal)) -> Result<(), WorkError> {
+    let works: &[(&'static str, usize)] = &WORKS;
+    for (work, size) in works {
+        report(rt, *work, *size)?;
+    }
     Ok(())
 }
 
-fn run(rt: &(impl Env + Print + AllocGlobal)) -> Result<()> {
-    let mut words = env::args(rt)?;
+fn run(rt: &(impl Env + Print + AllocGlobal)) -> Result<(), WorkError> {
+    let Ok(mut words) = env::args(rt) else {
+        return Err(WorkError::Unexpected("no words"));
+    };
     let _name = words.next();
-    match (words.next(), words.next()) {
-        (Some(work), Some(size)) => report(rt, work.as_str(), size.parse::<usize>()?),
-        (Some(_), None) => bail!("csl_bench WORK N"),
-        _ => {
-            let works: &[(&'static str, usize)] = &WORKS;
-            for (work, size) in works {
-                report(rt, *work, *size)?;
-            }
-            Ok(())
-        }
+    let Some(work) = words.next() else {
+        return report_all(rt);
+    };
+    let Some(size) = words.next() else {
+        return Err(WorkError::Unexpected("csl_bench WORK N"));
+    };
+    match size.parse::<usize>() {
+        Ok(size) => report(rt, work.as_str(), size),
+        Err(_) => Err(WorkError::Unexpected("N is a number")),
     }
 }
 
-fn main(rt: HostRuntime) -> Result<()> {
-    run(&rt)
+fn main(rt: HostRuntime) -> ExitCode {
+    match run(&rt) {
+        Ok(()) => ExitCode::SUCCESS,
+        Err(error) => {
+            // Where even this can't be said, the status says it.
+            let _ = rt.eprintln(error.reason());
+            ExitCode::FAILURE
+        }
+    }
 }

@@ -1,18 +1,18 @@
 //! Works over the nodes of a style.
 
 use crate::entry::article;
+use crate::error::WorkError;
 use crate::literature::page_ranges;
-use crate::style::{text, with_layout};
-use anyhow::{Result, bail};
+use crate::style::{alone, layout, macro_text, variable_text, with_layout};
 use csl_context::{Context, Rendered};
 use csl_entry::{CiteProperties, DisambiguateState, EntryLike, InstanceContext};
 use csl_render::RenderCsl;
 use csl_style::{
-    Affixes, CslMacro, Formatting, Group, Layout, LayoutRenderingElement, PageRangeFormat,
-    PageVariable, Scope, StandardVariable, Style, StyleSettings, TextTarget, Variable,
+    Affixes, CslMacro, Formatting, Group, LayoutRenderingElement, PageRangeFormat, PageVariable,
+    Scope, StandardVariable, Style, StyleSettings, Variable,
 };
 use csl_tree::BufWriteFormat;
-use lit_model::{LongShortForm, MaybeTyped};
+use lit_model::{MaybeTyped, Memory};
 use std::alloc::Global;
 
 /// The name of the one macro.
@@ -20,22 +20,18 @@ const MACRO: &str = "title";
 
 /// A text of the title.
 fn title() -> LayoutRenderingElement {
-    text(TextTarget::Variable {
-        var: Variable::Standard(StandardVariable::Title),
-        form: LongShortForm::Long,
-    })
+    variable_text(Variable::Standard(StandardVariable::Title))
 }
 
 /// A text of the macro.
-fn call(alloc: Global) -> Result<LayoutRenderingElement> {
-    let name = String::from_str(alloc, MACRO)?;
-    Ok(text(TextTarget::Macro { name }))
+fn call(alloc: Global) -> Result<LayoutRenderingElement, Memory> {
+    Ok(macro_text(String::from_str(alloc, MACRO)?))
 }
 
 /// A group of a title.
-fn group(alloc: Global) -> Result<LayoutRenderingElement> {
+fn group(alloc: Global) -> Result<LayoutRenderingElement, Memory> {
     Ok(LayoutRenderingElement::Group(Group {
-        children: vec![in alloc; title()]?,
+        children: alone(alloc, title())?,
         delimiter: None,
         formatting: Formatting::default(),
         affixes: Affixes::default(),
@@ -44,7 +40,7 @@ fn group(alloc: Global) -> Result<LayoutRenderingElement> {
 }
 
 /// So many groups, with a text of the macro behind each.
-fn nodes(alloc: Global, size: usize) -> Result<Vec<LayoutRenderingElement>> {
+fn nodes(alloc: Global, size: usize) -> Result<Vec<LayoutRenderingElement>, Memory> {
     let mut nodes = Vec::new(alloc);
     for _ in 0..size {
         nodes.push(group(alloc)?)?;
@@ -53,21 +49,22 @@ fn nodes(alloc: Global, size: usize) -> Result<Vec<LayoutRenderingElement>> {
     Ok(nodes)
 }
 
-/// A style of one macro, whose layout has so many groups and texts of the macro.
-pub fn style(alloc: Global, size: usize) -> Result<Style> {
-    let children = vec![in alloc; title()]?;
+/// The macro of a title.
+fn title_macro(alloc: Global) -> Result<CslMacro, Memory> {
     let name = String::from_str(alloc, MACRO)?;
-    let macros = vec![in alloc; CslMacro { name, children }]?;
-    let citation = Layout {
-        elements: nodes(alloc, size)?,
-        delimiter: None,
-        formatting: Formatting::default(),
-    };
+    let children = alone(alloc, title())?;
+    Ok(CslMacro { name, children })
+}
+
+/// A style of one macro, whose layout has so many groups and texts of the macro.
+pub fn style(alloc: Global, size: usize) -> Result<Style, WorkError> {
+    let citation = layout(nodes(alloc, size)?);
+    let macros = alone(alloc, title_macro(alloc)?)?;
     with_layout(alloc, StyleSettings::default(), macros, citation)
 }
 
 /// Renders the citation layout of a style for an entry.
-fn rendered<T: EntryLike>(alloc: Global, style: &Style, entry: &T) -> Result<Rendered> {
+fn rendered<T: EntryLike>(alloc: Global, style: &Style, entry: &T) -> Result<Rendered, WorkError> {
     let cite = CiteProperties::first(DisambiguateState::None);
     let instance = InstanceContext {
         entry,
@@ -76,17 +73,16 @@ fn rendered<T: EntryLike>(alloc: Global, style: &Style, entry: &T) -> Result<Ren
         kind: None,
     };
     let mut ctx = Context::new(alloc, style, instance, Scope::Citation)?;
-    if style.citation().render(&mut ctx).is_err() {
-        bail!("out of memory");
-    }
-    match ctx.finish() {
-        Ok(rendered) => Ok(rendered),
-        Err(_) => bail!("out of memory"),
-    }
+    style.citation().render(&mut ctx)?;
+    Ok(ctx.finish()?)
 }
 
 /// Renders the citation layout of a style for an entry, and counts the bytes of the plain text.
-pub fn text_size<T: EntryLike>(alloc: Global, style: &Style, entry: &T) -> Result<usize> {
+pub fn text_size<T: EntryLike>(
+    alloc: Global,
+    style: &Style,
+    entry: &T,
+) -> Result<usize, WorkError> {
     let rendered = rendered(alloc, style, entry)?;
     let mut text = String::new(alloc);
     rendered
@@ -97,7 +93,7 @@ pub fn text_size<T: EntryLike>(alloc: Global, style: &Style, entry: &T) -> Resul
 
 /// Renders groups of a title and texts of a macro for one article, and counts the children of the
 /// content.
-pub fn render(alloc: Global, size: usize) -> Result<usize> {
+pub fn render(alloc: Global, size: usize) -> Result<usize, WorkError> {
     let style = style(alloc, size)?;
     let entry = article(alloc, 1)?;
     let rendered = rendered(alloc, &style, &entry)?;
@@ -105,16 +101,9 @@ pub fn render(alloc: Global, size: usize) -> Result<usize> {
 }
 
 /// A style that writes pages in the minimal format, and nothing else.
-fn paged(alloc: Global) -> Result<Style> {
-    let pages = text(TextTarget::Variable {
-        var: Variable::Page(PageVariable::Page),
-        form: LongShortForm::Long,
-    });
-    let citation = Layout {
-        elements: vec![in alloc; pages]?,
-        delimiter: None,
-        formatting: Formatting::default(),
-    };
+fn paged(alloc: Global) -> Result<Style, WorkError> {
+    let pages = variable_text(Variable::Page(PageVariable::Page));
+    let citation = layout(alone(alloc, pages)?);
     let settings = StyleSettings {
         page_range_format: Some(PageRangeFormat::Minimal),
         ..StyleSettings::default()
@@ -123,7 +112,7 @@ fn paged(alloc: Global) -> Result<Style> {
 }
 
 /// Renders many page ranges of an article, and counts the bytes of the plain text.
-pub fn pages_rendered(alloc: Global, size: usize) -> Result<usize> {
+pub fn pages_rendered(alloc: Global, size: usize) -> Result<usize, WorkError> {
     let style = paged(alloc)?;
     let mut entry = article(alloc, 1)?;
     entry.page_range = Some(MaybeTyped::Typed(page_ranges(alloc, size)?));

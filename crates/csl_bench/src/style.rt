@@ -1,22 +1,35 @@
 //! Works over the macros of a style.
 
-use anyhow::{Result, bail};
+use crate::error::WorkError;
 use csl_style::formatting::Formatting;
 use csl_style::{
-    Affixes, CslMacro, Layout, LayoutRenderingElement, Style, StyleError, StyleSettings, Text,
-    TextTarget,
+    Affixes, CslMacro, Layout, LayoutRenderingElement, Style, StyleSettings, Text, TextTarget,
+    Variable,
 };
+use lit_model::{LongShortForm, Memory};
 use std::alloc::Global;
 
-fn name(alloc: Global, number: usize) -> Result<String> {
-    let name = format!(in alloc; "macro {number}")?;
-    Ok(name)
+fn name(alloc: Global, number: usize) -> Result<String, Memory> {
+    Ok(format!(in alloc; "macro {number}")?)
 }
 
-/// A text with nothing around it.
-pub fn text(target: TextTarget) -> LayoutRenderingElement {
+/// A text of a variable in its long form, with nothing around it.
+pub fn variable_text(var: Variable) -> LayoutRenderingElement {
+    let form = LongShortForm::Long;
     LayoutRenderingElement::Text(Text {
-        target,
+        target: TextTarget::Variable { var, form },
+        formatting: Formatting::default(),
+        affixes: Affixes::default(),
+        display: None,
+        quotes: false,
+        strip_periods: false,
+    })
+}
+
+/// A text of the macro of this name, with nothing around it.
+pub fn macro_text(name: String) -> LayoutRenderingElement {
+    LayoutRenderingElement::Text(Text {
+        target: TextTarget::Macro { name },
         formatting: Formatting::default(),
         affixes: Affixes::default(),
         display: None,
@@ -26,11 +39,10 @@ pub fn text(target: TextTarget) -> LayoutRenderingElement {
 }
 
 /// The macro of a number, which calls those from a first number up to an end.
-fn calls(alloc: Global, number: usize, first: usize, end: usize) -> Result<CslMacro> {
+fn calls(alloc: Global, number: usize, first: usize, end: usize) -> Result<CslMacro, Memory> {
     let mut children = Vec::new(alloc);
     for called in first..end {
-        let name = name(alloc, called)?;
-        children.push(text(TextTarget::Macro { name }))?;
+        children.push(macro_text(name(alloc, called)?))?;
     }
     Ok(CslMacro {
         name: name(alloc, number)?,
@@ -38,9 +50,17 @@ fn calls(alloc: Global, number: usize, first: usize, end: usize) -> Result<CslMa
     })
 }
 
-fn layout(alloc: Global) -> Layout {
+/// A list of one.
+pub fn alone<T: Drop>(alloc: Global, item: T) -> Result<Vec<T>, Memory> {
+    let mut items = Vec::new(alloc);
+    items.push(item)?;
+    Ok(items)
+}
+
+/// A layout with nothing around it.
+pub fn layout(elements: Vec<LayoutRenderingElement>) -> Layout {
     Layout {
-        elements: Vec::new(alloc),
+        elements,
         delimiter: None,
         formatting: Formatting::default(),
     }
@@ -52,42 +72,34 @@ pub fn with_layout(
     settings: StyleSettings,
     macros: Vec<CslMacro>,
     citation: Layout,
-) -> Result<Style> {
+) -> Result<Style, WorkError> {
     let locales = Vec::new(alloc);
-    match Style::new(alloc, settings, macros, citation, None, locales) {
-        Ok(style) => Ok(style),
-        Err(StyleError::Memory) => bail!("out of memory"),
-        Err(StyleError::CyclicMacro(_)) => bail!("a macro leads back to itself"),
-        Err(StyleError::ChicagoPageFormat) => bail!("no such page format"),
-    }
+    Ok(Style::new(alloc, settings, macros, citation, None, locales)?)
 }
 
 /// Makes a style of the macros, and counts them.
-fn macro_count(alloc: Global, macros: Vec<CslMacro>) -> Result<usize> {
+fn macro_count(alloc: Global, macros: Vec<CslMacro>) -> Result<usize, WorkError> {
     let settings = StyleSettings::default();
-    let style = with_layout(alloc, settings, macros, layout(alloc))?;
+    let style = with_layout(alloc, settings, macros, layout(Vec::new(alloc)))?;
     Ok(style.macros().len())
 }
 
-/// Makes a style in which each macro calls the next, and counts the macros.
-pub fn chain(alloc: Global, size: usize) -> Result<usize> {
+/// So many macros, each of which calls those behind it up to a distance.
+fn macros(alloc: Global, size: usize, reach: usize) -> Result<Vec<CslMacro>, Memory> {
     let mut macros = Vec::new(alloc);
     for number in 0..size {
-        macros.push(calls(
-            alloc,
-            number,
-            number + 1,
-            size.min(number.saturating_add(2)),
-        )?)?;
+        let end = size.min(number.saturating_add(reach).saturating_add(1));
+        macros.push(calls(alloc, number, number + 1, end)?)?;
     }
-    macro_count(alloc, macros)
+    Ok(macros)
+}
+
+/// Makes a style in which each macro calls the next, and counts the macros.
+pub fn chain(alloc: Global, size: usize) -> Result<usize, WorkError> {
+    macro_count(alloc, macros(alloc, size, 1)?)
 }
 
 /// Makes a style in which each macro calls every later one, and counts the macros.
-pub fn dense(alloc: Global, size: usize) -> Result<usize> {
-    let mut macros = Vec::new(alloc);
-    for number in 0..size {
-        macros.push(calls(alloc, number, number + 1, size)?)?;
-    }
-    macro_count(alloc, macros)
+pub fn dense(alloc: Global, size: usize) -> Result<usize, WorkError> {
+    macro_count(alloc, macros(alloc, size, size)?)
 }

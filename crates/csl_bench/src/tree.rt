@@ -1,19 +1,19 @@
 //! Works over the tree of content.
 
-use anyhow::{Result, bail};
 use csl_style::Display;
 use csl_tree::{
     Elem, ElemChild, ElemChildren, ElemMeta, Formatting, NonEmptyStack, simplify_children,
 };
+use lit_model::Memory;
 use std::alloc::Global;
 use std::num::NonZeroUsize;
 
 /// A stack of the numbers up to so many.
-fn numbers(alloc: Global, size: usize) -> Result<NonEmptyStack<usize>> {
+fn numbers(alloc: Global, size: usize) -> Result<NonEmptyStack<usize>, Memory> {
     let mut stack = NonEmptyStack::new(alloc, 0)?;
     for i in 0..size {
         if stack.push(i).is_err() {
-            bail!("out of memory");
+            return Err(Memory);
         }
     }
     Ok(stack)
@@ -29,7 +29,7 @@ fn total(stack: &NonEmptyStack<usize>) -> usize {
 }
 
 /// Fills a stack, takes half of it and one more, and adds up what is left and how many were taken.
-pub fn stack(alloc: Global, size: usize) -> Result<usize> {
+pub fn stack(alloc: Global, size: usize) -> Result<usize, Memory> {
     let mut stack = numbers(alloc, size)?;
     let mut taken = 0;
     if let Some(half) = NonZeroUsize::new(stack.len().get() / 2) {
@@ -43,13 +43,13 @@ pub fn stack(alloc: Global, size: usize) -> Result<usize> {
 }
 
 /// Takes the last item of a full stack and puts it back, as often as there are items.
-pub fn drain(alloc: Global, size: usize) -> Result<usize> {
+pub fn drain(alloc: Global, size: usize) -> Result<usize, Memory> {
     let mut stack = numbers(alloc, size)?;
     for _ in 0..size {
         if let Some(last) = NonZeroUsize::new(stack.len().get() - 1) {
             for item in stack.drain(last)? {
                 if stack.push(item).is_err() {
-                    bail!("out of memory");
+                    return Err(Memory);
                 }
             }
         }
@@ -57,13 +57,13 @@ pub fn drain(alloc: Global, size: usize) -> Result<usize> {
     Ok(total(&stack))
 }
 
-fn text(alloc: Global, text: &str) -> Result<ElemChild> {
+fn text(alloc: Global, text: &str) -> Result<ElemChild, Memory> {
     let text = String::from_str(alloc, text)?;
     Ok(ElemChild::Text(Formatting::default().add_text(text)))
 }
 
 /// Two texts of one formatting.
-fn texts(alloc: Global) -> Result<Vec<ElemChild>> {
+fn texts(alloc: Global) -> Result<Vec<ElemChild>, Memory> {
     let mut children = Vec::new(alloc);
     children.push(text(alloc, "so ")?)?;
     children.push(text(alloc, "on")?)?;
@@ -79,7 +79,7 @@ fn elem(children: Vec<ElemChild>, display: Option<Display>) -> ElemChild {
 }
 
 /// A tree of so many blocks, with an element that shows nothing of its own before each.
-fn wide(alloc: Global, size: usize) -> Result<ElemChildren> {
+fn wide(alloc: Global, size: usize) -> Result<ElemChildren, Memory> {
     let mut children = Vec::new(alloc);
     for _ in 0..size {
         children.push(elem(texts(alloc)?, None))?;
@@ -89,7 +89,7 @@ fn wide(alloc: Global, size: usize) -> Result<ElemChildren> {
 }
 
 /// A tree of so many blocks, each in the next.
-fn deep(alloc: Global, size: usize) -> Result<ElemChildren> {
+fn deep(alloc: Global, size: usize) -> Result<ElemChildren, Memory> {
     let mut children = texts(alloc)?;
     for _ in 0..size {
         let mut around = texts(alloc)?;
@@ -100,25 +100,25 @@ fn deep(alloc: Global, size: usize) -> Result<ElemChildren> {
 }
 
 /// One round of simplification, and how many children and bytes of text it leaves.
-fn simplified_size(alloc: Global, children: &ElemChildren) -> Result<usize> {
+fn simplified_size(alloc: Global, children: &ElemChildren) -> Result<usize, Memory> {
     let left = simplify_children(alloc, children)?;
     Ok(left.str_len().wrapping_add(left.0.len()))
 }
 
 /// Simplifies a wide tree once.
-pub fn simplify(alloc: Global, size: usize) -> Result<usize> {
+pub fn simplify(alloc: Global, size: usize) -> Result<usize, Memory> {
     let children = wide(alloc, size)?;
     simplified_size(alloc, &children)
 }
 
 /// Simplifies a deep tree once.
-pub fn simplify_deep(alloc: Global, size: usize) -> Result<usize> {
+pub fn simplify_deep(alloc: Global, size: usize) -> Result<usize, Memory> {
     let children = deep(alloc, size)?;
     simplified_size(alloc, &children)
 }
 
 /// An element that a date made.
-fn date(alloc: Global) -> Result<ElemChild> {
+fn date(alloc: Global) -> Result<ElemChild, Memory> {
     Ok(ElemChild::Elem(Elem {
         children: ElemChildren(texts(alloc)?),
         display: None,
@@ -146,7 +146,7 @@ fn found_size(children: &mut ElemChildren) -> usize {
 }
 
 /// Searches a wide tree for what stands at its end.
-pub fn search(alloc: Global, size: usize) -> Result<usize> {
+pub fn search(alloc: Global, size: usize) -> Result<usize, Memory> {
     let mut children = wide(alloc, size)?;
     children.0.push(date(alloc)?)?;
     let sum = found_size(&mut children);
@@ -154,7 +154,7 @@ pub fn search(alloc: Global, size: usize) -> Result<usize> {
 }
 
 /// Searches a deep tree for what stands at its end.
-pub fn search_deep(alloc: Global, size: usize) -> Result<usize> {
+pub fn search_deep(alloc: Global, size: usize) -> Result<usize, Memory> {
     let mut children = deep(alloc, size)?;
     children.0.push(date(alloc)?)?;
     let sum = found_size(&mut children);

@@ -1,0 +1,71 @@
+//! Why a work is not done.
+
+use csl_context::RenderError;
+use csl_style::StyleError;
+use lit_model::{Memory, NumericError};
+use std::alloc::AllocError;
+use std::fmt;
+
+/// Why a work is not done.
+#[derive(Clone, Copy)]
+pub enum WorkError {
+    /// There was no memory left.
+    Memory,
+    /// Something else than the work needs was asked or answered.
+    Unexpected(&'static str),
+}
+
+impl WorkError {
+    /// What is wrong, in words.
+    pub fn reason(self) -> &'static str {
+        match self {
+            WorkError::Memory => "out of memory",
+            WorkError::Unexpected(reason) => reason,
+        }
+    }
+}
+
+impl From<Memory> for WorkError {
+    fn from(_error: Memory) -> WorkError {
+        WorkError::Memory
+    }
+}
+
+impl From<AllocError> for WorkError {
+    fn from(_error: AllocError) -> WorkError {
+        WorkError::Memory
+    }
+}
+
+/// A text refuses what is written to it for want of memory alone.
+impl From<fmt::Error> for WorkError {
+    fn from(_error: fmt::Error) -> WorkError {
+        WorkError::Memory
+    }
+}
+
+impl From<NumericError> for WorkError {
+    fn from(error: NumericError) -> WorkError {
+        match error {
+            NumericError::Memory => WorkError::Memory,
+            NumericError::NotNumeric => WorkError::Unexpected("not numeric"),
+        }
+    }
+}
+
+impl From<StyleError> for WorkError {
+    fn from(error: StyleError) -> WorkError {
+        match error {
+            StyleError::Memory => WorkError::Memory,
+            StyleError::CyclicMacro(_) => WorkError::Unexpected("a macro leads back to itself"),
+            StyleError::ChicagoPageFormat => WorkError::Unexpected("no such page format"),
+        }
+    }
+}
+
+/// A context fails for want of memory alone.
+impl From<RenderError> for WorkError {
+    fn from(_error: RenderError) -> WorkError {
+        WorkError::Memory
+    }
+}
