@@ -1,6 +1,8 @@
 //! What the built-in entries of the program answer. What is expected stands here as written out by
 //! hand.
 
+use crate::asserted::assert_text;
+use crate::cited::entries;
 use csl_built_in::BuiltIn;
 use csl_entry::EntryLike;
 use csl_style::{NameVariable, NumberVariable, StandardVariable};
@@ -18,74 +20,120 @@ enum Question {
     Names(NameVariable),
 }
 
-/// What an entry of any type answers, as one text: a number, the pieces of a text or the names of
-/// the persons, each in brackets. It is empty where there is no answer.
-fn answer_of<T: EntryLike>(alloc: Global, entry: &T, question: Question) -> Result<String, Fail> {
-    let mut answer = String::new(alloc);
-    match question {
-        Question::Number(variable) => match entry.resolve_number_variable(alloc, variable)? {
-            Some(MaybeTyped::Typed(number)) => write!(answer, "[{}]", number.as_ref())?,
-            Some(MaybeTyped::String(text)) => write!(answer, "no number: {text}")?,
-            None => {}
-        },
-        Question::Text(variable) => {
-            let long = LongShortForm::Long;
-            if let Some(text) = entry.resolve_standard_variable(alloc, long, variable)? {
-                for piece in &text.as_ref().0 {
-                    write!(answer, "[{}]", piece.value)?;
-                }
-            }
-        }
-        Question::Names(variable) => {
-            for person in entry.resolve_name_variable(alloc, variable)? {
-                write!(answer, "[{}]", person.as_ref().name)?;
-            }
-        }
+/// Says the number that an entry answers, if any, in brackets.
+fn say_number<T: EntryLike>(
+    alloc: Global,
+    entry: &T,
+    variable: NumberVariable,
+    said: &mut String,
+) -> Result<(), Fail> {
+    match entry.resolve_number_variable(alloc, variable)? {
+        Some(MaybeTyped::Typed(number)) => write!(said, "[{}]", number.as_ref())?,
+        Some(MaybeTyped::String(text)) => write!(said, "no number: {text}")?,
+        None => {}
     }
-    Ok(answer)
+    Ok(())
 }
 
-/// Makes a built-in entry, and asserts what it answers.
-fn assert_answer(
-    rt: &impl Abort,
+/// Says the pieces of the text that an entry answers, if any, each in brackets.
+fn say_text<T: EntryLike>(
+    alloc: Global,
+    entry: &T,
+    variable: StandardVariable,
+    said: &mut String,
+) -> Result<(), Fail> {
+    if let Some(text) = entry.resolve_standard_variable(alloc, LongShortForm::Long, variable)? {
+        for piece in &text.as_ref().0 {
+            write!(said, "[{}]", piece.value)?;
+        }
+    }
+    Ok(())
+}
+
+/// Says the names of the persons that an entry answers, each in brackets.
+fn say_names<T: EntryLike>(
+    alloc: Global,
+    entry: &T,
+    variable: NameVariable,
+    said: &mut String,
+) -> Result<(), Fail> {
+    for person in entry.resolve_name_variable(alloc, variable)? {
+        write!(said, "[{}]", person.as_ref().name)?;
+    }
+    Ok(())
+}
+
+/// Says what an entry of any type answers, and nothing where there is no answer.
+fn say_answer<T: EntryLike>(
+    alloc: Global,
+    entry: &T,
+    question: Question,
+    said: &mut String,
+) -> Result<(), Fail> {
+    match question {
+        Question::Number(variable) => say_number(alloc, entry, variable, said),
+        Question::Text(variable) => say_text(alloc, entry, variable, said),
+        Question::Names(variable) => say_names(alloc, entry, variable, said),
+    }
+}
+
+/// Makes a built-in entry, and says what it answers.
+fn say_answer_of(
     alloc: Global,
     entry: BuiltIn,
     question: Question,
-    wanted: &str,
+    said: &mut String,
 ) -> Result<(), Fail> {
-    let entry = entry.entry(alloc)?;
-    let answer = answer_of(alloc, &entry, question)?;
-    assert_eq!(rt; answer.as_str(), wanted);
+    let works = entries(alloc, &[entry])?;
+    let work = works.first().ok_or("an entry")?;
+    say_answer(alloc, work, question, said)
+}
+
+const ESSAY: &str = "[https://aeon.co/essays/can-you-enjoy-romance-fiction-and-be-a-feminist]";
+
+const ARTICLE: BuiltIn = BuiltIn::QuantizedVortex;
+
+const BLOG_POST: BuiltIn = BuiltIn::Feminism;
+
+/// An entry, what it is asked for, and what it answers.
+type Row = (BuiltIn, Question, &'static str);
+
+static ANSWERS: [Row; 7] = [
+    (ARTICLE, Question::Number(NumberVariable::Volume), "[20]"),
+    (ARTICLE, Question::Number(NumberVariable::Issue), "[3]"),
+    (
+        ARTICLE,
+        Question::Number(NumberVariable::PageFirst),
+        "[454]",
+    ),
+    (ARTICLE, Question::Number(NumberVariable::Locator), ""),
+    (
+        BLOG_POST,
+        Question::Text(StandardVariable::ContainerTitle),
+        "[Aeon]",
+    ),
+    (BLOG_POST, Question::Text(StandardVariable::URL), ESSAY),
+    (
+        BLOG_POST,
+        Question::Names(NameVariable::Editor),
+        "[Weintraub]",
+    ),
+];
+
+/// Makes a built-in entry, and asserts what it answers.
+fn assert_answer(rt: &impl Abort, alloc: Global, row: &Row) -> Result<(), Fail> {
+    let (entry, question, wanted) = row;
+    let mut said = String::new(alloc);
+    say_answer_of(alloc, *entry, *question, &mut said)?;
+    assert_text(rt, said.as_str(), *wanted, &["entry"]);
     Ok(())
 }
 
 #[test]
 fn answers_of_built_in_entries(rt: HostRuntime) -> Result<(), Fail> {
-    let essay = "[https://aeon.co/essays/can-you-enjoy-romance-fiction-and-be-a-feminist]";
-    let article = BuiltIn::QuantizedVortex;
-    let blog_post = BuiltIn::Feminism;
-    for (entry, question, wanted) in [
-        (article, Question::Number(NumberVariable::Volume), "[20]"),
-        (article, Question::Number(NumberVariable::Issue), "[3]"),
-        (
-            article,
-            Question::Number(NumberVariable::PageFirst),
-            "[454]",
-        ),
-        (article, Question::Number(NumberVariable::Locator), ""),
-        (
-            blog_post,
-            Question::Text(StandardVariable::ContainerTitle),
-            "[Aeon]",
-        ),
-        (blog_post, Question::Text(StandardVariable::URL), essay),
-        (
-            blog_post,
-            Question::Names(NameVariable::Editor),
-            "[Weintraub]",
-        ),
-    ] {
-        assert_answer(&rt, rt.alloc(), entry, question, wanted)?;
+    let rows: &[Row] = &ANSWERS;
+    for row in rows {
+        assert_answer(&rt, rt.alloc(), row)?;
     }
     Ok(())
 }

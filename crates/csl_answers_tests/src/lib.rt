@@ -3,6 +3,10 @@
 #![tactic(auto)]
 
 #[cfg(test)]
+mod asserted;
+#[cfg(test)]
+mod cited;
+#[cfg(test)]
 mod cites;
 #[cfg(test)]
 mod entries;

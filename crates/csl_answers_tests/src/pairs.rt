@@ -1,16 +1,18 @@
 //! Pairs of the built-in entries: whether they answer alike all that a layout names, and what it
 //! makes of both. What is expected stands here as written out by hand.
 
+use crate::asserted::assert_text;
+use crate::cited::{alone, entries};
 use crate::cites::{BOOK, DEPENDENCE_HTML, ESSAY_HTML, THREE, VORTEX_HTML};
 use csl_built_in::{BuiltIn, BuiltInStyle, TitleOnly, one_piece, title_style};
-use csl_context::LeftState;
+use csl_context::{LeftState, RenderError};
 use csl_entry::{CiteProperties, DisambiguateState, EntryLike};
 use csl_render::{Pair, render_pair};
 use csl_style::{
     Affixes, Formatting, Layout, LayoutRenderingElement, Scope, StandardVariable, Style, Text,
     TextTarget, Variable,
 };
-use lit_model::{Entry, LongShortForm};
+use lit_model::{Entry, LongShortForm, Memory};
 use std::alloc::Global;
 use std::process::Abort;
 use std::test::Fail;
@@ -39,39 +41,49 @@ fn paired<T: EntryLike, U: EntryLike>(
     layout: &Layout,
     left: &T,
     right: &U,
-) -> Result<Pair, Fail> {
+) -> Result<Pair, RenderError> {
     let start = LeftState::new(alloc);
     let cite = CiteProperties::first(DisambiguateState::None);
     let scope = Scope::Citation;
-    Ok(render_pair(
+    render_pair(
         alloc, style, layout, scope, &cite, None, None, &start, left, right,
-    )?)
+    )
 }
 
-/// Whether both are alike, whether the contents are equal, and both HTML texts.
-type Said = (bool, bool, String, String);
+/// Whether both are alike and whether the contents are equal, in words.
+fn likeness(alike: bool, same: bool) -> &'static str {
+    match (alike, same) {
+        (true, true) => "alike, with equal contents",
+        (true, false) => "alike, with different contents",
+        (false, true) => "not alike, with equal contents",
+        (false, false) => "not alike, with different contents",
+    }
+}
 
-fn said(pair: Pair) -> Said {
+/// Asserts that the two are alike, with equal contents, exactly where that is so, and both HTML
+/// texts.
+fn assert_pair(rt: &impl Abort, pair: &Pair, is_one: bool, left: &str, right: &str, of: &[&str]) {
     let same = pair.left.content == pair.right.content;
-    (pair.alike, same, pair.left_html, pair.right_html)
+    let wanted = likeness(is_one, is_one);
+    assert_text(rt, likeness(pair.alike, same), wanted, of);
+    assert_text(rt, pair.left_html.as_str(), left, of);
+    assert_text(rt, pair.right_html.as_str(), right, of);
 }
 
-/// The built-in entry of this key, alone in a list.
-fn entries(alloc: Global, key: &str) -> Result<Vec<Entry>, Fail> {
-    let entry = BuiltIn::of_key(key).ok_or("an entry")?;
-    let mut works = Vec::with_capacity(alloc, 1)?;
-    works.push(entry.entry(alloc)?)?;
-    Ok(works)
-}
-
-/// What a style makes of two built-in entries.
-fn pair_of(alloc: Global, style: BuiltInStyle, left: &str, right: &str) -> Result<Said, Fail> {
+/// What a style makes of the first and the last of some entries.
+fn pair_of(alloc: Global, style: BuiltInStyle, works: &[Entry]) -> Result<Pair, Fail> {
+    let left = works.first().ok_or("an entry")?;
+    let right = works.last().ok_or("an entry")?;
     let style = style.style(alloc)?;
-    let left = entries(alloc, left)?;
-    let right = entries(alloc, right)?;
-    let one = left.first().ok_or("an entry")?;
-    let other = right.first().ok_or("an entry")?;
-    Ok(said(paired(alloc, &style, style.citation(), one, other)?))
+    Ok(paired(alloc, &style, style.citation(), left, right)?)
+}
+
+/// What a style makes of the built-in entries of two keys.
+fn pair_of_keys(alloc: Global, style: BuiltInStyle, left: &str, right: &str) -> Result<Pair, Fail> {
+    let left = BuiltIn::of_key(left).ok_or("an entry")?;
+    let right = BuiltIn::of_key(right).ok_or("an entry")?;
+    let works = entries(alloc, &[left, right])?;
+    pair_of(alloc, style, works.as_slice())
 }
 
 /// A line without its end.
@@ -80,21 +92,17 @@ fn line(text: &'static str) -> &'static str {
 }
 
 /// Asserts that two entries are alike, with equal contents, exactly where they are one.
-fn assert_pair(
+fn assert_rows(
     rt: &impl Abort,
     alloc: Global,
     style: BuiltInStyle,
-    left: Row,
-    right: Row,
+    left: &Row,
+    right: &Row,
 ) -> Result<(), Fail> {
-    let one = left.0 == right.0;
-    let (alike, same, left_html, right_html) = pair_of(alloc, style, left.0, right.0)?;
-    let got = (alike, same, left_html.as_str(), right_html.as_str());
-    assert_eq!(rt;
-        got,
-        (one, one, line(left.1), line(right.1)),
-        "of {left:?} and {right:?}"
-    );
+    let is_one = left.0 == right.0;
+    let pair = pair_of_keys(alloc, style, left.0, right.0)?;
+    let keys = [left.0, right.0];
+    assert_pair(rt, &pair, is_one, line(left.1), line(right.1), &keys);
     Ok(())
 }
 
@@ -107,7 +115,7 @@ fn assert_pairs(
 ) -> Result<(), Fail> {
     for left in rows {
         for right in rows {
-            assert_pair(rt, alloc, style, *left, *right)?;
+            assert_rows(rt, alloc, style, left, right)?;
         }
     }
     Ok(())
@@ -129,7 +137,7 @@ fn built_in_entries_in_full(rt: HostRuntime) -> Result<(), Fail> {
 }
 
 /// The title and nothing else.
-fn title_layout(alloc: Global) -> Result<Layout, Fail> {
+fn title_layout(alloc: Global) -> Result<Layout, Memory> {
     let title = LayoutRenderingElement::Text(Text {
         target: TextTarget::Variable {
             var: Variable::Standard(StandardVariable::Title),
@@ -142,26 +150,43 @@ fn title_layout(alloc: Global) -> Result<Layout, Fail> {
         strip_periods: false,
     });
     Ok(Layout {
-        elements: vec![in alloc; title]?,
+        elements: alone(alloc, title)?,
         delimiter: None,
         formatting: Formatting::default(),
     })
 }
 
-/// What the layout of a title makes of the book and of an entry that has this title alone.
-fn titles_of(alloc: Global, title: &str) -> Result<Said, Fail> {
-    let style = title_style(alloc)?;
+/// What a style and the layout of a title make of a book and of an entry that has a title alone.
+fn titles_in(alloc: Global, style: &Style, book: &Entry, title: &TitleOnly) -> Result<Pair, Fail> {
     let layout = title_layout(alloc)?;
-    let books = entries(alloc, "crazy-rich")?;
-    let book = books.first().ok_or("a book")?;
-    let title = one_piece(alloc, title)?;
-    Ok(said(paired(alloc, &style, &layout, book, &TitleOnly { title })?))
+    Ok(paired(alloc, style, &layout, book, title)?)
 }
 
-fn assert_titles(rt: &impl Abort, alloc: Global, title: &str, one: bool) -> Result<(), Fail> {
-    let (alike, same, left, right) = titles_of(alloc, title)?;
-    let got = (alike, same, left.as_str(), right.as_str());
-    assert_eq!(rt; got, (one, one, "Crazy Rich Asians", title));
+/// The same in the style of a title.
+fn titles(alloc: Global, book: &Entry, title: &TitleOnly) -> Result<Pair, Fail> {
+    let style = title_style(alloc)?;
+    titles_in(alloc, &style, book, title)
+}
+
+/// What the layout of a title makes of the book and of an entry that has this title alone.
+fn titles_of(alloc: Global, title: &str) -> Result<Pair, Fail> {
+    let title = TitleOnly {
+        title: one_piece(alloc, title)?,
+    };
+    titles_with(alloc, &title)
+}
+
+/// The same of such an entry.
+fn titles_with(alloc: Global, title: &TitleOnly) -> Result<Pair, Fail> {
+    let book = BuiltIn::of_key("crazy-rich").ok_or("a book")?;
+    let books = entries(alloc, &[book])?;
+    let book = books.first().ok_or("a book")?;
+    titles(alloc, book, title)
+}
+
+fn assert_titles(rt: &impl Abort, alloc: Global, title: &str, is_one: bool) -> Result<(), Fail> {
+    let pair = titles_of(alloc, title)?;
+    assert_pair(rt, &pair, is_one, "Crazy Rich Asians", title, &[title]);
     Ok(())
 }
 

@@ -4,6 +4,7 @@ use crate::words::owned;
 use csl_answers::run::run;
 use std::alloc::Global;
 use std::fmt;
+use std::process::Abort;
 use std::test::Fail;
 
 /// A writer that takes some texts and refuses the next.
@@ -30,6 +31,14 @@ fn status_refusing(alloc: Global, words: &[&str], out: usize, fault: usize) -> R
     Ok(run(alloc, words.as_slice(), &mut out, &mut fault))
 }
 
+/// Asserts the status of words of which so many texts were taken.
+fn assert_refused(rt: &impl Abort, status: u8, wanted: u8, words: &[&str], taken: usize) {
+    assert!(rt;
+        status == wanted,
+        "status {status}, not {wanted}: {words:?} after {taken} texts"
+    );
+}
+
 #[test]
 fn a_refused_answer_is_status_four(rt: HostRuntime) -> Result<(), Fail> {
     let words = ["title", "Nature", "html"];
@@ -40,25 +49,30 @@ fn a_refused_answer_is_status_four(rt: HostRuntime) -> Result<(), Fail> {
             taken = out;
             break;
         }
-        assert_eq!(rt; status, 4, "after {out} texts");
+        assert_refused(&rt, status, 4, &words, out);
     }
     // The answer has at least the label, the three parts of the span, the title and the newline.
     assert!(rt; taken >= 6, "all was taken after {taken} texts");
     Ok(())
 }
 
+/// A word, how many texts of its fault are taken, and the status.
+static FAULTS: [(&str, usize, u8); 6] = [
+    ("title", 0, 4),
+    ("title", 1, 2),
+    ("labels", 0, 4),
+    ("labels", 1, 4),
+    ("labels", 2, 4),
+    ("labels", 3, 2),
+];
+
 #[test]
 fn a_refused_fault_is_status_four(rt: HostRuntime) -> Result<(), Fail> {
-    for (words, fault, wanted) in [
-        (["title"], 0, 4),
-        (["title"], 1, 2),
-        (["labels"], 0, 4),
-        (["labels"], 1, 4),
-        (["labels"], 2, 4),
-        (["labels"], 3, 2),
-    ] {
-        let status = status_refusing(rt.alloc(), &words, 0, fault)?;
-        assert_eq!(rt; status, wanted, "{words:?} after {fault} texts");
+    let rows: &[(&'static str, usize, u8)] = &FAULTS;
+    for (word, fault, wanted) in rows {
+        let words = [*word];
+        let status = status_refusing(rt.alloc(), &words, 0, *fault)?;
+        assert_refused(&rt, status, *wanted, &words, *fault);
     }
     Ok(())
 }

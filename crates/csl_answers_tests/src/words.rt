@@ -1,6 +1,7 @@
 //! The words of the program and what it writes for them. What is expected stands here as written
 //! out by hand.
 
+use crate::asserted::{assert_status, assert_text};
 use csl_answers::run::run;
 use std::alloc::Global;
 use std::process::Abort;
@@ -76,22 +77,28 @@ pub fn owned(alloc: Global, words: &[&str]) -> Result<Vec<String>, Fail> {
     Ok(all)
 }
 
-/// Runs the words, and asserts the status and what both streams took.
-fn assert_run(rt: &impl Abort, alloc: Global, row: Row) -> Result<(), Fail> {
-    let (words, status, out, fault) = row;
-    let owned = owned(alloc, words)?;
+/// Runs the words of a row, and asserts the status and what both streams took.
+fn assert_run(rt: &impl Abort, alloc: Global, words: &[String], row: &Row) {
+    let (of, status, out, fault) = row;
     let mut wrote = String::new(alloc);
     let mut said = String::new(alloc);
-    let answered = run(alloc, owned.as_slice(), &mut wrote, &mut said);
-    let got = (answered, wrote.as_str(), said.as_str());
-    assert_eq!(rt; got, (status, out, fault), "of {words:?}");
+    let answered = run(alloc, words, &mut wrote, &mut said);
+    assert_status(rt, answered, *status, *of);
+    assert_text(rt, wrote.as_str(), *out, *of);
+    assert_text(rt, said.as_str(), *fault, *of);
+}
+
+/// Asserts a row.
+fn assert_row(rt: &impl Abort, alloc: Global, row: &Row) -> Result<(), Fail> {
+    let words = owned(alloc, row.0)?;
+    assert_run(rt, alloc, words.as_slice(), row);
     Ok(())
 }
 
 /// Asserts each row.
 pub fn assert_all(rt: &impl Abort, alloc: Global, rows: &[Row]) -> Result<(), Fail> {
     for row in rows {
-        assert_run(rt, alloc, *row)?;
+        assert_row(rt, alloc, row)?;
     }
     Ok(())
 }

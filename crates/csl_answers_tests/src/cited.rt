@@ -1,0 +1,137 @@
+//! What tests share: the built-in entries, what tells a cite from others, and what the style of
+//! authors and dates makes of it.
+
+use crate::asserted::assert_text;
+use csl_built_in::{BuiltIn, BuiltInStyle};
+use csl_context::{Context, RenderError, Rendered};
+use csl_entry::{
+    CiteProperties, DisambiguateState, DisambiguatedNameForm, EntryLike, InstanceContext,
+    NameDisambiguationProperties, SpecialForm,
+};
+use csl_render::RenderCsl;
+use csl_style::{NameVariable, Scope, Style};
+use csl_tree::BufWriteFormat;
+use lit_model::{Entry, Memory};
+use std::alloc::Global;
+use std::process::Abort;
+use std::test::Fail;
+
+/// Built-in entries: what holds a list of them is quicker to prove than what holds an entry.
+pub(crate) fn entries(alloc: Global, which: &[BuiltIn]) -> Result<Vec<Entry>, Memory> {
+    let mut works = Vec::new(alloc);
+    for entry in which {
+        works.push(entry.entry(alloc)?)?;
+    }
+    Ok(works)
+}
+
+/// A list of one, which is quicker to prove than `vec!` where the item ends.
+pub(crate) fn alone<T: Drop>(alloc: Global, item: T) -> Result<Vec<T>, Memory> {
+    let mut items = Vec::new(alloc);
+    items.push(item)?;
+    Ok(items)
+}
+
+/// What tells a cite from others.
+#[derive(Clone, Copy)]
+pub(crate) enum Told {
+    Nothing,
+    /// The year suffix of that place.
+    Suffix(u8),
+    /// The whole name of the one person of a variable, and the form of other names.
+    Name(NameVariable, DisambiguatedNameForm),
+}
+
+/// The whole name of the one person of a variable, and the form of other names.
+fn whole_name(
+    alloc: Global,
+    variable: NameVariable,
+    other: DisambiguatedNameForm,
+) -> Result<NameDisambiguationProperties, Memory> {
+    let forms = vec![in alloc; Some(DisambiguatedNameForm::LongFull)]?;
+    let lists = alone(alloc, forms)?;
+    let variables = vec![in alloc; variable]?;
+    Ok(NameDisambiguationProperties::new(other, variables, lists))
+}
+
+/// What tells a cite from others, as its citation says it.
+pub(crate) fn state(alloc: Global, told: Told) -> Result<DisambiguateState, Memory> {
+    match told {
+        Told::Nothing => Ok(DisambiguateState::None),
+        Told::Suffix(place) => Ok(DisambiguateState::YearSuffix(place)),
+        Told::Name(variable, other) => Ok(DisambiguateState::NameDisambiguation(whole_name(
+            alloc, variable, other,
+        )?)),
+    }
+}
+
+/// What a style makes of a cite of an entry.
+fn rendered<T: EntryLike>(
+    alloc: Global,
+    style: &Style,
+    cite_props: &CiteProperties<'_>,
+    kind: Option<SpecialForm>,
+    entry: &T,
+) -> Result<Rendered, RenderError> {
+    let instance = InstanceContext {
+        entry,
+        cite_props,
+        sorting: None,
+        kind,
+    };
+    let Ok(mut ctx) = Context::new(alloc, style, instance, Scope::Citation) else {
+        return Err(RenderError::Memory);
+    };
+    style.citation().render(&mut ctx)?;
+    ctx.finish()
+}
+
+/// What the style of authors and dates makes of a cite of an entry.
+fn rendered_by_author_and_date(
+    alloc: Global,
+    cite: &CiteProperties<'_>,
+    form: Option<SpecialForm>,
+    entry: &Entry,
+) -> Result<Rendered, RenderError> {
+    match BuiltInStyle::AuthorDate.style(alloc) {
+        Ok(style) => rendered(alloc, &style, cite, form, entry),
+        Err(Memory) => Err(RenderError::Memory),
+    }
+}
+
+/// What the style of authors and dates makes of a first cite of a built-in entry, in a form and
+/// told from others so.
+pub(crate) fn cited(
+    alloc: Global,
+    entry: BuiltIn,
+    told: DisambiguateState,
+    form: Option<SpecialForm>,
+) -> Result<Rendered, Fail> {
+    let cite = CiteProperties::first(told);
+    cited_with(alloc, entry, &cite, form)
+}
+
+/// The same of a cite with these properties.
+fn cited_with(
+    alloc: Global,
+    entry: BuiltIn,
+    cite: &CiteProperties<'_>,
+    form: Option<SpecialForm>,
+) -> Result<Rendered, Fail> {
+    let works = entries(alloc, &[entry])?;
+    let work = works.first().ok_or("an entry")?;
+    Ok(rendered_by_author_and_date(alloc, cite, form, work)?)
+}
+
+/// Asserts the plain text of what was made of a cite.
+pub(crate) fn assert_plain(
+    rt: &impl Abort,
+    alloc: Global,
+    made: &Rendered,
+    wanted: &str,
+) -> Result<(), Fail> {
+    let mut text = String::new(alloc);
+    made.content.write_buf(&mut text, BufWriteFormat::Plain)?;
+    assert_text(rt, text.as_str(), wanted, &["cite"]);
+    Ok(())
+}
