@@ -1,6 +1,7 @@
 //! The tests of choices.
 
-use crate::cited::{Row, Sought, assert_cited};
+use crate::answered::Sought;
+use crate::cited::{Row, assert_cited, assert_text};
 use csl_render::BranchConditionPos;
 use std::process::Abort;
 use std::test::Fail;
@@ -181,20 +182,37 @@ static DRY: [Row; 4] = [
 ];
 
 /// The sorts of tests that begin with the first one: each but the last, and then no more.
-fn assert_sorts(rt: &impl Abort) {
-    let mut sorts = BranchConditionPos::Disambiguate;
-    for wanted in [
-        BranchConditionPos::Disambiguate,
-        BranchConditionPos::IsNumeric,
-        BranchConditionPos::IsUncertainDate,
-        BranchConditionPos::Locator,
-        BranchConditionPos::Position,
-        BranchConditionPos::Type_,
-    ] {
-        assert_eq!(rt; sorts.next(), Some(wanted));
+static SORTS: [Option<BranchConditionPos>; 8] = [
+    Some(BranchConditionPos::Disambiguate),
+    Some(BranchConditionPos::IsNumeric),
+    Some(BranchConditionPos::IsUncertainDate),
+    Some(BranchConditionPos::Locator),
+    Some(BranchConditionPos::Position),
+    Some(BranchConditionPos::Type_),
+    None,
+    None,
+];
+
+/// The name of a sort of tests.
+fn name_of(sort: Option<BranchConditionPos>) -> &'static str {
+    match sort {
+        Some(BranchConditionPos::Disambiguate) => "disambiguate",
+        Some(BranchConditionPos::IsNumeric) => "is-numeric",
+        Some(BranchConditionPos::IsUncertainDate) => "is-uncertain-date",
+        Some(BranchConditionPos::Locator) => "locator",
+        Some(BranchConditionPos::Position) => "position",
+        Some(BranchConditionPos::Type_) => "type",
+        Some(BranchConditionPos::Variable) => "variable",
+        None => "none",
     }
-    assert_eq!(rt; sorts.next(), None);
-    assert_eq!(rt; sorts.next(), None);
+}
+
+fn assert_sorts(rt: &impl Abort, rows: &[Option<BranchConditionPos>]) {
+    let mut sorts = BranchConditionPos::Disambiguate;
+    for wanted in rows {
+        let answer = name_of(sorts.next());
+        assert_text(rt, answer, name_of(*wanted), "the next sort", "a branch");
+    }
 }
 
 #[test]
@@ -203,6 +221,6 @@ fn choices_take_what_the_standard_says(rt: HostRuntime) -> Result<(), Fail> {
     assert_cited(&rt, rt.alloc(), Sought::Conditions, &CONDITIONS)?;
     assert_cited(&rt, rt.alloc(), Sought::Chosen, &CHOSEN)?;
     assert_cited(&rt, rt.alloc(), Sought::Dry, &DRY)?;
-    assert_sorts(&rt);
+    assert_sorts(&rt, &SORTS);
     Ok(())
 }

@@ -72,36 +72,47 @@ fn part_form_named(name: &str) -> Result<Option<DateAnyForm>, Fail> {
 fn part(alloc: Global, words: &str) -> Result<DatePart, Fail> {
     let (names, options) = split(words, "|");
     let (name, form) = split(names, ":");
-    let affixes = affixes(alloc, options)?;
+    let name = part_named(name)?;
+    let form = part_form_named(form)?;
     Ok(DatePart {
-        name: part_named(name)?,
-        form: part_form_named(form)?,
+        name,
+        form,
         formatting: formatting(options),
-        affixes,
+        affixes: affixes(alloc, options)?,
         strip_periods: option(options, "s").is_some(),
     })
 }
 
+/// The parts of these words.
+fn parts(alloc: Global, words: &str) -> Result<Vec<DatePart>, Fail> {
+    let mut parts = Vec::new(alloc);
+    for words in words.split('+') {
+        if !words.is_empty() {
+            parts.push(part(alloc, words)?)?;
+        }
+    }
+    Ok(parts)
+}
+
 /// The date of a word, behind its mark.
 pub(crate) fn date(alloc: Global, word: &str) -> Result<Date, Fail> {
-    let mut pieces = word.split('+');
-    let (names, options) = split(pieces.next().unwrap_or(""), "|");
-    let (variable, rest) = split(names, ":");
-    let (form, parts) = split(rest, ":");
-    let mut date_part = Vec::new(alloc);
-    for piece in pieces {
-        date_part.push(part(alloc, piece)?)?;
-    }
+    let (first, rest) = split(word, "+");
+    let (names, options) = split(first, "|");
+    let (variable, forms) = split(names, ":");
+    let (form, kept) = split(forms, ":");
+    let variable = dated_named(variable)?;
+    let form = form_named(form)?;
+    let kept = parts_named(kept)?;
+    let date_part = parts(alloc, rest)?;
     let delimiter = text_of(alloc, options, ",")?;
-    let affixes = affixes(alloc, options)?;
     Ok(Date {
-        variable: dated_named(variable)?,
-        form: form_named(form)?,
-        parts: parts_named(parts)?,
+        variable,
+        form,
+        parts: kept,
         date_part,
         delimiter,
         formatting: formatting(options),
-        affixes,
+        affixes: affixes(alloc, options)?,
         display: display(options),
     })
 }

@@ -1,6 +1,7 @@
 //! The tests of dates.
 
-use crate::cited::{Row, Sought, assert_cited};
+use crate::answered::Sought;
+use crate::cited::{Row, assert_cited};
 use std::test::Fail;
 
 /// A date of a year.

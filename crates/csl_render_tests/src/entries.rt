@@ -13,7 +13,7 @@
 use crate::choice_nodes::locator_named;
 use crate::made::{Manner, PLAIN};
 use crate::name_forms::forms_of;
-use crate::nodes::{read, variable_named};
+use crate::nodes::{alone, read, variable_named};
 use csl_entry::{
     CertainCiteProperties, CitationNumber, CiteProperties, DisambiguateState, IbidState,
     LocatorPayload, Sorting, SpecialForm, SpecificLocator, SpeculativeCiteProperties,
@@ -23,24 +23,22 @@ use lit_model::{
     ChunkKind, ChunkedString, Date, Entry, EntryType, FormatString, MaybeTyped, Memory, Numeric,
     PageRanges, PageRangesPart, Person, PersonRole, PersonsWithRoles, Season, StringChunk,
 };
-use std::alloc::{AllocError, Global};
+use std::alloc::Global;
 use std::test::Fail;
 
 /// A book, alone in a list: what holds the list is quicker to prove than what holds the entry.
 fn book(alloc: Global) -> Result<Vec<Entry>, Memory> {
-    let mut works = Vec::with_capacity(alloc, 1)?;
-    works.push(Entry::new(alloc, "key", EntryType::Book)?)?;
-    Ok(works)
+    alone(alloc, Entry::new(alloc, "key", EntryType::Book)?)
 }
 
-fn piece(alloc: Global, text: &str) -> Result<ChunkedString, AllocError> {
+fn piece(alloc: Global, text: &str) -> Result<ChunkedString, Memory> {
     let value = read(alloc, text)?;
     let kind = ChunkKind::Normal;
-    let chunks = vec![in alloc; StringChunk { value, kind }]?;
+    let chunks = alone(alloc, StringChunk { value, kind })?;
     Ok(ChunkedString(chunks))
 }
 
-fn title(alloc: Global, text: &str) -> Result<FormatString, AllocError> {
+fn title(alloc: Global, text: &str) -> Result<FormatString, Memory> {
     match text.split_once('|') {
         Some((whole, short)) => Ok(FormatString {
             value: piece(alloc, whole)?,
@@ -75,7 +73,7 @@ fn escaped(alloc: Global, range: &str) -> Result<PageRanges, Fail> {
     let (from, to) = range.split_once('-').ok_or("a range")?;
     let from = Numeric::parse(alloc, from)?;
     let to = Numeric::parse(alloc, to)?;
-    let ranges = vec![in alloc; PageRangesPart::EscapedRange(from, to)]?;
+    let ranges = alone(alloc, PageRangesPart::EscapedRange(from, to))?;
     Ok(PageRanges { ranges })
 }
 
@@ -144,7 +142,7 @@ fn persons(alloc: Global, words: &str) -> Result<Vec<Person>, Fail> {
 fn translators(alloc: Global, words: &str) -> Result<Vec<PersonsWithRoles>, Fail> {
     let names = persons(alloc, words)?;
     let role = PersonRole::Translator;
-    Ok(vec![in alloc; PersonsWithRoles { names, role }]?)
+    Ok(alone(alloc, PersonsWithRoles { names, role })?)
 }
 
 /// Says one thing of the work.
@@ -262,34 +260,36 @@ fn set_text(setting: &mut Setting, word: &'static str) -> Result<(), Fail> {
     Ok(())
 }
 
-/// What these words say.
-pub(crate) fn set_by(words: &'static str) -> Result<Setting, Fail> {
-    let mut setting = Setting {
-        manner: PLAIN,
-        scope: Scope::Citation,
-        sorting: None,
-        form: None,
-        before: "",
-        is_dated: false,
-        is_suppressing: false,
-        is_first: true,
-        is_near_note: false,
-        ibid: IbidState::Different,
-        locator: None,
-        is_told: false,
-        suffix: None,
-        forms: None,
-    };
+/// What a citation and its style say that say nothing.
+pub(crate) const SILENT: Setting = Setting {
+    manner: PLAIN,
+    scope: Scope::Citation,
+    sorting: None,
+    form: None,
+    before: "",
+    is_dated: false,
+    is_suppressing: false,
+    is_first: true,
+    is_near_note: false,
+    ibid: IbidState::Different,
+    locator: None,
+    is_told: false,
+    suffix: None,
+    forms: None,
+};
+
+/// Sets what these words say.
+pub(crate) fn set_all(setting: &mut Setting, words: &'static str) -> Result<(), Fail> {
     for word in words.split(' ') {
         if !word.is_empty() {
-            set(&mut setting, word)?;
+            set(setting, word)?;
         }
     }
-    Ok(setting)
+    Ok(())
 }
 
 /// What tells the cite from others.
-fn told_by(alloc: Global, setting: Setting) -> Result<DisambiguateState, Fail> {
+fn told_by(alloc: Global, setting: &Setting) -> Result<DisambiguateState, Fail> {
     if let Some(words) = setting.forms {
         let forms = forms_of(alloc, words)?;
         return Ok(DisambiguateState::NameDisambiguation(forms));
@@ -302,7 +302,10 @@ fn told_by(alloc: Global, setting: Setting) -> Result<DisambiguateState, Fail> {
 }
 
 /// The first cite in the list of entries, of which that is said.
-pub(crate) fn properties(alloc: Global, setting: Setting) -> Result<CiteProperties<'static>, Fail> {
+pub(crate) fn properties(
+    alloc: Global,
+    setting: &Setting,
+) -> Result<CiteProperties<'static>, Fail> {
     let citation_number = CitationNumber::new(0).ok_or("a citation number")?;
     let disambiguation = told_by(alloc, setting)?;
     Ok(CiteProperties {

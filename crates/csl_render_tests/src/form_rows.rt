@@ -1,6 +1,7 @@
 //! The tests of forms of names that tell a cite apart, and of those that are kept.
 
-use crate::cited::{Row, Sought, assert_cited};
+use crate::answered::Sought;
+use crate::cited::{Row, assert_cited};
 use std::test::Fail;
 
 /// Plain texts.

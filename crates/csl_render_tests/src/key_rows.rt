@@ -1,5 +1,6 @@
 //! The test of sort keys by all parts.
 
+use crate::cited::assert_text;
 use crate::entries::date;
 use csl_render::full_sort_key;
 use std::alloc::Global;
@@ -26,15 +27,16 @@ fn key(alloc: Global, words: &str) -> Result<String, Fail> {
     }
 }
 
-fn assert_key(rt: &impl Abort, answer: &str, row: Row) {
-    let (words, wanted) = row;
-    assert_eq!(rt; answer, wanted, "of {words}");
+fn assert_key(rt: &impl Abort, alloc: Global, row: &Row) -> Result<(), Fail> {
+    let (words, wanted) = *row;
+    let answer = key(alloc, words)?;
+    assert_text(rt, answer.as_str(), wanted, words, "a sort key");
+    Ok(())
 }
 
 fn assert_keys(rt: &impl Abort, alloc: Global, rows: &[Row]) -> Result<(), Fail> {
     for row in rows {
-        let answer = key(alloc, row.0)?;
-        assert_key(rt, answer.as_str(), *row);
+        assert_key(rt, alloc, row)?;
     }
     Ok(())
 }

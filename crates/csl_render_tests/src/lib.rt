@@ -43,4 +43,6 @@ mod rows;
 #[cfg(test)]
 mod said;
 #[cfg(test)]
+mod scene;
+#[cfg(test)]
 mod work;

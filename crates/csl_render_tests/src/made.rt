@@ -2,7 +2,7 @@
 
 use crate::date_nodes::date;
 use crate::name_nodes::name_options;
-use crate::nodes::{PAGE, layout, nodes};
+use crate::nodes::{PAGE, alone, layout, nodes};
 use csl_style::{
     CslMacro, Date, Locale, Locator, NameVariable, NumberVariable, OrdinalSlot, OrdinalTerm,
     OtherTerm, PageRangeFormat, Style, StyleSettings, Term, TermEntry, TermForm,
@@ -25,13 +25,20 @@ static MACROS: [&str; 10] = [
     "y 'y",
 ];
 
+/// The macro of a line.
+fn macro_of(alloc: Global, line: &str) -> Result<CslMacro, Fail> {
+    let (name, words) = line.split_once(' ').ok_or("nodes")?;
+    let children = nodes(alloc, words)?;
+    Ok(CslMacro {
+        name: String::from_str(alloc, name)?,
+        children,
+    })
+}
+
 fn macros(alloc: Global, lines: &[&'static str]) -> Result<Vec<CslMacro>, Fail> {
     let mut macros = Vec::new(alloc);
     for line in lines {
-        let (name, words) = line.split_once(' ').ok_or("nodes")?;
-        let name = String::from_str(alloc, name)?;
-        let children = nodes(alloc, words)?;
-        macros.push(CslMacro { name, children })?;
+        macros.push(macro_of(alloc, *line)?)?;
     }
     Ok(macros)
 }
@@ -120,25 +127,30 @@ static BOTH: [TermRow; 1] = [(
     "eds. & trans.",
 )];
 
+fn term_of(alloc: Global, row: &TermRow) -> Result<TermEntry, AllocError> {
+    let (term, form, single, multiple) = *row;
+    let multiple = String::from_str(alloc, multiple)?;
+    Ok(TermEntry {
+        term,
+        form,
+        single: String::from_str(alloc, single)?,
+        multiple: Some(multiple),
+        gender: gender_of(term),
+    })
+}
+
 fn add_terms(
     alloc: Global,
     rows: &[TermRow],
     terms: &mut Vec<TermEntry>,
 ) -> Result<(), AllocError> {
-    for (term, form, single, multiple) in rows {
-        let single = String::from_str(alloc, *single)?;
-        terms.push(TermEntry {
-            term: *term,
-            form: *form,
-            single,
-            multiple: Some(String::from_str(alloc, *multiple)?),
-            gender: gender_of(*term),
-        })?;
+    for row in rows {
+        terms.push(term_of(alloc, row)?)?;
     }
     Ok(())
 }
 
-fn terms(alloc: Global, manner: Manner) -> Result<Vec<TermEntry>, AllocError> {
+fn terms(alloc: Global, manner: &Manner) -> Result<Vec<TermEntry>, AllocError> {
     let mut terms = Vec::new(alloc);
     add_terms(alloc, &TERMS, &mut terms)?;
     if manner.has_eras {
@@ -204,7 +216,7 @@ pub(crate) const PLAIN: Manner = Manner {
     names: "",
 };
 
-fn dates(alloc: Global, manner: Manner) -> Result<Vec<Date>, Fail> {
+fn dates(alloc: Global, manner: &Manner) -> Result<Vec<Date>, Fail> {
     let mut dates = Vec::new(alloc);
     if let Some(words) = manner.date {
         dates.push(date(alloc, words)?)?;
@@ -213,7 +225,7 @@ fn dates(alloc: Global, manner: Manner) -> Result<Vec<Date>, Fail> {
 }
 
 /// The one locale. A comma or period behind a closing quote goes before it.
-fn locales(alloc: Global, manner: Manner) -> Result<Vec<Locale>, Fail> {
+fn locales(alloc: Global, manner: &Manner) -> Result<Vec<Locale>, Fail> {
     let terms = terms(alloc, manner)?;
     let ordinals = ordinals(alloc, &ORDINALS)?;
     let locale = Locale {
@@ -223,11 +235,11 @@ fn locales(alloc: Global, manner: Manner) -> Result<Vec<Locale>, Fail> {
         punctuation_in_quote: true,
         limit_day_ordinals_to_day_1: manner.is_limited,
     };
-    Ok(vec![in alloc; locale]?)
+    Ok(alone(alloc, locale)?)
 }
 
 /// The style of these macros and this locale, of that manner.
-pub(crate) fn style(alloc: Global, manner: Manner) -> Result<Style, Fail> {
+pub(crate) fn style(alloc: Global, manner: &Manner) -> Result<Style, Fail> {
     let macros = macros(alloc, &MACROS)?;
     let locales = locales(alloc, manner)?;
     let citation = layout(alloc, manner.layout)?;

@@ -22,6 +22,14 @@ fn form(letter: char) -> Option<DisambiguatedNameForm> {
     }
 }
 
+/// The form that the first letter says.
+fn first_form(letters: &str) -> Result<DisambiguatedNameForm, Fail> {
+    match letters.chars().next() {
+        Some(letter) => Ok(form(letter).ok_or("a form")?),
+        None => Err(Fail::from("a form")),
+    }
+}
+
 /// The letter that says a form.
 fn letter(form: Option<DisambiguatedNameForm>) -> char {
     match form {
@@ -36,7 +44,10 @@ fn letter(form: Option<DisambiguatedNameForm>) -> char {
 
 /// The form that each letter says.
 fn list(alloc: Global, letters: &str) -> Result<Vec<Option<DisambiguatedNameForm>>, Memory> {
-    let forms = letters.chars().map(form).collect(alloc)?;
+    let mut forms = Vec::new(alloc);
+    for letter in letters.chars() {
+        forms.push(form(letter))?;
+    }
     Ok(forms)
 }
 
@@ -53,7 +64,7 @@ fn lists(alloc: Global, words: &str) -> Result<Vec<Vec<Option<DisambiguatedNameF
 pub(crate) fn forms_of(alloc: Global, words: &str) -> Result<NameDisambiguationProperties, Fail> {
     let (default, behind) = words.split_once('/').ok_or("variables")?;
     let (variable, letters) = behind.split_once('/').ok_or("forms")?;
-    let default = default.chars().next().and_then(form).ok_or("a form")?;
+    let default = first_form(default)?;
     let variables = variables(alloc, variable)?;
     let forms = lists(alloc, letters)?;
     Ok(NameDisambiguationProperties::new(default, variables, forms))

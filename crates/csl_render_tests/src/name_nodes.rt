@@ -15,7 +15,7 @@
 //! | `with-a` | what follows an initial |
 //! | `names-a` | what stands between two lists |
 
-use crate::nodes::{affixes, display, formatting, option, read, text_of, variable_named};
+use crate::nodes::{affixes, alone, display, formatting, option, read, text_of, variable_named};
 use csl_style::{
     EtAl, Formatting, InheritableNameOptions, LayoutRenderingElement, Name, NameForm, NameVariable,
     Names, NamesChild, Substitute, Variable, VariablelessLabel,
@@ -155,7 +155,7 @@ fn push_each(
     nodes: Vec<LayoutRenderingElement>,
 ) -> Result<(), Fail> {
     for node in nodes {
-        let instead = vec![in alloc; node]?;
+        let instead = alone(alloc, node)?;
         children.push(NamesChild::Substitute(Substitute { children: instead }))?;
     }
     Ok(())

@@ -1,6 +1,7 @@
 //! The tests of names.
 
-use crate::cited::{Row, Sought, assert_cited};
+use crate::answered::Sought;
+use crate::cited::{Row, assert_cited};
 use std::process::Abort;
 use std::test::Fail;
 

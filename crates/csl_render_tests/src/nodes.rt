@@ -29,7 +29,7 @@ use csl_style::{
     LayoutRenderingElement, NameVariable, NumberVariable, OtherTerm, PageVariable,
     RenderingElement, StandardVariable, Term, TermForm, Text, TextTarget, Variable,
 };
-use lit_model::LongShortForm;
+use lit_model::{LongShortForm, Memory};
 use std::alloc::{AllocError, Global};
 use std::mem;
 use std::test::Fail;
@@ -85,6 +85,13 @@ pub(crate) fn read(alloc: Global, word: &str) -> Result<String, AllocError> {
     Ok(text)
 }
 
+/// A value alone in a list.
+pub(crate) fn alone<T: Drop>(alloc: Global, value: T) -> Result<Vec<T>, Memory> {
+    let mut values = Vec::new(alloc);
+    values.push(value)?;
+    Ok(values)
+}
+
 /// What stands behind a mark among the options.
 pub(crate) fn option<'w>(options: &'w str, mark: &str) -> Option<&'w str> {
     for option in options.split('|') {
@@ -114,18 +121,37 @@ pub(crate) fn affixes(alloc: Global, options: &str) -> Result<Affixes, AllocErro
     Ok(Affixes { prefix, suffix })
 }
 
+/// The font style among the options.
+fn font_style(options: &str) -> Option<FontStyle> {
+    match option(options, "/") {
+        Some(_) => Some(FontStyle::Italic),
+        None => None,
+    }
+}
+
+/// The font weight among the options.
+fn font_weight(options: &str) -> Option<FontWeight> {
+    match option(options, "*") {
+        Some(_) => Some(FontWeight::Bold),
+        None => None,
+    }
+}
+
 /// The formatting among the options.
 pub(crate) fn formatting(options: &str) -> Formatting {
     Formatting {
-        font_style: option(options, "/").map(|_| FontStyle::Italic),
-        font_weight: option(options, "*").map(|_| FontWeight::Bold),
+        font_style: font_style(options),
+        font_weight: font_weight(options),
         ..Formatting::default()
     }
 }
 
 /// The place on the page among the options.
 pub(crate) fn display(options: &str) -> Option<Display> {
-    option(options, "b").map(|_| Display::Block)
+    match option(options, "b") {
+        Some(_) => Some(Display::Block),
+        None => None,
+    }
 }
 
 fn target(alloc: Global, word: &str) -> Result<TextTarget, Fail> {
@@ -168,11 +194,11 @@ fn term_target(name: &str) -> Result<TextTarget, Fail> {
 }
 
 fn text(alloc: Global, word: &str, options: &str) -> Result<LayoutRenderingElement, Fail> {
-    let affixes = affixes(alloc, options)?;
+    let target = target(alloc, word)?;
     Ok(LayoutRenderingElement::Text(Text {
-        target: target(alloc, word)?,
+        target,
         formatting: formatting(options),
-        affixes,
+        affixes: affixes(alloc, options)?,
         display: display(options),
         quotes: option(options, "q").is_some(),
         strip_periods: option(options, "s").is_some(),
@@ -217,12 +243,12 @@ fn group(
     children: Vec<LayoutRenderingElement>,
     options: &str,
 ) -> Result<LayoutRenderingElement, AllocError> {
-    let affixes = affixes(alloc, options)?;
+    let delimiter = text_of(alloc, options, ",")?;
     Ok(LayoutRenderingElement::Group(Group {
         children,
-        delimiter: text_of(alloc, options, ",")?,
+        delimiter,
         formatting: formatting(options),
-        affixes,
+        affixes: affixes(alloc, options)?,
         display: display(options),
     }))
 }

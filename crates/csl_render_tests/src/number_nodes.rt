@@ -48,12 +48,13 @@ pub(crate) fn number(
     options: &str,
 ) -> Result<LayoutRenderingElement, Fail> {
     let (variable, form) = word.split_once(':').unwrap_or((word, "numeric"));
-    let affixes = affixes(alloc, options)?;
+    let variable = counted_named(variable)?;
+    let form = number_form_named(form)?;
     Ok(LayoutRenderingElement::Number(Number {
-        variable: counted_named(variable)?,
-        form: number_form_named(form)?,
+        variable,
+        form,
         formatting: formatting(options),
-        affixes,
+        affixes: affixes(alloc, options)?,
         display: display(options),
     }))
 }
@@ -66,16 +67,15 @@ pub(crate) fn label(
 ) -> Result<LayoutRenderingElement, Fail> {
     let (variable, rest) = word.split_once(':').unwrap_or((word, "long"));
     let (form, plural) = rest.split_once(':').unwrap_or((rest, "contextual"));
+    let variable = counted_named(variable)?;
     let (form, _) = form_named(form)?;
+    let plural = plural_named(plural)?;
     let label = VariablelessLabel {
         form,
-        plural: plural_named(plural)?,
+        plural,
         formatting: formatting(options),
         affixes: affixes(alloc, options)?,
         strip_periods: option(options, "s").is_some(),
     };
-    Ok(LayoutRenderingElement::Label(Label {
-        variable: counted_named(variable)?,
-        label,
-    }))
+    Ok(LayoutRenderingElement::Label(Label { variable, label }))
 }

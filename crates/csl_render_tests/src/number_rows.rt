@@ -1,6 +1,7 @@
 //! The tests of numbers, labels, and texts of numbers and pages.
 
-use crate::cited::{Row, Sought, assert_cited};
+use crate::answered::Sought;
+use crate::cited::{Row, assert_cited};
 use std::test::Fail;
 
 /// A label and a text of pages.

@@ -1,14 +1,15 @@
 //! The tests of pairs: a layout, two entries, whether they answer alike all that it names, and the
 //! HTML of both.
 
-use crate::entries::entries;
-use crate::made::{PLAIN, style};
-use crate::nodes::layout;
-use crate::work::{described, first_cite};
-use csl_context::LeftState;
+use crate::answered::Asked;
+use crate::cited::{Question, Source, say_for_entry};
+use crate::entries::{SILENT, entries};
+use crate::scene::Scene;
+use crate::work::described;
+use csl_context::{LeftState, RenderError};
 use csl_entry::EntryLike;
 use csl_render::{Pair, render_pair};
-use csl_style::{Scope, StandardVariable, Variable};
+use csl_style::{Layout, RenderingElement, StandardVariable, Variable};
 use std::alloc::Global;
 use std::process::Abort;
 use std::test::Fail;
@@ -198,68 +199,118 @@ fn begun(alloc: Global, suppressing: bool, suppressed: bool) -> Result<LeftState
     Ok(start)
 }
 
-/// What the layout of these words makes of the two.
-fn paired<T: EntryLike, U: EntryLike>(
-    alloc: Global,
-    words: &str,
-    start: &LeftState,
-    left: &T,
-    right: &U,
-) -> Result<Pair, Fail> {
-    let cite = first_cite(None);
-    let layout = layout(alloc, words)?;
-    let style = style(alloc, PLAIN)?;
-    let scope = Scope::Citation;
-    Ok(render_pair(
-        alloc, &style, &layout, scope, &cite, None, None, start, left, right,
-    )?)
+/// What is asked of a layout and of another entry beside that of the scene.
+#[derive(Drop)]
+struct Beside<'q, U> {
+    start: &'q LeftState,
+    right: &'q U,
 }
 
-fn said(alloc: Global, pair: &Pair) -> Result<String, Fail> {
+impl<'q, U: EntryLike> Asked for Beside<'q, U> {
+    fn say<'s, T: EntryLike>(&self, scene: &Scene<'s, T>, said: &mut String) -> Result<(), Fail> {
+        match scene.element {
+            RenderingElement::Layout(layout) => {
+                let pair = paired(scene, layout, self.start, self.right)?;
+                say_pair(&pair, said)
+            }
+            RenderingElement::Other(_) => Err(Fail::from("a layout")),
+        }
+    }
+}
+
+/// What the layout makes of the two.
+fn paired<T: EntryLike, U: EntryLike>(
+    scene: &Scene<'_, T>,
+    layout: &Layout,
+    start: &LeftState,
+    right: &U,
+) -> Result<Pair, RenderError> {
+    let (cite, scope) = (scene.cite, scene.setting.scope);
+    render_pair(
+        scene.alloc,
+        scene.style,
+        layout,
+        scope,
+        cite.cite_props,
+        cite.sorting,
+        cite.kind,
+        start,
+        cite.entry,
+        right,
+    )
+}
+
+fn say_pair(pair: &Pair, said: &mut String) -> Result<(), Fail> {
     let alike = if pair.alike { "alike" } else { "not alike" };
     let (left, right) = (pair.left_html.as_str(), pair.right_html.as_str());
-    Ok(format!(in alloc; "{alike}: {left}, {right}")?)
+    Ok(write!(said, "{alike}: {left}, {right}")?)
 }
 
-fn assert_row(rt: &impl Abort, answer: &str, row: Row) {
-    let (words, left, right, wanted) = row;
-    assert_eq!(rt; answer, wanted, "of {words} for {left} and {right}");
+/// Says the answer for the first entry of the row and this one.
+fn say_beside<U: EntryLike>(
+    alloc: Global,
+    start: &LeftState,
+    row: &Row,
+    right: &U,
+    said: &mut String,
+) -> Result<(), Fail> {
+    let question = Question {
+        alloc,
+        words: row.0,
+        setting: &SILENT,
+    };
+    say_for_entry(&question, &Beside { start, right }, row.1, said)
 }
 
-/// Asserts what each row says of two entries.
-fn assert_entries(
+/// Says the answer for two entries.
+fn say_entries(alloc: Global, start: &LeftState, row: &Row, said: &mut String) -> Result<(), Fail> {
+    let works = entries(alloc, row.2)?;
+    match works.first() {
+        Some(right) => say_beside(alloc, start, row, right, said),
+        None => Err(Fail::from("an entry")),
+    }
+}
+
+/// Says the answer for an entry and a work.
+fn say_work(alloc: Global, start: &LeftState, row: &Row, said: &mut String) -> Result<(), Fail> {
+    let work = described(alloc, row.2)?;
+    say_beside(alloc, start, row, &work, said)
+}
+
+/// What the layout answers of the two of the row, of which the second one is so described.
+fn answered(alloc: Global, start: &LeftState, right: Source, row: &Row) -> Result<String, Fail> {
+    let mut said = String::new(alloc);
+    match right {
+        Source::Entry => say_entries(alloc, start, row, &mut said)?,
+        Source::Work => say_work(alloc, start, row, &mut said)?,
+    }
+    Ok(said)
+}
+
+/// Asserts what each row says of an entry and another one that is so described.
+fn assert_pairs(
     rt: &impl Abort,
     alloc: Global,
     start: &LeftState,
+    right: Source,
     rows: &[Row],
 ) -> Result<(), Fail> {
     for row in rows {
-        let (words, left, right, _) = *row;
-        let left = entries(alloc, left)?;
-        let right = entries(alloc, right)?;
-        let one = left.first().ok_or("an entry")?;
-        let other = right.first().ok_or("an entry")?;
-        let pair = paired(alloc, words, start, one, other)?;
-        assert_row(rt, said(alloc, &pair)?.as_str(), *row);
+        assert_pair(rt, alloc, start, right, row)?;
     }
     Ok(())
 }
 
-/// Asserts what each row says of an entry and a work.
-fn assert_works(
+fn assert_pair(
     rt: &impl Abort,
     alloc: Global,
     start: &LeftState,
-    rows: &[Row],
+    right: Source,
+    row: &Row,
 ) -> Result<(), Fail> {
-    for row in rows {
-        let (words, left, right, _) = *row;
-        let left = entries(alloc, left)?;
-        let right = described(alloc, right)?;
-        let one = left.first().ok_or("an entry")?;
-        let pair = paired(alloc, words, start, one, &right)?;
-        assert_row(rt, said(alloc, &pair)?.as_str(), *row);
-    }
+    let (words, one, other, wanted) = *row;
+    let answer = answered(alloc, start, right, row)?;
+    assert_eq!(rt; answer.as_str(), wanted, "of {words} for {one} and {other}");
     Ok(())
 }
 
@@ -267,14 +318,23 @@ fn assert_works(
 fn entries_that_answer_alike_are_told(rt: HostRuntime) -> Result<(), Fail> {
     let alloc = rt.alloc();
     let start = begun(alloc, false, false)?;
-    assert_entries(&rt, alloc, &start, &ENTRIES)?;
-    assert_entries(&rt, alloc, &start, &NAMES)?;
-    assert_works(&rt, alloc, &start, &WORKS)
+    assert_pairs(&rt, alloc, &start, Source::Entry, &ENTRIES)?;
+    assert_pairs(&rt, alloc, &start, Source::Entry, &NAMES)?;
+    assert_pairs(&rt, alloc, &start, Source::Work, &WORKS)
+}
+
+fn assert_suppressing(rt: &impl Abort, alloc: Global) -> Result<(), Fail> {
+    let start = begun(alloc, true, false)?;
+    assert_pairs(rt, alloc, &start, Source::Entry, &SUPPRESSING)
+}
+
+fn assert_suppressed(rt: &impl Abort, alloc: Global) -> Result<(), Fail> {
+    let start = begun(alloc, true, true)?;
+    assert_pairs(rt, alloc, &start, Source::Work, &SUPPRESSED)
 }
 
 #[test]
 fn both_begin_with_what_was_left(rt: HostRuntime) -> Result<(), Fail> {
-    let alloc = rt.alloc();
-    assert_entries(&rt, alloc, &begun(alloc, true, false)?, &SUPPRESSING)?;
-    assert_works(&rt, alloc, &begun(alloc, true, true)?, &SUPPRESSED)
+    assert_suppressing(&rt, rt.alloc())?;
+    assert_suppressed(&rt, rt.alloc())
 }

@@ -5,6 +5,14 @@ use csl_entry::EntryLike;
 use csl_render::RenderCsl;
 use csl_style::RenderingElement;
 
+/// Whether a call answered that the context had failed before.
+fn says_so(error: Option<RenderError>) -> bool {
+    match error {
+        Some(RenderError::Failed) => true,
+        Some(RenderError::Memory) | None => false,
+    }
+}
+
 /// What a call of the context answered, where the context answers from then on that it has failed.
 /// Where it does not, the answer is that it had failed before.
 pub(crate) fn refused<'s, T: EntryLike>(
@@ -12,11 +20,10 @@ pub(crate) fn refused<'s, T: EntryLike>(
     element: &'s RenderingElement,
     error: RenderError,
 ) -> RenderError {
-    let asked = element.will_have_info(ctx).err();
-    let rendered = element.render(ctx).err();
-    let written = ctx.push_str("a").err();
-    let failed = Some(RenderError::Failed);
-    if ctx.has_failed() && [asked, rendered, written] == [failed, failed, failed] {
+    let asked = says_so(element.will_have_info(ctx).err());
+    let rendered = says_so(element.render(ctx).err());
+    let written = says_so(ctx.push_str("a").err());
+    if ctx.has_failed() && asked && rendered && written {
         return error;
     }
     RenderError::Failed

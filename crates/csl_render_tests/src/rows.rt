@@ -1,35 +1,31 @@
 //! The tests: some nodes, the cite, and what these answer.
 
-use crate::answered::{Asked, Cite, answered};
-use csl_entry::SpecialForm;
+use crate::answered::Sought;
+use crate::cited::{Row, Source, answered, assert_described, assert_text};
 use csl_render::UsageInfo;
-use csl_style::{StandardVariable, Variable};
+use lit_model::Memory;
 use std::alloc::Global;
 use std::process::Abort;
 use std::test::Fail;
 
-const TITLED: Cite = Cite::Titled;
+/// The title of its entry is `T`.
+const TITLED: &str = "title T";
 
-const SUFFIXED: Cite = Cite::Suffixed;
+/// The same with the year suffix `a`.
+const SUFFIXED: &str = "title T @ letter:0";
 
-const TITLE_ALONE: Cite = Cite::In(SpecialForm::VarOnly(Variable::Standard(
-    StandardVariable::Title,
-)));
+/// The same in a special form.
+const TITLE_ALONE: &str = "title T @ letter:0 only:title";
 
-const GENRE_ALONE: Cite = Cite::In(SpecialForm::VarOnly(Variable::Standard(
-    StandardVariable::Genre,
-)));
+const GENRE_ALONE: &str = "title T @ letter:0 only:genre";
 
-const FIRST_DATE: Cite = Cite::In(SpecialForm::OnlyFirstDate);
+const FIRST_DATE: &str = "title T @ letter:0 first-date";
 
-const SUFFIX_ALONE: Cite = Cite::In(SpecialForm::OnlyYearSuffix);
+const SUFFIX_ALONE: &str = "title T @ letter:0 suffix-alone";
 
-const NO_AUTHOR: Cite = Cite::In(SpecialForm::SuppressAuthor);
+const NO_AUTHOR: &str = "title T @ letter:0 no-author";
 
-const IDENTIFIED: Cite = Cite::Of("doi 10.1007/BF02731494");
-
-/// Some nodes, their cite, and what they answer.
-type Row = (&'static str, Cite, &'static str);
+const IDENTIFIED: &str = "doi 10.1007/BF02731494";
 
 /// The word `Title` and the title, in parentheses.
 const TITLE: &str = "( 'Title title|/ )|<(|>)|,:~";
@@ -39,17 +35,17 @@ static TEXTS: [Row; 30] = [
     ("", TITLED, ""),
     ("title", TITLED, "[ T ]:text"),
     ("!title", TITLED, "[ T ]:text"),
-    ("label", Cite::Of("label L"), "[ L ]:citation-label"),
+    ("label", "label L", "[ L ]:citation-label"),
     // Affixes stand inside a text's own formatting, and nothing stands around nothing.
     ("title|<(|>)|/|b", TITLED, "[ /(T) ]block:text"),
-    ("title|<(|>)|b", Cite::Of("title "), ""),
+    ("title|<(|>)|b", "title ", ""),
     ("genre|<(|>)", TITLED, ""),
     ("'|q|<(", TITLED, ""),
     ("|/ 'a|* 'b", TITLED, "[ /*a ] [ /b ]"),
     // The work answers none of these variables.
     ("volume page author issued", TITLED, ""),
     // Verbatim pieces keep their periods, mathematics is markup.
-    ("title|s", Cite::Of("title a.+`b.+$c."), "[ ab. $c. ]:text"),
+    ("title|s", "title a.+`b.+$c.", "[ ab. $c. ]:text"),
     // A term in each form, for one and for several.
     ("%long %longs", TITLED, "[ page ] [ pages ]"),
     ("%short %shorts", TITLED, "[ p. ] [ pp. ]"),
@@ -69,15 +65,15 @@ static TEXTS: [Row; 30] = [
     ),
     (
         "pmid",
-        Cite::Of("pmid 7"),
+        "pmid 7",
         "[ @7|https://www.ncbi.nlm.nih.gov/pubmed/7 ]:text",
     ),
     (
         "pmcid|s",
-        Cite::Of("pmcid 7."),
+        "pmcid 7.",
         "[ @7.|https://www.ncbi.nlm.nih.gov/pmc/articles/7. ]:text",
     ),
-    ("url|/", Cite::Of("url u"), "[ @/u|u ]:text"),
+    ("url|/", "url u", "[ @/u|u ]:text"),
     // Groups.
     ("( 'x genre )|<(|>)", TITLED, ""),
     ("( genre ( 'v ) )", TITLED, "[ [ [ [ [ v ] ] ] ] ]"),
@@ -130,19 +126,15 @@ static PLAIN: [Row; 15] = [
     ("=stopped|s", TITLED, "“a”,"),
     // A link whose prefix begins its address prints that prefix, though the answer is empty. To a
     // group an empty answer is none.
-    ("doi", Cite::Of("doi "), ""),
-    (
-        "doi|<https://doi.org/",
-        Cite::Of("doi "),
-        "https://doi.org/",
-    ),
-    ("( doi|<https://doi.org/ )", Cite::Of("doi "), ""),
+    ("doi", "doi ", ""),
+    ("doi|<https://doi.org/", "doi ", "https://doi.org/"),
+    ("( doi|<https://doi.org/ )", "doi ", ""),
 ];
 
 static HTML: [Row; 3] = [
     (
         TITLE,
-        Cite::Of("title Nature"),
+        "title Nature",
         "(Title: <span style=\"font-style: italic;\">Nature</span>)",
     ),
     (
@@ -199,7 +191,7 @@ static DRY: [Row; 24] = [
         TITLED,
         "a suppressing; prints called non-empty shows",
     ),
-    ("title", Cite::Of("title "), "a suppressing; called shows"),
+    ("title", "title ", "a suppressing; called shows"),
     ("genre", TITLED, "a suppressing; called"),
     ("title", GENRE_ALONE, "a suppressing; called"),
     ("title", FIRST_DATE, "a suppressing; called"),
@@ -256,36 +248,28 @@ static ERRORS: [Row; 4] = [
     ("( 'v ( unanswered ) )", TITLE_ALONE, NO_ERROR),
 ];
 
-fn assert_text(rt: &impl Abort, answer: &str, wanted: &str, words: &str, cite: Cite) {
-    assert_eq!(rt; answer, wanted, "of {words} for {cite:?}");
-}
-
-fn assert_rows(rt: &impl Abort, alloc: Global, asked: Asked, rows: &[Row]) -> Result<(), Fail> {
-    for (words, cite, wanted) in rows {
-        let answer = answered(alloc, *words, *cite, asked)?;
-        assert_text(rt, answer.as_str(), *wanted, *words, *cite);
-    }
-    Ok(())
-}
+/// What is said of each cite whose nodes stand behind a text, where looks for printing suppress
+/// their variable.
+const BEGUN: &str = "after:a suppressing";
 
 #[test]
 fn nodes_make_what_the_standard_says(rt: HostRuntime) -> Result<(), Fail> {
-    assert_rows(&rt, rt.alloc(), Asked::Tree, &TEXTS)?;
-    assert_rows(&rt, rt.alloc(), Asked::Tree, &FORMS)?;
-    assert_rows(&rt, rt.alloc(), Asked::Plain, &PLAIN)?;
-    assert_rows(&rt, rt.alloc(), Asked::Html, &HTML)
+    assert_described(&rt, rt.alloc(), "", Sought::Tree, &TEXTS)?;
+    assert_described(&rt, rt.alloc(), "", Sought::Tree, &FORMS)?;
+    assert_described(&rt, rt.alloc(), "", Sought::Plain, &PLAIN)?;
+    assert_described(&rt, rt.alloc(), "", Sought::Html, &HTML)
 }
 
 #[test]
 fn nodes_leave_a_state_and_dry_runs_leave_all_as_it_was(rt: HostRuntime) -> Result<(), Fail> {
-    assert_rows(&rt, rt.alloc(), Asked::Behind, &BEHIND)?;
-    assert_rows(&rt, rt.alloc(), Asked::Twice, &TWICE)?;
-    assert_rows(&rt, rt.alloc(), Asked::Dry, &DRY)?;
-    assert_rows(&rt, rt.alloc(), Asked::Errors, &ERRORS)
+    assert_described(&rt, rt.alloc(), BEGUN, Sought::Tree, &BEHIND)?;
+    assert_described(&rt, rt.alloc(), BEGUN, Sought::Twice, &TWICE)?;
+    assert_described(&rt, rt.alloc(), BEGUN, Sought::Left, &DRY)?;
+    assert_described(&rt, rt.alloc(), "", Sought::Errors, &ERRORS)
 }
 
-/// The plain text of a value in a hundred groups, one in another.
-fn deep(alloc: Global) -> Result<String, Fail> {
+/// A value in a hundred groups, one in another.
+fn deep(alloc: Global) -> Result<String, Memory> {
     let mut words = String::new(alloc);
     for _ in 0..100 {
         words.push_str("( ")?;
@@ -294,13 +278,24 @@ fn deep(alloc: Global) -> Result<String, Fail> {
     for _ in 0..100 {
         words.push_str(" )")?;
     }
-    answered(alloc, words.as_str(), TITLED, Asked::Plain)
+    Ok(words)
 }
 
-/// Whether a group whose parts note this is to be shown.
-fn is_shown(parent: UsageInfo, child: UsageInfo) -> bool {
-    parent.merge_child(child).should_render_group()
+/// Its plain text.
+fn plain_deep(alloc: Global) -> Result<String, Fail> {
+    let words = deep(alloc)?;
+    answered(
+        alloc,
+        words.as_str(),
+        TITLED,
+        Source::Work,
+        "",
+        Sought::Plain,
+    )
 }
+
+/// What two nodes note, and whether a group whose parts note this is to be shown.
+type GroupRow = (UsageInfo, UsageInfo, bool);
 
 const CALLED: UsageInfo = UsageInfo {
     has_vars: true,
@@ -323,17 +318,35 @@ const WITH_GROUP: UsageInfo = UsageInfo {
     has_non_empty_group: true,
 };
 
+static GROUPS: [GroupRow; 4] = [
+    (CALLED, CALLED, false),
+    (CALLED, USED, true),
+    (WITH_GROUP, CALLED, true),
+    // The group flag stays the parent's.
+    (CALLED, WITH_GROUP, false),
+];
+
+fn word_of(is_shown: bool) -> &'static str {
+    if is_shown { "shown" } else { "left out" }
+}
+
+fn assert_groups(rt: &impl Abort, rows: &[GroupRow]) {
+    for (parent, child, wanted) in rows {
+        let is_shown = parent.merge_child(*child).should_render_group();
+        assert_text(
+            rt,
+            word_of(is_shown),
+            word_of(*wanted),
+            "a group",
+            "its flags",
+        );
+    }
+}
+
 #[test]
 fn groups_stand_in_groups_and_flags_join(rt: HostRuntime) -> Result<(), Fail> {
-    let text = deep(rt.alloc())?;
+    let text = plain_deep(rt.alloc())?;
     assert_text(&rt, text.as_str(), "x", "a hundred groups", TITLED);
-    let answers = [
-        is_shown(CALLED, CALLED),
-        is_shown(CALLED, USED),
-        is_shown(WITH_GROUP, CALLED),
-        // The group flag stays the parent's.
-        is_shown(CALLED, WITH_GROUP),
-    ];
-    assert_eq!(rt; answers, [false, true, true, false]);
+    assert_groups(&rt, &GROUPS);
     Ok(())
 }

@@ -19,7 +19,6 @@ use csl_context::{LeftState, Rendered};
 use csl_style::{Display, FontStyle, FontWeight};
 use csl_tree::{ElemChild, ElemChildren, ElemMeta, Formatted, Formatting};
 use lit_model::Memory;
-use std::alloc::Global;
 use std::test::Fail;
 
 /// Says a text in a word.
@@ -71,37 +70,44 @@ fn meta_of(meta: &Option<ElemMeta>) -> &'static str {
     }
 }
 
-/// Says a child behind a blank.
+/// Begins a word: a blank stands between two.
+fn begin_word(said: &mut String) -> Result<(), Memory> {
+    if !said.is_empty() {
+        said.push(' ')?;
+    }
+    Ok(())
+}
+
+/// Says a child in a word.
 #[cycle(say)]
 fn say_child(child: &ElemChild, said: &mut String) -> Result<(), Memory> {
+    begin_word(said)?;
     match child {
-        ElemChild::Text(text) => {
-            said.push(' ')?;
-            say_formatted(text, said)
-        }
+        ElemChild::Text(text) => say_formatted(text, said),
         ElemChild::Elem(elem) => {
-            said.push_str(" [")?;
+            said.push('[')?;
             say_children(&elem.children, said)?;
             said.push_str(end_of(elem.display))?;
             Ok(said.push_str(meta_of(&elem.meta))?)
         }
         ElemChild::Markup(markup) => {
-            said.push_str(" $")?;
+            said.push('$')?;
             say_text(markup.as_str(), said)
         }
         ElemChild::Link { text, url } => {
-            said.push_str(" @")?;
+            said.push('@')?;
             say_formatted(text, said)?;
             said.push('|')?;
             Ok(said.push_str(url.as_str())?)
         }
-        ElemChild::Transparent { cite_idx, .. } => Ok(write!(said, " #{}", *cite_idx).map_err(
-            |_| Memory,
-        )?),
+        ElemChild::Transparent { cite_idx, .. } => match write!(said, "#{}", *cite_idx) {
+            Ok(()) => Ok(()),
+            Err(_) => Err(Memory),
+        },
     }
 }
 
-/// Says children, each behind a blank.
+/// Says children, each in a word.
 #[cycle(say)]
 fn say_children(children: &ElemChildren, said: &mut String) -> Result<(), Memory> {
     for child in &children.0 {
@@ -113,25 +119,27 @@ fn say_children(children: &ElemChildren, said: &mut String) -> Result<(), Memory
 /// Says what was left.
 fn say_state(state: &LeftState, said: &mut String) -> Result<(), Fail> {
     if !state.suppressed.is_empty() {
-        write!(said, " suppressed {:?}", state.suppressed)?;
+        begin_word(said)?;
+        write!(said, "suppressed {:?}", state.suppressed)?;
     }
     if state.suppressing {
-        said.push_str(" suppressing")?;
+        begin_word(said)?;
+        said.push_str("suppressing")?;
     }
     if state.first_date_seen {
-        said.push_str(" dated")?;
+        begin_word(said)?;
+        said.push_str("dated")?;
     }
     if let Some(names) = &state.first_names {
-        said.push_str(" named ")?;
+        begin_word(said)?;
+        said.push_str("named ")?;
         say_forms(names, said)?;
     }
     Ok(())
 }
 
-/// What was rendered and left, in words.
-pub(crate) fn say(alloc: Global, rendered: &Rendered) -> Result<String, Fail> {
-    let mut said = String::new(alloc);
-    say_children(&rendered.content, &mut said)?;
-    say_state(&rendered.state, &mut said)?;
-    Ok(String::from_str(alloc, said.as_str().trim_start_matches(' '))?)
+/// Says what was rendered and left.
+pub(crate) fn say(rendered: &Rendered, said: &mut String) -> Result<(), Fail> {
+    say_children(&rendered.content, said)?;
+    say_state(&rendered.state, said)
 }

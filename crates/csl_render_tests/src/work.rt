@@ -1,7 +1,7 @@
-//! An entry type of these tests' own, and the properties of its cite.
+//! An entry type of these tests' own.
 
 use crate::nodes::variable_named;
-use csl_entry::{CiteProperties, DisambiguateState, EntryLike};
+use csl_entry::EntryLike;
 use csl_style::{
     DateVariable, Kind, NameVariable, NumberVariable, PageVariable, StandardVariable, Variable,
 };
@@ -134,12 +134,4 @@ pub(crate) fn described(alloc: Global, words: &str) -> Result<Work, Fail> {
         }),
         _ => Err(Fail::from("a work has a text")),
     }
-}
-
-/// The first cite of an entry, with the year suffix of that place, if any.
-pub(crate) fn first_cite(suffix: Option<u8>) -> CiteProperties<'static> {
-    CiteProperties::first(match suffix {
-        Some(place) => DisambiguateState::YearSuffix(place),
-        None => DisambiguateState::None,
-    })
 }
