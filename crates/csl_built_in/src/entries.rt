@@ -9,6 +9,7 @@ ghost use Rattle.csl_built_in.specs.Entries.{plain, person, nuovo_cimento, trans
 ghost use Rattle.csl_built_in.specs.Entries.{address_from, essay_address, essay_text};
 ghost use Rattle.csl_built_in.specs.declared.entries.AddressError.TheVariants as errors;
 
+use crate::lists::one;
 use lit_model::{
     ChunkKind, ChunkedString, Date, Entry, EntryType, FormatString, MaybeTyped, Memory, Numeric,
     PageRanges, PageRangesPart, Person, Publisher, QualifiedUrl, SerialNumber, StringChunk,
@@ -69,7 +70,7 @@ fn plain(alloc: Global, text: &str) -> Result<FormatString, Memory>
         value,
         kind: ChunkKind::Normal,
     };
-    let chunks = vec![in alloc; chunk]?;
+    let chunks = one(alloc, chunk)?;
     Ok(FormatString {
         value: ChunkedString(chunks),
         short: None,
@@ -96,9 +97,7 @@ fn person(alloc: Global, name: &str, given: &str) -> Result<Person, Memory>
 fn one_person(alloc: Global, name: &str, given: &str) -> Result<Vec<Person>, Memory>
     ensures { IfOk result (λ v. map named v.items ≡ person name.now given.now ∷ []) }
 {
-    let person = person(alloc, name, given)?;
-    let persons = vec![in alloc; person]?;
-    Ok(persons)
+    one(alloc, person(alloc, name, given)?)
 }
 
 /// A digital object identifier.
@@ -146,15 +145,19 @@ fn address(alloc: Global, text: &str) -> Result<QualifiedUrl, AddressError>
 fn crazy_rich(alloc: Global) -> Result<Entry, Memory>
     ensures { IfOk result (IsBuiltIn BuiltIn.CrazyRich) }
 {
+    let title = plain(alloc, "Crazy Rich Asians")?;
+    let authors = one_person(alloc, "Kwan", "Kevin")?;
+    let publisher = plain(alloc, "Anchor Books")?;
+    let location = plain(alloc, "New York, NY, US")?;
     let mut entry = Entry::new(alloc, "crazy-rich", EntryType::Book)?;
-    entry.title = Some(plain(alloc, "Crazy Rich Asians")?);
-    entry.authors = Some(one_person(alloc, "Kwan", "Kevin")?);
+    entry.title = Some(title);
+    entry.authors = Some(authors);
     entry.date = Date::new(2014, None, None, None, false);
     entry.publisher = Some(Publisher {
-        name: Some(plain(alloc, "Anchor Books")?),
+        name: Some(publisher),
         location: None,
     });
-    entry.location = Some(plain(alloc, "New York, NY, US")?);
+    entry.location = Some(location);
     Ok(entry)
 }
 
@@ -162,8 +165,9 @@ fn crazy_rich(alloc: Global) -> Result<Entry, Memory>
 fn parent(alloc: Global, entry_type: EntryType, title: &str) -> Result<Entry, Memory>
     ensures { IfOk result (StandsAlone (only_title entry_type title.now)) }
 {
+    let title = plain(alloc, title)?;
     let mut parent = Entry::new(alloc, "", entry_type)?;
-    parent.title = Some(plain(alloc, title)?);
+    parent.title = Some(title);
     Ok(parent)
 }
 
@@ -181,15 +185,19 @@ fn nuovo_cimento(alloc: Global) -> Result<Entry, Memory>
 fn quantized_vortex(alloc: Global) -> Result<Entry, Memory>
     ensures { IfOk result (IsBuiltIn BuiltIn.QuantizedVortex) }
 {
-    let journal = nuovo_cimento(alloc)?;
+    let title = plain(alloc, "Structure of a Quantized Vortex in Boson Systems")?;
+    let authors = one_person(alloc, "Gross", "E. P.")?;
+    let pages = PageRangesPart::Range(Numeric::new(454), Numeric::new(477));
+    let ranges = one(alloc, pages)?;
+    let numbers = doi(alloc, "10.1007/BF02731494")?;
+    let parents = one(alloc, nuovo_cimento(alloc)?)?;
     let mut entry = Entry::new(alloc, "quantized-vortex", EntryType::Article)?;
-    entry.title = Some(plain(alloc, "Structure of a Quantized Vortex in Boson Systems")?);
-    entry.authors = Some(one_person(alloc, "Gross", "E. P.")?);
+    entry.title = Some(title);
+    entry.authors = Some(authors);
     entry.date = Date::new(1961, Some(4), None, None, false);
-    let pages = vec![in alloc; PageRangesPart::Range(Numeric::new(454), Numeric::new(477))]?;
-    entry.page_range = Some(MaybeTyped::Typed(PageRanges { ranges: pages }));
-    entry.serial_number = Some(doi(alloc, "10.1007/BF02731494")?);
-    entry.parents = vec![in alloc; journal]?;
+    entry.page_range = Some(MaybeTyped::Typed(PageRanges { ranges }));
+    entry.serial_number = Some(numbers);
+    entry.parents = parents;
     Ok(entry)
 }
 
@@ -219,14 +227,17 @@ fn dependence_authors(alloc: Global) -> Result<Vec<Person>, Memory>
 fn dependence(alloc: Global) -> Result<Entry, Memory>
     ensures { IfOk result (IsBuiltIn BuiltIn.Dependence) }
 {
-    let journal = transactions(alloc)?;
-    let mut entry = Entry::new(alloc, "dependence", EntryType::Article)?;
     let title = "The program dependence graph and its use in optimization";
-    entry.title = Some(plain(alloc, title)?);
-    entry.authors = Some(dependence_authors(alloc)?);
+    let title = plain(alloc, title)?;
+    let authors = dependence_authors(alloc)?;
+    let numbers = doi(alloc, "10.1145/24039.24041")?;
+    let parents = one(alloc, transactions(alloc)?)?;
+    let mut entry = Entry::new(alloc, "dependence", EntryType::Article)?;
+    entry.title = Some(title);
+    entry.authors = Some(authors);
     entry.date = Date::new(1987, Some(6), None, None, false);
-    entry.serial_number = Some(doi(alloc, "10.1145/24039.24041")?);
-    entry.parents = vec![in alloc; journal]?;
+    entry.serial_number = Some(numbers);
+    entry.parents = parents;
     Ok(entry)
 }
 
@@ -257,13 +268,17 @@ fn essay_address(alloc: Global) -> Result<QualifiedUrl, Memory>
 fn feminism(alloc: Global) -> Result<Entry, Memory>
     ensures { IfOk result (IsBuiltIn BuiltIn.Feminism) }
 {
-    let blog = parent(alloc, EntryType::Blog, "Aeon")?;
+    let title = plain(alloc, "She swoons to conquer")?;
+    let authors = one_person(alloc, "Ungard-Sargon", "Batya")?;
+    let editors = one_person(alloc, "Weintraub", "Pam")?;
+    let url = essay_address(alloc)?;
+    let parents = one(alloc, parent(alloc, EntryType::Blog, "Aeon")?)?;
     let mut entry = Entry::new(alloc, "feminism", EntryType::Article)?;
-    entry.title = Some(plain(alloc, "She swoons to conquer")?);
-    entry.authors = Some(one_person(alloc, "Ungard-Sargon", "Batya")?);
-    entry.editors = Some(one_person(alloc, "Weintraub", "Pam")?);
+    entry.title = Some(title);
+    entry.authors = Some(authors);
+    entry.editors = Some(editors);
     entry.date = Date::new(2015, Some(8), Some(24), None, false);
-    entry.url = Some(essay_address(alloc)?);
-    entry.parents = vec![in alloc; blog]?;
+    entry.url = Some(url);
+    entry.parents = parents;
     Ok(entry)
 }

@@ -18,7 +18,9 @@ impl BuiltIn {
         ensures { IfOk result (λ label. string_bytes label ≡ label_text self) }
     {
         let work = self.entry(alloc)?;
-        label_of(alloc, self, &work)
+        let label = label_of(alloc, self, &work);
+        drop(work);
+        label
     }
 
     /// Whether the entry is of a kind.
@@ -29,7 +31,9 @@ impl BuiltIn {
         ensures { IfOk result (λ answer. answer ≡ is_built_in_kind kind self) }
     {
         let work = self.entry(alloc)?;
-        Ok(is_of_kind(self, kind, &work))
+        let answer = is_of_kind(self, kind, &work);
+        drop(work);
+        Ok(answer)
     }
 }
 

@@ -5,6 +5,7 @@
 mod english;
 mod entries;
 mod labels;
+mod lists;
 mod nodes;
 mod styles;
 mod title;

@@ -18,6 +18,7 @@ ghost use Rattle.csl_built_in.specs.Styles.{bare_volume, volume, page, month_and
 ghost use Rattle.csl_built_in.specs.Styles.{described, description, address};
 
 use crate::english::english;
+use crate::lists::{one, put, two};
 use crate::nodes::{around, before, behind, italic, no_formatting};
 use csl_style::{
     Affixes, Date, DateAnyForm, DatePart, DatePartName, DateVariable, Formatting, Group,
@@ -59,7 +60,7 @@ impl BuiltInStyle {
     {
         let citation = layout(alloc, self)?;
         let locale = english(alloc)?;
-        let locales = vec![in alloc; locale]?;
+        let locales = one(alloc, locale)?;
         let settings = StyleSettings::default();
         match Style::new(alloc, settings, Vec::new(alloc), citation, None, locales) {
             Ok(style) => Ok(style),
@@ -134,8 +135,8 @@ fn spaced(
 ) -> Result<LayoutRenderingElement, Memory>
     ensures { IfOk result (λ made. view made ≡ spaced (view first) (view second)) }
 {
+    let children = two(alloc, first, second)?;
     let space = String::from_str(alloc, " ")?;
-    let children = vec![in alloc; first, second]?;
     Ok(group(children, Some(space), Affixes::default()))
 }
 
@@ -236,7 +237,7 @@ fn short_authors(alloc: Global) -> Result<LayoutRenderingElement, Memory>
     ensures { IfOk result (λ made. view made ≡ short_authors) }
 {
     let name = name_by(alloc, joined_by_and(Some(NameForm::Short), None));
-    let children = vec![in alloc; name]?;
+    let children = one(alloc, name)?;
     persons_by(alloc, NameVariable::Author, children)
 }
 
@@ -244,7 +245,7 @@ fn short_authors(alloc: Global) -> Result<LayoutRenderingElement, Memory>
 fn year(alloc: Global) -> Result<LayoutRenderingElement, Memory>
     ensures { IfOk result (λ made. view made ≡ year) }
 {
-    let parts = vec![in alloc; date_part(DatePartName::Year, None)]?;
+    let parts = one(alloc, date_part(DatePartName::Year, None))?;
     Ok(issued(parts, None))
 }
 
@@ -252,9 +253,8 @@ fn year(alloc: Global) -> Result<LayoutRenderingElement, Memory>
 fn author_date(alloc: Global) -> Result<LayoutRenderingElement, Memory>
     ensures { IfOk result (λ made. view made ≡ author_date) }
 {
-    let authors = short_authors(alloc)?;
-    let year = year(alloc)?;
-    let children = vec![in alloc; authors, year]?;
+    let mut children = one(alloc, short_authors(alloc)?)?;
+    put(&mut children, year(alloc)?)?;
     let comma = String::from_str(alloc, ", ")?;
     let affixes = around(alloc, "(", ")")?;
     Ok(group(children, Some(comma), affixes))
@@ -272,7 +272,7 @@ fn instead_of_authors(alloc: Global) -> Result<NamesChild, Memory>
     ensures { IfOk result (λ made. view_child made ≡ a_substitute (node editors no_nodes)) }
 {
     let editors = editors(alloc)?;
-    let children = vec![in alloc; editors]?;
+    let children = one(alloc, editors)?;
     Ok(NamesChild::Substitute(Substitute { children }))
 }
 
@@ -280,9 +280,9 @@ fn instead_of_authors(alloc: Global) -> Result<NamesChild, Memory>
 fn authors(alloc: Global) -> Result<LayoutRenderingElement, Memory>
     ensures { IfOk result (λ made. view made ≡ authors) }
 {
-    let name = name_by(alloc, joined_by_and(None, Some(NameAsSortOrder::First)));
     let instead = instead_of_authors(alloc)?;
-    let children = vec![in alloc; name, instead]?;
+    let name = name_by(alloc, joined_by_and(None, Some(NameAsSortOrder::First)));
+    let children = two(alloc, name, instead)?;
     persons_by(alloc, NameVariable::Author, children)
 }
 
@@ -338,7 +338,7 @@ fn month_and_year(alloc: Global) -> Result<LayoutRenderingElement, Memory>
     ensures { IfOk result (λ made. view made ≡ month_and_year) }
 {
     let month = date_part(DatePartName::Month, Some(DateAnyForm::Long));
-    let parts = vec![in alloc; month, date_part(DatePartName::Year, None)]?;
+    let parts = two(alloc, month, date_part(DatePartName::Year, None))?;
     let space = String::from_str(alloc, " ")?;
     Ok(issued(parts, Some(space)))
 }
@@ -347,12 +347,12 @@ fn month_and_year(alloc: Global) -> Result<LayoutRenderingElement, Memory>
 fn described(alloc: Global) -> Result<Vec<LayoutRenderingElement>, Memory>
     ensures { IfOk result (λ made. views made.items ≡ described) }
 {
-    let authors = authors(alloc)?;
-    let volume = volume(alloc)?;
-    let page = page(alloc)?;
-    let date = month_and_year(alloc)?;
-    let title = quoted_title();
-    let children = vec![in alloc; authors, title, container_title(), volume, page, date]?;
+    let mut children = one(alloc, authors(alloc)?)?;
+    put(&mut children, quoted_title())?;
+    put(&mut children, container_title())?;
+    put(&mut children, volume(alloc)?)?;
+    put(&mut children, page(alloc)?)?;
+    put(&mut children, month_and_year(alloc)?)?;
     Ok(children)
 }
 
@@ -373,7 +373,7 @@ fn address(alloc: Global) -> Result<LayoutRenderingElement, Memory>
     let doi = Variable::Standard(StandardVariable::DOI);
     let resolver = before(alloc, "https://doi.org/")?;
     let link = variable_text(doi, no_formatting(), resolver, false);
-    let children = vec![in alloc; link]?;
+    let children = one(alloc, link)?;
     let affixes = before(alloc, " ")?;
     Ok(group(children, None, affixes))
 }
@@ -383,13 +383,10 @@ fn elements(alloc: Global, style: BuiltInStyle) -> Result<Vec<LayoutRenderingEle
     ensures { IfOk result (λ made. views made.items ≡ elements_of style) }
 {
     match style {
-        BuiltInStyle::AuthorDate => {
-            let elements = vec![in alloc; author_date(alloc)?]?;
-            Ok(elements)
-        }
+        BuiltInStyle::AuthorDate => one(alloc, author_date(alloc)?),
         BuiltInStyle::Reference => {
-            let description = description(alloc)?;
-            let elements = vec![in alloc; description, address(alloc)?]?;
+            let mut elements = one(alloc, description(alloc)?)?;
+            put(&mut elements, address(alloc)?)?;
             Ok(elements)
         }
     }

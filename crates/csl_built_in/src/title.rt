@@ -7,6 +7,7 @@ ghost use Rattle.csl_built_in.specs.Nodes.{bare};
 ghost use Rattle.csl_built_in.specs.Title.{one_piece, label, title_text, label_and_title};
 ghost use Rattle.csl_built_in.specs.Title.{title_group, title_layout, CitesTitles};
 
+use crate::lists::{one, two};
 use crate::nodes::{around, italic, no_formatting};
 use csl_entry::EntryLike;
 use csl_style::{
@@ -106,7 +107,7 @@ pub fn one_piece(alloc: Global, title: &str) -> Result<ChunkedString, Memory>
         value: String::from_str(alloc, title)?,
         kind: ChunkKind::Normal,
     };
-    let chunks = vec![in alloc; chunk]?;
+    let chunks = one(alloc, chunk)?;
     Ok(ChunkedString(chunks))
 }
 
@@ -148,8 +149,7 @@ fn label_and_title(alloc: Global) -> Result<Vec<LayoutRenderingElement>, Memory>
     ensures { IfOk result (λ children. views children.items ≡ label_and_title) }
 {
     let label = label(alloc)?;
-    let children = vec![in alloc; label, title_text()]?;
-    Ok(children)
+    two(alloc, label, title_text())
 }
 
 /// The word and the title in parentheses.
@@ -173,7 +173,7 @@ fn title_layout(alloc: Global) -> Result<Layout, Memory>
     ensures { IfOk result (λ layout. view_layout layout ≡ title_layout) }
 {
     let group = title_group(alloc)?;
-    let elements = vec![in alloc; LayoutRenderingElement::Group(group)]?;
+    let elements = one(alloc, LayoutRenderingElement::Group(group))?;
     Ok(Layout {
         elements,
         delimiter: None,
