@@ -4,14 +4,32 @@ use crate::error::WorkError;
 use crate::literature::authors;
 use crate::render::text_size;
 use csl_built_in::{BuiltIn, BuiltInStyle};
+use csl_style::Style;
+use lit_model::Entry;
 use std::alloc::Global;
 
-/// Cites an article of a journal, by so many authors, and counts the bytes of the plain text.
+/// An article of a journal, by so many authors.
+fn article_by(alloc: Global, size: usize) -> Result<Entry, WorkError> {
+    let authors = authors(alloc, size)?;
+    let mut article = BuiltIn::QuantizedVortex.entry(alloc)?;
+    article.authors = Some(authors);
+    Ok(article)
+}
+
+/// Cites it, and counts the bytes of the plain text.
+fn article_size(alloc: Global, style: &Style, size: usize) -> Result<usize, WorkError> {
+    let article = article_by(alloc, size)?;
+    let bytes = text_size(alloc, style, &article);
+    drop(article);
+    bytes
+}
+
+/// Cites it in a built-in style, and counts the bytes of the plain text.
 fn cited_size(alloc: Global, style: BuiltInStyle, size: usize) -> Result<usize, WorkError> {
     let style = style.style(alloc)?;
-    let mut entry = BuiltIn::QuantizedVortex.entry(alloc)?;
-    entry.authors = Some(authors(alloc, size)?);
-    text_size(alloc, &style, &entry)
+    let bytes = article_size(alloc, &style, size);
+    drop(style);
+    bytes
 }
 
 /// Cites an article of so many authors by their family names and the year.

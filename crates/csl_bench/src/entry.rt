@@ -1,6 +1,6 @@
 //! Works over what an entry answers.
 
-use crate::style::alone;
+use crate::style::{alone, put};
 use csl_entry::{Alphanumerical, EntryLike};
 use csl_style::{DateVariable, NameVariable, NumberVariable, PageVariable, StandardVariable};
 use lit_model::{
@@ -134,22 +134,22 @@ fn persons(alloc: Global, size: usize) -> Result<Vec<Person>, Memory> {
     let mut persons = Vec::new(alloc);
     for _ in 0..size {
         let name = String::from_str(alloc, "Kwan")?;
-        persons.push(Person {
+        let person = Person {
             name,
             given_name: None,
             prefix: None,
             suffix: None,
             alias: None,
             comma_suffix: false,
-        })?;
+        };
+        put(&mut persons, person)?;
     }
     Ok(persons)
 }
 
 /// A periodical with a title and a volume, alone in a list.
 fn journals(alloc: Global) -> Result<Vec<Entry>, Memory> {
-    let mut journals = Vec::new(alloc);
-    journals.push(Entry::new(alloc, "journal", EntryType::Periodical)?)?;
+    let mut journals = alone(alloc, Entry::new(alloc, "journal", EntryType::Periodical)?)?;
     if let Some(journal) = journals.last_mut() {
         journal.title = Some(text(alloc, "Il Nuovo Cimento")?);
         journal.volume = Some(MaybeTyped::Typed(Numeric::new(20)));
@@ -177,8 +177,7 @@ fn state(alloc: Global, article: &mut Entry, size: usize) -> Result<(), Memory> 
 /// An article of a journal, with so many authors and translators.
 pub fn article(alloc: Global, size: usize) -> Result<Entry, Memory> {
     let mut article = Entry::new(alloc, "article", EntryType::Article)?;
-    state(alloc, &mut article, size)?;
-    Ok(article)
+    state(alloc, &mut article, size).and(Ok(article))
 }
 
 /// How many number variables have an answer.
@@ -251,7 +250,9 @@ fn answer_count<T: EntryLike>(alloc: Global, entry: &T) -> Result<usize, Memory>
 /// Asks an article with many authors and translators for every variable, and counts the answers.
 pub fn answers(alloc: Global, size: usize) -> Result<usize, Memory> {
     let entry = article(alloc, size)?;
-    answer_count(alloc, &entry)
+    let count = answer_count(alloc, &entry);
+    drop(entry);
+    count
 }
 
 /// How many bytes the label of an entry has.
@@ -272,5 +273,7 @@ fn label_sizes(alloc: Global, entry: &Entry, size: usize) -> Result<usize, Memor
 /// Labels an article of four authors many times, and counts the bytes of the labels.
 pub fn labels(alloc: Global, size: usize) -> Result<usize, Memory> {
     let entry = article(alloc, 4)?;
-    label_sizes(alloc, &entry, size)
+    let bytes = label_sizes(alloc, &entry, size);
+    drop(entry);
+    bytes
 }

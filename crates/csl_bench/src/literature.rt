@@ -2,6 +2,7 @@
 //! on it.
 
 use crate::error::WorkError;
+use crate::style::{alone, put};
 use lit_model::{Date, Entry, EntryType, Memory, Numeric, NumericValue, PageRanges, Person};
 use std::alloc::Global;
 
@@ -77,15 +78,16 @@ fn author(alloc: Global) -> Result<Person, Memory> {
 pub fn authors(alloc: Global, size: usize) -> Result<Vec<Person>, Memory> {
     let mut authors = Vec::new(alloc);
     for _ in 0..size {
-        authors.push(author(alloc)?)?;
+        put(&mut authors, author(alloc)?)?;
     }
     Ok(authors)
 }
 
 /// An entry with many authors.
 fn entry(alloc: Global, size: usize) -> Result<Entry, Memory> {
+    let authors = authors(alloc, size)?;
     let mut entry = Entry::new(alloc, "crazy-rich", EntryType::Book)?;
-    entry.authors = Some(authors(alloc, size)?);
+    entry.authors = Some(authors);
     Ok(entry)
 }
 
@@ -98,23 +100,25 @@ fn author_count(entry: &Entry) -> usize {
 
 fn authors_of_copy(alloc: Global, entry: &Entry) -> Result<usize, Memory> {
     let copy = entry.clone(alloc)?;
-    Ok(author_count(&copy))
+    let count = author_count(&copy);
+    drop(copy);
+    Ok(count)
 }
 
 /// Copies an entry with many authors, and counts those of the copy.
 pub fn clone_entry(alloc: Global, size: usize) -> Result<usize, Memory> {
     let entry = entry(alloc, size)?;
-    authors_of_copy(alloc, &entry)
+    let count = authors_of_copy(alloc, &entry);
+    drop(entry);
+    count
 }
 
 /// A work with these parents.
 fn above(alloc: Global, parents: Vec<Entry>, date: Option<Date>) -> Result<Vec<Entry>, Memory> {
-    let mut works = Vec::with_capacity(alloc, 1)?;
     let mut work = Entry::new(alloc, "work", EntryType::Book)?;
     work.date = date;
     work.parents = parents;
-    works.push(work)?;
-    Ok(works)
+    alone(alloc, work)
 }
 
 /// A work with that many others behind it, each the parent of the one before; the last has a date.
@@ -129,11 +133,21 @@ fn chain(alloc: Global, parents: usize) -> Result<Vec<Entry>, Memory> {
 
 /// The first of some works, copied.
 fn copied(alloc: Global, works: &[Entry]) -> Result<Vec<Entry>, Memory> {
-    let mut copies = Vec::new(alloc);
-    if let [work, ..] = works {
-        copies.push(work.clone(alloc)?)?;
+    match works {
+        [work, ..] => alone(alloc, work.clone(alloc)?),
+        [] => Ok(Vec::new(alloc)),
     }
-    Ok(copies)
+}
+
+/// Compares a copy of works, and looks for the date at the end of the first.
+fn compare(copies: &[Entry], works: &[Entry]) -> Result<(), WorkError> {
+    if copies != works {
+        return Err(WorkError::Unexpected("the copy differs"));
+    }
+    match copies {
+        [copy, ..] if copy.date_any().is_some() => Ok(()),
+        _ => Err(WorkError::Unexpected("no date")),
+    }
 }
 
 /// Copies a chain of parents, compares it, looks for the date at the copy's end, and answers how
@@ -141,11 +155,6 @@ fn copied(alloc: Global, works: &[Entry]) -> Result<Vec<Entry>, Memory> {
 pub fn family(alloc: Global, size: usize) -> Result<usize, WorkError> {
     let works = chain(alloc, size)?;
     let copies = copied(alloc, &works)?;
-    if copies != works {
-        return Err(WorkError::Unexpected("the copy differs"));
-    }
-    match copies.as_slice() {
-        [copy, ..] if copy.date_any().is_some() => Ok(size),
-        _ => Err(WorkError::Unexpected("no date")),
-    }
+    compare(&copies, &works)?;
+    Ok(size)
 }

@@ -7,13 +7,23 @@ use csl_context::{LeftState, RenderError};
 use csl_entry::{CiteProperties, DisambiguateState, EntryLike};
 use csl_render::{Pair, render_pair};
 use csl_style::{Scope, Style, named_by};
+use lit_model::Memory;
 use std::alloc::Global;
+
+/// Collects what the citation layout of a style names, and counts the texts among it.
+fn named_count(alloc: Global, style: &Style) -> Result<usize, Memory> {
+    let named = named_by(alloc, style, style.citation())?;
+    let count = named.standards.len();
+    drop(named);
+    Ok(count)
+}
 
 /// Collects what groups of a title and texts of a macro name, and counts the texts among it.
 pub fn named(alloc: Global, size: usize) -> Result<usize, WorkError> {
     let style = style(alloc, size)?;
-    let named = named_by(alloc, &style, style.citation())?;
-    Ok(named.standards.len())
+    let count = named_count(alloc, &style);
+    drop(style);
+    Ok(count?)
 }
 
 /// What the citation layout of a style makes of two entries.
@@ -44,12 +54,23 @@ fn byte_count<T: EntryLike>(
     right: &T,
 ) -> Result<usize, RenderError> {
     let pair = paired(alloc, style, left, right)?;
-    Ok(html_size(&pair))
+    let bytes = html_size(&pair);
+    drop(pair);
+    Ok(bytes)
+}
+
+/// Renders the citation layout of a style for an article beside itself, and counts the bytes.
+fn byte_count_for_one(alloc: Global, style: &Style) -> Result<usize, WorkError> {
+    let article = article(alloc, 1)?;
+    let bytes = byte_count(alloc, style, &article, &article);
+    drop(article);
+    Ok(bytes?)
 }
 
 /// Renders groups of a title and texts of a macro for an article beside itself.
 pub fn pair(alloc: Global, size: usize) -> Result<usize, WorkError> {
     let style = style(alloc, size)?;
-    let entry = article(alloc, 1)?;
-    Ok(byte_count(alloc, &style, &entry, &entry)?)
+    let bytes = byte_count_for_one(alloc, &style);
+    drop(style);
+    bytes
 }

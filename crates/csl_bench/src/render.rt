@@ -3,7 +3,7 @@
 use crate::entry::article;
 use crate::error::WorkError;
 use crate::literature::page_ranges;
-use crate::style::{alone, layout, macro_text, variable_text, with_layout};
+use crate::style::{alone, layout, macro_text, put, variable_text, with_layout};
 use csl_context::{Context, Rendered};
 use csl_entry::{CiteProperties, DisambiguateState, EntryLike, InstanceContext};
 use csl_render::RenderCsl;
@@ -12,7 +12,7 @@ use csl_style::{
     Scope, StandardVariable, Style, StyleSettings, Variable,
 };
 use csl_tree::BufWriteFormat;
-use lit_model::{MaybeTyped, Memory};
+use lit_model::{Entry, MaybeTyped, Memory};
 use std::alloc::Global;
 
 /// The name of the one macro.
@@ -43,8 +43,8 @@ fn group(alloc: Global) -> Result<LayoutRenderingElement, Memory> {
 fn nodes(alloc: Global, size: usize) -> Result<Vec<LayoutRenderingElement>, Memory> {
     let mut nodes = Vec::new(alloc);
     for _ in 0..size {
-        nodes.push(group(alloc)?)?;
-        nodes.push(call(alloc)?)?;
+        put(&mut nodes, group(alloc)?)?;
+        put(&mut nodes, call(alloc)?)?;
     }
     Ok(nodes)
 }
@@ -73,8 +73,13 @@ fn rendered<T: EntryLike>(alloc: Global, style: &Style, entry: &T) -> Result<Ren
         kind: None,
     };
     let mut ctx = Context::new(alloc, style, instance, Scope::Citation)?;
-    style.citation().render(&mut ctx)?;
-    Ok(ctx.finish()?)
+    match style.citation().render(&mut ctx) {
+        Ok(()) => Ok(ctx.finish()?),
+        Err(error) => {
+            drop(ctx);
+            Err(error.into())
+        }
+    }
 }
 
 /// Renders the citation layout of a style for an entry, and counts the bytes of the plain text.
@@ -85,36 +90,66 @@ pub fn text_size<T: EntryLike>(
 ) -> Result<usize, WorkError> {
     let rendered = rendered(alloc, style, entry)?;
     let mut text = String::new(alloc);
-    rendered
-        .content
-        .write_buf(&mut text, BufWriteFormat::Plain)?;
+    let written = rendered.content.write_buf(&mut text, BufWriteFormat::Plain);
+    drop(rendered);
+    written?;
     Ok(text.len())
+}
+
+/// Renders the citation layout of a style for an article, and counts the children of the content.
+fn child_count(alloc: Global, style: &Style, article: &Entry) -> Result<usize, WorkError> {
+    let rendered = rendered(alloc, style, article)?;
+    let count = rendered.content.0.len();
+    drop(rendered);
+    Ok(count)
+}
+
+/// The same for an article of one author.
+fn child_count_for_one(alloc: Global, style: &Style) -> Result<usize, WorkError> {
+    let article = article(alloc, 1)?;
+    let count = child_count(alloc, style, &article);
+    drop(article);
+    count
 }
 
 /// Renders groups of a title and texts of a macro for one article, and counts the children of the
 /// content.
 pub fn render(alloc: Global, size: usize) -> Result<usize, WorkError> {
     let style = style(alloc, size)?;
-    let entry = article(alloc, 1)?;
-    let rendered = rendered(alloc, &style, &entry)?;
-    Ok(rendered.content.0.len())
+    let count = child_count_for_one(alloc, &style);
+    drop(style);
+    count
 }
 
 /// A style that writes pages in the minimal format, and nothing else.
 fn paged(alloc: Global) -> Result<Style, WorkError> {
     let pages = variable_text(Variable::Page(PageVariable::Page));
     let citation = layout(alone(alloc, pages)?);
-    let settings = StyleSettings {
-        page_range_format: Some(PageRangeFormat::Minimal),
-        ..StyleSettings::default()
-    };
+    let mut settings = StyleSettings::default();
+    settings.page_range_format = Some(PageRangeFormat::Minimal);
     with_layout(alloc, settings, Vec::new(alloc), citation)
+}
+
+/// An article on many page ranges.
+fn on_pages(alloc: Global, size: usize) -> Result<Entry, WorkError> {
+    let ranges = page_ranges(alloc, size)?;
+    let mut article = article(alloc, 1)?;
+    article.page_range = Some(MaybeTyped::Typed(ranges));
+    Ok(article)
+}
+
+/// Renders an article on many page ranges, and counts the bytes of the plain text.
+fn size_of_pages(alloc: Global, style: &Style, size: usize) -> Result<usize, WorkError> {
+    let article = on_pages(alloc, size)?;
+    let bytes = text_size(alloc, style, &article);
+    drop(article);
+    bytes
 }
 
 /// Renders many page ranges of an article, and counts the bytes of the plain text.
 pub fn pages_rendered(alloc: Global, size: usize) -> Result<usize, WorkError> {
     let style = paged(alloc)?;
-    let mut entry = article(alloc, 1)?;
-    entry.page_range = Some(MaybeTyped::Typed(page_ranges(alloc, size)?));
-    text_size(alloc, &style, &entry)
+    let bytes = size_of_pages(alloc, &style, size);
+    drop(style);
+    bytes
 }

@@ -42,7 +42,7 @@ pub fn macro_text(name: String) -> LayoutRenderingElement {
 fn calls(alloc: Global, number: usize, first: usize, end: usize) -> Result<CslMacro, Memory> {
     let mut children = Vec::new(alloc);
     for called in first..end {
-        children.push(macro_text(name(alloc, called)?))?;
+        put(&mut children, macro_text(name(alloc, called)?))?;
     }
     Ok(CslMacro {
         name: name(alloc, number)?,
@@ -53,8 +53,13 @@ fn calls(alloc: Global, number: usize, first: usize, end: usize) -> Result<CslMa
 /// A list of one.
 pub fn alone<T: Drop>(alloc: Global, item: T) -> Result<Vec<T>, Memory> {
     let mut items = Vec::new(alloc);
-    items.push(item)?;
+    put(&mut items, item)?;
     Ok(items)
+}
+
+/// Puts an item behind the others.
+pub fn put<T: Drop>(items: &mut Vec<T>, item: T) -> Result<(), Memory> {
+    Ok(items.push(item)?)
 }
 
 /// A layout with nothing around it.
@@ -81,7 +86,9 @@ pub fn with_layout(
 fn macro_count(alloc: Global, macros: Vec<CslMacro>) -> Result<usize, WorkError> {
     let settings = StyleSettings::default();
     let style = with_layout(alloc, settings, macros, layout(Vec::new(alloc)))?;
-    Ok(style.macros().len())
+    let count = style.macros().len();
+    drop(style);
+    Ok(count)
 }
 
 /// So many macros, each of which calls those behind it up to a distance.
@@ -89,7 +96,7 @@ fn macros(alloc: Global, size: usize, reach: usize) -> Result<Vec<CslMacro>, Mem
     let mut macros = Vec::new(alloc);
     for number in 0..size {
         let end = size.min(number.saturating_add(reach).saturating_add(1));
-        macros.push(calls(alloc, number, number + 1, end)?)?;
+        put(&mut macros, calls(alloc, number, number + 1, end)?)?;
     }
     Ok(macros)
 }

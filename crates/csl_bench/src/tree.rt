@@ -1,5 +1,6 @@
 //! Works over the tree of content.
 
+use crate::style::put;
 use csl_style::Display;
 use csl_tree::{
     Elem, ElemChild, ElemChildren, ElemMeta, Formatting, NonEmptyStack, simplify_children,
@@ -65,8 +66,8 @@ fn text(alloc: Global, text: &str) -> Result<ElemChild, Memory> {
 /// Two texts of one formatting.
 fn texts(alloc: Global) -> Result<Vec<ElemChild>, Memory> {
     let mut children = Vec::new(alloc);
-    children.push(text(alloc, "so ")?)?;
-    children.push(text(alloc, "on")?)?;
+    put(&mut children, text(alloc, "so ")?)?;
+    put(&mut children, text(alloc, "on")?)?;
     Ok(children)
 }
 
@@ -82,8 +83,8 @@ fn elem(children: Vec<ElemChild>, display: Option<Display>) -> ElemChild {
 fn wide(alloc: Global, size: usize) -> Result<ElemChildren, Memory> {
     let mut children = Vec::new(alloc);
     for _ in 0..size {
-        children.push(elem(texts(alloc)?, None))?;
-        children.push(elem(texts(alloc)?, Some(Display::Block)))?;
+        put(&mut children, elem(texts(alloc)?, None))?;
+        put(&mut children, elem(texts(alloc)?, Some(Display::Block)))?;
     }
     Ok(ElemChildren(children))
 }
@@ -93,7 +94,7 @@ fn deep(alloc: Global, size: usize) -> Result<ElemChildren, Memory> {
     let mut children = texts(alloc)?;
     for _ in 0..size {
         let mut around = texts(alloc)?;
-        around.push(elem(children, Some(Display::Block)))?;
+        put(&mut around, elem(children, Some(Display::Block)))?;
         children = around;
     }
     Ok(ElemChildren(children))
@@ -148,7 +149,7 @@ fn found_size(children: &mut ElemChildren) -> usize {
 /// Searches a wide tree for what stands at its end.
 pub fn search(alloc: Global, size: usize) -> Result<usize, Memory> {
     let mut children = wide(alloc, size)?;
-    children.0.push(date(alloc)?)?;
+    put(&mut children.0, date(alloc)?)?;
     let sum = found_size(&mut children);
     Ok(sum.wrapping_add(children.str_len()))
 }
@@ -156,7 +157,7 @@ pub fn search(alloc: Global, size: usize) -> Result<usize, Memory> {
 /// Searches a deep tree for what stands at its end.
 pub fn search_deep(alloc: Global, size: usize) -> Result<usize, Memory> {
     let mut children = deep(alloc, size)?;
-    children.0.push(date(alloc)?)?;
+    put(&mut children.0, date(alloc)?)?;
     let sum = found_size(&mut children);
     Ok(sum.wrapping_add(children.str_len()))
 }
