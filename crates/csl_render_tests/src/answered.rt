@@ -2,7 +2,7 @@
 
 use crate::said::say;
 use crate::scene::{DryRun, Refusals, Scene, ask_first, context, render, render_first, run_dry};
-use csl_context::{Context, LeftState, RenderError};
+use csl_context::{Context, LeftState, RenderError, Rendered};
 use csl_entry::{
     CiteProperties, DisambiguateState, EntryLike, InstanceContext, NameDisambiguationProperties,
     SpeculativeCiteProperties,
@@ -72,14 +72,27 @@ fn say_tree<'s, T: EntryLike>(
     said: &mut String,
 ) -> Result<(), Fail> {
     let rendered = render(scene, left)?;
-    say(&rendered, said)
+    let answer = say(&rendered, said);
+    drop(rendered);
+    answer
+}
+
+/// Says what was made, and then what is made from what it left.
+fn say_from<'s, T: EntryLike>(
+    scene: &Scene<'s, T>,
+    first: &Rendered,
+    said: &mut String,
+) -> Result<(), Fail> {
+    say(first, said)?;
+    said.push_str("; then")?;
+    say_tree(scene, Some(&first.state), said)
 }
 
 fn say_twice<'s, T: EntryLike>(scene: &Scene<'s, T>, said: &mut String) -> Result<(), Fail> {
     let first = render(scene, None)?;
-    say(&first, said)?;
-    said.push_str("; then")?;
-    say_tree(scene, Some(&first.state), said)
+    let answer = say_from(scene, &first, said);
+    drop(first);
+    answer
 }
 
 /// Says what is made and left where these forms tell the cite apart.
@@ -110,13 +123,17 @@ fn say_told_apart<'s, T: EntryLike>(
         setting: scene.setting,
         element: scene.element,
     };
-    say_tree(&told, None, said)
+    let answer = say_tree(&told, None, said);
+    drop(told);
+    drop(cite);
+    answer
 }
 
 fn say_again<'s, T: EntryLike>(scene: &Scene<'s, T>, said: &mut String) -> Result<(), Fail> {
-    let state = render(scene, None)?.state;
-    let forms = state.first_names.ok_or("forms of names")?;
-    say_told_apart(scene, forms, said)
+    let mut rendered = render(scene, None)?;
+    let forms = rendered.state.first_names.take();
+    drop(rendered);
+    say_told_apart(scene, forms.ok_or("forms of names")?, said)
 }
 
 fn say_text<'s, T: EntryLike>(
@@ -125,7 +142,9 @@ fn say_text<'s, T: EntryLike>(
     said: &mut String,
 ) -> Result<(), Fail> {
     let rendered = render(scene, None)?;
-    Ok(rendered.content.write_buf(said, format)?)
+    let written = rendered.content.write_buf(said, format);
+    drop(rendered);
+    Ok(written?)
 }
 
 /// Says the word where it is so.
@@ -147,14 +166,17 @@ fn say_told(told: &DryRun, said: &mut String) -> Result<(), Memory> {
 
 fn say_dry<'s, T: EntryLike>(scene: &Scene<'s, T>, said: &mut String) -> Result<(), Fail> {
     let volume = Variable::Number(NumberVariable::Volume);
-    let (told, _rendered) = run_dry(scene, volume)?;
+    let (told, rendered) = run_dry(scene, volume)?;
+    drop(rendered);
     Ok(say_told(&told, said)?)
 }
 
 fn say_left<'s, T: EntryLike>(scene: &Scene<'s, T>, said: &mut String) -> Result<(), Fail> {
     let title = Variable::Standard(StandardVariable::Title);
     let (told, rendered) = run_dry(scene, title)?;
-    say(&rendered, said)?;
+    let answer = say(&rendered, said);
+    drop(rendered);
+    answer?;
     said.push(';')?;
     Ok(say_told(&told, said)?)
 }
@@ -205,13 +227,17 @@ fn say_tests<'s, T: EntryLike>(
 fn say_conditions<'s, T: EntryLike>(scene: &Scene<'s, T>, said: &mut String) -> Result<(), Fail> {
     let choose = choice_of(scene.element)?;
     let ctx = context(scene, None)?;
-    say_tests(&choose.if_, &ctx, said)
+    let answer = say_tests(&choose.if_, &ctx, said);
+    drop(ctx);
+    answer
 }
 
 fn say_chosen<'s, T: EntryLike>(scene: &Scene<'s, T>, said: &mut String) -> Result<(), Fail> {
     let choose = choice_of(scene.element)?;
     let mut ctx = context(scene, None)?;
-    match choose_children(choose, &mut ctx)? {
+    let chosen = choose_children(choose, &mut ctx);
+    drop(ctx);
+    match chosen? {
         Some(nodes) => Ok(write!(said, "{}", nodes.len())?),
         None => Ok(said.push_str("none")?),
     }

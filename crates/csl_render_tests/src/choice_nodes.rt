@@ -4,13 +4,15 @@
 //! branch, and one group more those for the other cases. Behind each `?` stand the match of a
 //! branch and its tests, as `is-numeric=title,volume`.
 
-use crate::nodes::variable_named;
+use crate::nodes::{after, put, variable_named};
 use csl_style::{
     Choose, ChooseBranch, ChooseMatch, DateVariable, Kind, LayoutRenderingElement, Locator,
     TestPosition, Variable,
 };
 use std::alloc::Global;
+use std::mem;
 use std::test::Fail;
+use std::vec::IntoIter;
 
 /// What a test asks for, by its name.
 trait Named: Copy {
@@ -120,27 +122,68 @@ fn add(alloc: Global, branch: &mut ChooseBranch, sort: &str, names: &str) -> Res
     Ok(())
 }
 
+/// Adds these tests.
+fn add_all(alloc: Global, branch: &mut ChooseBranch, tests: &str) -> Result<(), Fail> {
+    for test in tests.split(':') {
+        if !test.is_empty() {
+            let (sort, names) = test.split_once('=').ok_or("a test")?;
+            add(alloc, branch, sort, names)?;
+        }
+    }
+    Ok(())
+}
+
 /// The branch of a match and its tests, with these nodes.
 fn branch(
     alloc: Global,
     words: &str,
     children: Vec<LayoutRenderingElement>,
 ) -> Result<ChooseBranch, Fail> {
-    let mut tests = words.split(':');
-    let mut branch = bare(match_named(tests.next().unwrap_or(""))?, children);
-    for test in tests {
-        let (sort, names) = test.split_once('=').ok_or("a test")?;
-        add(alloc, &mut branch, sort, names)?;
-    }
-    Ok(branch)
+    let (name, tests) = words.split_once(':').unwrap_or((words, ""));
+    let mut branch = bare(match_named(name)?, children);
+    after(add_all(alloc, &mut branch, tests), branch)
 }
 
-/// The nodes of a group.
-fn nodes_of(part: Option<LayoutRenderingElement>) -> Result<Vec<LayoutRenderingElement>, Fail> {
+/// Takes the nodes out of a group.
+fn take_nodes(
+    alloc: Global,
+    part: &mut LayoutRenderingElement,
+) -> Result<Vec<LayoutRenderingElement>, Fail> {
     match part {
-        Some(LayoutRenderingElement::Group(group)) => Ok(group.children),
+        LayoutRenderingElement::Group(group) => {
+            Ok(mem::replace(&mut group.children, Vec::new(alloc)))
+        }
         _ => Err(Fail::from("a group holds the nodes of a branch")),
     }
+}
+
+/// The nodes of the next group, if there is one.
+fn next_nodes(
+    alloc: Global,
+    parts: &mut IntoIter<LayoutRenderingElement>,
+) -> Result<Option<Vec<LayoutRenderingElement>>, Fail> {
+    let Some(mut part) = parts.next() else {
+        return Ok(None);
+    };
+    let nodes = take_nodes(alloc, &mut part);
+    drop(part);
+    Ok(Some(nodes?))
+}
+
+/// The branches of these matches and tests, each with the nodes of the next group.
+fn branches_of(
+    alloc: Global,
+    parts: &mut IntoIter<LayoutRenderingElement>,
+    words: &str,
+) -> Result<Vec<ChooseBranch>, Fail> {
+    let mut branches = Vec::new(alloc);
+    for words in words.split('?') {
+        if !words.is_empty() {
+            let nodes = next_nodes(alloc, parts)?.ok_or("the nodes of a branch")?;
+            put(&mut branches, branch(alloc, words, nodes)?)?;
+        }
+    }
+    Ok(branches)
 }
 
 /// The choice between these parts, by its branches.
@@ -149,18 +192,12 @@ pub(crate) fn choice(
     parts: Vec<LayoutRenderingElement>,
     branches: &str,
 ) -> Result<LayoutRenderingElement, Fail> {
+    let (first, others) = branches.split_once('?').unwrap_or((branches, ""));
     let mut parts = parts.into_iter();
-    let mut branches = branches.split('?');
-    let first = branches.next().unwrap_or("");
-    let if_ = branch(alloc, first, nodes_of(parts.next())?)?;
-    let mut else_if = Vec::new(alloc);
-    for words in branches {
-        else_if.push(branch(alloc, words, nodes_of(parts.next())?)?)?;
-    }
-    let otherwise = match parts.next() {
-        Some(part) => Some(nodes_of(Some(part))?),
-        None => None,
-    };
+    let nodes = next_nodes(alloc, &mut parts)?.ok_or("the nodes of a branch")?;
+    let else_if = branches_of(alloc, &mut parts, others)?;
+    let otherwise = next_nodes(alloc, &mut parts)?;
+    let if_ = branch(alloc, first, nodes)?;
     Ok(LayoutRenderingElement::Choose(Choose {
         if_,
         else_if,

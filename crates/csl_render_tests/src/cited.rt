@@ -36,7 +36,10 @@ fn say_in_cite<T: EntryLike, A: Asked>(
         setting: question.setting,
         element: &element,
     };
-    asked.say(&scene, said)
+    let answer = asked.say(&scene, said);
+    drop(scene);
+    drop(element);
+    answer
 }
 
 /// Says the answer for the entry in that style.
@@ -54,7 +57,9 @@ fn say_in_style<T: EntryLike, A: Asked>(
         sorting: question.setting.sorting,
         kind: question.setting.form,
     };
-    say_in_cite(question, asked, style, cite, said)
+    let answer = say_in_cite(question, asked, style, cite, said);
+    drop(cite_props);
+    answer
 }
 
 /// Says the answer for the entry.
@@ -65,7 +70,9 @@ fn say_for<T: EntryLike, A: Asked>(
     said: &mut String,
 ) -> Result<(), Fail> {
     let style = style(question.alloc, &question.setting.manner)?;
-    say_in_style(question, asked, &style, entry, said)
+    let answer = say_in_style(question, asked, &style, entry, said);
+    drop(style);
+    answer
 }
 
 /// Says the answer for the entry of these words.

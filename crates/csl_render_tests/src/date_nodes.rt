@@ -6,7 +6,7 @@
 //! date without its month. A part has a form behind it, as `+month:short`. Options stand behind the
 //! names of a date and behind each part.
 
-use crate::nodes::{affixes, display, formatting, option, text_of, variable_named};
+use crate::nodes::{affixes, display, formatting, option, put, text_of, variable_named};
 use csl_style::{
     Date, DateAnyForm, DateForm, DatePart, DatePartName, DateParts, DateVariable, Variable,
 };
@@ -88,7 +88,7 @@ fn parts(alloc: Global, words: &str) -> Result<Vec<DatePart>, Fail> {
     let mut parts = Vec::new(alloc);
     for words in words.split('+') {
         if !words.is_empty() {
-            parts.push(part(alloc, words)?)?;
+            put(&mut parts, part(alloc, words)?)?;
         }
     }
     Ok(parts)

@@ -13,7 +13,7 @@
 use crate::choice_nodes::locator_named;
 use crate::made::{Manner, PLAIN};
 use crate::name_forms::forms_of;
-use crate::nodes::{alone, read, variable_named};
+use crate::nodes::{alone, put, read, variable_named};
 use csl_entry::{
     CertainCiteProperties, CitationNumber, CiteProperties, DisambiguateState, IbidState,
     LocatorPayload, Sorting, SpecialForm, SpecificLocator, SpeculativeCiteProperties,
@@ -133,7 +133,7 @@ fn person(alloc: Global, words: &str) -> Result<Person, Fail> {
 fn persons(alloc: Global, words: &str) -> Result<Vec<Person>, Fail> {
     let mut persons = Vec::new(alloc);
     for words in words.split('+') {
-        persons.push(person(alloc, words)?)?;
+        put(&mut persons, person(alloc, words)?)?;
     }
     Ok(persons)
 }

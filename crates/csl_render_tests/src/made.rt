@@ -2,12 +2,12 @@
 
 use crate::date_nodes::date;
 use crate::name_nodes::name_options;
-use crate::nodes::{PAGE, alone, layout, nodes};
+use crate::nodes::{PAGE, alone, layout, nodes, put};
 use csl_style::{
     CslMacro, Date, Locale, Locator, NameVariable, NumberVariable, OrdinalSlot, OrdinalTerm,
     OtherTerm, PageRangeFormat, Style, StyleSettings, Term, TermEntry, TermForm,
 };
-use lit_model::{GrammarGender, Season};
+use lit_model::{GrammarGender, Memory, Season};
 use std::alloc::{AllocError, Global};
 use std::test::Fail;
 
@@ -28,17 +28,15 @@ static MACROS: [&str; 10] = [
 /// The macro of a line.
 fn macro_of(alloc: Global, line: &str) -> Result<CslMacro, Fail> {
     let (name, words) = line.split_once(' ').ok_or("nodes")?;
+    let name = String::from_str(alloc, name)?;
     let children = nodes(alloc, words)?;
-    Ok(CslMacro {
-        name: String::from_str(alloc, name)?,
-        children,
-    })
+    Ok(CslMacro { name, children })
 }
 
 fn macros(alloc: Global, lines: &[&'static str]) -> Result<Vec<CslMacro>, Fail> {
     let mut macros = Vec::new(alloc);
     for line in lines {
-        macros.push(macro_of(alloc, *line)?)?;
+        put(&mut macros, macro_of(alloc, *line)?)?;
     }
     Ok(macros)
 }
@@ -139,18 +137,14 @@ fn term_of(alloc: Global, row: &TermRow) -> Result<TermEntry, AllocError> {
     })
 }
 
-fn add_terms(
-    alloc: Global,
-    rows: &[TermRow],
-    terms: &mut Vec<TermEntry>,
-) -> Result<(), AllocError> {
+fn add_terms(alloc: Global, rows: &[TermRow], terms: &mut Vec<TermEntry>) -> Result<(), Memory> {
     for row in rows {
-        terms.push(term_of(alloc, row)?)?;
+        put(terms, term_of(alloc, row)?)?;
     }
     Ok(())
 }
 
-fn terms(alloc: Global, manner: &Manner) -> Result<Vec<TermEntry>, AllocError> {
+fn terms(alloc: Global, manner: &Manner) -> Result<Vec<TermEntry>, Memory> {
     let mut terms = Vec::new(alloc);
     add_terms(alloc, &TERMS, &mut terms)?;
     if manner.has_eras {
@@ -172,16 +166,17 @@ static ORDINALS: [OrdinalRow; 4] = [
     (OrdinalSlot::Long(2), None, "second"),
 ];
 
-fn ordinals(alloc: Global, rows: &[OrdinalRow]) -> Result<Vec<OrdinalTerm>, AllocError> {
+fn ordinals(alloc: Global, rows: &[OrdinalRow]) -> Result<Vec<OrdinalTerm>, Memory> {
     let mut ordinals = Vec::new(alloc);
     for (slot, gender, text) in rows {
         let text = String::from_str(alloc, *text)?;
-        ordinals.push(OrdinalTerm {
+        let ordinal = OrdinalTerm {
             slot: *slot,
             matching: None,
             gender: *gender,
             text,
-        })?;
+        };
+        put(&mut ordinals, ordinal)?;
     }
     Ok(ordinals)
 }
@@ -217,11 +212,10 @@ pub(crate) const PLAIN: Manner = Manner {
 };
 
 fn dates(alloc: Global, manner: &Manner) -> Result<Vec<Date>, Fail> {
-    let mut dates = Vec::new(alloc);
-    if let Some(words) = manner.date {
-        dates.push(date(alloc, words)?)?;
+    match manner.date {
+        Some(words) => Ok(alone(alloc, date(alloc, words)?)?),
+        None => Ok(Vec::new(alloc)),
     }
-    Ok(dates)
 }
 
 /// The one locale. A comma or period behind a closing quote goes before it.
@@ -240,13 +234,12 @@ fn locales(alloc: Global, manner: &Manner) -> Result<Vec<Locale>, Fail> {
 
 /// The style of these macros and this locale, of that manner.
 pub(crate) fn style(alloc: Global, manner: &Manner) -> Result<Style, Fail> {
+    let names = name_options(alloc, manner.names)?;
     let macros = macros(alloc, &MACROS)?;
     let locales = locales(alloc, manner)?;
     let citation = layout(alloc, manner.layout)?;
-    let settings = StyleSettings {
-        page_range_format: manner.format,
-        names: name_options(alloc, manner.names)?,
-        ..StyleSettings::default()
-    };
+    let mut settings = StyleSettings::default();
+    settings.page_range_format = manner.format;
+    settings.names = names;
     Ok(Style::new(alloc, settings, macros, citation, None, locales)?)
 }

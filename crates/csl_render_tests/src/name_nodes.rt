@@ -15,10 +15,12 @@
 //! | `with-a` | what follows an initial |
 //! | `names-a` | what stands between two lists |
 
-use crate::nodes::{affixes, alone, display, formatting, option, read, text_of, variable_named};
+use crate::nodes::{
+    affixes, after, alone, display, formatting, option, put, read, text_of, variable_named,
+};
 use csl_style::{
-    EtAl, Formatting, InheritableNameOptions, LayoutRenderingElement, Name, NameForm, NameVariable,
-    Names, NamesChild, Substitute, Variable, VariablelessLabel,
+    Affixes, EtAl, Formatting, InheritableNameOptions, LayoutRenderingElement, Name, NameForm,
+    NameVariable, Names, NamesChild, Substitute, Variable, VariablelessLabel,
 };
 use std::alloc::Global;
 use std::test::Fail;
@@ -77,18 +79,27 @@ fn name(alloc: Global, words: &str) -> Result<Name, Fail> {
 /// A label whose prefix stands behind `<` and whose suffix behind `>`. A period before them says
 /// that periods are stripped.
 fn label(alloc: Global, words: &str) -> Result<VariablelessLabel, Fail> {
-    let mut label = VariablelessLabel::default();
     let (words, strips) = match words.strip_prefix('.') {
         Some(words) => (words, true),
         None => (words, false),
     };
+    let affixes = label_affixes(alloc, words)?;
+    let mut label = VariablelessLabel::default();
     label.strip_periods = strips;
-    if let Some(affixes) = words.strip_prefix('<') {
-        let (prefix, suffix) = affixes.split_once('>').unwrap_or((affixes, ""));
-        label.affixes.prefix = Some(read(alloc, prefix)?);
-        label.affixes.suffix = Some(read(alloc, suffix)?);
-    }
+    label.affixes = affixes;
     Ok(label)
+}
+
+/// The affixes of a label.
+fn label_affixes(alloc: Global, words: &str) -> Result<Affixes, Fail> {
+    let Some(affixes) = words.strip_prefix('<') else {
+        return Ok(Affixes::default());
+    };
+    let (prefix, suffix) = affixes.split_once('>').unwrap_or((affixes, ""));
+    Ok(Affixes {
+        prefix: Some(read(alloc, prefix)?),
+        suffix: Some(read(alloc, suffix)?),
+    })
 }
 
 fn child(alloc: Global, word: &str) -> Result<NamesChild, Fail> {
@@ -109,7 +120,7 @@ fn children(alloc: Global, words: &str) -> Result<Vec<NamesChild>, Fail> {
     let mut children = Vec::new(alloc);
     for word in words.split(':') {
         if !word.is_empty() {
-            children.push(child(alloc, word)?)?;
+            put(&mut children, child(alloc, word)?)?;
         }
     }
     Ok(children)
@@ -131,12 +142,16 @@ pub(crate) fn variables(alloc: Global, words: &str) -> Result<Vec<NameVariable>,
 fn names_of(alloc: Global, words: &str) -> Result<Names, Fail> {
     let (word, options) = words.split_once('|').unwrap_or((words, ""));
     let (of, inside) = word.split_once(':').unwrap_or((word, ""));
+    let variable = variables(alloc, of)?;
+    let delimiter = text_of(alloc, options, ",")?;
     let affixes = affixes(alloc, options)?;
+    let inherited = name_options(alloc, option(options, "=").unwrap_or(""))?;
+    let children = children(alloc, inside)?;
     Ok(Names {
-        variable: variables(alloc, of)?,
-        children: children(alloc, inside)?,
-        options: name_options(alloc, option(options, "=").unwrap_or(""))?,
-        delimiter: text_of(alloc, options, ",")?,
+        variable,
+        children,
+        options: inherited,
+        delimiter,
         formatting: formatting(options),
         affixes,
         display: display(options),
@@ -156,9 +171,26 @@ fn push_each(
 ) -> Result<(), Fail> {
     for node in nodes {
         let instead = alone(alloc, node)?;
-        children.push(NamesChild::Substitute(Substitute { children: instead }))?;
+        put(
+            children,
+            NamesChild::Substitute(Substitute { children: instead }),
+        )?;
     }
     Ok(())
+}
+
+/// Pushes these nodes in one substitute or, under `|each`, in one each.
+fn push_substitutes(
+    alloc: Global,
+    children: &mut Vec<NamesChild>,
+    nodes: Vec<LayoutRenderingElement>,
+    words: &str,
+) -> Result<(), Fail> {
+    if words.ends_with("|each") {
+        return push_each(alloc, children, nodes);
+    }
+    let substitute = Substitute { children: nodes };
+    Ok(put(children, NamesChild::Substitute(substitute))?)
 }
 
 /// The names of a word with these nodes as their substitute.
@@ -168,11 +200,6 @@ pub(crate) fn substituted(
     words: &str,
 ) -> Result<LayoutRenderingElement, Fail> {
     let mut names = names_of(alloc, words)?;
-    if words.ends_with("|each") {
-        push_each(alloc, &mut names.children, nodes)?;
-    } else {
-        let substitute = Substitute { children: nodes };
-        names.children.push(NamesChild::Substitute(substitute))?;
-    }
-    Ok(LayoutRenderingElement::Names(names))
+    let pushed = push_substitutes(alloc, &mut names.children, nodes, words);
+    after(pushed, LayoutRenderingElement::Names(names))
 }

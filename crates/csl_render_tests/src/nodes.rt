@@ -88,8 +88,21 @@ pub(crate) fn read(alloc: Global, word: &str) -> Result<String, AllocError> {
 /// A value alone in a list.
 pub(crate) fn alone<T: Drop>(alloc: Global, value: T) -> Result<Vec<T>, Memory> {
     let mut values = Vec::new(alloc);
-    values.push(value)?;
+    put(&mut values, value)?;
     Ok(values)
+}
+
+/// Puts a value behind the others.
+pub(crate) fn put<T: Drop>(values: &mut Vec<T>, value: T) -> Result<(), Memory> {
+    Ok(values.push(value)?)
+}
+
+/// The value, where what was done before went well.
+pub(crate) fn after<T: Drop, E>(done: Result<(), E>, value: T) -> Result<T, E> {
+    match done {
+        Ok(()) => Ok(value),
+        Err(error) => Err(error),
+    }
 }
 
 /// What stands behind a mark among the options.
@@ -259,13 +272,13 @@ pub(crate) fn nodes(alloc: Global, words: &str) -> Result<Vec<LayoutRenderingEle
     let mut nodes = Vec::new(alloc);
     for word in words.split(' ') {
         if word == "(" {
-            around.push(mem::replace(&mut nodes, Vec::new(alloc)))?;
+            put(&mut around, mem::replace(&mut nodes, Vec::new(alloc)))?;
         } else if let Some(end) = word.strip_prefix(')') {
             let outside = around.pop().ok_or("a group ends that began")?;
             let inside = mem::replace(&mut nodes, outside);
-            nodes.push(ended(alloc, inside, end)?)?;
+            put(&mut nodes, ended(alloc, inside, end)?)?;
         } else if !word.is_empty() {
-            nodes.push(node(alloc, word)?)?;
+            put(&mut nodes, node(alloc, word)?)?;
         }
     }
     Ok(nodes)

@@ -4,6 +4,7 @@
 use crate::answered::Asked;
 use crate::cited::{Question, Source, say_for_entry};
 use crate::entries::{SILENT, entries};
+use crate::nodes::after;
 use crate::scene::Scene;
 use crate::work::described;
 use csl_context::{LeftState, RenderError};
@@ -193,10 +194,15 @@ fn begun(alloc: Global, suppressing: bool, suppressed: bool) -> Result<LeftState
     let mut start = LeftState::new(alloc);
     start.suppressing = suppressing;
     if suppressed {
-        let title = Variable::Standard(StandardVariable::Title);
-        start.suppressed.insert(title)?;
+        return after(suppress_title(&mut start), start);
     }
     Ok(start)
+}
+
+fn suppress_title(start: &mut LeftState) -> Result<(), Fail> {
+    let title = Variable::Standard(StandardVariable::Title);
+    start.suppressed.insert(title)?;
+    Ok(())
 }
 
 /// What is asked of a layout and of another entry beside that of the scene.
@@ -211,7 +217,9 @@ impl<'q, U: EntryLike> Asked for Beside<'q, U> {
         match scene.element {
             RenderingElement::Layout(layout) => {
                 let pair = paired(scene, layout, self.start, self.right)?;
-                say_pair(&pair, said)
+                let answer = say_pair(&pair, said);
+                drop(pair);
+                answer
             }
             RenderingElement::Other(_) => Err(Fail::from("a layout")),
         }
@@ -314,27 +322,31 @@ fn assert_pair(
     Ok(())
 }
 
+/// Asserts what each row says, of pairs that begin in such a state.
+fn assert_begun(
+    rt: &impl Abort,
+    alloc: Global,
+    (suppressing, suppressed): (bool, bool),
+    right: Source,
+    rows: &[Row],
+) -> Result<(), Fail> {
+    let start = begun(alloc, suppressing, suppressed)?;
+    let answer = assert_pairs(rt, alloc, &start, right, rows);
+    drop(start);
+    answer
+}
+
 #[test]
 fn entries_that_answer_alike_are_told(rt: HostRuntime) -> Result<(), Fail> {
-    let alloc = rt.alloc();
-    let start = begun(alloc, false, false)?;
-    assert_pairs(&rt, alloc, &start, Source::Entry, &ENTRIES)?;
-    assert_pairs(&rt, alloc, &start, Source::Entry, &NAMES)?;
-    assert_pairs(&rt, alloc, &start, Source::Work, &WORKS)
-}
-
-fn assert_suppressing(rt: &impl Abort, alloc: Global) -> Result<(), Fail> {
-    let start = begun(alloc, true, false)?;
-    assert_pairs(rt, alloc, &start, Source::Entry, &SUPPRESSING)
-}
-
-fn assert_suppressed(rt: &impl Abort, alloc: Global) -> Result<(), Fail> {
-    let start = begun(alloc, true, true)?;
-    assert_pairs(rt, alloc, &start, Source::Work, &SUPPRESSED)
+    let (alloc, at_first) = (rt.alloc(), (false, false));
+    assert_begun(&rt, alloc, at_first, Source::Entry, &ENTRIES)?;
+    assert_begun(&rt, alloc, at_first, Source::Entry, &NAMES)?;
+    assert_begun(&rt, alloc, at_first, Source::Work, &WORKS)
 }
 
 #[test]
 fn both_begin_with_what_was_left(rt: HostRuntime) -> Result<(), Fail> {
-    assert_suppressing(&rt, rt.alloc())?;
-    assert_suppressed(&rt, rt.alloc())
+    let alloc = rt.alloc();
+    assert_begun(&rt, alloc, (true, false), Source::Entry, &SUPPRESSING)?;
+    assert_begun(&rt, alloc, (true, true), Source::Work, &SUPPRESSED)
 }

@@ -76,7 +76,11 @@ fn made<'s, T: EntryLike>(
     let mut ctx = context(scene, left)?;
     match write(&mut ctx, scene, left.is_none()) {
         Ok(()) => ctx.finish(),
-        Err(error) => Err(refused(&mut ctx, scene.element, error)),
+        Err(error) => {
+            let refusal = refused(&mut ctx, scene.element, error);
+            drop(ctx);
+            Err(refusal)
+        }
     }
 }
 
@@ -131,7 +135,11 @@ fn told<'s, T: EntryLike>(
     let mut ctx = context(scene, None)?;
     match ask(&mut ctx, scene, variable) {
         Ok(told) => Ok((told, ctx.finish()?)),
-        Err(error) => Err(refused(&mut ctx, scene.element, error)),
+        Err(error) => {
+            let refusal = refused(&mut ctx, scene.element, error);
+            drop(ctx);
+            Err(refusal)
+        }
     }
 }
 
@@ -166,10 +174,12 @@ pub(crate) fn render_first<'s, T: EntryLike>(
     let mut ctx = context(scene, None)?;
     let first = scene.element.render(&mut ctx).err();
     let second = scene.element.will_have_info(&mut ctx).err();
+    let has_failed = ctx.has_failed();
+    drop(ctx);
     Ok(Refusals {
         first,
         second,
-        has_failed: ctx.has_failed(),
+        has_failed,
     })
 }
 
@@ -178,9 +188,11 @@ pub(crate) fn ask_first<'s, T: EntryLike>(scene: &Scene<'s, T>) -> Result<Refusa
     let mut ctx = context(scene, None)?;
     let first = scene.element.will_have_info(&mut ctx).err();
     let second = scene.element.render(&mut ctx).err();
+    let has_failed = ctx.has_failed();
+    drop(ctx);
     Ok(Refusals {
         first,
         second,
-        has_failed: ctx.has_failed(),
+        has_failed,
     })
 }
