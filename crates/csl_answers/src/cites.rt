@@ -31,8 +31,13 @@ fn cite<T: EntryLike>(alloc: Global, style: &Style, entry: &T) -> Result<Rendere
     let Ok(mut ctx) = Context::new(alloc, style, instance, Scope::Citation) else {
         return Err(RenderError::Memory);
     };
-    style.citation().render(&mut ctx)?;
-    ctx.finish()
+    match style.citation().render(&mut ctx) {
+        Ok(()) => ctx.finish(),
+        Err(error) => {
+            drop(ctx);
+            Err(error)
+        }
+    }
 }
 
 /// What the built-in style makes of a title.
@@ -42,9 +47,11 @@ fn cite<T: EntryLike>(alloc: Global, style: &Style, entry: &T) -> Result<Rendere
 pub fn title_content(alloc: Global, title: &str) -> Result<ElemChildren, Memory>
     ensures { IfOk result (λ content. IsTitleContent title.now (tokens content)) }
 {
-    let style = title_style(alloc)?;
     let title = one_piece(alloc, title)?;
-    match cite(alloc, &style, &TitleOnly { title }) {
+    let style = title_style(alloc)?;
+    let made = cite(alloc, &style, &TitleOnly { title });
+    drop(style);
+    match made {
         Ok(made) => Ok(made.content),
         // A context that is new has not failed: what is missing is memory.
         Err(_) => Err(Memory),
@@ -64,7 +71,10 @@ pub fn entry_content(
 {
     let parts = style.style(alloc)?;
     let work = entry.entry(alloc)?;
-    match cite(alloc, &parts, &work) {
+    let made = cite(alloc, &parts, &work);
+    drop(work);
+    drop(parts);
+    match made {
         Ok(made) => Ok(made.content),
         // A context that is new has not failed: what is missing is memory.
         Err(_) => Err(Memory),

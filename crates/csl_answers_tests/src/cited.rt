@@ -20,15 +20,20 @@ use std::test::Fail;
 pub(crate) fn entries(alloc: Global, which: &[BuiltIn]) -> Result<Vec<Entry>, Memory> {
     let mut works = Vec::new(alloc);
     for entry in which {
-        works.push(entry.entry(alloc)?)?;
+        put(&mut works, entry.entry(alloc)?)?;
     }
     Ok(works)
+}
+
+/// Puts an item behind the others.
+fn put<T: Drop>(items: &mut Vec<T>, item: T) -> Result<(), Memory> {
+    Ok(items.push(item)?)
 }
 
 /// A list of one, which is quicker to prove than `vec!` where the item ends.
 pub(crate) fn alone<T: Drop>(alloc: Global, item: T) -> Result<Vec<T>, Memory> {
     let mut items = Vec::new(alloc);
-    items.push(item)?;
+    put(&mut items, item)?;
     Ok(items)
 }
 
@@ -82,8 +87,13 @@ fn rendered<T: EntryLike>(
     let Ok(mut ctx) = Context::new(alloc, style, instance, Scope::Citation) else {
         return Err(RenderError::Memory);
     };
-    style.citation().render(&mut ctx)?;
-    ctx.finish()
+    match style.citation().render(&mut ctx) {
+        Ok(()) => ctx.finish(),
+        Err(error) => {
+            drop(ctx);
+            Err(error)
+        }
+    }
 }
 
 /// What the style of authors and dates makes of a cite of an entry.
@@ -94,7 +104,11 @@ fn rendered_by_author_and_date(
     entry: &Entry,
 ) -> Result<Rendered, RenderError> {
     match BuiltInStyle::AuthorDate.style(alloc) {
-        Ok(style) => rendered(alloc, &style, cite, form, entry),
+        Ok(style) => {
+            let made = rendered(alloc, &style, cite, form, entry);
+            drop(style);
+            made
+        }
         Err(Memory) => Err(RenderError::Memory),
     }
 }
@@ -108,7 +122,9 @@ pub(crate) fn cited(
     form: Option<SpecialForm>,
 ) -> Result<Rendered, Fail> {
     let cite = CiteProperties::first(told);
-    cited_with(alloc, entry, &cite, form)
+    let made = cited_with(alloc, entry, &cite, form);
+    drop(cite);
+    made
 }
 
 /// The same of a cite with these properties.

@@ -32,10 +32,20 @@ static CITES: [Row; 3] = [
 ];
 
 /// The forms of names that a cite keeps, to tell it from others.
-fn kept(made: Rendered) -> Result<DisambiguateState, Fail> {
-    let state = made.state;
-    let kept = state.first_names.ok_or("forms of names")?;
+fn kept(made: &mut Rendered) -> Result<DisambiguateState, Fail> {
+    let kept = made.state.first_names.take().ok_or("forms of names")?;
     Ok(DisambiguateState::NameDisambiguation(kept))
+}
+
+/// Asserts the plain text of what was made. The forms of names that it keeps.
+fn assert_made(
+    rt: &impl Abort,
+    alloc: Global,
+    made: &mut Rendered,
+    wanted: &str,
+) -> Result<DisambiguateState, Fail> {
+    assert_plain(rt, alloc, made, wanted)?;
+    kept(made)
 }
 
 /// Asserts the plain text of a cite that is told from others so. The forms of names that it keeps.
@@ -46,9 +56,10 @@ fn assert_cite(
     told: DisambiguateState,
     wanted: &str,
 ) -> Result<DisambiguateState, Fail> {
-    let made = cited(alloc, entry, told, None)?;
-    assert_plain(rt, alloc, &made, wanted)?;
-    kept(made)
+    let mut made = cited(alloc, entry, told, None)?;
+    let kept = assert_made(rt, alloc, &mut made, wanted);
+    drop(made);
+    kept
 }
 
 /// Asserts both cites of a row.

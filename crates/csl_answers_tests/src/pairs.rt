@@ -45,9 +45,12 @@ fn paired<T: EntryLike, U: EntryLike>(
     let start = LeftState::new(alloc);
     let cite = CiteProperties::first(DisambiguateState::None);
     let scope = Scope::Citation;
-    render_pair(
+    let pair = render_pair(
         alloc, style, layout, scope, &cite, None, None, &start, left, right,
-    )
+    );
+    drop(start);
+    drop(cite);
+    pair
 }
 
 /// Whether both are alike and whether the contents are equal, in words.
@@ -75,7 +78,9 @@ fn pair_of(alloc: Global, style: BuiltInStyle, works: &[Entry]) -> Result<Pair, 
     let left = works.first().ok_or("an entry")?;
     let right = works.last().ok_or("an entry")?;
     let style = style.style(alloc)?;
-    Ok(paired(alloc, &style, style.citation(), left, right)?)
+    let pair = paired(alloc, &style, style.citation(), left, right);
+    drop(style);
+    Ok(pair?)
 }
 
 /// What a style makes of the built-in entries of two keys.
@@ -103,6 +108,7 @@ fn assert_rows(
     let pair = pair_of_keys(alloc, style, left.0, right.0)?;
     let keys = [left.0, right.0];
     assert_pair(rt, &pair, is_one, line(left.1), line(right.1), &keys);
+    drop(pair);
     Ok(())
 }
 
@@ -165,7 +171,9 @@ fn titles_in(alloc: Global, style: &Style, book: &Entry, title: &TitleOnly) -> R
 /// The same in the style of a title.
 fn titles(alloc: Global, book: &Entry, title: &TitleOnly) -> Result<Pair, Fail> {
     let style = title_style(alloc)?;
-    titles_in(alloc, &style, book, title)
+    let pair = titles_in(alloc, &style, book, title);
+    drop(style);
+    pair
 }
 
 /// What the layout of a title makes of the book and of an entry that has this title alone.
@@ -187,6 +195,7 @@ fn titles_with(alloc: Global, title: &TitleOnly) -> Result<Pair, Fail> {
 fn assert_titles(rt: &impl Abort, alloc: Global, title: &str, is_one: bool) -> Result<(), Fail> {
     let pair = titles_of(alloc, title)?;
     assert_pair(rt, &pair, is_one, "Crazy Rich Asians", title, &[title]);
+    drop(pair);
     Ok(())
 }
 

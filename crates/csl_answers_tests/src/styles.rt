@@ -35,13 +35,17 @@ fn say_named(said: &mut String, named: &Named) -> Result<(), AllocError> {
 /// What a style names.
 fn named(alloc: Global, style: BuiltInStyle) -> Result<Named, Memory> {
     let style = style.style(alloc)?;
-    named_by(alloc, &style, style.citation())
+    let named = named_by(alloc, &style, style.citation());
+    drop(style);
+    named
 }
 
 /// Says what a style names, set by set.
 fn say_style(alloc: Global, style: BuiltInStyle, said: &mut String) -> Result<(), Fail> {
     let named = named(alloc, style)?;
-    Ok(say_named(said, &named)?)
+    let answer = say_named(said, &named);
+    drop(named);
+    Ok(answer?)
 }
 
 /// A style, and what it names.
@@ -108,7 +112,9 @@ fn assert_cite(rt: &impl Abort, alloc: Global, row: &Row) -> Result<(), Fail> {
     let (told, form, wanted) = row;
     let told = state(alloc, *told)?;
     let made = cited(alloc, BuiltIn::CrazyRich, told, *form)?;
-    assert_plain(rt, alloc, &made, *wanted)
+    let answer = assert_plain(rt, alloc, &made, *wanted);
+    drop(made);
+    answer
 }
 
 #[test]
