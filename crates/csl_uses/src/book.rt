@@ -61,16 +61,20 @@ pub fn the_c_book(alloc: Global) -> Result<Entry, UseError>
     let ritchie = person(alloc, "Ritchie", "Dennis M.")?;
     // Months count from 0: this is February.
     let date = Date::new(1978, Some(1), None, None, false).ok_or(UseError::NoSuchDay)?;
+    let authors = vec![in alloc; kernighan, ritchie]?;
+    let title = text(alloc, "The C Programming Language")?;
+    let publisher = text(alloc, "Prentice Hall")?;
+    let pages = Numeric::parse(alloc, "228")?;
 
     let mut book = Entry::new(alloc, "the-c-book", EntryType::Book)?;
-    book.title = Some(text(alloc, "The C Programming Language")?);
-    book.authors = Some(vec![in alloc; kernighan, ritchie]?);
+    book.title = Some(title);
+    book.authors = Some(authors);
     book.date = Some(date);
     book.publisher = Some(Publisher {
-        name: Some(text(alloc, "Prentice Hall")?),
+        name: Some(publisher),
         location: None,
     });
-    book.page_total = Some(Numeric::parse(alloc, "228")?);
+    book.page_total = Some(pages);
     Ok(book)
 }
 

@@ -66,8 +66,8 @@ pub fn house_style(alloc: Global) -> Result<Style, UseError>
         font_style: Some(FontStyle::Italic),
         ..plain
     };
-    let title = variable_text(StandardVariable::Title, italic);
     let publisher = publisher_group(alloc)?;
+    let title = variable_text(StandardVariable::Title, italic);
     let citation = Layout {
         elements: vec![in alloc; title, publisher]?,
         delimiter: None,

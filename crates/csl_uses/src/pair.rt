@@ -25,8 +25,9 @@ use std::alloc::Global;
 /// # Errors
 /// [`Memory`]: there was no memory left.
 pub fn metropolis_on_video(alloc: Global) -> Result<Entry, Memory> {
+    let title = text(alloc, "Metropolis")?;
     let mut video = Entry::new(alloc, "metropolis-video", EntryType::Video)?;
-    video.title = Some(text(alloc, "Metropolis")?);
+    video.title = Some(title);
     Ok(video)
 }
 
