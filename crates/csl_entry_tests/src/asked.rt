@@ -1,6 +1,7 @@
 //! What an entry answers, in words.
 
 use crate::asserted::assert_of;
+use csl_entry::NumberVariableResult;
 use lit_model::{ChunkKind, ChunkedString, MaybeTyped, Numeric};
 use std::alloc::Global;
 use std::borrow::Cow;
@@ -15,12 +16,24 @@ pub fn assert_answer(rt: &impl Abort, answer: &str, wanted: &str, asked: &str) {
 /// The number; behind `'` a text that is no number; and `none` where there is no answer.
 pub fn number_said(
     alloc: Global,
-    found: &Option<MaybeTyped<Cow<'_, Numeric>>>,
+    found: Option<&MaybeTyped<Cow<'_, Numeric>>>,
 ) -> Result<String, Fail> {
     match found {
         None => Ok(String::from_str(alloc, "none")?),
         Some(MaybeTyped::Typed(number)) => Ok(number.as_ref().to_string(alloc)?),
         Some(MaybeTyped::String(text)) => Ok(format!(in alloc; "'{}", text.as_str())?),
+    }
+}
+
+/// The same of a cite; behind `@` the index of what the caller writes.
+pub fn result_said(
+    alloc: Global,
+    found: Option<&NumberVariableResult<'_>>,
+) -> Result<String, Fail> {
+    match found {
+        None => number_said(alloc, None),
+        Some(NumberVariableResult::Regular(number)) => number_said(alloc, Some(number)),
+        Some(NumberVariableResult::Transparent(index)) => Ok(format!(in alloc; "@{index}")?),
     }
 }
 

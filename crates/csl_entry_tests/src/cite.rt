@@ -102,8 +102,12 @@ fn said(state: &DisambiguateState) -> (&'static str, usize) {
 
 fn copy_said(alloc: Global, told: Told) -> Result<(&'static str, usize), Memory> {
     let state = state(alloc, told)?;
-    let copy = state.clone(alloc)?;
-    Ok(said(&copy))
+    let copy = state.clone(alloc);
+    drop(state);
+    let copy = copy?;
+    let said = said(&copy);
+    drop(copy);
+    Ok(said)
 }
 
 /// What tells a cite from others, and what its state is.
@@ -181,7 +185,10 @@ fn all_said<'s>(cite: &CiteProperties<'s>) -> (Certain, Speculative<'s>) {
 
 /// What it says of the first cite of an entry that a choice of the style tells apart.
 fn said_of_the_first() -> (Certain, Speculative<'static>) {
-    all_said(&CiteProperties::first(DisambiguateState::Choose))
+    let cite = CiteProperties::first(DisambiguateState::Choose);
+    let said = all_said(&cite);
+    drop(cite);
+    said
 }
 
 #[test]
@@ -197,8 +204,13 @@ fn what_the_first_cite_says(rt: HostRuntime) {
 
 /// What a copy says.
 fn copied(alloc: Global) -> Result<(Certain, Speculative<'static>), Fail> {
-    let copy = on_page_five()?.clone(alloc)?;
-    Ok(all_said(&copy))
+    let cite = on_page_five()?;
+    let copy = cite.clone(alloc);
+    drop(cite);
+    let copy = copy?;
+    let said = all_said(&copy);
+    drop(copy);
+    Ok(said)
 }
 
 #[test]

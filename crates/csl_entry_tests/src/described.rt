@@ -63,13 +63,23 @@ fn state_all(alloc: Global, work: &mut Entry, clauses: &str) -> Result<(), Fail>
     Ok(())
 }
 
+/// A list of one.
+pub fn alone<T: Drop>(alloc: Global, item: T) -> Result<Vec<T>, Memory> {
+    let mut items = Vec::new(alloc);
+    put(&mut items, item)?;
+    Ok(items)
+}
+
+/// Adds an item to a list.
+pub fn put<T: Drop>(items: &mut Vec<T>, item: T) -> Result<(), Memory> {
+    Ok(items.push(item)?)
+}
+
 /// A work of that type, a part of these.
 fn bare(alloc: Global, kind: EntryType, wholes: Vec<Entry>) -> Result<Vec<Entry>, Memory> {
-    let mut works = Vec::with_capacity(alloc, 1)?;
     let mut work = Entry::new(alloc, "key", kind)?;
     work.parents = wholes;
-    works.push(work)?;
-    Ok(works)
+    alone(alloc, work)
 }
 
 /// Says one thing of the work.
@@ -291,7 +301,7 @@ fn persons(alloc: Global, names: &str) -> Result<Vec<Person>, Fail> {
         return Ok(persons);
     }
     for name in names.split(", ") {
-        persons.push(person(alloc, name)?)?;
+        put(&mut persons, person(alloc, name)?)?;
     }
     Ok(persons)
 }
@@ -319,7 +329,7 @@ fn affiliate(alloc: Global, work: &mut Entry, role: PersonRole, names: &str) -> 
         Some(groups) => groups,
         None => Vec::new(alloc),
     };
-    groups.push(PersonsWithRoles { names, role })?;
+    put(&mut groups, PersonsWithRoles { names, role })?;
     work.affiliated = Some(groups);
     Ok(())
 }

@@ -1,7 +1,7 @@
-use crate::asked::{assert_answer, number_said, only, text_said};
+use crate::asked::{assert_answer, borrowed, only, result_said, text_said};
 use crate::asserted::assert_same;
 use crate::cite::{Told, state};
-use crate::described::pieces;
+use crate::described::{alone, pieces};
 use csl_entry::{
     CertainCiteProperties, CitationNumber, CiteProperties, DisambiguateState,
     DisambiguatedNameForm, EntryLike, IbidState, InstanceContext, LocatorPayload,
@@ -106,13 +106,14 @@ impl EntryLike for Sample {
 
 /// Number 20, page 7 and a text of these pieces, alone in a list.
 pub fn samples(alloc: Global, text: &str) -> Result<Vec<Sample>, Fail> {
-    let mut samples = Vec::with_capacity(alloc, 1)?;
-    samples.push(Sample {
+    let pages = PageRanges::parse(alloc, "7")?;
+    let text = pieces(alloc, text)?;
+    let sample = Sample {
         number: Numeric::new(20),
-        pages: PageRanges::parse(alloc, "7")?,
-        text: pieces(alloc, text)?,
-    })?;
-    Ok(samples)
+        pages,
+        text,
+    };
+    Ok(alone(alloc, sample)?)
 }
 
 /// The third cite that was handed in, of citation number 4; where it has a locator, to a page.
@@ -121,7 +122,10 @@ pub fn cited<'s>(
     page: Option<LocatorPayload<'s>>,
     disambiguation: DisambiguateState,
 ) -> Result<CiteProperties<'s>, Fail> {
-    let citation_number = CitationNumber::new(4).ok_or("a citation number")?;
+    let Some(citation_number) = CitationNumber::new(4) else {
+        drop(disambiguation);
+        return Err(Fail::from("a citation number"));
+    };
     let locator = match page {
         Some(page) => Some(SpecificLocator(Locator::Page, page)),
         None => None,
@@ -163,13 +167,24 @@ fn number(
     variable: NumberVariable,
 ) -> Result<String, Fail> {
     let samples = samples(alloc, "`Nature")?;
-    let entry = only(&samples)?;
     let props = cited(first_note_number, page, DisambiguateState::None)?;
-    match instance(entry, &props).resolve_number_variable(alloc, variable)? {
-        Some(NumberVariableResult::Regular(number)) => number_said(alloc, &Some(number)),
-        Some(NumberVariableResult::Transparent(index)) => Ok(format!(in alloc; "@{index}")?),
-        None => number_said(alloc, &None),
-    }
+    let number = number_in(alloc, &samples, &props, variable);
+    drop(props);
+    number
+}
+
+/// The number that the cite answers with these properties.
+fn number_in<'s>(
+    alloc: Global,
+    samples: &'s [Sample],
+    props: &'s CiteProperties<'s>,
+    variable: NumberVariable,
+) -> Result<String, Fail> {
+    let cite = instance(only(samples)?, props);
+    let found = cite.resolve_number_variable(alloc, variable)?;
+    let number = result_said(alloc, found.as_ref());
+    drop(found);
+    number
 }
 
 #[test]
@@ -202,22 +217,40 @@ type Separated = (i32, Option<NumericDelimiter>);
 /// The two numbers of a locator, where it is a list of two.
 fn two_numbers(alloc: Global, page: &str) -> Result<Option<(Separated, Separated)>, Fail> {
     let samples = samples(alloc, "`Nature")?;
-    let entry = only(&samples)?;
     let props = cited(
         None,
         Some(LocatorPayload::Str(page)),
         DisambiguateState::None,
     )?;
-    let found = instance(entry, &props).resolve_number_variable(alloc, NumberVariable::Locator)?;
-    let Some(NumberVariableResult::Regular(MaybeTyped::Typed(number))) = &found else {
-        return Ok(None);
+    let numbers = two_numbers_in(alloc, &samples, &props);
+    drop(props);
+    numbers
+}
+
+/// The two numbers of the locator of these properties.
+fn two_numbers_in<'s>(
+    alloc: Global,
+    samples: &'s [Sample],
+    props: &'s CiteProperties<'s>,
+) -> Result<Option<(Separated, Separated)>, Fail> {
+    let cite = instance(only(samples)?, props);
+    let found = cite.resolve_number_variable(alloc, NumberVariable::Locator)?;
+    let numbers = two_of(&found);
+    drop(found);
+    Ok(numbers)
+}
+
+/// The numbers that were found, where they are two.
+fn two_of(found: &Option<NumberVariableResult<'_>>) -> Option<(Separated, Separated)> {
+    let Some(NumberVariableResult::Regular(MaybeTyped::Typed(number))) = found else {
+        return None;
     };
     let NumericValue::Set(numbers) = &number.as_ref().value else {
-        return Ok(None);
+        return None;
     };
     match numbers.as_slice() {
-        [first, second] => Ok(Some((*first, *second))),
-        _ => Ok(None),
+        [first, second] => Some((*first, *second)),
+        _ => None,
     }
 }
 
@@ -241,10 +274,10 @@ fn text_in<'s>(
     variable: StandardVariable,
 ) -> Result<String, Fail> {
     let cite = instance(only(samples)?, props).clone()?;
-    match cite.resolve_standard_variable(alloc, form, variable)? {
-        Some(found) => text_said(alloc, Some(found.as_ref())),
-        None => text_said(alloc, None),
-    }
+    let found = cite.resolve_standard_variable(alloc, form, variable)?;
+    let text = text_said(alloc, borrowed(&found));
+    drop(found);
+    text
 }
 
 /// The text that the cite answers where entries are told apart in this way.
@@ -256,7 +289,9 @@ fn text(
 ) -> Result<String, Fail> {
     let samples = samples(alloc, "`Nature")?;
     let props = cited(None, None, state(alloc, told)?)?;
-    text_in(alloc, &samples, &props, form, variable)
+    let text = text_in(alloc, &samples, &props, form, variable);
+    drop(props);
+    text
 }
 
 /// The pages that the cite answers.
@@ -275,7 +310,9 @@ fn pages_in<'s>(
 fn pages(alloc: Global) -> Result<String, Fail> {
     let samples = samples(alloc, "`Nature")?;
     let props = cited(None, None, DisambiguateState::YearSuffix(0))?;
-    pages_in(alloc, &samples, &props)
+    let pages = pages_in(alloc, &samples, &props);
+    drop(props);
+    pages
 }
 
 const LONG: LongShortForm = LongShortForm::Long;

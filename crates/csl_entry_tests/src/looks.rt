@@ -1,11 +1,10 @@
-use crate::asked::{assert_answer, borrowed, number_said, only};
+use crate::asked::{assert_answer, borrowed, only, result_said};
 use crate::asserted::assert_of;
 use crate::described::described;
 use crate::instance::cited;
 use csl_entry::{
     CiteProperties, DisambiguateState, EntryLike, InstanceContext, LocatorPayload,
-    NumberOrPageVariableResult, NumberVariableResult, same_date, same_number, same_pages,
-    same_people, same_text,
+    NumberOrPageVariableResult, same_date, same_number, same_pages, same_people, same_text,
 };
 use csl_style::{
     DateVariable, NameVariable, NumberOrPageVariable, NumberVariable, PageVariable,
@@ -29,26 +28,31 @@ enum Sought {
 
 /// The number; behind `p` the pages; behind `'` a text that is neither; behind `@` the index of
 /// what the caller writes; and `none` where there is no answer.
-fn number_or_page(
+fn number_or_page_said(
     alloc: Global,
-    cite: InstanceContext<'_, Entry>,
-    variable: NumberOrPageVariable,
+    found: &Option<NumberOrPageVariableResult<'_>>,
 ) -> Result<String, Fail> {
-    match cite.resolve_number_or_page_variable(alloc, variable)? {
-        Some(NumberOrPageVariableResult::Number(NumberVariableResult::Regular(number))) => {
-            number_said(alloc, &Some(number))
-        }
-        Some(NumberOrPageVariableResult::Number(NumberVariableResult::Transparent(index))) => {
-            Ok(format!(in alloc; "@{index}")?)
-        }
+    match found {
+        Some(NumberOrPageVariableResult::Number(number)) => result_said(alloc, Some(number)),
         Some(NumberOrPageVariableResult::Page(MaybeTyped::Typed(pages))) => {
             Ok(format!(in alloc; "p{pages}")?)
         }
         Some(NumberOrPageVariableResult::Page(MaybeTyped::String(text))) => {
             Ok(format!(in alloc; "'{}", text.as_str())?)
         }
-        None => number_said(alloc, &None),
+        None => result_said(alloc, None),
     }
+}
+
+fn number_or_page(
+    alloc: Global,
+    cite: InstanceContext<'_, Entry>,
+    variable: NumberOrPageVariable,
+) -> Result<String, Fail> {
+    let found = cite.resolve_number_or_page_variable(alloc, variable)?;
+    let said = number_or_page_said(alloc, &found);
+    drop(found);
+    said
 }
 
 fn names(
@@ -104,7 +108,9 @@ fn found(alloc: Global, description: &str, sought: Sought) -> Result<String, Fai
         Some(LocatorPayload::Transparent),
         DisambiguateState::None,
     )?;
-    found_in(alloc, &entries, &props, sought)
+    let found = found_in(alloc, &entries, &props, sought);
+    drop(props);
+    found
 }
 
 const BOOK: &str = "book; authors Ann, Ben; date 2014; volume 3; pages 7-9; title Nature";
@@ -180,7 +186,10 @@ fn same_title(alloc: Global, left: &Entry, right: &Entry) -> Result<bool, Fail> 
 fn same_volume(alloc: Global, left: &Entry, right: &Entry) -> Result<bool, Fail> {
     let volume = left.resolve_number_variable(alloc, NumberVariable::Volume)?;
     let other = right.resolve_number_variable(alloc, NumberVariable::Volume)?;
-    Ok(same_number(&volume, &other))
+    let same = same_number(&volume, &other);
+    drop(volume);
+    drop(other);
+    Ok(same)
 }
 
 fn same_page_range(alloc: Global, left: &Entry, right: &Entry) -> Result<bool, Fail> {

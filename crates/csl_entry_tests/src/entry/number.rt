@@ -10,7 +10,9 @@ fn number(alloc: Global, description: &str, variable: NumberVariable) -> Result<
     let works = described(alloc, description)?;
     let entry = only(&works)?;
     let found = entry.resolve_number_variable(alloc, variable)?;
-    number_said(alloc, &found)
+    let number = number_said(alloc, found.as_ref());
+    drop(found);
+    number
 }
 
 /// Asserts the number; behind `'` a text that is no number; or `none`.

@@ -1,4 +1,4 @@
-use crate::asked::{assert_answer, only, text_said};
+use crate::asked::{assert_answer, borrowed, only, text_said};
 use crate::asserted::assert_of;
 use crate::described::described;
 use csl_entry::EntryLike;
@@ -18,10 +18,10 @@ fn text(
 ) -> Result<String, Fail> {
     let works = described(alloc, description)?;
     let entry = only(&works)?;
-    match entry.resolve_standard_variable(alloc, form, variable)? {
-        Some(found) => text_said(alloc, Some(found.as_ref())),
-        None => text_said(alloc, None),
-    }
+    let found = entry.resolve_standard_variable(alloc, form, variable)?;
+    let text = text_said(alloc, borrowed(&found));
+    drop(found);
+    text
 }
 
 fn assert_text(
