@@ -3,7 +3,7 @@
 ghost use Rattle.std.specs.Prelude.{◌≡◌, ◌↔◌, IsTrue};
 ghost use Rattle.lit_model.specs.Work.{spelled, works};
 
-use crate::samples::{Shown, Work, entries};
+use crate::samples::{Shown, Work, entries, put};
 use lit_model::{Entry, EntryType, Memory};
 use std::alloc::Global;
 use std::process::Abort;
@@ -40,7 +40,7 @@ fn assert_same(
     let mut entries = entries(alloc, works)?;
     if let [entry] = entries.as_slice() {
         let copy = entry.clone(alloc)?;
-        entries.push(copy)?;
+        put(&mut entries, copy)?;
     }
     assert_eq!(rt; are_same(entries.as_slice()), Some(wanted), "of {works:?}");
     Ok(())

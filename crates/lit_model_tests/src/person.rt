@@ -5,7 +5,7 @@ ghost use Rattle.lit_model.specs.Person.{named, role_of, group_of};
 ghost use Rattle.lit_model.specs.contracts.person.PersonHash.TheImpl.{hash_input-value as hash_person};
 
 use crate::asserted::assert_of;
-use crate::samples::{assert_text, assert_whether, person};
+use crate::samples::{alone, assert_text, assert_whether, person};
 use lit_model::{Memory, Person, PersonRole, PersonsWithRoles};
 use std::alloc::Global;
 use std::process::Abort;
@@ -179,8 +179,7 @@ fn van_gogh(alloc: Global) -> Result<Person, Memory> {
 }
 
 fn group(alloc: Global) -> Result<PersonsWithRoles, Memory> {
-    let mut names = Vec::new(alloc);
-    names.push(van_gogh(alloc)?)?;
+    let names = alone(alloc, van_gogh(alloc)?)?;
     let role = muse(alloc)?;
     Ok(PersonsWithRoles { names, role })
 }

@@ -1,6 +1,6 @@
 //! Persons that show the same.
 
-use crate::samples::{assert_whether, person};
+use crate::samples::{assert_whether, person, put};
 use lit_model::{Memory, Person, show_same};
 use std::alloc::Global;
 use std::process::Abort;
@@ -78,7 +78,7 @@ fn each_text_of_a_person_counts(rt: HostRuntime) -> Result<(), Memory> {
 fn people(alloc: Global, names: &str) -> Result<Vec<Person>, Memory> {
     let mut people = Vec::new(alloc);
     for name in names.split_whitespace() {
-        people.push(person(alloc, name, None)?)?;
+        put(&mut people, person(alloc, name, None)?)?;
     }
     Ok(people)
 }

@@ -7,6 +7,18 @@ use lit_model::{
 use std::alloc::Global;
 use std::process::Abort;
 
+/// A list of one.
+pub fn alone<T: Drop>(alloc: Global, item: T) -> Result<Vec<T>, Memory> {
+    let mut items = Vec::new(alloc);
+    put(&mut items, item)?;
+    Ok(items)
+}
+
+/// Adds an item to a list.
+pub fn put<T: Drop>(items: &mut Vec<T>, item: T) -> Result<(), Memory> {
+    Ok(items.push(item)?)
+}
+
 /// A person with a name, and a given name where there is one.
 pub fn person(alloc: Global, name: &str, given: Option<&str>) -> Result<Person, Memory> {
     let given_name = match given {
@@ -85,7 +97,7 @@ pub fn entries(alloc: Global, works: &[Work]) -> Result<Vec<Entry>, Memory> {
     for (key, kind, shown, parents) in works {
         let first = entries.len().saturating_sub(*parents);
         let parents = entries.split_off(first)?;
-        entries.push(entry(alloc, (key, *kind, *shown), parents)?)?;
+        put(&mut entries, entry(alloc, (key, *kind, *shown), parents)?)?;
     }
     Ok(entries)
 }

@@ -1,11 +1,9 @@
 //! What is selected of a work and its parents.
 
 use crate::asserted::{assert_of, assert_same};
-use crate::samples::{Shown, Work, assert_text, entries, person};
+use crate::samples::{Shown, Work, alone, assert_text, entries, person, put};
 use lit_model::select::{audio_video, chapter, event, part, volume_title};
-use lit_model::{
-    Bind, Clause, Entry, EntryType, Field, Memory, Person, PersonRole, PersonsWithRoles,
-};
+use lit_model::{Bind, Clause, Entry, EntryType, Field, Memory, PersonRole, PersonsWithRoles};
 use std::alloc::Global;
 use std::process::Abort;
 
@@ -300,16 +298,9 @@ fn the_first_date_of_a_family(rt: HostRuntime) -> Result<(), Memory> {
     Ok(())
 }
 
-/// A person, alone in a list.
-fn alone(alloc: Global, name: &str) -> Result<Vec<Person>, Memory> {
-    let mut names = Vec::new(alloc);
-    names.push(person(alloc, name, None)?)?;
-    Ok(names)
-}
-
 /// A director, or a writer.
 fn group(alloc: Global, name: &str, is_director: bool) -> Result<PersonsWithRoles, Memory> {
-    let names = alone(alloc, name)?;
+    let names = alone(alloc, person(alloc, name, None)?)?;
     let role = if is_director {
         PersonRole::Director
     } else {
@@ -320,9 +311,9 @@ fn group(alloc: Global, name: &str, is_director: bool) -> Result<PersonsWithRole
 
 fn crew(alloc: Global) -> Result<Vec<PersonsWithRoles>, Memory> {
     let mut groups = Vec::new(alloc);
-    groups.push(group(alloc, "Ann", true)?)?;
-    groups.push(group(alloc, "Ben", false)?)?;
-    groups.push(group(alloc, "Cid", true)?)?;
+    put(&mut groups, group(alloc, "Ann", true)?)?;
+    put(&mut groups, group(alloc, "Ben", false)?)?;
+    put(&mut groups, group(alloc, "Cid", true)?)?;
     Ok(groups)
 }
 
@@ -343,12 +334,19 @@ fn directors<'e>(alloc: Global, film: &'e Entry) -> Result<(&'e str, &'e str), M
 }
 
 /// The film's directors are Ann and Cid.
-fn assert_directors(rt: &impl Abort, alloc: Global) -> Result<(), Memory> {
-    let film = film(alloc)?;
-    let (first, second) = directors(alloc, &film)?;
+fn assert_directors_of(rt: &impl Abort, alloc: Global, film: &Entry) -> Result<(), Memory> {
+    let (first, second) = directors(alloc, film)?;
     assert_text(rt, first, "Ann", "the first");
     assert_text(rt, second, "Cid", "the second");
     Ok(())
+}
+
+/// The same of a film that is made for it.
+fn assert_directors(rt: &impl Abort, alloc: Global) -> Result<(), Memory> {
+    let film = film(alloc)?;
+    let asserted = assert_directors_of(rt, alloc, &film);
+    drop(film);
+    asserted
 }
 
 #[test]
