@@ -124,11 +124,12 @@ pub(crate) fn metropolis(alloc: Global) -> Result<Film, Fail> {
     let shown = Date::new(1927, None, None, None, false).ok_or("a year")?;
     let pages = PageRanges::parse(alloc, "7")?;
     let title = pieces(alloc, "a.+`b.+$c.")?;
+    let director = person(alloc, "Lang")?;
     Ok(Film {
         number: Numeric::new(20),
         pages,
         title,
-        director: person(alloc, "Lang")?,
+        director,
         shown,
     })
 }

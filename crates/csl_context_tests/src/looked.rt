@@ -11,8 +11,9 @@ use lit_model::LongShortForm;
 
 /// Which of five variables are found by silent looks.
 fn found(ctx: &Context<'_, Film>) -> Result<[bool; 5], RenderError> {
-    let title = ctx.peek_standard_variable(LongShortForm::Short, StandardVariable::Title)?;
-    let title = title.is_some();
+    let title = ctx
+        .peek_standard_variable(LongShortForm::Short, StandardVariable::Title)?
+        .is_some();
     let number = ctx.peek_number_variable(NumberVariable::Volume)?.is_some();
     let page = ctx.peek_page_variable(PageVariable::Page)?.is_some();
     let date = ctx.peek_date_variable(DateVariable::Issued)?.is_some();

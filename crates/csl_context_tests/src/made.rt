@@ -31,6 +31,18 @@ pub(crate) fn pieces(alloc: Global, text: &str) -> Result<ChunkedString, AllocEr
     Ok(ChunkedString(chunks))
 }
 
+/// A list of one.
+pub(crate) fn alone<T: Drop>(alloc: Global, item: T) -> Result<Vec<T>, AllocError> {
+    let mut items = Vec::new(alloc);
+    put(&mut items, item)?;
+    Ok(items)
+}
+
+/// Adds an item to a list.
+fn put<T: Drop>(items: &mut Vec<T>, item: T) -> Result<(), AllocError> {
+    Ok(items.push(item)?)
+}
+
 /// A term, its form, its text for one and that for several.
 type TermRow = (Term, TermForm, &'static str, &'static str);
 
@@ -64,13 +76,15 @@ fn terms(alloc: Global, rows: &[TermRow]) -> Result<Vec<TermEntry>, AllocError> 
     let mut terms = Vec::new(alloc);
     for (term, form, single, multiple) in rows {
         let single = String::from_str(alloc, *single)?;
-        terms.push(TermEntry {
+        let multiple = String::from_str(alloc, *multiple)?;
+        let entry = TermEntry {
             term: *term,
             form: *form,
             single,
-            multiple: Some(String::from_str(alloc, *multiple)?),
+            multiple: Some(multiple),
             gender: Some(GrammarGender::Feminine),
-        })?;
+        };
+        put(&mut terms, entry)?;
     }
     Ok(terms)
 }
@@ -79,12 +93,13 @@ fn terms(alloc: Global, rows: &[TermRow]) -> Result<Vec<TermEntry>, AllocError> 
 fn ordinals(alloc: Global) -> Result<Vec<OrdinalTerm>, AllocError> {
     let mut ordinals = Vec::new(alloc);
     for (slot, text) in [(OrdinalSlot::Default, "th"), (OrdinalSlot::Two(1), "st")] {
-        ordinals.push(OrdinalTerm {
+        let ordinal = OrdinalTerm {
             slot,
             matching: None,
             gender: None,
             text: String::from_str(alloc, text)?,
-        })?;
+        };
+        put(&mut ordinals, ordinal)?;
     }
     Ok(ordinals)
 }
@@ -101,7 +116,7 @@ fn dates(alloc: Global) -> Result<Vec<Date>, AllocError> {
         affixes: Affixes::default(),
         display: None,
     };
-    Ok(vec![in alloc; date]?)
+    alone(alloc, date)
 }
 
 /// The one locale. A comma or period behind a closing quote goes before it.
@@ -116,39 +131,32 @@ fn locales(alloc: Global) -> Result<Vec<Locale>, AllocError> {
         punctuation_in_quote: true,
         limit_day_ordinals_to_day_1: false,
     };
-    Ok(vec![in alloc; locale]?)
+    alone(alloc, locale)
 }
 
-/// Options of names that set two texts or one.
-fn options(
+/// Has options of names set a delimiter.
+fn delimit(
     alloc: Global,
+    options: &mut InheritableNameOptions,
     delimiter: &str,
-    sort_separator: Option<&str>,
-) -> Result<InheritableNameOptions, AllocError> {
-    let delimiter = String::from_str(alloc, delimiter)?;
-    let sort_separator = match sort_separator {
-        Some(text) => Some(String::from_str(alloc, text)?),
-        None => None,
-    };
-    Ok(InheritableNameOptions {
-        delimiter: Some(delimiter),
-        sort_separator,
-        ..InheritableNameOptions::default()
-    })
+) -> Result<(), AllocError> {
+    options.delimiter = Some(String::from_str(alloc, delimiter)?);
+    Ok(())
+}
+
+/// Has the options of names set what the settings say.
+fn set_names(alloc: Global, settings: &mut StyleSettings) -> Result<(), AllocError> {
+    settings.names.sort_separator = Some(String::from_str(alloc, "s")?);
+    delimit(alloc, &mut settings.names, "n")?;
+    delimit(alloc, &mut settings.citation_names, "c")?;
+    delimit(alloc, &mut settings.bibliography_names, "b")
 }
 
 /// Settings: names are delimited by `n`, in the citation by `c`, in the bibliography by `b`; the
 /// sort separator is `s`.
 fn settings(alloc: Global) -> Result<StyleSettings, AllocError> {
-    let names = options(alloc, "n", Some("s"))?;
-    let citation_names = options(alloc, "c", None)?;
-    let bibliography_names = options(alloc, "b", None)?;
-    Ok(StyleSettings {
-        names,
-        citation_names,
-        bibliography_names,
-        ..StyleSettings::default()
-    })
+    let mut settings = StyleSettings::default();
+    set_names(alloc, &mut settings).and(Ok(settings))
 }
 
 /// A layout without elements.
@@ -162,8 +170,8 @@ fn empty_layout(alloc: Global) -> Layout {
 
 /// A style of these settings and this locale, without macros and elements.
 pub(crate) fn style(alloc: Global) -> Result<Style, Fail> {
-    let settings = settings(alloc)?;
     let locales = locales(alloc)?;
+    let settings = settings(alloc)?;
     Ok(Style::new(
         alloc,
         settings,

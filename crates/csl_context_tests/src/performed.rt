@@ -7,7 +7,7 @@ use crate::asked::{
 };
 use crate::film::{Film, UNANSWERED, metropolis};
 use crate::looked::{look, look_and_suppress, suppress_genre};
-use crate::made::{affixes, style};
+use crate::made::{affixes, alone, style};
 use crate::said::say;
 use crate::written::{
     affix, discard, format, join, nest, quote, quote_twice, space, splice, strip, write_pieces,
@@ -84,6 +84,40 @@ struct World<'s> {
     affixes: &'s Affixes,
 }
 
+/// What a world lends, each alone in a list.
+#[derive(Drop)]
+struct Things {
+    styles: Vec<Style>,
+    films: Vec<Film>,
+    cites: Vec<CiteProperties<'static>>,
+    affixes: Affixes,
+}
+
+/// The things of the tests.
+fn new_things(alloc: Global) -> Result<Things, Fail> {
+    let styles = alone(alloc, style(alloc)?)?;
+    let films = alone(alloc, metropolis(alloc)?)?;
+    let cite = CiteProperties::first(DisambiguateState::Choose);
+    let cites = alone(alloc, cite)?;
+    Ok(Things {
+        styles,
+        films,
+        cites,
+        affixes: affixes(alloc)?,
+    })
+}
+
+/// The world of these things.
+fn world_of<'s>(alloc: Global, things: &'s Things) -> Result<World<'s>, Fail> {
+    Ok(World {
+        alloc,
+        style: things.styles.first().ok_or("a style")?,
+        film: things.films.first().ok_or("a film")?,
+        cite: things.cites.first().ok_or("a cite")?,
+        affixes: &things.affixes,
+    })
+}
+
 /// The cite, as it is sorted by a macro, without its author.
 fn instance<'s>(world: World<'s>) -> InstanceContext<'s, Film> {
     InstanceContext {
@@ -130,7 +164,11 @@ fn made<'s>(
     let mut ctx = begun(world, before)?;
     match perform(&mut ctx, world.affixes, act) {
         Ok(()) => ctx.finish(),
-        Err(error) => Err(refused(&mut ctx, error)),
+        Err(error) => {
+            let error = refused(&mut ctx, error);
+            drop(ctx);
+            Err(error)
+        }
     }
 }
 
@@ -143,32 +181,32 @@ fn rendered<'s>(world: World<'s>, before: Option<&Rendered>, act: Act) -> Result
     }
 }
 
-/// The last of one act or two, in words.
-fn said_in<'s>(world: World<'s>, act: Act, next: Option<Act>) -> Result<String, Fail> {
+/// The last of one act or two in a world of these things, in words.
+fn said_in(alloc: Global, things: &Things, act: Act, next: Option<Act>) -> Result<String, Fail> {
+    let world = world_of(alloc, things)?;
     let first = rendered(world, None, act)?;
-    match next {
+    let said = match next {
         None => say(world.alloc, &first),
-        Some(act) => {
-            let next = rendered(world, Some(&first), act)?;
-            say(world.alloc, &next)
-        }
-    }
+        Some(act) => said_behind(world, &first, act),
+    };
+    drop(first);
+    said
+}
+
+/// What an act makes and leaves behind another, in words.
+fn said_behind<'s>(world: World<'s>, before: &Rendered, act: Act) -> Result<String, Fail> {
+    let made = rendered(world, Some(before), act)?;
+    let said = say(world.alloc, &made);
+    drop(made);
+    said
 }
 
 /// The same in a world that is made for it.
 fn said(alloc: Global, act: Act, next: Option<Act>) -> Result<String, Fail> {
-    let style = style(alloc)?;
-    let film = metropolis(alloc)?;
-    let cite = CiteProperties::first(DisambiguateState::Choose);
-    let affixes = affixes(alloc)?;
-    let world = World {
-        alloc,
-        style: &style,
-        film: &film,
-        cite: &cite,
-        affixes: &affixes,
-    };
-    said_in(world, act, next)
+    let things = new_things(alloc)?;
+    let said = said_in(alloc, &things, act, next);
+    drop(things);
+    said
 }
 
 /// What a context answers to a silent look for which the entry has no memory, to such a look for
@@ -176,7 +214,8 @@ fn said(alloc: Global, act: Act, next: Option<Act>) -> Result<String, Fail> {
 /// failed behind the first and behind the third.
 type Refusals = ([Option<RenderError>; 4], [bool; 2]);
 
-fn refusals_in<'s>(world: World<'s>) -> Result<Refusals, Fail> {
+fn refusals_in(alloc: Global, things: &Things) -> Result<Refusals, Fail> {
+    let world = world_of(alloc, things)?;
     let mut ctx = Context::new(world.alloc, world.style, instance(world), Scope::Citation)?;
     let looked = refused_look(&ctx);
     let had_failed = ctx.has_failed();
@@ -198,17 +237,10 @@ fn refused_look(ctx: &Context<'_, Film>) -> Option<RenderError> {
 
 /// The same in a world that is made for it.
 fn refusals(alloc: Global) -> Result<Refusals, Fail> {
-    let style = style(alloc)?;
-    let film = metropolis(alloc)?;
-    let cite = CiteProperties::first(DisambiguateState::Choose);
-    let affixes = affixes(alloc)?;
-    refusals_in(World {
-        alloc,
-        style: &style,
-        film: &film,
-        cite: &cite,
-        affixes: &affixes,
-    })
+    let things = new_things(alloc)?;
+    let refusals = refusals_in(alloc, &things);
+    drop(things);
+    refusals
 }
 
 fn assert_said(rt: &impl Abort, said: &str, wanted: &str, act: Act) {
