@@ -34,12 +34,13 @@ fn options_have_their_defaults(rt: HostRuntime) {
     );
 }
 
-fn assert_name(rt: &impl Abort, name: &Name) {
+fn assert_name(rt: &impl Abort, name: Name) {
     assert_same(rt, &name.options.form, &None);
     assert_same(rt, &name.parts.len(), &0);
+    drop(name);
 }
 
-fn assert_settings(rt: &impl Abort, settings: &StyleSettings) {
+fn assert_settings(rt: &impl Abort, settings: StyleSettings) {
     assert_same(rt, &settings.page_range_format, &None);
     assert_same(
         rt,
@@ -48,14 +49,13 @@ fn assert_settings(rt: &impl Abort, settings: &StyleSettings) {
     );
     assert_same(rt, &settings.initialize_with_hyphen, &true);
     assert_same(rt, &settings.names.et_al_min, &None);
+    drop(settings);
 }
 
 #[test]
 fn names_and_settings_of_which_nothing_is_said(rt: HostRuntime) {
-    let name = Name::new(rt.alloc());
-    assert_name(&rt, &name);
+    assert_name(&rt, Name::new(rt.alloc()));
     assert_same(&rt, &EtAl::default().term, &OtherTerm::EtAl);
     assert_same(&rt, &VariablelessLabel::default().form, &TermForm::Long);
-    let settings = StyleSettings::default();
-    assert_settings(&rt, &settings);
+    assert_settings(&rt, StyleSettings::default());
 }

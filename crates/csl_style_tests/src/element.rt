@@ -1,7 +1,7 @@
 //! The nodes that hold nodes.
 
 use crate::asserted::assert_same;
-use crate::made::branch;
+use crate::made::{branch, put};
 use csl_style::{Choose, ChooseMatch};
 use std::alloc::{AllocError, Global};
 use std::process::Abort;
@@ -15,7 +15,7 @@ fn new_choose(
 ) -> Result<Choose, AllocError> {
     let mut else_if = Vec::new(alloc);
     for match_ in others {
-        else_if.push(branch(*match_, None, Vec::new(alloc)))?;
+        put(&mut else_if, branch(*match_, None, Vec::new(alloc)))?;
     }
     Ok(Choose {
         if_: branch(first, None, Vec::new(alloc)),
@@ -44,11 +44,23 @@ fn assert_matches(
     Ok(())
 }
 
+/// The branches of a choose of branches that match so come in this order.
+fn assert_in_order(
+    rt: &impl Abort,
+    alloc: Global,
+    (first, others): (ChooseMatch, &[ChooseMatch]),
+    wanted: &[ChooseMatch],
+) -> Result<(), AllocError> {
+    let choose = new_choose(alloc, first, others)?;
+    let asserted = assert_matches(rt, alloc, &choose, wanted);
+    drop(choose);
+    asserted
+}
+
 #[test]
 fn branches_come_in_order(rt: HostRuntime) -> Result<(), Fail> {
     let others = [ChooseMatch::None, ChooseMatch::Any];
-    let choose = new_choose(rt.alloc(), ChooseMatch::All, &others)?;
     let wanted = [ChooseMatch::All, ChooseMatch::None, ChooseMatch::Any];
-    assert_matches(&rt, rt.alloc(), &choose, &wanted)?;
+    assert_in_order(&rt, rt.alloc(), (ChooseMatch::All, &others), &wanted)?;
     Ok(())
 }

@@ -243,6 +243,7 @@ fn assert_terms(rt: &impl Abort, style: &Style) {
 fn assert_texts(rt: &impl Abort, alloc: Global) -> Result<(), Fail> {
     let style = style(alloc, &TERMS)?;
     assert_terms(rt, &style);
+    drop(style);
     Ok(())
 }
 
@@ -319,6 +320,7 @@ fn assert_gender_and_date(
 fn assert_genders(rt: &impl Abort, alloc: Global, row: &GenderRow) -> Result<(), Fail> {
     let style = style(alloc, row.0)?;
     assert_gender_and_date(rt, &style, row);
+    drop(style);
     Ok(())
 }
 

@@ -65,10 +65,15 @@ pub(crate) fn date(
     }
 }
 
+/// Appends an item.
+pub(crate) fn put<T: Drop>(items: &mut Vec<T>, item: T) -> Result<(), AllocError> {
+    Ok(items.push(item)?)
+}
+
 /// A list of one item.
 pub(crate) fn one<T: Drop>(alloc: Global, item: T) -> Result<Vec<T>, AllocError> {
     let mut items = Vec::new(alloc);
-    items.push(item)?;
+    put(&mut items, item)?;
     Ok(items)
 }
 
@@ -96,7 +101,7 @@ fn term(
 fn terms(alloc: Global, rows: &[TermRow<'_>]) -> Result<Vec<TermEntry>, AllocError> {
     let mut terms = Vec::new(alloc);
     for row in rows {
-        terms.push(term(alloc, row)?)?;
+        put(&mut terms, term(alloc, row)?)?;
     }
     Ok(terms)
 }
@@ -116,7 +121,7 @@ fn ordinal(
 fn ordinals(alloc: Global, rows: &[OrdinalRow<'_>]) -> Result<Vec<OrdinalTerm>, AllocError> {
     let mut ordinals = Vec::new(alloc);
     for row in rows {
-        ordinals.push(ordinal(alloc, row)?)?;
+        put(&mut ordinals, ordinal(alloc, row)?)?;
     }
     Ok(ordinals)
 }
@@ -124,7 +129,7 @@ fn ordinals(alloc: Global, rows: &[OrdinalRow<'_>]) -> Result<Vec<OrdinalTerm>, 
 fn dates(alloc: Global, rows: &[(DateForm, DateParts)]) -> Result<Vec<Date>, AllocError> {
     let mut dates = Vec::new(alloc);
     for (form, parts) in rows {
-        dates.push(date(alloc, None, Some(*form), Some(*parts)))?;
+        put(&mut dates, date(alloc, None, Some(*form), Some(*parts)))?;
     }
     Ok(dates)
 }
@@ -145,7 +150,7 @@ fn locale(alloc: Global, rows: &LocaleRows<'_>) -> Result<Locale, AllocError> {
 pub(crate) fn locales(alloc: Global, rows: &[LocaleRows<'_>]) -> Result<Vec<Locale>, AllocError> {
     let mut locales = Vec::new(alloc);
     for row in rows {
-        locales.push(locale(alloc, row)?)?;
+        put(&mut locales, locale(alloc, row)?)?;
     }
     Ok(locales)
 }
@@ -247,11 +252,14 @@ fn node_around(
             else_if: Vec::new(alloc),
             otherwise: None,
         })),
-        Around::ElseIf(told) => Ok(LayoutRenderingElement::Choose(Choose {
-            if_: branch(ChooseMatch::All, told, Vec::new(alloc)),
-            else_if: one(alloc, branch(ChooseMatch::All, told, children))?,
-            otherwise: None,
-        })),
+        Around::ElseIf(told) => {
+            let else_if = one(alloc, branch(ChooseMatch::All, told, children))?;
+            Ok(LayoutRenderingElement::Choose(Choose {
+                if_: branch(ChooseMatch::All, told, Vec::new(alloc)),
+                else_if,
+                otherwise: None,
+            }))
+        }
         Around::Else(told) => Ok(LayoutRenderingElement::Choose(Choose {
             if_: branch(ChooseMatch::All, told, Vec::new(alloc)),
             else_if: Vec::new(alloc),
@@ -302,7 +310,7 @@ fn texts(alloc: Global, words: &[&str]) -> Result<Vec<LayoutRenderingElement>, A
     let mut texts = Vec::new(alloc);
     for word in words {
         if read_around(*word).is_none() {
-            texts.push(text(target(alloc, *word)?))?;
+            put(&mut texts, text(target(alloc, *word)?))?;
         }
     }
     Ok(texts)
@@ -341,7 +349,7 @@ fn macro_of(alloc: Global, line: &str) -> Result<CslMacro, AllocError> {
 fn macros(alloc: Global, lines: &[&str]) -> Result<Vec<CslMacro>, AllocError> {
     let mut macros = Vec::new(alloc);
     for line in lines {
-        macros.push(macro_of(alloc, line)?)?;
+        put(&mut macros, macro_of(alloc, line)?)?;
     }
     Ok(macros)
 }
@@ -393,9 +401,7 @@ pub(crate) fn style(alloc: Global, rows: &StyleRows<'_>) -> Result<Style, StyleE
         Some(line) => Some(layout(alloc, line)?),
         None => None,
     };
-    let settings = StyleSettings {
-        page_range_format: rows.format,
-        ..StyleSettings::default()
-    };
+    let mut settings = StyleSettings::default();
+    settings.page_range_format = rows.format;
     Style::new(alloc, settings, macros, citation, bibliography, locales)
 }

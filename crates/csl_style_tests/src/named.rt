@@ -2,7 +2,7 @@
 
 use crate::asserted::assert_text;
 use crate::made::{
-    EMPTY, StyleRows, branch, date, group, layout_of, names, names_or, one, style, text,
+    EMPTY, StyleRows, branch, date, group, layout_of, names, names_or, one, put, style, text,
 };
 use csl_style::{
     Affixes, Choose, ChooseBranch, ChooseMatch, DateVariable, Formatting, Kind, Label, Layout,
@@ -25,7 +25,9 @@ fn said(alloc: Global, named: &Named) -> Result<String, Fail> {
 /// What a layout of a style names.
 fn named_in(alloc: Global, style: &Style, layout: &Layout) -> Result<String, Fail> {
     let named = named_by(alloc, style, layout)?;
-    said(alloc, &named)
+    let said = said(alloc, &named);
+    drop(named);
+    said
 }
 
 fn assert_said(
@@ -81,7 +83,9 @@ fn assert_line(
         ..EMPTY
     };
     let style = style(alloc, &rows)?;
-    assert_said(rt, alloc, &style, style.citation(), wanted)
+    let asserted = assert_said(rt, alloc, &style, style.citation(), wanted);
+    drop(style);
+    asserted
 }
 
 #[test]
@@ -131,7 +135,7 @@ fn push_leaves(
     leaves: &[Leaf],
 ) -> Result<(), AllocError> {
     for row in leaves {
-        nodes.push(make_leaf(alloc, row))?;
+        put(nodes, make_leaf(alloc, row))?;
     }
     Ok(())
 }
@@ -148,7 +152,7 @@ fn push_group(
     nodes: &mut Vec<LayoutRenderingElement>,
     rows: &[Leaf],
 ) -> Result<(), AllocError> {
-    Ok(nodes.push(group(leaves(alloc, rows)?))?)
+    put(nodes, group(leaves(alloc, rows)?))
 }
 
 const VOLUME: NumberOrPageVariable = NumberOrPageVariable::Number(NumberVariable::Volume);
@@ -206,23 +210,25 @@ fn reference(alloc: Global) -> Result<Layout, AllocError> {
 
 /// Where the entry is a book with a numeric edition.
 fn numeric_book(alloc: Global) -> Result<ChooseBranch, AllocError> {
-    Ok(ChooseBranch {
-        is_numeric: Some(vec![in alloc; Variable::Number(NumberVariable::Edition)]?),
-        type_: Some(vec![in alloc; Kind::Book]?),
-        ..branch(ChooseMatch::All, None, Vec::new(alloc))
-    })
+    let numbers = vec![in alloc; Variable::Number(NumberVariable::Edition)]?;
+    let kinds = vec![in alloc; Kind::Book]?;
+    let mut if_ = branch(ChooseMatch::All, None, Vec::new(alloc));
+    if_.is_numeric = Some(numbers);
+    if_.type_ = Some(kinds);
+    Ok(if_)
 }
 
 /// Where the date of issue is uncertain, or there are pages or a locator.
 fn uncertain_or_placed(alloc: Global) -> Result<ChooseBranch, AllocError> {
-    Ok(ChooseBranch {
-        is_uncertain_date: Some(vec![in alloc; DateVariable::Issued]?),
-        variable: Some(vec![in alloc;
-            Variable::Page(PageVariable::Page),
-            Variable::Number(NumberVariable::Locator),
-        ]?),
-        ..branch(ChooseMatch::Any, None, Vec::new(alloc))
-    })
+    let dates = vec![in alloc; DateVariable::Issued]?;
+    let variables = vec![in alloc;
+        Variable::Page(PageVariable::Page),
+        Variable::Number(NumberVariable::Locator),
+    ]?;
+    let mut if_ = branch(ChooseMatch::Any, None, Vec::new(alloc));
+    if_.is_uncertain_date = Some(dates);
+    if_.variable = Some(variables);
+    Ok(if_)
 }
 
 /// A layout of a choice of one branch.
@@ -244,14 +250,27 @@ static NUMBERS: [Leaf; 5] = [
     Leaf::Number(PAGE),
 ];
 
-fn assert_layout(
+fn assert_in_empty_style(
     rt: &impl Abort,
     alloc: Global,
     layout: &Layout,
     wanted: &'static str,
 ) -> Result<(), Fail> {
     let style = style(alloc, &EMPTY)?;
-    assert_said(rt, alloc, &style, layout, wanted)
+    let asserted = assert_said(rt, alloc, &style, layout, wanted);
+    drop(style);
+    asserted
+}
+
+fn assert_layout(
+    rt: &impl Abort,
+    alloc: Global,
+    layout: Layout,
+    wanted: &'static str,
+) -> Result<(), Fail> {
+    let asserted = assert_in_empty_style(rt, alloc, &layout, wanted);
+    drop(layout);
+    asserted
 }
 
 fn assert_choice(
@@ -260,28 +279,25 @@ fn assert_choice(
     branch: ChooseBranch,
     wanted: &'static str,
 ) -> Result<(), Fail> {
-    let layout = choice(alloc, branch)?;
-    assert_layout(rt, alloc, &layout, wanted)
+    assert_layout(rt, alloc, choice(alloc, branch)?, wanted)
 }
 
 #[test]
 fn author_date_names_author_and_date(rt: HostRuntime) -> Result<(), Fail> {
-    let layout = author_date(rt.alloc())?;
     assert_layout(
         &rt,
         rt.alloc(),
-        &layout,
+        author_date(rt.alloc())?,
         "numbers {} pages {} standards {} names {Author} dates {Issued} kinds {}",
     )
 }
 
 #[test]
 fn reference_names_authors_and_editors(rt: HostRuntime) -> Result<(), Fail> {
-    let layout = reference(rt.alloc())?;
     assert_layout(
         &rt,
         rt.alloc(),
-        &layout,
+        reference(rt.alloc())?,
         "numbers {Volume} pages {Page} standards {ContainerTitle, DOI, Title} \
          names {Author, Editor} dates {Issued} kinds {}",
     )
@@ -305,11 +321,10 @@ fn tests_of_branches_are_named(rt: HostRuntime) -> Result<(), Fail> {
 
 #[test]
 fn what_the_citation_answers_is_not_named(rt: HostRuntime) -> Result<(), Fail> {
-    let layout = layout_of(leaves(rt.alloc(), &NUMBERS)?);
     assert_layout(
         &rt,
         rt.alloc(),
-        &layout,
+        layout_of(leaves(rt.alloc(), &NUMBERS)?),
         "numbers {Volume} pages {Page} standards {} names {} dates {} kinds {}",
     )
 }

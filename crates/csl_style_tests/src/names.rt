@@ -33,28 +33,28 @@ fn options_that_are_not_set_have_their_defaults(rt: HostRuntime) {
 
 /// Options that a node inherits: two delimiters and a limit.
 fn around(alloc: Global) -> Result<InheritableNameOptions, AllocError> {
-    Ok(InheritableNameOptions {
-        delimiter: copy_text(alloc, Some("; "))?,
-        names_delimiter: copy_text(alloc, Some(" | "))?,
-        et_al_min: Some(4),
-        ..InheritableNameOptions::default()
-    })
+    let delimiter = copy_text(alloc, Some("; "))?;
+    let names_delimiter = copy_text(alloc, Some(" | "))?;
+    let mut around = InheritableNameOptions::default();
+    around.delimiter = delimiter;
+    around.names_delimiter = names_delimiter;
+    around.et_al_min = Some(4);
+    Ok(around)
 }
 
 /// A node's own options: an empty delimiter and a form.
 fn own(alloc: Global) -> InheritableNameOptions {
-    InheritableNameOptions {
-        delimiter: Some(String::new(alloc)),
-        form: Some(NameForm::Short),
-        ..InheritableNameOptions::default()
-    }
+    let mut own = InheritableNameOptions::default();
+    own.delimiter = Some(String::new(alloc));
+    own.form = Some(NameForm::Short);
+    own
 }
 
 /// What counts where a node's own options stand over those around it.
 fn assert_own_options_count(
     rt: &impl Abort,
-    own: &InheritableNameOptions,
-    around: &InheritableNameOptions,
+    own: InheritableNameOptions,
+    around: InheritableNameOptions,
 ) {
     let options = own.apply(around.as_inherited());
     assert_text(rt, Some(options.names_delimiter()), Some(" | "));
@@ -63,13 +63,14 @@ fn assert_own_options_count(
     assert_same(rt, &options.form, &NameForm::Short);
     assert_same(rt, &options.et_al_min, &Some(4));
     assert_text(rt, Some(options.sort_separator), Some(", "));
+    drop(own);
+    drop(around);
 }
 
 #[test]
 fn own_options_stand_over_inherited_ones(rt: HostRuntime) -> Result<(), Fail> {
     let around = around(rt.alloc())?;
-    let own = own(rt.alloc());
-    assert_own_options_count(&rt, &own, &around);
+    assert_own_options_count(&rt, own(rt.alloc()), around);
     Ok(())
 }
 

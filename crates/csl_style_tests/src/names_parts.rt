@@ -1,7 +1,7 @@
 //! The parts of names: those of a node, and of one that stands in for another.
 
 use crate::asserted::{assert_same, assert_text};
-use crate::made::copy_text;
+use crate::made::{copy_text, put};
 use csl_style::{
     Affixes, Display, EtAl, FontStyle, Formatting, InheritableNameOptions, Name, NameForm,
     NamePart, NamePartName, NameVariable, Names, NamesChild, NamesParts, OtherTerm, Substitute,
@@ -64,10 +64,9 @@ fn new_name(alloc: Global, form: NameForm) -> Name {
 }
 
 fn new_label(form: TermForm) -> VariablelessLabel {
-    VariablelessLabel {
-        form,
-        ..VariablelessLabel::default()
-    }
+    let mut label = VariablelessLabel::default();
+    label.form = form;
+    label
 }
 
 fn new_child(alloc: Global, child: &Child) -> NamesChild {
@@ -87,7 +86,7 @@ fn new_child(alloc: Global, child: &Child) -> NamesChild {
 fn new_children(alloc: Global, rows: &[Child]) -> Result<Vec<NamesChild>, AllocError> {
     let mut children = Vec::new(alloc);
     for row in rows {
-        children.push(new_child(alloc, row))?;
+        put(&mut children, new_child(alloc, row))?;
     }
     Ok(children)
 }
@@ -100,15 +99,18 @@ fn affixes(alloc: Global, own: &Own) -> Result<Affixes, AllocError> {
 }
 
 fn names(alloc: Global, own: &Own, rows: &[Child]) -> Result<Names, AllocError> {
+    let variable = vec![in alloc; own.variable]?;
+    let delimiter = copy_text(alloc, own.delimiter)?;
+    let children = new_children(alloc, rows)?;
+    let affixes = affixes(alloc, own)?;
+    let mut options = InheritableNameOptions::default();
+    options.form = own.form;
     Ok(Names {
-        variable: vec![in alloc; own.variable]?,
-        delimiter: copy_text(alloc, own.delimiter)?,
-        affixes: affixes(alloc, own)?,
-        children: new_children(alloc, rows)?,
-        options: InheritableNameOptions {
-            form: own.form,
-            ..InheritableNameOptions::default()
-        },
+        variable,
+        delimiter,
+        affixes,
+        children,
+        options,
         formatting: slanted(own.font_style),
         display: own.display,
     })
@@ -200,6 +202,7 @@ fn assert_children(
 ) -> Result<(), AllocError> {
     let names = names(alloc, &SILENT, *children)?;
     assert_found(rt, &names, wanted);
+    drop(names);
     Ok(())
 }
 
@@ -243,6 +246,7 @@ fn assert_in_place(
 ) -> Result<(), AllocError> {
     let own = names(alloc, own, &[])?;
     assert_told(rt, &own.parts_in_place_of(original.parts()), wanted);
+    drop(own);
     Ok(())
 }
 
@@ -299,13 +303,24 @@ static SHORTHANDS: [(Own, Told); 2] = [
     ),
 ];
 
-#[test]
-fn a_shorthand_has_its_own_before_those_of_the_original(rt: HostRuntime) -> Result<(), Fail> {
-    let original = names(rt.alloc(), &AUTHORS, &[Child::Name(NameForm::Count)])?;
+fn assert_all_in_place(rt: &impl Abort, alloc: Global, original: &Names) -> Result<(), AllocError> {
     let rows: &[(Own, Told)] = &SHORTHANDS;
     for row in rows {
-        assert_in_place(&rt, rt.alloc(), &original, row)?;
+        assert_in_place(rt, alloc, original, row)?;
     }
+    Ok(())
+}
+
+fn assert_in_place_of_authors(rt: &impl Abort, alloc: Global) -> Result<(), AllocError> {
+    let original = names(alloc, &AUTHORS, &[Child::Name(NameForm::Count)])?;
+    let asserted = assert_all_in_place(rt, alloc, &original);
+    drop(original);
+    asserted
+}
+
+#[test]
+fn a_shorthand_has_its_own_before_those_of_the_original(rt: HostRuntime) -> Result<(), Fail> {
+    assert_in_place_of_authors(&rt, rt.alloc())?;
     Ok(())
 }
 
@@ -313,14 +328,17 @@ fn a_shorthand_has_its_own_before_those_of_the_original(rt: HostRuntime) -> Resu
 type Part = (NamePartName, FontStyle);
 
 fn name_of_parts(alloc: Global, rows: &[Part]) -> Result<Name, AllocError> {
-    let mut name = Name::new(alloc);
+    let mut parts = Vec::new(alloc);
     for (part, font_style) in rows {
-        name.parts.push(NamePart {
+        let part = NamePart {
             name: *part,
             formatting: slanted(Some(*font_style)),
             affixes: Affixes::default(),
-        })?;
+        };
+        put(&mut parts, part)?;
     }
+    let mut name = Name::new(alloc);
+    name.parts = parts;
     Ok(name)
 }
 
@@ -363,6 +381,7 @@ fn assert_slant(
 ) -> Result<(), AllocError> {
     let name = name_of_parts(alloc, *parts)?;
     assert_same(rt, &slant(&name, *asked), wanted);
+    drop(name);
     Ok(())
 }
 

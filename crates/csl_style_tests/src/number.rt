@@ -37,15 +37,18 @@ fn number_node(
 /// The variable of a number that was made a node.
 fn variable_in_node(variable: NumberOrPageVariable) -> Option<NumberOrPageVariable> {
     let formatting = Formatting::default();
-    match number_node(
+    let node = number_node(
         variable,
         NumberForm::Numeric,
         formatting,
         Affixes::default(),
-    ) {
+    );
+    let found = match &node {
         LayoutRenderingElement::Number(number) => Some(number.variable),
         _ => None,
-    }
+    };
+    drop(node);
+    found
 }
 
 #[test]

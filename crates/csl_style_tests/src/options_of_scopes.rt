@@ -36,23 +36,30 @@ const FORM_ALONE: Level = Level {
 /// What is set for all of a style, for its citation and for its bibliography.
 type Levels = (Level, Level, Level);
 
-fn options(alloc: Global, level: &Level) -> Result<InheritableNameOptions, AllocError> {
-    Ok(InheritableNameOptions {
-        form: level.form,
-        delimiter: copy_text(alloc, level.delimiter)?,
-        ..InheritableNameOptions::default()
-    })
+/// Sets what a level sets.
+fn set(
+    alloc: Global,
+    options: &mut InheritableNameOptions,
+    level: &Level,
+) -> Result<(), AllocError> {
+    options.form = level.form;
+    options.delimiter = copy_text(alloc, level.delimiter)?;
+    Ok(())
 }
 
-fn settings(
+fn set_all(
     alloc: Global,
+    settings: &mut StyleSettings,
     (all, citation, bibliography): &Levels,
-) -> Result<StyleSettings, AllocError> {
+) -> Result<(), AllocError> {
+    set(alloc, &mut settings.names, all)?;
+    set(alloc, &mut settings.citation_names, citation)?;
+    set(alloc, &mut settings.bibliography_names, bibliography)
+}
+
+fn settings(alloc: Global, levels: &Levels) -> Result<StyleSettings, AllocError> {
     let mut settings = StyleSettings::default();
-    settings.names = options(alloc, all)?;
-    settings.citation_names = options(alloc, citation)?;
-    settings.bibliography_names = options(alloc, bibliography)?;
-    Ok(settings)
+    set_all(alloc, &mut settings, levels).and(Ok(settings))
 }
 
 /// A style in which these are set.
@@ -106,6 +113,7 @@ fn assert_scope(
 ) -> Result<(), Fail> {
     let style = style_of(alloc, levels)?;
     assert_inherited(rt, &style, *scope, wanted);
+    drop(style);
     Ok(())
 }
 
@@ -158,6 +166,7 @@ fn assert_by_locales(
     let style = style(alloc, &rows)?;
     assert_same(rt, &style.is_punctuation_in_quote(), quotes);
     assert_same(rt, &style.are_day_ordinals_limited(), days);
+    drop(style);
     Ok(())
 }
 

@@ -84,7 +84,9 @@ fn is_implicit<'s>(
         ..EMPTY
     };
     let style = style(alloc, &rows)?;
-    Ok(style.renders_year_suffix_implicitly(scope))
+    let is_implicit = style.renders_year_suffix_implicitly(scope);
+    drop(style);
+    Ok(is_implicit)
 }
 
 #[test]

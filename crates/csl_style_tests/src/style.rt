@@ -22,10 +22,10 @@ fn refusal(
         macros,
         ..EMPTY
     };
-    match style(alloc, &rows) {
-        Ok(_) => Ok(None),
-        Err(StyleError::Memory) => Err(Memory),
-        Err(error) => Ok(Some(format!(in alloc; "{}", error)?)),
+    match style(alloc, &rows).err() {
+        None => Ok(None),
+        Some(StyleError::Memory) => Err(Memory),
+        Some(error) => Ok(Some(format!(in alloc; "{}", error)?)),
     }
 }
 
@@ -204,12 +204,14 @@ fn assert_locale_is_asked(rt: &impl Abort, style: &Style) {
 fn assert_style_of_parts(rt: &impl Abort, alloc: Global) -> Result<(), StyleError> {
     let style = style(alloc, &PARTS)?;
     assert_parts(rt, &style);
+    drop(style);
     Ok(())
 }
 
 fn assert_style_of_locale(rt: &impl Abort, alloc: Global) -> Result<(), StyleError> {
     let style = style(alloc, &OF_LOCALE)?;
     assert_locale_is_asked(rt, &style);
+    drop(style);
     Ok(())
 }
 

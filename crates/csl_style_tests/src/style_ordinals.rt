@@ -2,7 +2,8 @@
 
 use crate::asserted::assert_text;
 use crate::made::{EMPTY, LocaleRows, SILENT, StyleRows, style};
-use csl_style::{OrdinalSlot, Style};
+use csl_style::{OrdinalSlot, Style, StyleError};
+use std::alloc::Global;
 use std::process::Abort;
 use std::test::Fail;
 
@@ -47,9 +48,15 @@ fn assert_all(rt: &impl Abort, style: &Style) {
     }
 }
 
+fn assert_style(rt: &impl Abort, alloc: Global) -> Result<(), StyleError> {
+    let style = style(alloc, &ROWS)?;
+    assert_all(rt, &style);
+    drop(style);
+    Ok(())
+}
+
 #[test]
 fn ordinals_outlive_the_value_that_is_asked(rt: HostRuntime) -> Result<(), Fail> {
-    let style = style(rt.alloc(), &ROWS)?;
-    assert_all(&rt, &style);
+    assert_style(&rt, rt.alloc())?;
     Ok(())
 }
