@@ -1,6 +1,6 @@
 //! Copies are equal to what they were made of.
 
-use crate::trees::{MIXED, assert_tree, names, read};
+use crate::trees::{MIXED, assert_tree, names, one, read};
 use csl_style::NameVariable;
 use csl_tree::{ElemChild, ElemChildren, ElemMeta};
 use lit_model::Memory;
@@ -10,7 +10,7 @@ use std::test::Fail;
 
 /// A tree of a copy alone.
 fn alone(alloc: Global, child: ElemChild) -> Result<ElemChildren, Memory> {
-    Ok(ElemChildren(vec![in alloc; child]?))
+    Ok(ElemChildren(one(alloc, child)?))
 }
 
 /// The copy of a tree of one child: of the child alone, or of the element or the text that it is.
@@ -33,8 +33,10 @@ fn copy_of_first(
 
 fn assert_copies(rt: &impl Abort, alloc: Global, source: &str) -> Result<(), Fail> {
     for is_inner in [false, true] {
-        let copy = copy_of_first(alloc, &read(alloc, source)?, is_inner)?;
-        assert_tree(rt, alloc, copy, source, source)?;
+        let tree = read(alloc, source)?;
+        let copy = copy_of_first(alloc, &tree, is_inner);
+        drop(tree);
+        assert_tree(rt, alloc, copy?, source, source)?;
     }
     Ok(())
 }
@@ -55,9 +57,19 @@ fn meta(alloc: Global, row: usize) -> Result<ElemMeta, Memory> {
 }
 
 /// Whether a copy of the meta is equal to it.
+fn equals_copy(alloc: Global, meta: &ElemMeta) -> Result<bool, Memory> {
+    let copy = meta.clone(alloc)?;
+    let is_equal = copy == *meta;
+    drop(copy);
+    Ok(is_equal)
+}
+
+/// The same of the meta at a place in the table.
 fn is_copied(alloc: Global, row: usize) -> Result<bool, Memory> {
     let meta = meta(alloc, row)?;
-    Ok(meta.clone(alloc)? == meta)
+    let is_copied = equals_copy(alloc, &meta);
+    drop(meta);
+    is_copied
 }
 
 #[test]

@@ -6,7 +6,7 @@ ghost use Rattle.csl_tree.specs.Tokens.{meta_of};
 use crate::asserted::assert_of;
 use crate::trees::{MIXED, names, read};
 use csl_style::NameVariable;
-use csl_tree::{ElemChild, ElemMeta};
+use csl_tree::{ElemChild, ElemChildren, ElemMeta};
 use lit_model::Memory;
 use std::alloc::Global;
 use std::process::Abort;
@@ -37,12 +37,18 @@ fn make_meta(alloc: Global, said: Meta) -> Result<ElemMeta, Memory> {
     }
 }
 
+fn is_same(alloc: Global, a: &ElemMeta, b: Meta) -> Result<bool, Memory> {
+    let b = make_meta(alloc, b)?;
+    let is_same = same_meta(a, &b);
+    drop(b);
+    Ok(is_same)
+}
+
 fn are_same(alloc: Global, a: Meta, b: Meta) -> Result<bool, Memory> {
-    let both = vec![in alloc; make_meta(alloc, a)?, make_meta(alloc, b)?]?;
-    match both.as_slice() {
-        [a, b] => Ok(same_meta(a, b)),
-        _ => Ok(false),
-    }
+    let a = make_meta(alloc, a)?;
+    let are_same = is_same(alloc, &a, b);
+    drop(a);
+    are_same
 }
 
 const KNUTH: Meta = Meta::Names("Knuth", NameVariable::Author);
@@ -90,8 +96,7 @@ struct Asked {
 
 /// What a tree answers of its children, of the first and of the element that it is, and whether
 /// the children of that may stand in its place.
-fn answers(alloc: Global, source: &str) -> Result<Vec<Asked>, Fail> {
-    let tree = read(alloc, source)?;
+fn answers_of(alloc: Global, tree: &ElemChildren) -> Result<Vec<Asked>, Fail> {
     let mut all = Vec::new(alloc);
     all.push(Asked {
         is_empty: tree.is_empty(),
@@ -113,6 +118,14 @@ fn answers(alloc: Global, source: &str) -> Result<Vec<Asked>, Fail> {
         }
     }
     Ok(all)
+}
+
+/// The same of the tree of a description.
+fn answers(alloc: Global, source: &str) -> Result<Vec<Asked>, Fail> {
+    let tree = read(alloc, source)?;
+    let answers = answers_of(alloc, &tree);
+    drop(tree);
+    answers
 }
 
 fn assert_answers(rt: &impl Abort, alloc: Global, source: &str, wanted: Asked) -> Result<(), Fail> {

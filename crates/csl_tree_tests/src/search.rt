@@ -1,6 +1,6 @@
 //! What is found in a tree, and what is taken out of it.
 
-use crate::trees::{assert_tree, read, read_meta};
+use crate::trees::{assert_tree, one, put, read, read_meta};
 use csl_tree::{Elem, ElemChild, ElemChildren};
 use std::alloc::Global;
 use std::process::Abort;
@@ -29,7 +29,7 @@ enum Asked {
 /// A tree of what was found alone.
 fn found(alloc: Global, elem: Option<&Elem>) -> Result<ElemChildren, Fail> {
     match elem {
-        Some(elem) => Ok(ElemChildren(vec![in alloc; ElemChild::from(elem.clone(alloc)?)]?)),
+        Some(elem) => Ok(ElemChildren(one(alloc, ElemChild::from(elem.clone(alloc)?))?)),
         None => Ok(ElemChildren::new(alloc)),
     }
 }
@@ -38,12 +38,17 @@ fn found(alloc: Global, elem: Option<&Elem>) -> Result<ElemChildren, Fail> {
 fn answer(alloc: Global, tree: &ElemChildren, asked: Asked) -> Result<ElemChildren, Fail> {
     match asked {
         Asked::Names => found(alloc, tree.find_names()),
-        Asked::Meta(word) => found(alloc, tree.find_meta(&read_meta(alloc, word)?)),
+        Asked::Meta(word) => {
+            let meta = read_meta(alloc, word)?;
+            let found = found(alloc, tree.find_meta(&meta));
+            drop(meta);
+            found
+        }
         Asked::Any => found(alloc, tree.find_elem_by(&|_: &Elem| true)),
         Asked::Noted => found(alloc, tree.find_elem_by(&|elem: &Elem| elem.meta.is_some())),
         Asked::Nothing => found(alloc, tree.find_elem_by(&|_: &Elem| false)),
         Asked::LastText => match tree.last_text() {
-            Some(text) => Ok(ElemChildren(vec![in alloc; ElemChild::from(text.clone(alloc)?)]?)),
+            Some(text) => Ok(ElemChildren(one(alloc, ElemChild::from(text.clone(alloc)?))?)),
             None => Ok(ElemChildren::new(alloc)),
         },
     }
@@ -86,12 +91,14 @@ fn searches_go_down_first(rt: HostRuntime) -> Result<(), Fail> {
 
 /// What is taken out of a tree, and what is left of it, in a list.
 fn removal(alloc: Global, source: &str) -> Result<Vec<ElemChildren>, Fail> {
-    let mut tree = read(alloc, source)?;
-    let mut taken = ElemChildren::new(alloc);
-    if let Some(child) = tree.remove_any_meta() {
-        taken.0.push(child)?;
-    }
-    Ok(vec![in alloc; tree, taken]?)
+    let mut both = one(alloc, read(alloc, source)?)?;
+    let tree = both.first_mut().ok_or("a tree")?;
+    let taken = match tree.remove_any_meta() {
+        Some(child) => one(alloc, child)?,
+        None => Vec::new(alloc),
+    };
+    put(&mut both, ElemChildren(taken))?;
+    Ok(both)
 }
 
 fn assert_removal(

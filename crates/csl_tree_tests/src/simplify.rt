@@ -1,6 +1,6 @@
 //! Rounds of simplification, and where they end.
 
-use crate::trees::{assert_tree, read};
+use crate::trees::{assert_tree, one, read};
 use csl_tree::{ElemChild, ElemChildren, simplify_children, simplify_fully};
 use std::alloc::Global;
 use std::process::Abort;
@@ -45,7 +45,7 @@ fn elem_round(alloc: Global, source: &str) -> Result<ElemChildren, Fail> {
     match tree.0.first() {
         Some(ElemChild::Elem(elem)) => {
             let once = ElemChild::from(elem.simplify(alloc)?);
-            Ok(ElemChildren(vec![in alloc; once]?))
+            Ok(ElemChildren(one(alloc, once)?))
         }
         _ => Err(Fail::from("no element")),
     }

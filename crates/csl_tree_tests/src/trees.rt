@@ -25,6 +25,18 @@ use std::test::Fail;
 /// A block around a link, a markup, a transparent and a text of white space.
 pub const MIXED: &str = "( @/x|https://x.y/?a=1&b=2 $$m$ #7 ~ )block:entry";
 
+/// Appends an item.
+pub fn put<T: Drop>(items: &mut Vec<T>, item: T) -> Result<(), Memory> {
+    Ok(items.push(item)?)
+}
+
+/// A list of one item.
+pub fn one<T: Drop>(alloc: Global, item: T) -> Result<Vec<T>, Memory> {
+    let mut items = Vec::new(alloc);
+    put(&mut items, item)?;
+    Ok(items)
+}
+
 /// A text as a word says it.
 fn read_text(alloc: Global, word: &str) -> Result<String, Memory> {
     let mut text = String::new(alloc);
@@ -81,8 +93,8 @@ pub fn names(alloc: Global, name: &str, variable: NameVariable) -> Result<ElemMe
         alias: None,
         comma_suffix: false,
     };
-    let persons = vec![in alloc; person]?;
-    Ok(ElemMeta::Names(vec![in alloc; (persons, variable)]?))
+    let persons = one(alloc, person)?;
+    Ok(ElemMeta::Names(one(alloc, (persons, variable))?))
 }
 
 /// The meta that a word says.
@@ -126,20 +138,33 @@ fn read_elem(alloc: Global, children: Vec<ElemChild>, end: &str) -> Result<ElemC
     }))
 }
 
+/// Reads a word behind children, with those that stand around them.
+fn read_word(
+    alloc: Global,
+    word: &str,
+    around: &mut Vec<Vec<ElemChild>>,
+    children: &mut Vec<ElemChild>,
+) -> Result<(), Fail> {
+    if word == "(" {
+        return Ok(put(around, mem::replace(children, Vec::new(alloc)))?);
+    }
+    if let Some(end) = word.strip_prefix(')') {
+        let outside = around.pop().ok_or("an element ends that began")?;
+        let inside = mem::replace(children, outside);
+        return Ok(put(children, read_elem(alloc, inside, end)?)?);
+    }
+    if word.is_empty() {
+        return Ok(());
+    }
+    Ok(put(children, read_leaf(alloc, word)?)?)
+}
+
 /// The tree of a description.
 pub fn read(alloc: Global, description: &str) -> Result<ElemChildren, Fail> {
-    let mut around: Vec<Vec<ElemChild>> = Vec::new(alloc);
+    let mut around = Vec::new(alloc);
     let mut children = Vec::new(alloc);
     for word in description.split(' ') {
-        if word == "(" {
-            around.push(mem::replace(&mut children, Vec::new(alloc)))?;
-        } else if let Some(end) = word.strip_prefix(')') {
-            let outside = around.pop().ok_or("an element ends that began")?;
-            let inside = mem::replace(&mut children, outside);
-            children.push(read_elem(alloc, inside, end)?)?;
-        } else if !word.is_empty() {
-            children.push(read_leaf(alloc, word)?)?;
-        }
+        read_word(alloc, word, &mut around, &mut children)?;
     }
     Ok(ElemChildren(children))
 }

@@ -9,13 +9,13 @@ use std::process::Abort;
 use std::test::Fail;
 
 /// What is written of the children, and of the first child, and of the element that it is.
-fn assert_written(
+fn assert_tree_written(
     rt: &impl Abort,
     alloc: Global,
+    tree: &ElemChildren,
     (source, format): (&str, BufWriteFormat),
     wanted: &str,
 ) -> Result<(), Fail> {
-    let tree = read(alloc, source)?;
     let mut wrote = String::new(alloc);
     tree.write_buf(&mut wrote, format)?;
     assert_text(rt, wrote.as_str(), wanted, source);
@@ -30,6 +30,19 @@ fn assert_written(
         }
     }
     Ok(())
+}
+
+/// The same of the tree of a description.
+fn assert_written(
+    rt: &impl Abort,
+    alloc: Global,
+    (source, format): (&str, BufWriteFormat),
+    wanted: &str,
+) -> Result<(), Fail> {
+    let tree = read(alloc, source)?;
+    let asserted = assert_tree_written(rt, alloc, &tree, (source, format), wanted);
+    drop(tree);
+    asserted
 }
 
 /// What `{}` and `{:#}` make of a value.
@@ -48,14 +61,14 @@ fn assert_formatted<T: fmt::Display>(
 }
 
 /// What `{}`, `{:#}` and `to_string` make of the same.
-fn assert_displayed(
+fn assert_tree_displayed(
     rt: &impl Abort,
     alloc: Global,
+    tree: &ElemChildren,
     source: &str,
     wanted: &str,
 ) -> Result<(), Fail> {
-    let tree = read(alloc, source)?;
-    assert_formatted(rt, alloc, &tree, wanted)?;
+    assert_formatted(rt, alloc, tree, wanted)?;
     let text = tree.to_string(alloc)?;
     assert_text(rt, text.as_str(), wanted, source);
     if let Some(child) = tree.0.first() {
@@ -71,6 +84,19 @@ fn assert_displayed(
     Ok(())
 }
 
+/// The same of the tree of a description.
+fn assert_displayed(
+    rt: &impl Abort,
+    alloc: Global,
+    source: &str,
+    wanted: &str,
+) -> Result<(), Fail> {
+    let tree = read(alloc, source)?;
+    let asserted = assert_tree_displayed(rt, alloc, &tree, source, wanted);
+    drop(tree);
+    asserted
+}
+
 /// The HTML of the text `x` in a formatting.
 fn assert_span(
     rt: &impl Abort,
@@ -80,7 +106,9 @@ fn assert_span(
 ) -> Result<(), Fail> {
     let child = ElemChild::from(formatting.add_text(String::from_str(alloc, "x")?));
     let mut wrote = String::new(alloc);
-    child.write_buf(&mut wrote, BufWriteFormat::Html)?;
+    let written = child.write_buf(&mut wrote, BufWriteFormat::Html);
+    drop(child);
+    written?;
     assert_text(rt, wrote.as_str(), html, "x");
     Ok(())
 }
