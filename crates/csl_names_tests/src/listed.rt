@@ -15,7 +15,7 @@
 //! Persons are said one behind the other, with `; ` between them. Their forms are letters: `L` the
 //! whole name, `S` and `1` the short form and that of a count, and `.` none.
 
-use crate::made::{made_style, person, says};
+use crate::made::{made_style, person, put, says};
 use csl_entry::DisambiguatedNameForm;
 use csl_style::{
     DelimiterBehavior, EtAl, FontStyle, Formatting, InheritedNameOptions, Locale, NameAnd,
@@ -103,8 +103,8 @@ fn terms(alloc: Global, words: &str) -> Result<Vec<TermEntry>, Memory> {
     let others = if says(words, "no-text") { "" } else { "et al." };
     let mut terms = Vec::new(alloc);
     if !says(words, "no-terms") {
-        terms.push(term(alloc, OtherTerm::And, "and")?)?;
-        terms.push(term(alloc, OtherTerm::EtAl, others)?)?;
+        put(&mut terms, term(alloc, OtherTerm::And, "and")?)?;
+        put(&mut terms, term(alloc, OtherTerm::EtAl, others)?)?;
     }
     Ok(terms)
 }
@@ -112,26 +112,28 @@ fn terms(alloc: Global, words: &str) -> Result<Vec<TermEntry>, Memory> {
 /// The one locale, with these terms.
 fn locales(alloc: Global, words: &str) -> Result<Vec<Locale>, Memory> {
     let mut locales = Vec::with_capacity(alloc, 1)?;
-    locales.push(Locale {
+    let locale = Locale {
         terms: terms(alloc, words)?,
         ordinals: Vec::new(alloc),
         dates: Vec::new(alloc),
         punctuation_in_quote: false,
         limit_day_ordinals_to_day_1: false,
-    })?;
+    };
+    put(&mut locales, locale)?;
     Ok(locales)
 }
 
 /// The style of these words, without nodes.
 pub(crate) fn style_with_terms(alloc: Global, words: &str) -> Result<Style, Fail> {
-    made_style(alloc, StyleSettings::default(), locales(alloc, words)?)
+    let locales = locales(alloc, words)?;
+    made_style(alloc, StyleSettings::default(), locales)
 }
 
 /// The persons of these words.
 pub(crate) fn persons(alloc: Global, words: &str) -> Result<Vec<Cow<'static, Person>>, Fail> {
     let mut persons = Vec::new(alloc);
     for words in words.split("; ") {
-        persons.push(Cow::Owned(person(alloc, words)?))?;
+        put(&mut persons, Cow::Owned(person(alloc, words)?))?;
     }
     Ok(persons)
 }

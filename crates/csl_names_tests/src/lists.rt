@@ -177,7 +177,9 @@ fn assert_list(
         who,
         forms: Some(letters),
     };
-    assert_written(rt, alloc, &style, &asked, wanted)
+    let asserted = assert_written(rt, alloc, &style, &asked, wanted);
+    drop(style);
+    asserted
 }
 
 #[test]

@@ -26,6 +26,11 @@ use lit_model::{Memory, Person};
 use std::alloc::Global;
 use std::test::Fail;
 
+/// Appends an item.
+pub(crate) fn put<T: Drop>(items: &mut Vec<T>, item: T) -> Result<(), Memory> {
+    Ok(items.push(item)?)
+}
+
 /// The text of a word.
 fn unblank(alloc: Global, word: &str) -> Result<String, Memory> {
     let mut text = String::new(alloc);
@@ -65,8 +70,7 @@ pub(crate) fn person(alloc: Global, words: &str) -> Result<Person, Fail> {
         alias: None,
         comma_suffix: says(words, "comma"),
     };
-    state_rest(alloc, &mut person, words)?;
-    Ok(person)
+    Ok(state_rest(alloc, &mut person, words).and(Ok(person))?)
 }
 
 /// Says all but the name of the person.
@@ -104,19 +108,24 @@ fn part(
 /// The parts of a Name, by their marks.
 fn parts(alloc: Global, words: &str) -> Result<Vec<NamePart>, Memory> {
     let mut parts = Vec::with_capacity(alloc, 2)?;
-    parts.push(part(alloc, words, NamePartName::Given, ("G<", "G>", "G/"))?)?;
-    parts.push(part(alloc, words, NamePartName::Family, ("F<", "F>", "F/"))?)?;
+    put(
+        &mut parts,
+        part(alloc, words, NamePartName::Given, ("G<", "G>", "G/"))?,
+    )?;
+    put(
+        &mut parts,
+        part(alloc, words, NamePartName::Family, ("F<", "F>", "F/"))?,
+    )?;
     Ok(parts)
 }
 
 fn name_options(alloc: Global, words: &str) -> Result<InheritableNameOptions, Memory> {
     let initialize_with = text_of(alloc, words, "with=")?;
     let sort_separator = text_of(alloc, words, "sep=")?;
-    Ok(InheritableNameOptions {
-        initialize_with,
-        sort_separator,
-        ..InheritableNameOptions::default()
-    })
+    let mut options = InheritableNameOptions::default();
+    options.initialize_with = initialize_with;
+    options.sort_separator = sort_separator;
+    Ok(options)
 }
 
 /// The Name of these words.
@@ -155,11 +164,9 @@ fn demotion(words: &str) -> DemoteNonDroppingParticle {
 
 /// The style of these words, without nodes.
 pub(crate) fn style(alloc: Global, words: &str) -> Result<Style, Fail> {
-    let settings = StyleSettings {
-        demote_non_dropping_particle: demotion(words),
-        initialize_with_hyphen: !says(words, "no-hyphen"),
-        ..StyleSettings::default()
-    };
+    let mut settings = StyleSettings::default();
+    settings.demote_non_dropping_particle = demotion(words);
+    settings.initialize_with_hyphen = !says(words, "no-hyphen");
     made_style(alloc, settings, Vec::new(alloc))
 }
 

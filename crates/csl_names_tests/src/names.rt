@@ -144,7 +144,9 @@ fn assert_name(
         who,
         forms: None,
     };
-    assert_written(rt, alloc, &style, &asked, wanted)
+    let asserted = assert_written(rt, alloc, &style, &asked, wanted);
+    drop(style);
+    asserted
 }
 
 #[test]

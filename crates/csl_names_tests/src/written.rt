@@ -5,7 +5,7 @@ ghost use Rattle.std.specs.Prelude.{◌≡◌, OnOk};
 use crate::listed::{et_al, forms, options, persons};
 use crate::made::{form, name, says};
 use crate::said::say;
-use csl_context::{Context, RenderError};
+use csl_context::{Context, RenderError, Rendered};
 use csl_entry::{
     CiteProperties, DisambiguateState, DisambiguatedNameForm, InstanceContext, Sorting,
 };
@@ -76,14 +76,14 @@ fn write_behind(
     }
 }
 
-/// What is written of them, in words.
-fn said(
+/// What is written of them.
+fn rendered(
     alloc: Global,
     place: Place<'_>,
     asked: &Asked<'_>,
     name: &Name,
     who: Who<'_>,
-) -> Result<String, Fail> {
+) -> Result<Rendered, Fail> {
     let sorting = if says(asked.words, "sorting") {
         Some(Sorting::Macro)
     } else {
@@ -96,9 +96,27 @@ fn said(
         kind: None,
     };
     let mut ctx = Context::new(alloc, place.style, instance, Scope::Citation)?;
-    write_behind(&mut ctx, asked, name, who)?;
-    let rendered = ctx.finish()?;
-    Ok(say(alloc, &rendered.content)?)
+    match write_behind(&mut ctx, asked, name, who) {
+        Ok(()) => Ok(ctx.finish()?),
+        Err(error) => {
+            drop(ctx);
+            Err(Fail::from(error))
+        }
+    }
+}
+
+/// What is written of them, in words.
+fn said(
+    alloc: Global,
+    place: Place<'_>,
+    asked: &Asked<'_>,
+    name: &Name,
+    who: Who<'_>,
+) -> Result<String, Fail> {
+    let rendered = rendered(alloc, place, asked, name, who)?;
+    let said = say(alloc, &rendered.content);
+    drop(rendered);
+    Ok(said?)
 }
 
 /// What is written of persons in these forms.
@@ -122,17 +140,21 @@ fn of_persons(
     name: &Name,
 ) -> Result<String, Fail> {
     let persons = persons(alloc, asked.who)?;
-    if let Some(letters) = asked.forms {
-        return in_forms(alloc, place, asked, name, &persons, letters);
-    }
-    let person = persons.first().ok_or("a person")?;
-    said(alloc, place, asked, name, Who::One(person.as_ref()))
+    let said = match (asked.forms, persons.first()) {
+        (Some(letters), _) => in_forms(alloc, place, asked, name, &persons, letters),
+        (None, Some(person)) => said(alloc, place, asked, name, Who::One(person.as_ref())),
+        (None, None) => Err(Fail::from("a person")),
+    };
+    drop(persons);
+    said
 }
 
 /// What is written at that place.
 fn at_place(alloc: Global, place: Place<'_>, asked: &Asked<'_>) -> Result<String, Fail> {
     let name = name(alloc, asked.words)?;
-    of_persons(alloc, place, asked, &name)
+    let said = of_persons(alloc, place, asked, &name);
+    drop(name);
+    said
 }
 
 /// What is written in that style.
@@ -142,7 +164,9 @@ fn written(alloc: Global, style: &Style, asked: &Asked<'_>) -> Result<String, Fa
         style,
         cite_props: &cite_props,
     };
-    at_place(alloc, place, asked)
+    let said = at_place(alloc, place, asked);
+    drop(cite_props);
+    said
 }
 
 /// Asserts what is written in that style.
