@@ -1,8 +1,8 @@
 -- The built-in styles (CSL 1.0.2, Rendering Elements).
 use Rattle.std.specs.Prelude.{◌≡◌, ℕ, Bool, true, false, List, [], ◌∷◌, Option, Some, None, codes, if◌then◌else◌}
 use Rattle.std.specs.Str.{bytes_eq}
-use Rattle.lit_model.specs.declared.numeric.NumberForm.TheVariants as number_forms
-use Rattle.lit_model.specs.declared.text.LongShortForm.TheVariants.{Long}
+use Rattle.csl_common.specs.declared.form.NumberForm.TheVariants as number_forms
+use Rattle.csl_common.specs.declared.form.LongShortForm.TheVariants.{Long}
 use Rattle.csl_style.specs.declared.date.DateAnyForm.{DateAnyForm}
 use Rattle.csl_style.specs.declared.date.DateAnyForm.TheVariants as part_forms
 use Rattle.csl_style.specs.declared.date.DatePartName.{DatePartName}

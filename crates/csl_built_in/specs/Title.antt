@@ -2,7 +2,7 @@
 use Rattle.std.specs.Prelude.{◌≡◌, ℕ, List, [], ◌∷◌, Option, Some, None, false, codes}
 use Rattle.lit_model.specs.Text.{Chunk}
 use Rattle.lit_model.specs.declared.text.ChunkKind.TheVariants.{Normal}
-use Rattle.lit_model.specs.declared.text.LongShortForm.TheVariants.{Long}
+use Rattle.csl_common.specs.declared.form.LongShortForm.TheVariants.{Long}
 use Rattle.csl_style.specs.declared.taxonomy.StandardVariable.{StandardVariable}
 use Rattle.csl_style.specs.declared.taxonomy.StandardVariable.TheVariants.{Title}
 use Rattle.csl_style.specs.declared.taxonomy.Variable.TheVariants.{Standard}

@@ -1,9 +1,9 @@
 -- What stays as it is while a cite is rendered, and what is found in it (CSL 1.0.2, Terms,
 -- Ordinals, Macro; Appendix IV: Variables).
 use Rattle.std.specs.Prelude.{ℕ, Bool, true, false, List, [], Option, None, map, option_map, if◌then◌else◌}
-use Rattle.lit_model.specs.declared.text.LongShortForm.{LongShortForm}
-use Rattle.lit_model.specs.declared.numeric.NumberForm.{NumberForm}
-use Rattle.lit_model.specs.declared.numeric.GrammarGender.{GrammarGender}
+use Rattle.csl_common.specs.declared.form.LongShortForm.{LongShortForm}
+use Rattle.csl_common.specs.declared.form.NumberForm.{NumberForm}
+use Rattle.csl_common.specs.declared.ordinal.GrammarGender.{GrammarGender}
 use Rattle.lit_model.specs.Date.{Parts}
 use Rattle.lit_model.specs.MaybeTyped.{MaybeView}
 use Rattle.lit_model.specs.Numeric.{NumericView}

@@ -8,7 +8,7 @@ use Rattle.std.specs.Ordering.{is_eq}
 use Rattle.std.specs.declared.cmp.Ordering.{Ordering}
 use Rattle.std.specs.declared.cmp.Ordering.TheVariants.{Less, Equal, Greater}
 use Rattle.lit_model.proofs.ByValue.{both, through}
-use Rattle.lit_model.specs.declared.text.LongShortForm.{LongShortForm}
+use Rattle.csl_common.specs.declared.form.LongShortForm.{LongShortForm}
 use Rattle.csl_style.proofs.Sets.{or_left, or_right}
 use Rattle.csl_style.proofs.Variables.{number_ordered, page_ordered, standard_ordered, name_ordered, date_ordered, kind_ordered}
 use Rattle.csl_style.specs.Has.{has}

@@ -1,7 +1,7 @@
 -- On what a look depends: on the citation, and on that one answer where the variable is not the citation's.
 use Rattle.std.proofs.Common.{◌≡◌, refl, ap}
 use Rattle.std.specs.Prelude.{option_map}
-use Rattle.lit_model.specs.declared.text.LongShortForm.{LongShortForm}
+use Rattle.csl_common.specs.declared.form.LongShortForm.{LongShortForm}
 use Rattle.csl_style.specs.declared.taxonomy.NumberVariable.{NumberVariable}
 use Rattle.csl_style.specs.declared.taxonomy.NumberVariable.TheVariants.{CitationNumber, FirstReferenceNoteNumber, Locator}
 use Rattle.csl_style.specs.declared.taxonomy.PageVariable.{PageVariable}

@@ -23,7 +23,8 @@ use Rattle.lit_model.specs.declared.source.QualifiedUrl.{QualifiedUrl}
 use Rattle.lit_model.specs.declared.text.FormatString.{FormatString}
 use Rattle.lit_model.specs.Chunks.{text_of}
 use Rattle.lit_model.specs.Date.{date_parts}
-use Rattle.lit_model.specs.Entry.{parents_of, preorder, first_some, groups_of}
+use Rattle.lit_model.specs.Entry.{parents_of, preorder, groups_of}
+use Rattle.csl_common.specs.Lists.{first_some}
 use Rattle.lit_model.specs.MaybeTyped.{maybe_view}
 use Rattle.lit_model.specs.Numeric.{numeric_view}
 use Rattle.lit_model.specs.Person.{Named, named, Group, group_of, role_of, same_role, with_role}

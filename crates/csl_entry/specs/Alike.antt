@@ -1,7 +1,7 @@
 -- When two entries answer alike what is named, whatever their types (CSL 1.0.2, Appendix III:
 -- Types; Appendix IV: Variables).
 use Rattle.std.specs.Prelude.{◌≡◌, true, List, [], ◌∷◌}
-use Rattle.lit_model.specs.declared.text.LongShortForm.{LongShortForm}
+use Rattle.csl_common.specs.declared.form.LongShortForm.{LongShortForm}
 use Rattle.csl_style.specs.Named.{Asked, a_variable, a_kind, NamedSet}
 use Rattle.csl_style.specs.declared.taxonomy.Variable.TheVariants as variable
 use Rattle.csl_entry.specs.Answers.{Answers}

@@ -10,7 +10,7 @@ use Rattle.csl_style.specs.declared.taxonomy.StandardVariable.{StandardVariable}
 use Rattle.csl_style.specs.declared.taxonomy.NameVariable.{NameVariable}
 use Rattle.csl_style.specs.declared.taxonomy.DateVariable.{DateVariable}
 use Rattle.csl_style.specs.declared.taxonomy.Kind.{Kind}
-use Rattle.lit_model.specs.declared.text.LongShortForm.{LongShortForm}
+use Rattle.csl_common.specs.declared.form.LongShortForm.{LongShortForm}
 use Rattle.lit_model.specs.Date.{Parts}
 use Rattle.lit_model.specs.MaybeTyped.{MaybeView}
 use Rattle.lit_model.specs.Numeric.{NumericView}

@@ -5,7 +5,8 @@ use Rattle.csl_style.specs.declared.taxonomy.DateVariable.TheVariants.{Accessed,
 use Rattle.lit_model.specs.declared.date.Date.{Date}
 use Rattle.lit_model.specs.declared.entry.Entry.{Entry, out-Entry}
 use Rattle.lit_model.specs.Date.{Parts, date_parts}
-use Rattle.lit_model.specs.Entry.{preorder, first_some}
+use Rattle.lit_model.specs.Entry.{preorder}
+use Rattle.csl_common.specs.Lists.{first_some}
 use Rattle.lit_model.specs.Select.{event, original, bound_select}
 
 -- the work's own date

@@ -9,7 +9,8 @@ use Rattle.lit_model.specs.declared.maybe_typed.MaybeTyped.{MaybeTyped}
 use Rattle.lit_model.specs.declared.maybe_typed.MaybeTyped.TheVariants.{Typed, String}
 use Rattle.lit_model.specs.declared.numeric.Numeric.{Numeric}
 use Rattle.lit_model.specs.declared.page.PageRanges.{PageRanges}
-use Rattle.lit_model.specs.Entry.{preorder, first_some, own_serial}
+use Rattle.lit_model.specs.Entry.{preorder, own_serial}
+use Rattle.csl_common.specs.Lists.{first_some}
 use Rattle.lit_model.specs.MaybeTyped.{MaybeView, typed, maybe_view}
 use Rattle.lit_model.specs.Numeric.{NumericView, numeric_view}
 use Rattle.lit_model.specs.Page.{pages_view, first_page}

@@ -10,9 +10,10 @@ use Rattle.lit_model.specs.declared.source.Publisher.{Publisher}
 use Rattle.lit_model.specs.declared.source.QualifiedUrl.{QualifiedUrl}
 use Rattle.lit_model.specs.declared.text.ChunkKind.TheVariants.{Normal, Verbatim}
 use Rattle.lit_model.specs.declared.text.FormatString.{FormatString}
-use Rattle.lit_model.specs.declared.text.LongShortForm.{LongShortForm}
-use Rattle.lit_model.specs.declared.text.LongShortForm.TheVariants.{Short}
-use Rattle.lit_model.specs.Entry.{preorder, first_some, own_serial}
+use Rattle.csl_common.specs.declared.form.LongShortForm.{LongShortForm}
+use Rattle.csl_common.specs.declared.form.LongShortForm.TheVariants.{Short}
+use Rattle.lit_model.specs.Entry.{preorder, own_serial}
+use Rattle.csl_common.specs.Lists.{first_some}
 use Rattle.lit_model.specs.Select.{Rule, parent_of, bound_select, container_of, collection_of, original, event, volume_title}
 use Rattle.lit_model.specs.Source.{address_text, language_of}
 use Rattle.lit_model.specs.Text.{Chunk, chunks, select}

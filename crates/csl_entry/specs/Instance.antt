@@ -14,7 +14,7 @@ use Rattle.csl_style.specs.declared.taxonomy.DateVariable.{DateVariable}
 use Rattle.csl_style.specs.declared.taxonomy.Variable.TheVariants as variable
 use Rattle.csl_style.specs.OfCitation.{is_of_citation}
 use Rattle.lit_model.specs.declared.text.ChunkKind.TheVariants.{Normal}
-use Rattle.lit_model.specs.declared.text.LongShortForm.{LongShortForm}
+use Rattle.csl_common.specs.declared.form.LongShortForm.{LongShortForm}
 use Rattle.lit_model.specs.Date.{Parts}
 use Rattle.lit_model.specs.MaybeTyped.{MaybeView, typed}
 use Rattle.lit_model.specs.Numeric.{one}

@@ -3,7 +3,7 @@
 
 ghost use Rattle.std.specs.Prelude.{◌≡◌, ◌&&◌, IfOk};
 ghost use Rattle.std.specs.Bool.{Decides};
-ghost use Rattle.lit_model.specs.declared.text.LongShortForm.{LongShortForm};
+ghost use Rattle.csl_common.specs.declared.form.LongShortForm.{LongShortForm};
 ghost use Rattle.csl_style.specs.Has.{has};
 ghost use Rattle.csl_entry.specs.Alike.{Each, Alike};
 

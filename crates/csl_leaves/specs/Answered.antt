@@ -1,9 +1,9 @@
 -- What an answer to a number or page variable prints (CSL 1.0.2, Text: variable; Number; Number
 -- Variables).
 use Rattle.std.specs.Prelude.{ℕ, List, Option, None, option_map, string_bytes}
-use Rattle.lit_model.specs.declared.numeric.GrammarGender.{GrammarGender}
-use Rattle.lit_model.specs.declared.numeric.NumberForm.{NumberForm}
-use Rattle.lit_model.specs.declared.numeric.NumberForm.TheVariants.{Numeric}
+use Rattle.csl_common.specs.declared.ordinal.GrammarGender.{GrammarGender}
+use Rattle.csl_common.specs.declared.form.NumberForm.{NumberForm}
+use Rattle.csl_common.specs.declared.form.NumberForm.TheVariants.{Numeric}
 use Rattle.lit_model.specs.MaybeTyped.{typed, text}
 use Rattle.csl_style.specs.declared.taxonomy.NumberOrPageVariable.{NumberOrPageVariable}
 use Rattle.csl_style.specs.declared.taxonomy.NumberOrPageVariable.TheVariants as number_or_page

@@ -8,7 +8,7 @@ use Rattle.lit_model.specs.Chunks.{text_of, is_white_space}
 use Rattle.lit_model.specs.MaybeTyped.{MaybeView, typed, text}
 use Rattle.lit_model.specs.NumericReading.{numeric_from}
 use Rattle.lit_model.specs.Text.{Chunk}
-use Rattle.lit_model.specs.declared.text.LongShortForm.TheVariants.{Long}
+use Rattle.csl_common.specs.declared.form.LongShortForm.TheVariants.{Long}
 use Rattle.csl_style.specs.declared.element.ChooseMatch.{ChooseMatch}
 use Rattle.csl_style.specs.declared.element.ChooseMatch.TheVariants as matched
 use Rattle.csl_style.specs.declared.element.TestPosition.{TestPosition}

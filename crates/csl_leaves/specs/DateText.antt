@@ -2,8 +2,8 @@
 -- Ordinals; AD and BC; Seasons), before any affix.
 -- Months and days count from 0; year 0 is the year before year 1.
 use Rattle.std.specs.Prelude.{ℕ, ◌+◌, ◌%◌, suc, zero, Bool, true, false, not, ◌&&◌, ◌||◌, ◌==◌, nat_lt, List, [], ◌++◌, map, ℤ, pos, negsuc, Option, Some, None, is_some, unwrap_or, codes, decimal, if◌then◌else◌}
-use Rattle.lit_model.specs.declared.date.Season.{Season}
-use Rattle.lit_model.specs.declared.numeric.GrammarGender.{GrammarGender}
+use Rattle.csl_common.specs.declared.season.Season.{Season}
+use Rattle.csl_common.specs.declared.ordinal.GrammarGender.{GrammarGender}
 use Rattle.lit_model.specs.Date.{Parts}
 use Rattle.lit_model.specs.NumericText.{with_zeros}
 use Rattle.csl_style.specs.declared.date.DateAnyForm.{DateAnyForm}

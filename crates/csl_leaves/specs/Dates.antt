@@ -4,7 +4,7 @@
 use Rattle.std.specs.Prelude.{ℕ, Bool, true, false, not, ◌&&◌, List, [], ◌∷◌, ◌++◌, map, Option, Some, None, option_map, is_some, unwrap_or, find, if◌then◌else◌}
 use Rattle.std.specs.Option.{option_or}
 use denote.Enum.Bare.{sameb}
-use Rattle.lit_model.specs.declared.text.LongShortForm.TheVariants as text_form
+use Rattle.csl_common.specs.declared.form.LongShortForm.TheVariants as text_form
 use Rattle.lit_model.specs.Chunks.{text_of}
 use Rattle.lit_model.specs.Date.{Parts}
 use Rattle.lit_model.specs.Text.{Chunk}

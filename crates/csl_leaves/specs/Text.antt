@@ -4,7 +4,7 @@ use Rattle.std.specs.Prelude.{ℕ, Bool, true, false, not, ◌&&◌, ◌||◌, �
 use denote.Enum.Bare.{sameb}
 use Rattle.lit_model.specs.Text.{Chunk}
 use Rattle.lit_model.specs.Chunks.{text_of, is_empty}
-use Rattle.lit_model.specs.declared.text.LongShortForm.{LongShortForm}
+use Rattle.csl_common.specs.declared.form.LongShortForm.{LongShortForm}
 use Rattle.csl_style.specs.declared.taxonomy.Variable.{Variable}
 use Rattle.csl_style.specs.declared.taxonomy.Variable.TheVariants as variable
 use Rattle.csl_style.specs.declared.taxonomy.StandardVariable.{StandardVariable}

@@ -4,8 +4,8 @@ use Rattle.std.specs.Prelude.{◌||◌, ◌&&◌, not, ◌==◌, length, option_
 use Rattle.lit_model.specs.Date.{Parts}
 use Rattle.lit_model.specs.Person.{Named}
 use Rattle.lit_model.specs.Chunks.{is_white_space}
-use Rattle.lit_model.specs.declared.text.LongShortForm.{LongShortForm}
-use Rattle.lit_model.specs.declared.text.LongShortForm.TheVariants.{Long}
+use Rattle.csl_common.specs.declared.form.LongShortForm.{LongShortForm}
+use Rattle.csl_common.specs.declared.form.LongShortForm.TheVariants.{Long}
 use Rattle.csl_style.specs.declared.taxonomy.DateVariable.{DateVariable}
 use Rattle.csl_style.specs.declared.taxonomy.NameVariable.{NameVariable}
 use Rattle.csl_style.specs.declared.taxonomy.NameVariable.TheVariants.{Editor, Translator, EditorTranslator}

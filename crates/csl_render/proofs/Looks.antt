@@ -1,7 +1,7 @@
 -- What is found of two entries that answer alike what is named: the same, whatever the state.
 use Rattle.std.proofs.Common.{◌≡◌, false, [], refl, ap}
 use Rattle.std.specs.Prelude.{option_map, None, if◌then◌else◌}
-use Rattle.lit_model.specs.declared.text.LongShortForm.{LongShortForm}
+use Rattle.csl_common.specs.declared.form.LongShortForm.{LongShortForm}
 use Rattle.csl_style.specs.declared.taxonomy.DateVariable.{DateVariable}
 use Rattle.csl_style.specs.declared.taxonomy.Kind.{Kind}
 use Rattle.csl_style.specs.declared.taxonomy.NameVariable.{NameVariable}

@@ -1,7 +1,7 @@
 -- One turn of a loop that looks for the first answer.
 use Rattle.std.proofs.Common.{◌≡◌, ℕ, ◌+◌, ◌<◌, List, length, get_or, drop, Option, None, Some, ap, ◌∙◌, refl, add-one, drop-cons}
 use Rattle.std.specs.Option.{option_or}
-use Rattle.lit_model.specs.Entry.{first_some}
+use Rattle.csl_common.specs.Lists.{first_some}
 
 module _ {X Y : Type 0} (f : X → Option Y) (xs : List X) (i : ℕ) (d : X) where
   turn : i < length xs → first_some f (drop i xs) ≡ option_or (f (get_or xs i d)) (first_some f (drop (i + 1) xs))

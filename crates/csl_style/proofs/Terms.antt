@@ -3,8 +3,8 @@ use Rattle.std.proofs.Common.{◌≡◌, ℕ, true, false, nat_eq, rules}
 use Rattle.std.proofs.lemmas.Bool.{false≢true}
 use Rattle.std.specs.Bool.{Decides}
 use denote.Enum.Bare.{sameb}
-use Rattle.lit_model.specs.declared.date.Season.{Season}
-use Rattle.lit_model.specs.contracts.date.Season.{the_type as season}
+use Rattle.csl_common.specs.declared.season.Season.{Season}
+use Rattle.csl_common.specs.contracts.season.Season.{the_type as season}
 use Rattle.csl_style.specs.declared.taxonomy.Locator.{Locator}
 use Rattle.csl_style.specs.contracts.taxonomy.Locator.{the_type as locators}
 use Rattle.csl_style.specs.contracts.taxonomy.NumberVariablePartialEq.TheImpl.{eq-value as eq_number}

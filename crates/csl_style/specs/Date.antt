@@ -6,7 +6,7 @@ use Rattle.csl_style.specs.declared.date.Date.{Date}
 use Rattle.csl_style.specs.declared.date.DateForm.{DateForm}
 use Rattle.csl_style.specs.contracts.date.DateForm.{the_type}
 use Rattle.csl_style.specs.declared.locale.Locale.{Locale}
-use Rattle.lit_model.specs.Entry.{first_some}
+use Rattle.csl_common.specs.Lists.{first_some}
 
 -- the date has that form
 abbrev pub is_in_form : DateForm → Date → Bool

@@ -1,7 +1,7 @@
 -- What a style's locales say, by their texts (CSL 1.0.2, Locale).
 use Rattle.std.specs.Prelude.{ℕ, List, [], ◌∷◌, map, Option, None, option_map, string_bytes}
 use Rattle.std.specs.Option.{option_or}
-use Rattle.lit_model.specs.declared.numeric.GrammarGender.{GrammarGender}
+use Rattle.csl_common.specs.declared.ordinal.GrammarGender.{GrammarGender}
 use Rattle.csl_style.specs.declared.term.Term.{Term}
 use Rattle.csl_style.specs.declared.term.TermForm.{TermForm}
 use Rattle.csl_style.specs.declared.locale.TermEntry.{TermEntry}

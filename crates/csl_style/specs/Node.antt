@@ -2,8 +2,8 @@
 -- and with what each macro holds
 -- in the place of its name.
 use Rattle.std.specs.Prelude.{ℕ, ◌+◌, suc, Bool, true, false, ◌&&◌, is_none, List, [], ◌∷◌, Option, Some, None, if◌then◌else◌}
-use Rattle.lit_model.specs.declared.text.LongShortForm.{LongShortForm}
-use Rattle.lit_model.specs.declared.numeric.NumberForm.{NumberForm}
+use Rattle.csl_common.specs.declared.form.LongShortForm.{LongShortForm}
+use Rattle.csl_common.specs.declared.form.NumberForm.{NumberForm}
 use Rattle.csl_style.specs.declared.formatting.Formatting.{Formatting}
 use Rattle.csl_style.specs.declared.taxonomy.Variable.{Variable}
 use Rattle.csl_style.specs.declared.taxonomy.NumberOrPageVariable.{NumberOrPageVariable}

@@ -2,9 +2,9 @@
 use Rattle.std.specs.Prelude.{ℕ, ◌%◌, Bool, false, ◌&&◌, ◌==◌, nat_lt, nat_le, List, [], ◌∷◌, unsigned_abs, Option, Some, None, option_map, find, if◌then◌else◌}
 use Rattle.std.specs.Option.{option_or, option_eq}
 use denote.Enum.Bare.{sameb}
-use Rattle.lit_model.specs.declared.numeric.GrammarGender.{GrammarGender}
-use Rattle.lit_model.specs.contracts.numeric.GrammarGender.{the_type}
-use Rattle.lit_model.specs.NumericForm.{OrdinalTexts, has_long_ordinal}
+use Rattle.csl_common.specs.declared.ordinal.GrammarGender.{GrammarGender}
+use Rattle.csl_common.specs.contracts.ordinal.GrammarGender.{the_type}
+use Rattle.csl_common.specs.Ordinals.{OrdinalTexts, has_long_ordinal}
 use Rattle.csl_style.specs.declared.locale.OrdinalSlot.{OrdinalSlot}
 use Rattle.csl_style.specs.declared.locale.OrdinalSlot.TheVariants.{Default, Two, Long}
 use Rattle.csl_style.specs.declared.locale.OrdinalMatch.{OrdinalMatch}

@@ -1,13 +1,13 @@
 -- The term that a style's locales have (CSL 1.0.2, Terms and Locale).
 use Rattle.std.specs.Prelude.{ℕ, Bool, ◌&&◌, List, [], ◌∷◌, Option, None, option_map, unwrap_or, find, if◌then◌else◌}
 use denote.Enum.Bare.{sameb}
-use Rattle.lit_model.specs.declared.numeric.GrammarGender.{GrammarGender}
+use Rattle.csl_common.specs.declared.ordinal.GrammarGender.{GrammarGender}
 use Rattle.csl_style.specs.declared.term.Term.{Term}
 use Rattle.csl_style.specs.declared.term.TermForm.{TermForm}
 use Rattle.csl_style.specs.declared.term.TermForm.TheVariants.{Long, Short, Verb, VerbShort, Symbol}
 use Rattle.csl_style.specs.contracts.term.TermPartialEq.TheImpl.{eq-value}
 use Rattle.csl_style.specs.contracts.term.TermForm.{the_type}
-use Rattle.lit_model.specs.Entry.{first_some}
+use Rattle.csl_common.specs.Lists.{first_some}
 use Rattle.csl_style.specs.Locale.{TermView}
 
 -- the two terms are one, as `==` has it

@@ -22,6 +22,7 @@ pub mod term;
 pub mod text;
 
 pub use affixes::Affixes;
+pub use csl_common::LongShortForm;
 pub use date::{Date, DateAnyForm, DateForm, DatePart, DatePartName, DateParts};
 pub use element::{
     Choose, ChooseBranch, ChooseMatch, CslMacro, Group, Layout, LayoutRenderingElement, Names,
@@ -30,7 +31,6 @@ pub use element::{
 pub use formatting::{
     Display, FontStyle, FontVariant, FontWeight, Formatting, TextDecoration, VerticalAlign,
 };
-pub use lit_model::LongShortForm;
 pub use locale::{Locale, LocaleOrdinals, OrdinalMatch, OrdinalSlot, OrdinalTerm, TermEntry};
 pub use named::{Named, named_by};
 pub use names::{

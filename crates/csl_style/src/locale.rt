@@ -6,7 +6,7 @@ ghost use Rattle.csl_style.specs.Term.{entry_text};
 
 use crate::date::Date;
 use crate::term::{Term, TermForm};
-use lit_model::GrammarGender;
+use csl_common::GrammarGender;
 
 pub(crate) mod lookup;
 pub(crate) mod ordinals;

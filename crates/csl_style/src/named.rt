@@ -17,7 +17,7 @@ use crate::taxonomy::{
     StandardVariable, Variable,
 };
 use crate::text::TextTarget;
-use lit_model::Memory;
+use csl_common::Memory;
 use std::alloc::Global;
 use std::collections::BTreeSet;
 use std::marker::Model;

@@ -4,7 +4,7 @@ use crate::affixes::Affixes;
 use crate::formatting::{Display, Formatting};
 use crate::taxonomy::NumberOrPageVariable;
 use crate::term::TermForm;
-use lit_model::NumberForm;
+use csl_common::NumberForm;
 
 /// A `cs:number`.
 #[derive(Drop)]

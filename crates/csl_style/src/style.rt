@@ -18,7 +18,7 @@ use crate::element::{CslMacro, Layout};
 use crate::locale::{Locale, lookup, ordinals};
 use crate::places::call_graph;
 use crate::term::{Term, TermForm};
-use lit_model::GrammarGender;
+use csl_common::GrammarGender;
 use std::alloc::Global;
 use std::marker::Model;
 

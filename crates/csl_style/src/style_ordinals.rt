@@ -6,7 +6,7 @@ ghost use Rattle.csl_style.specs.Ordinal.{ordinals, long_ordinals};
 
 use crate::locale::{LocaleOrdinals, ordinals};
 use crate::style::Style;
-use lit_model::GrammarGender;
+use csl_common::GrammarGender;
 
 impl Style {
     /// Its ordinals.

@@ -5,7 +5,7 @@ ghost use Rattle.csl_style.specs.Taxonomy.{term_of};
 ghost use Rattle.csl_style.specs.declared.term.Term.TheVariants as terms;
 
 use crate::taxonomy::{Locator, NameVariable, NumberOrPageVariable, NumberVariable, PageVariable};
-use lit_model::Season;
+use csl_common::Season;
 
 /// A term.
 #[derive(Clone, Copy, Debug, PartialEq, Eq, PartialOrd, Ord, Hash)]

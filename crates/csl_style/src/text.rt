@@ -4,7 +4,7 @@ use crate::affixes::Affixes;
 use crate::formatting::{Display, Formatting};
 use crate::taxonomy::Variable;
 use crate::term::{Term, TermForm};
-use lit_model::LongShortForm;
+use csl_common::LongShortForm;
 
 /// What a text prints.
 #[derive(Drop)]

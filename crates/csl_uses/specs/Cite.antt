@@ -1,6 +1,6 @@
 -- The house style as data (CSL 1.0.2, Layout; Group; Text).
 use Rattle.std.specs.Prelude.{◌≡◌, [], Some, None, false, codes}
-use Rattle.lit_model.specs.declared.text.LongShortForm.TheVariants.{Long}
+use Rattle.csl_common.specs.declared.form.LongShortForm.TheVariants.{Long}
 use Rattle.csl_style.specs.declared.formatting.FontStyle.TheVariants.{Italic}
 use Rattle.csl_style.specs.declared.formatting.Formatting.{Formatting}
 use Rattle.csl_style.specs.declared.taxonomy.StandardVariable.{StandardVariable}

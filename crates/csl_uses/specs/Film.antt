@@ -4,7 +4,7 @@ use Rattle.lit_model.specs.Chunks.{text_of}
 use Rattle.lit_model.specs.Date.{Parts, date_parts}
 use Rattle.lit_model.specs.Person.{Named, named}
 use Rattle.lit_model.specs.Text.{Chunk, chunks}
-use Rattle.lit_model.specs.declared.text.LongShortForm.TheVariants.{Long}
+use Rattle.csl_common.specs.declared.form.LongShortForm.TheVariants.{Long}
 use Rattle.csl_style.specs.declared.taxonomy.DateVariable.{DateVariable}
 use Rattle.csl_style.specs.declared.taxonomy.DateVariable.TheVariants.{Issued}
 use Rattle.csl_style.specs.declared.taxonomy.Kind.{Kind}

@@ -3,7 +3,8 @@ use Rattle.std.proofs.Common.{◌≡◌, ℕ, ◌+◌, ◌<◌, List, [], ◌∷
 use Rattle.std.specs.List.{flat_map}
 use Rattle.std.specs.Option.{option_or}
 use Rattle.std.proofs.lemmas.List.Folds.{flat_map-map}
-use Rattle.lit_model.specs.Entry.{parents_of, preorder_step, preorder, first_some}
+use Rattle.lit_model.specs.Entry.{parents_of, preorder_step, preorder}
+use Rattle.csl_common.specs.Lists.{first_some}
 use Rattle.lit_model.specs.declared.entry.Entry.{Entry, out-Entry, roll-Entry, roll-out-Entry, para-Entry, para-roll-Entry}
 
 -- an entry stands first, before its parents' preorders

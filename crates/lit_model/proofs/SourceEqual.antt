@@ -5,8 +5,8 @@ use Rattle.std.specs.Bool.{Decides, beq}
 use Rattle.std.specs.Ordering.{int_eq}
 use Rattle.std.specs.Cmp.{signed_Decides}
 use Rattle.lit_model.specs.Date.{Parts as DateParts, date_parts}
-use Rattle.lit_model.specs.declared.date.Season.{Season}
-use Rattle.lit_model.specs.contracts.date.SeasonPartialEq.TheImpl.{eq-value as eq_season}
+use Rattle.csl_common.specs.declared.season.Season.{Season}
+use Rattle.csl_common.specs.contracts.season.SeasonPartialEq.TheImpl.{eq-value as eq_season}
 use Rattle.std.specs.Str.{bytes_eq}
 use Rattle.std.proofs.lemmas.Slice.Eq.{bytes_eq-Decides}
 use Rattle.std.specs.Option.{ForSome}

@@ -1,7 +1,7 @@
 -- Dates by their parts. Months and days count from 0.
 use Rattle.std.specs.Prelude.{ℕ, ℤ, ◌≤◌, Bool, Option, IfSome}
 use Rattle.lit_model.specs.declared.date.Date.{Date}
-use Rattle.lit_model.specs.declared.date.Season.{Season}
+use Rattle.csl_common.specs.declared.season.Season.{Season}
 
 -- a month of a year and a day of a month, where they are given
 abbrev pub IsOnCalendar : Option ℕ → Option ℕ → Type 0

@@ -20,11 +20,6 @@ preorder_step x e = e ∷ flat_map (λ p. p.1 p.0) x.parents.items
 abbrev pub preorder : Entry → List Entry
 preorder e = para-Entry (Entry → List Entry) preorder_step e e
 
--- the first answer that f gives, over a list in order, if any
-abbrev pub first_some : {X Y : Type 0} → (X → Option Y) → List X → Option Y
-first_some f [] = None
-first_some f (x ∷ xs) = option_or (f x) (first_some f xs)
-
 -- what is asked answers the function g of the entry
 abbrev pub AnswersBy : {X : Type 0} → (Bor Entry → Option (Bor X) → Type 0) → (Entry → Option X) → Type 0
 AnswersBy {X} post g = (e : Bor Entry) (r : Option (Bor X)) → post e r → option_copied r ≡ g e.now

@@ -1,17 +1,13 @@
 -- The texts of numbers in a form, by their bytes.
 use Rattle.std.specs.Prelude.{ℕ, Bool, ◌&&◌, if◌then◌else◌, int_le, List, [], ◌++◌, ℤ, pos, negsuc, Option, unwrap_or}
 use Rattle.std.specs.Fmt.{signed_decimal}
-use Rattle.lit_model.specs.declared.numeric.NumberForm.{NumberForm}
-use Rattle.lit_model.specs.declared.numeric.NumberForm.TheVariants as forms
-use Rattle.lit_model.specs.declared.numeric.GrammarGender.{GrammarGender}
+use Rattle.csl_common.specs.declared.form.NumberForm.{NumberForm}
+use Rattle.csl_common.specs.declared.form.NumberForm.TheVariants as forms
+use Rattle.csl_common.specs.declared.ordinal.GrammarGender.{GrammarGender}
+use Rattle.csl_common.specs.Ordinals.{OrdinalTexts, has_long_ordinal}
 use Rattle.lit_model.specs.Numeric.{NumericView, is_bare}
 use Rattle.lit_model.specs.NumericText.{value_text, numeric_text}
 use Rattle.lit_model.specs.Roman.{roman, has_roman}
-
--- what a locale answers of a number and a gender: the suffix of the ordinal, or the whole long
--- ordinal
-abbrev pub OrdinalTexts : Type 0
-OrdinalTexts = ℤ → Option GrammarGender → Option (List ℕ)
 
 -- the number in lower case roman numerals, where it has one
 abbrev pub roman_text : ℤ → List ℕ
@@ -21,10 +17,6 @@ roman_text (negsuc n) = signed_decimal (negsuc n)
 -- the number and the suffix of its ordinal, if there is one
 abbrev pub ordinal_text : OrdinalTexts → Option GrammarGender → ℤ → List ℕ
 ordinal_text ordinals gender n = signed_decimal n ++ unwrap_or (ordinals n gender) []
-
--- the numbers that may have a long ordinal
-abbrev pub has_long_ordinal : ℤ → Bool
-has_long_ordinal n = int_le (pos 1) n && int_le n (pos 10)
 
 -- the long ordinal, else the ordinal
 abbrev pub long_ordinal_text : OrdinalTexts → OrdinalTexts → Option GrammarGender → ℤ → List ℕ

@@ -4,8 +4,8 @@ use Rattle.lit_model.specs.declared.text.StringChunk.{StringChunk}
 use Rattle.lit_model.specs.declared.text.ChunkKind.{ChunkKind}
 use Rattle.lit_model.specs.declared.text.ChunkedString.{ChunkedString}
 use Rattle.lit_model.specs.declared.text.FormatString.{FormatString}
-use Rattle.lit_model.specs.declared.text.LongShortForm.{LongShortForm}
-use Rattle.lit_model.specs.declared.text.LongShortForm.TheVariants.{Long, Short}
+use Rattle.csl_common.specs.declared.form.LongShortForm.{LongShortForm}
+use Rattle.csl_common.specs.declared.form.LongShortForm.TheVariants.{Long, Short}
 
 -- a piece of a text, by its bytes
 pub record Chunk : Type 0 where

@@ -6,8 +6,8 @@ ghost use Rattle.std.specs.List.{list_all};
 ghost use Rattle.lit_model.specs.Chunks.{text_of, is_empty, is_white_space};
 ghost use Rattle.lit_model.specs.Text.{chunks};
 
-use crate::memory::Memory;
 use crate::text::ChunkedString;
+use csl_common::Memory;
 use std::alloc::Global;
 
 impl ChunkedString {

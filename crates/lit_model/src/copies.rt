@@ -11,12 +11,12 @@ ghost use Rattle.lit_model.specs.Work.{own_of, works};
 
 use crate::entry::Entry;
 use crate::maybe_typed::MaybeTyped;
-use crate::memory::Memory;
 use crate::numeric::Numeric;
 use crate::page::PageRanges;
 use crate::person::{Person, PersonsWithRoles, copy_groups, copy_persons};
 use crate::source::{LanguageIdentifier, Publisher, QualifiedUrl, SerialNumber};
 use crate::text::copy_forms;
+use csl_common::Memory;
 use std::alloc::Global;
 
 impl Entry {

@@ -3,14 +3,7 @@
 ghost use Rattle.std.specs.Prelude.{◌≡◌, ◌↔◌, ◌≤◌, IsSome, IfSome};
 ghost use Rattle.std.specs.Option.{ForSome};
 
-/// A season (CSL 1.0.2, Terms: Seasons).
-#[derive(Clone, Copy, Debug, PartialEq, Eq, PartialOrd, Ord, Hash)]
-pub enum Season {
-    Spring,
-    Summer,
-    Autumn,
-    Winter,
-}
+use csl_common::Season;
 
 /// A date: a year, and what more is known.
 #[derive(Clone, Copy, Debug, PartialEq, Eq, Hash)]

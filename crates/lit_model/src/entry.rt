@@ -2,17 +2,18 @@
 
 ghost use Rattle.std.specs.Prelude.{◌≡◌, Option, option_copied, option_map, string_bytes, codes, IfOk};
 ghost use Rattle.lit_model.specs.declared.entry.Entry.{Entry, out-Entry};
-ghost use Rattle.lit_model.specs.Entry.{parents_of, preorder, first_some, AnswersBy, IsBare, own_serial};
+ghost use Rattle.lit_model.specs.Entry.{parents_of, preorder, AnswersBy, IsBare, own_serial};
+ghost use Rattle.csl_common.specs.Lists.{first_some};
 
 use crate::date::Date;
 use crate::entry_type::EntryType;
 use crate::maybe_typed::MaybeTyped;
-use crate::memory::Memory;
 use crate::numeric::Numeric;
 use crate::page::PageRanges;
 use crate::person::{Person, PersonsWithRoles};
 use crate::source::{LanguageIdentifier, Publisher, QualifiedUrl, SerialNumber};
 use crate::text::FormatString;
+use csl_common::Memory;
 use std::alloc::Global;
 
 /// A work, with the works that it is a part of.

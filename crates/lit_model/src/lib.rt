@@ -9,7 +9,6 @@ pub mod entry_type;
 mod first_names;
 mod initials;
 pub mod maybe_typed;
-pub mod memory;
 pub mod numeric;
 pub mod page;
 pub mod person;
@@ -20,18 +19,16 @@ pub mod sink;
 pub mod source;
 pub mod text;
 
-pub use date::{Date, Season};
+pub use csl_common::{GrammarGender, LongShortForm, Memory, NumberForm, Ordinals, Season};
+pub use date::Date;
 pub use entry::Entry;
 pub use entry_type::EntryType;
 pub use maybe_typed::MaybeTyped;
-pub use memory::Memory;
-pub use numeric::{
-    GrammarGender, NumberForm, Numeric, NumericDelimiter, NumericError, NumericValue, Ordinals,
-};
+pub use numeric::{Numeric, NumericDelimiter, NumericError, NumericValue};
 pub use page::{PageRanges, PageRangesPart};
 pub use person::{Person, PersonRole, PersonsWithRoles};
 pub use same_person::show_same;
 pub use select::{Bind, Clause, Field};
 pub use sink::{Displaying, Noting, Put, Sink, display_text, write_text};
 pub use source::{LanguageIdentifier, Publisher, QualifiedUrl, SerialNumber};
-pub use text::{ChunkKind, ChunkedString, FormatString, LongShortForm, StringChunk};
+pub use text::{ChunkKind, ChunkedString, FormatString, StringChunk};

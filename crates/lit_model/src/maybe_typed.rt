@@ -5,9 +5,9 @@ ghost use Rattle.lit_model.specs.MaybeTyped.{maybe_view};
 ghost use Rattle.lit_model.specs.Numeric.{numeric_view};
 ghost use Rattle.lit_model.specs.Page.{pages_view};
 
-use crate::memory::Memory;
 use crate::numeric::Numeric;
 use crate::page::PageRanges;
+use csl_common::Memory;
 use std::alloc::Global;
 
 /// A value that was understood, or the text that stands for it.

@@ -9,10 +9,9 @@ pub(crate) mod parse;
 mod roman;
 mod write;
 
-use crate::memory::Memory;
 use crate::text::copy_text;
+use csl_common::Memory;
 pub use error::NumericError;
-pub use form::Ordinals;
 use std::alloc::Global;
 
 /// A number, or several, with the texts around it, as `n4-6a` has.
@@ -112,25 +111,4 @@ pub enum NumericDelimiter {
     Ampersand,
     /// A `-`, which makes a range.
     Hyphen,
-}
-
-/// How a number is written (CSL 1.0.2, Number).
-#[derive(Clone, Copy, Debug, Default, PartialEq, Eq, Hash)]
-pub enum NumberForm {
-    /// `4`.
-    #[default]
-    Numeric,
-    /// `4th`.
-    Ordinal,
-    /// `fourth`, for one to ten.
-    LongOrdinal,
-    /// `iv`, for 1 to 3999.
-    Roman,
-}
-
-/// The grammatical gender of a term (CSL 1.0.2, Gender-specific Ordinals).
-#[derive(Clone, Copy, Debug, PartialEq, Eq, Hash)]
-pub enum GrammarGender {
-    Feminine,
-    Masculine,
 }

@@ -7,8 +7,8 @@ ghost use Rattle.lit_model.specs.Page.{part_view, pages_view, starting_page, fir
 mod parse;
 mod write;
 
-use crate::memory::Memory;
 use crate::numeric::Numeric;
+use csl_common::Memory;
 use std::alloc::Global;
 
 /// The pages of a work.

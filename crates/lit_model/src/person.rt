@@ -7,8 +7,8 @@ ghost use Rattle.lit_model.specs.Name.{is_institutional, is_cjk_script, letters,
 ghost use Rattle.lit_model.specs.Person.{named, role_of, group_of};
 ghost use Rattle.unicode.specs.Script.{script};
 
-use crate::memory::Memory;
 use crate::text::copy_text;
+use csl_common::Memory;
 use std::alloc::Global;
 use unicode::properties::{GeneralCategory, Script, is_alphabetic};
 

@@ -8,8 +8,8 @@ ghost use Rattle.lit_model.specs.Select.{rule_of, is_among, has_field, has_paren
 
 use crate::entry::Entry;
 use crate::entry_type::EntryType;
-use crate::memory::Memory;
 use crate::person::{Person, PersonRole};
+use csl_common::Memory;
 use std::alloc::Global;
 
 /// A field that a clause asks for.

@@ -4,8 +4,8 @@ ghost use Rattle.std.specs.Prelude.{◌≡◌, codes, option_copied, IfOk};
 ghost use Rattle.lit_model.specs.Source.{press_of, address_of, serials, serial, language_of};
 
 use crate::date::Date;
-use crate::memory::Memory;
 use crate::text::{FormatString, copy_forms, copy_text};
+use csl_common::Memory;
 use std::alloc::Global;
 use std::collections::BTreeMap;
 use url::Url;

@@ -3,18 +3,8 @@
 ghost use Rattle.std.specs.Prelude.{◌≡◌, map, option_map, string_bytes, IfOk};
 ghost use Rattle.lit_model.specs.Text.{chunk_of, chunks, forms_of, select};
 
-use crate::memory::Memory;
+use csl_common::{LongShortForm, Memory};
 use std::alloc::Global;
-
-/// Which of two forms of a text a style asks for (CSL 1.0.2, Text: form).
-#[derive(Clone, Copy, Debug, Default, PartialEq, Eq, PartialOrd, Ord, Hash)]
-pub enum LongShortForm {
-    /// The whole text.
-    #[default]
-    Long,
-    /// A shortened text, where there is one.
-    Short,
-}
 
 /// How a chunk of text may be changed.
 #[derive(Clone, Copy, Debug, Default, PartialEq, Eq, Hash)]

@@ -1,7 +1,7 @@
 //! What a style's locales say, taken in order (CSL 1.0.2, Locale).
 
 ghost use Rattle.std.specs.Prelude.{◌≡◌, map, find, option_map, option_copied};
-ghost use Rattle.lit_model.specs.Entry.{first_some};
+ghost use Rattle.csl_common.specs.Lists.{first_some};
 ghost use Rattle.csl_style.specs.Locale.{term_view, terms_of};
 ghost use Rattle.csl_style.specs.Term.{is_term, in_form, forms_for, found_term, term_text, long_gender, term_gender};
 ghost use Rattle.csl_style.specs.Date.{is_in_form, date_in_form};
@@ -9,7 +9,7 @@ ghost use Rattle.csl_style.specs.Date.{is_in_form, date_in_form};
 use crate::date::{Date, DateForm};
 use crate::locale::{Locale, TermEntry};
 use crate::term::{Term, TermForm};
-use lit_model::GrammarGender;
+use csl_common::GrammarGender;
 
 static LONG: [TermForm; 1] = [TermForm::Long];
 

@@ -5,7 +5,7 @@ ghost use Rattle.csl_style.specs.Locale.{ordinal_view, ordinals_of};
 ghost use Rattle.csl_style.specs.Ordinal.{digits_for, is_in_group, first_of, for_gender, first_ordinals, ordinal_for, ordinals, long_ordinals};
 
 use crate::locale::{Locale, OrdinalMatch, OrdinalSlot, OrdinalTerm};
-use lit_model::{GrammarGender, Ordinals};
+use csl_common::{GrammarGender, Ordinals};
 
 /// The digits of a number that are compared with a slot.
 fn digits_for(matching: Option<OrdinalMatch>, slot: u8, number: u32) -> u32

@@ -4,7 +4,7 @@ ghost use Rattle.std.specs.Prelude.{◌≡◌, Some};
 ghost use Rattle.lit_model.specs.NumericError.{error_text};
 ghost use Rattle.lit_model.specs.declared.numeric.error.NumericError.TheVariants as errors;
 
-use crate::memory::Memory as OutOfMemory;
+use csl_common::Memory as OutOfMemory;
 use std::alloc::{AllocError, AllocFailed};
 use std::error::Error;
 use std::fmt;

@@ -8,29 +8,10 @@ ghost use Rattle.lit_model.specs.NumericForm.{roman_text, ordinal_text, long_ord
 
 use super::roman::put_roman;
 use super::write::{delimiter_str, put_integer};
-use super::{GrammarGender, NumberForm, Numeric, NumericDelimiter, NumericValue};
+use super::{Numeric, NumericDelimiter, NumericValue};
 use crate::sink::{Noting, Put, Sink};
+use csl_common::{GrammarGender, NumberForm, Ordinals};
 use std::fmt;
-
-/// The ordinals of a locale (CSL 1.0.2, Ordinals).
-pub trait Ordinals {
-    ghost use Rattle.std.specs.Prelude.{◌≡◌, option_map};
-    ghost use Rattle.lit_model.specs.NumericForm.{OrdinalTexts};
-
-    /// The suffix of a number's ordinal, if there is one.
-    ghost ordinals: { Self → OrdinalTexts };
-
-    /// A number's long ordinal, if there is one.
-    ghost long_ordinals: { Self → OrdinalTexts };
-
-    /// The suffix that makes an ordinal of the number in this gender, as `nd` of 2.
-    fn lookup(&self, number: i32, gender: Option<GrammarGender>) -> Option<&str>
-        ensures { option_map (λ text. text.now) result ≡ ordinals self.now number gender };
-
-    /// The word for the ordinal of the number in this gender, as `second` of 2.
-    fn long(&self, number: i32, gender: Option<GrammarGender>) -> Option<&str>
-        ensures { option_map (λ text. text.now) result ≡ long_ordinals self.now number gender };
-}
 
 /// Writes a number in roman numerals, where it has some.
 fn put_in_roman<S: Sink>(sink: &mut S, number: i32) -> fmt::Result

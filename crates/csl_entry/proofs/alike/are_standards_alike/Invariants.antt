@@ -1,5 +1,5 @@
 use Rattle.std.proofs.Common.{◌≡◌, ◌↔◌}
-use Rattle.lit_model.specs.declared.text.LongShortForm.{LongShortForm}
+use Rattle.csl_common.specs.declared.form.LongShortForm.{LongShortForm}
 use Rattle.csl_entry.specs.Alike.{Each}
 use Rattle.csl_entry.proofs.alike.are_standards_alike.Given as goal
 

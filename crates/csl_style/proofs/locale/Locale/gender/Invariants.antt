@@ -1,5 +1,5 @@
 use Rattle.std.proofs.Common.{◌≡◌, map, drop}
-use Rattle.lit_model.specs.Entry.{first_some}
+use Rattle.csl_common.specs.Lists.{first_some}
 use Rattle.csl_style.specs.Locale.{term_view}
 use Rattle.csl_style.specs.Term.{long_gender}
 use Rattle.csl_style.proofs.locale.Locale.gender.Given as goal

@@ -1,5 +1,5 @@
 use Rattle.std.proofs.Common.{◌≡◌, map, sym, ap, ◌∙◌, slice_index_or, None, Some, option_map}
-use Rattle.lit_model.specs.Entry.{first_some}
+use Rattle.csl_common.specs.Lists.{first_some}
 use Rattle.csl_style.specs.Locale.{term_view, terms_of}
 use Rattle.csl_style.specs.Term.{in_form}
 use Rattle.csl_style.specs.declared.term.TermForm.TheVariants.{Long}

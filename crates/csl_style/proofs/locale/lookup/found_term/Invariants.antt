@@ -1,5 +1,5 @@
 use Rattle.std.proofs.Common.{◌≡◌, map, drop}
-use Rattle.lit_model.specs.Entry.{first_some}
+use Rattle.csl_common.specs.Lists.{first_some}
 use Rattle.csl_style.specs.Locale.{terms_of}
 use Rattle.csl_style.specs.Term.{in_form}
 use Rattle.csl_style.proofs.locale.lookup.found_term.Given as goal

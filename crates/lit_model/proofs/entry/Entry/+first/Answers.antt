@@ -1,5 +1,6 @@
 use Rattle.std.proofs.Common.{◌≡◌, Some, None, ◌<◌, length}
-use Rattle.lit_model.specs.Entry.{preorder, first_some}
+use Rattle.lit_model.specs.Entry.{preorder}
+use Rattle.csl_common.specs.Lists.{first_some}
 use Rattle.lit_model.proofs.Preorder.{first_some_here, first_some_turn}
 use Rattle.lit_model.proofs.entry.Entry.+first.Goals as goal
 

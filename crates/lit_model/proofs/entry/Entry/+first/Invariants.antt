@@ -1,7 +1,8 @@
 use Rattle.std.proofs.Common.{◌≡◌, Option, drop}
 use Rattle.std.specs.List.{flat_map}
 use Rattle.lit_model.specs.declared.entry.Entry.{Entry}
-use Rattle.lit_model.specs.Entry.{preorder, first_some, AnswersBy}
+use Rattle.lit_model.specs.Entry.{preorder, AnswersBy}
+use Rattle.csl_common.specs.Lists.{first_some}
 use Rattle.lit_model.proofs.entry.Entry.+first.Given as goal
 
 abbrev pub invariant-loop-parent : goal.invariant-loop-parent

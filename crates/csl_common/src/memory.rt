@@ -1,3 +1,5 @@
+//! Want of memory.
+
 ghost use Rattle.std.specs.Prelude.{Some, codes};
 
 use std::alloc::{AllocError, AllocFailed};

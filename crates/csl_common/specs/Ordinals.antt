@@ -1,0 +1,12 @@
+-- Ordinals of a locale.
+use Rattle.std.specs.Prelude.{ℕ, ℤ, pos, Bool, ◌&&◌, int_le, List, Option}
+use Rattle.csl_common.specs.declared.ordinal.GrammarGender.{GrammarGender}
+
+-- what a locale answers of a number and a gender: the suffix of the ordinal, or the whole long
+-- ordinal
+abbrev pub OrdinalTexts : Type 0
+OrdinalTexts = ℤ → Option GrammarGender → Option (List ℕ)
+
+-- the numbers that may have a long ordinal
+abbrev pub has_long_ordinal : ℤ → Bool
+has_long_ordinal n = int_le (pos 1) n && int_le n (pos 10)
