@@ -23,3 +23,9 @@ pub mod LastPlace
 pub mod NamesPlace
 pub mod NamesFirst
 pub mod NormalTest
+pub mod Fronts
+pub mod Escaped
+pub mod Tags
+pub mod Pieces
+pub mod Nests
+pub mod ReadSoFar

@@ -1,4 +1,4 @@
--- The HTML of every tree is nested, and its texts joined are the leaf text.
+-- The HTML of every tree and of every content is nested, and its texts joined are the leaf text.
 use Rattle.std.proofs.Common.{◌≡◌, ℕ, true, false, cond, List, [], ◌∷◌, ◌++◌, map, refl, sym, subst, ◌∙◌, append_assoc}
 use Rattle.std.specs.Prelude.{Option, Some, None, string_bytes}
 use Rattle.std.specs.List.{flat_map}
@@ -13,9 +13,13 @@ use Rattle.csl_tree.specs.declared.elem.ElemChild.TheViews.{roll-ElemChild, roll
 use Rattle.csl_tree.specs.declared.elem.ElemChild.TheFolds.{map-ElemChild, map-Elem, map-ElemChildren, fold-roll-ElemChild, fold-roll-Elem, fold-roll-ElemChildren, ind-ElemChild, ind-Elem, ind-ElemChildren}
 use Rattle.csl_tree.specs.declared.elem.Elem as elem
 use Rattle.csl_tree.specs.declared.elem.ElemChildren.{ElemChildren}
+use Rattle.csl_tree.specs.declared.elem.BufWriteFormat.TheVariants.{Html}
+use Rattle.csl_tree.specs.Content as content
+use Rattle.csl_tree.specs.Content.{IsContent}
 use Rattle.csl_tree.specs.Formatting.{same_formatting, default_formatting}
 use Rattle.csl_tree.specs.Tokens.{Token, Meta, text, solid, markup, link, transparent, opened, closed, around, optional_meta, child_step, elem_step, children_step, child_tokens, elem_tokens, tokens, token_text, leaf_text}
-use Rattle.csl_tree.specs.Html.{HtmlToken, div, span, anchor, start_tag, end_tag, characters, formatted, html_of, html, IsNested, nothing, text_then, element_then, characters_of, html_text}
+use Rattle.csl_tree.specs.Html.{HtmlToken, div, span, anchor, start_tag, end_tag, characters, formatted, html_of, html, IsNested, nothing, text_then, element_then, characters_of, html_text, IsHtmlOf}
+use Rattle.csl_tree.specs.Writing.{written}
 
 -- two nested lists in a row
 pub nested_append : {a : List HtmlToken} (b : List HtmlToken) → IsNested a → IsNested b → IsNested (a ++ b)
@@ -117,3 +121,24 @@ token_leaves (solid (closed (Some d))) = refl
 pub html_leaves : (ts : List Token) → html_text (html ts) ≡ leaf_text ts
 html_leaves [] = refl
 html_leaves (t ∷ ts) = flat_map-append characters_of (html_of t) (html ts) ∙ (λ i. token_leaves t i ++ html_leaves ts i)
+
+nested_content : {c : List Token} → IsContent c → IsNested (html c)
+nested_content content.nothing = nothing
+nested_content (content.text_then b bs f rest h) = nested_append (html rest) (nested_formatted (b ∷ bs) f) (nested_content h)
+nested_content (content.markup_then b bs rest h) = text_then (b ∷ bs) (html rest) (nested_content h)
+nested_content (content.link_then b bs f url rest h) =
+    nested_append (html rest) (element_then (anchor url) (formatted (b ∷ bs) f) [] (nested_formatted (b ∷ bs) f) nothing) (nested_content h)
+nested_content (content.transparent_then n f rest h) = nested_content h
+nested_content (content.element_then None m t inside rest h k) =
+    subst IsNested (sym (flat_map-append html_of (t ∷ inside) (solid (closed None) ∷ rest))) (nested_append (html rest) (nested_content h) (nested_content k))
+nested_content (content.element_then (Some d) m t inside rest h k) =
+    subst (λ (l : List HtmlToken). IsNested (start_tag (div d) ∷ l)) (sym (flat_map-append html_of (t ∷ inside) (solid (closed (Some d)) ∷ rest)))
+    (element_then (div d) (html (t ∷ inside)) (html rest) (nested_content h) (nested_content k))
+
+-- ---- what is written is HTML of the leaf text
+
+pub tree_is_html : (c : ElemChildren) → IsHtmlOf (written Html (tokens c)) (leaf_text (tokens c))
+tree_is_html c = record { tokens = html (tokens c); nested = nested_children c; written = refl; texts = sym (html_leaves (tokens c)) }
+
+pub content_is_html : (c : List Token) → IsContent c → IsHtmlOf (written Html c) (leaf_text c)
+content_is_html c is = record { tokens = html c; nested = nested_content is; written = refl; texts = sym (html_leaves c) }

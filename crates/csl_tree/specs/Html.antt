@@ -1,5 +1,5 @@
 -- HTML of a tree: a list of start tags, end tags and texts, and its bytes.
-use Rattle.std.specs.Prelude.{ℕ, List, [], ◌∷◌, ◌++◌, Some, None, codes, if◌then◌else◌}
+use Rattle.std.specs.Prelude.{◌≡◌, ℕ, List, [], ◌∷◌, ◌++◌, Some, None, codes, if◌then◌else◌}
 use Rattle.std.specs.List.{flat_map}
 use Rattle.csl_style.specs.declared.formatting.Display.{Display}
 use Rattle.csl_style.specs.declared.formatting.Display.TheVariants.{Block, LeftMargin, RightInline, Indent}
@@ -14,6 +14,7 @@ use Rattle.csl_style.specs.declared.formatting.TextDecoration.TheVariants as dec
 use Rattle.csl_style.specs.declared.formatting.VerticalAlign.{VerticalAlign}
 use Rattle.csl_style.specs.declared.formatting.VerticalAlign.TheVariants as align
 use Rattle.csl_tree.specs.declared.formatting.Formatting.{Formatting}
+use Rattle.csl_tree.specs.Escapes.{escaped}
 use Rattle.csl_tree.specs.Formatting.{same_formatting, default_formatting}
 use Rattle.csl_tree.specs.Tokens.{Token, text, solid, markup, link, transparent, opened, closed}
 
@@ -97,11 +98,22 @@ div_start Indent = codes "<div style=\"padding-left: 4em;\">"
 abbrev pub html_bytes_of : HtmlToken → List ℕ
 html_bytes_of (start_tag (div d)) = div_start d
 html_bytes_of (start_tag (span f)) = codes "<span style=\"" ++ (css f ++ codes "\">")
-html_bytes_of (start_tag (anchor url)) = codes "<a href=\"" ++ (url ++ codes "\">")
+html_bytes_of (start_tag (anchor url)) = codes "<a href=\"" ++ (escaped url ++ codes "\">")
 html_bytes_of (end_tag (div d)) = codes "</div>"
 html_bytes_of (end_tag (span f)) = codes "</span>"
 html_bytes_of (end_tag (anchor url)) = codes "</a>"
-html_bytes_of (characters bs) = bs
+html_bytes_of (characters bs) = escaped bs
 
 abbrev pub html_bytes : List HtmlToken → List ℕ
 html_bytes hs = flat_map html_bytes_of hs
+
+-- The bytes are HTML, and these are its texts joined: they are those of a nested list of tags and
+-- texts.
+pub record IsHtmlOf (html leaves : List ℕ) : Type 0 where
+  pub tokens : List HtmlToken
+  pub nested : IsNested tokens
+  pub written : html ≡ html_bytes tokens
+  pub texts : leaves ≡ html_text tokens
+
+abbrev pub IsNotHtml : List ℕ → Type 0
+IsNotHtml html = (leaves : List ℕ) → IsHtmlOf html leaves → ⊥

@@ -1,6 +1,10 @@
 pub mod Formatting
 pub mod Tokens
+pub mod Escapes
 pub mod Html
+pub mod HtmlError
+pub mod Marks
+pub mod Reading
 pub mod Writing
 pub mod Content
 pub mod Flat

@@ -81,7 +81,8 @@ pub enum BufWriteFormat {
     /// Its text, with line breaks around blocks.
     #[default]
     Plain,
-    /// HTML. Texts and addresses are written as they are, so it is safe only where they are.
+    /// HTML. Texts, markup and addresses are escaped, so none of them opens or closes a tag. The
+    /// scheme of an address is not checked.
     Html,
 }
 

@@ -1,0 +1,69 @@
+//! Escaping in HTML: the four reserved characters and their references.
+
+ghost use Rattle.std.specs.Prelude.{◌≡◌, ◌++◌, true, false, [], IfSome, IfNone, OnOk, OnErr};
+ghost use Rattle.std.specs.List.{list_all};
+ghost use Rattle.std.specs.Fmt.{WritesInCalls};
+ghost use Rattle.csl_tree.specs.Escapes.{is_reserved, is_plain, starts_plain, escaped, BeginsEscaped};
+
+use lit_model::Sink;
+use std::fmt;
+
+/// Whether a reference stands for the byte in HTML.
+fn is_reserved(byte: u8) -> bool
+    ensures { result ≡ is_reserved byte }
+{
+    matches!(byte, b'&' | b'<' | b'>' | b'"')
+}
+
+/// Splits a text after its longest front without a reserved character.
+pub fn split_plain(text: &str) -> (&str, &str)
+    ensures whole { text.now ≡ result.0.now ++ result.1.now }
+    ensures plain { list_all is_plain result.0.now ≡ true }
+    ensures longest { starts_plain result.1.now ≡ false }
+{
+    match text.bytes().position(|byte| is_reserved(byte)) {
+        Some(at) => text.split_at(at),
+        None => (text, ""),
+    }
+}
+
+/// The reference of the reserved character that a text begins with, and the text after that
+/// character.
+fn reference_of_first(text: &str) -> Option<(&'static str, &str)>
+    ensures found { IfSome result (λ x. BeginsEscaped text.now x.0.now x.1.now) }
+    ensures none { IfNone result (starts_plain text.now ≡ false → text.now ≡ []) }
+{
+    if let Some(rest) = text.strip_prefix("&") {
+        return Some(("&amp;", rest));
+    }
+    if let Some(rest) = text.strip_prefix("<") {
+        return Some(("&lt;", rest));
+    }
+    if let Some(rest) = text.strip_prefix(">") {
+        return Some(("&gt;", rest));
+    }
+    match text.strip_prefix("\"") {
+        Some(rest) => Some(("&quot;", rest)),
+        None => None,
+    }
+}
+
+/// Writes a text with a reference in place of each reserved character.
+///
+/// # Errors
+/// [`fmt::Error`]: the sink refused a part of it. What it holds then is left open.
+pub fn write_escaped<S: Sink>(text: &str, sink: &mut S) -> fmt::Result
+    ensures ok { OnOk result (WritesInCalls S.write_str_gives sink.old (escaped text.now) sink.new) }
+    ensures kept { OnOk result (S.refused sink.new ≡ S.refused sink.old) }
+    ensures err { OnErr result (S.refused sink.new ≡ true) }
+{
+    let (plain, mut rest) = split_plain(text);
+    sink.put(plain)?;
+    while let Some((reference, next)) = reference_of_first(rest) {
+        sink.put(reference)?;
+        let (plain, next) = split_plain(next);
+        sink.put(plain)?;
+        rest = next;
+    }
+    Ok(())
+}

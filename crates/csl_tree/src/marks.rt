@@ -1,0 +1,197 @@
+//! What HTML begins with: a tag or a text.
+
+ghost use Rattle.std.specs.Prelude.{◌≡◌, ◌<◌, ◌++◌, length, Option, None, IfSome, IfNone};
+ghost use Rattle.csl_tree.specs.Escapes.{escaped};
+ghost use Rattle.csl_tree.specs.Marks.{reference_at, byte_at, texts_found, as_text, IsAfterText};
+ghost use Rattle.csl_tree.specs.Marks.{div_at, span_at, end_at, after_weight, after_align, after_css, rest_found, found};
+ghost use Rattle.csl_tree.specs.Marks.{after, IsAfterAnchor, IsStart, BeginsNoStart, IsMark, BeginsNoPiece};
+
+use crate::escapes::split_plain;
+
+/// An element: it has a start tag and an end tag.
+#[derive(Clone, Copy, PartialEq, Eq)]
+pub enum Element {
+    Div,
+    Span,
+    Anchor,
+}
+
+/// What HTML begins with.
+#[derive(Clone, Copy)]
+pub enum Mark<'a> {
+    Start(Element),
+    End(Element),
+    /// A text that is not empty, unescaped.
+    Text(&'a str),
+}
+
+/// The character of the reference that HTML begins with, and the rest.
+#[tactic(auto, unfolding(crate::specs::Marks::reference_at), using(crate::proofs::Fronts::stripped))]
+fn reference_at(html: &str) -> Option<(&'static str, &str)>
+    ensures { texts_found result ≡ as_text (reference_at html.now) }
+{
+    if let Some(rest) = html.strip_prefix("&amp;") {
+        return Some(("&", rest));
+    }
+    if let Some(rest) = html.strip_prefix("&lt;") {
+        return Some(("<", rest));
+    }
+    if let Some(rest) = html.strip_prefix("&gt;") {
+        return Some((">", rest));
+    }
+    match html.strip_prefix("&quot;") {
+        Some(rest) => Some(("\"", rest)),
+        None => None,
+    }
+}
+
+/// The text that HTML begins with, unescaped, and the rest: as many characters as stand for
+/// themselves, or the character of one reference.
+fn text_at(html: &str) -> Option<(&str, &str)>
+    ensures found { IfSome result (λ x. (0 < length x.0.now) × (html.now ≡ escaped x.0.now ++ x.1.now)) }
+    ensures none { IfNone result (byte_at html.now ≡ None) }
+{
+    let (plain, rest) = split_plain(html);
+    if !plain.is_empty() {
+        return Some((plain, rest));
+    }
+    reference_at(html)
+}
+
+/// The rest after all the text that HTML begins with.
+fn after_text(html: &str) -> &str
+    ensures { IsAfterText html.now result.now }
+{
+    let mut rest = html;
+    while let Some((_, next)) = text_at(rest) {
+        rest = next;
+    }
+    rest
+}
+
+/// The rest after the start tag of a div.
+#[tactic(auto, unfolding(crate::specs::Marks::div_at), using(crate::proofs::Fronts::stripped))]
+fn after_div(html: &str) -> Option<&str>
+    ensures { rest_found result ≡ div_at html.now }
+{
+    if let Some(rest) = html.strip_prefix("<div>") {
+        return Some(rest);
+    }
+    if let Some(rest) = html.strip_prefix("<div style=\"padding-left: 4em;\">") {
+        return Some(rest);
+    }
+    if let Some(rest) = html.strip_prefix("<div style=\"float: left;\">") {
+        return Some(rest);
+    }
+    html.strip_prefix("<div style=\"float: right; clear: both;\">")
+}
+
+/// The rest after a declaration, which may be absent.
+#[tactic(auto, using(crate::proofs::Fronts::stripped))]
+fn after<'a>(css: &'a str, declaration: &str) -> &'a str
+    ensures { result.now ≡ after declaration.now css.now }
+{
+    css.strip_prefix(declaration).unwrap_or(css)
+}
+
+/// The rest after the declaration of a weight, which may be absent.
+#[tactic(auto, using(crate::proofs::Fronts::stripped))]
+fn after_weight(css: &str) -> &str
+    ensures { result.now ≡ after_weight css.now }
+{
+    if let Some(rest) = css.strip_prefix("font-weight: bold;") {
+        return rest;
+    }
+    after(css, "font-weight: lighter;")
+}
+
+/// The rest after the declaration of an alignment, which may be absent.
+#[tactic(auto, using(crate::proofs::Fronts::stripped))]
+fn after_align(css: &str) -> &str
+    ensures { result.now ≡ after_align css.now }
+{
+    if let Some(rest) = css.strip_prefix("vertical-align: super;") {
+        return rest;
+    }
+    after(css, "vertical-align: sub;")
+}
+
+/// The rest after the declarations of a formatting.
+#[tactic(auto, unfolding(crate::specs::Marks::after_css))]
+fn after_css(css: &str) -> &str
+    ensures { result.now ≡ after_css css.now }
+{
+    let css = after(css, "font-style: italic;");
+    let css = after_weight(css);
+    let css = after(css, "text-decoration: underline;");
+    let css = after(css, "font-variant: small-caps;");
+    after_align(css)
+}
+
+/// The rest after the start tag of a span.
+#[tactic(auto, unfolding(crate::specs::Marks::span_at), using(crate::proofs::Fronts::stripped))]
+fn after_span(html: &str) -> Option<&str>
+    ensures { rest_found result ≡ span_at html.now }
+{
+    let css = html.strip_prefix("<span style=\"")?;
+    after_css(css).strip_prefix("\">")
+}
+
+/// The rest after the start tag of an anchor.
+fn after_anchor(html: &str) -> Option<&str>
+    ensures { IsAfterAnchor html.now (rest_found result) }
+{
+    let url = html.strip_prefix("<a href=\"")?;
+    after_text(url).strip_prefix("\">")
+}
+
+/// The element whose start tag HTML begins with, and the rest.
+fn start_at(html: &str) -> Option<(Element, &str)>
+    ensures found { IfSome result (λ x. IsStart html.now x.0 x.1.now) }
+    ensures none { IfNone result (BeginsNoStart html.now) }
+{
+    if let Some(rest) = after_div(html) {
+        return Some((Element::Div, rest));
+    }
+    if let Some(rest) = after_span(html) {
+        return Some((Element::Span, rest));
+    }
+    match after_anchor(html) {
+        Some(rest) => Some((Element::Anchor, rest)),
+        None => None,
+    }
+}
+
+/// The element whose end tag HTML begins with, and the rest.
+#[tactic(auto, unfolding(crate::specs::Marks::end_at), using(crate::proofs::Fronts::stripped))]
+fn end_at(html: &str) -> Option<(Element, &str)>
+    ensures { found result ≡ end_at html.now }
+{
+    if let Some(rest) = html.strip_prefix("</div>") {
+        return Some((Element::Div, rest));
+    }
+    if let Some(rest) = html.strip_prefix("</span>") {
+        return Some((Element::Span, rest));
+    }
+    match html.strip_prefix("</a>") {
+        Some(rest) => Some((Element::Anchor, rest)),
+        None => None,
+    }
+}
+
+/// The tag or the text that HTML begins with, and the rest.
+pub fn mark_at(html: &str) -> Option<(Mark<'_>, &str)>
+    ensures found { IfSome result (λ x. IsMark html.now x.0 x.1.now) }
+    ensures none { IfNone result (BeginsNoPiece html.now) }
+{
+    if let Some((text, rest)) = text_at(html) {
+        return Some((Mark::Text(text), rest));
+    }
+    if let Some((element, rest)) = start_at(html) {
+        return Some((Mark::Start(element), rest));
+    }
+    match end_at(html) {
+        Some((element, rest)) => Some((Mark::End(element), rest)),
+        None => None,
+    }
+}
