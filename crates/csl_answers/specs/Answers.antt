@@ -1,11 +1,12 @@
 -- What the program writes for its words.
 use Rattle.std.specs.Prelude.{◌≡◌, ◌⊎◌, ℕ, Bool, true, false, List, ◌++◌, Option, Some, None, IsSomeAnd, codes, string_bytes}
 use Rattle.std.specs.Fmt.{WritesInCalls}
+use Rattle.csl_tree.specs.Html.{IsHtmlOf, IsNotHtml}
 use Rattle.csl_tree.specs.Tokens.{Token, tokens}
 use Rattle.csl_tree.specs.Writing.{written}
 use Rattle.csl_built_in.specs.Entries.{label_text, is_built_in_kind}
 use Rattle.csl_answers.specs.Cites.{IsTitleContent, IsEntryContent}
-use Rattle.csl_answers.specs.Words.{Verdict, title_in, cite_in, label_of, kind_of, missing, unknown}
+use Rattle.csl_answers.specs.Words.{Verdict, title_in, cite_in, label_of, kind_of, leaf_of, missing, unknown}
 use Rattle.csl_answers.specs.declared.answers.Answer.{Answer}
 use Rattle.csl_answers.specs.declared.answers.Answer.TheVariants.{Content, Text, Truth}
 
@@ -21,12 +22,13 @@ truth_text false = codes "false"
 
 -- The text answers the words: what the style of the command makes of the title or of the built-in
 -- entry, as it is written; the label, with three letters, of the built-in entry; whether that entry
--- is of the kind.
+-- is of the kind; the leaf text of the HTML.
 abbrev pub IsAnswer : Verdict → List ℕ → Type 0
 IsAnswer (title_in title format) text = (content : List Token) × IsTitleContent title content × (text ≡ written format content)
 IsAnswer (cite_in entry style format) text = (content : List Token) × IsEntryContent entry style content × (text ≡ written format content)
 IsAnswer (label_of entry) text = text ≡ label_text entry
 IsAnswer (kind_of entry kind) text = text ≡ truth_text (is_built_in_kind kind entry)
+IsAnswer (leaf_of html) text = IsHtmlOf html text
 IsAnswer missing text = ⊥
 IsAnswer (unknown word) text = ⊥
 
@@ -42,8 +44,23 @@ complaint (title_in title format) = None
 complaint (cite_in entry style format) = None
 complaint (label_of entry) = None
 complaint (kind_of entry kind) = None
+complaint (leaf_of html) = None
 complaint missing = Some (codes "missing word")
 complaint (unknown word) = Some (codes "unknown: " ++ word)
+
+-- the words ask for the leaf text of what is not HTML
+abbrev pub IsRefused : Verdict → Type 0
+IsRefused (title_in title format) = ⊥
+IsRefused (cite_in entry style format) = ⊥
+IsRefused (label_of entry) = ⊥
+IsRefused (kind_of entry kind) = ⊥
+IsRefused (leaf_of html) = IsNotHtml html
+IsRefused missing = ⊥
+IsRefused (unknown word) = ⊥
+
+-- what is said then, without the newline
+abbrev pub not_html : List ℕ
+not_html = codes "not html"
 
 -- what is said where memory ran out, without the newline
 abbrev pub out_of_memory : List ℕ

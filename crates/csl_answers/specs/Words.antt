@@ -17,12 +17,13 @@ use Rattle.csl_answers.specs.declared.words.WordsError.{WordsError}
 use Rattle.csl_answers.specs.declared.words.WordsError.TheVariants.{Missing, Unknown}
 
 -- What is asked for: a title in a format, a cite of an entry by a style in a format, the label of
--- an entry, whether an entry is of a kind. Or a word is missing, or unknown.
+-- an entry, whether an entry is of a kind, the leaf text of HTML. Or a word is missing, or unknown.
 pub data Verdict : Type 0 where
   title_in : List ℕ → BufWriteFormat → Verdict
   cite_in : BuiltIn → BuiltInStyle → BufWriteFormat → Verdict
   label_of : BuiltIn → Verdict
   kind_of : BuiltIn → Kind → Verdict
+  leaf_of : List ℕ → Verdict
   missing : Verdict
   unknown : List ℕ → Verdict
 
@@ -89,6 +90,11 @@ abbrev pub kind_verdict : List (List ℕ) → Verdict
 kind_verdict [] = missing
 kind_verdict (key ∷ words) = or_unknown key (named_built_in key) (λ entry. kind_verdict_of entry words)
 
+-- the words after `leaf`: the HTML
+abbrev pub leaf_verdict : List (List ℕ) → Verdict
+leaf_verdict [] = missing
+leaf_verdict (html ∷ words) = when_last (leaf_of html) words
+
 -- what the words ask for; no words ask for the title `Nature` in HTML
 abbrev pub verdict_on : List (List ℕ) → Verdict
 verdict_on [] = title_in (codes "Nature") Html
@@ -96,7 +102,8 @@ verdict_on (name ∷ words) =
     if bytes_eq name (codes "title") then title_verdict words
     else (if bytes_eq name (codes "cite") then cite_verdict words
     else (if bytes_eq name (codes "label") then label_verdict words
-    else (if bytes_eq name (codes "kind") then kind_verdict words else unknown name)))
+    else (if bytes_eq name (codes "kind") then kind_verdict words
+    else (if bytes_eq name (codes "leaf") then leaf_verdict words else unknown name))))
 
 -- what the code's answer says
 abbrev pub refusal : WordsError → Verdict
@@ -108,6 +115,7 @@ command_verdict (commands.Title title format) = title_in title.now format
 command_verdict (commands.Cite entry style format) = cite_in entry style format
 command_verdict (commands.Label entry) = label_of entry
 command_verdict (commands.Kind entry kind) = kind_of entry kind
+command_verdict (commands.Leaf html) = leaf_of html.now
 
 abbrev pub verdict_of : Result Command WordsError → Verdict
 verdict_of (Ok command) = command_verdict command

@@ -1,13 +1,13 @@
 //! The answers to words that were understood.
 
-ghost use Rattle.std.specs.Prelude.{◌≡◌, true, OnOk, OnErr, IfOk};
-ghost use Rattle.csl_answers.specs.Answers.{IsAnswer, TakesLine, text_of, truth_text};
+ghost use Rattle.std.specs.Prelude.{◌≡◌, ◌⊎◌, true, OnOk, OnErr, Err, IfOk, IsErrOf};
+ghost use Rattle.csl_answers.specs.Answers.{IsAnswer, IsRefused, TakesLine, text_of, truth_text};
 ghost use Rattle.csl_answers.specs.Words.{command_verdict};
 
 use crate::cites::{entry_content, title_content};
 use crate::words::Command;
-use csl_tree::{BufWriteFormat, ElemChildren};
-use lit_model::{Memory, Sink};
+use csl_tree::{BufWriteFormat, ElemChildren, HtmlError, leaf_text_of_html};
+use lit_model::Sink;
 use std::alloc::Global;
 use std::fmt;
 
@@ -25,9 +25,13 @@ pub enum Answer {
 /// The answer to a command.
 ///
 /// # Errors
-/// [`Memory`]: there was no memory left.
-pub fn answer_to(alloc: Global, command: Command<'_>) -> Result<Answer, Memory>
-    ensures { IfOk result (λ answer. IsAnswer (command_verdict command.entry) (text_of answer)) }
+/// - [`HtmlError::NotHtml`]: the command is for the leaf text of what is not HTML.
+/// - [`HtmlError::Memory`]: out of memory.
+pub fn answer_to(alloc: Global, command: Command<'_>) -> Result<Answer, HtmlError>
+    ensures ok { IfOk result (λ answer. IsAnswer (command_verdict command.entry) (text_of answer)) }
+    ensures not_html { IsErrOf result HtmlError.NotHtml → IsRefused (command_verdict command.entry) }
+    ensures refused { IsRefused (command_verdict command.entry)
+        → (result ≡ Err HtmlError.NotHtml) ⊎ (result ≡ Err HtmlError.Memory) }
 {
     match command {
         Command::Title { title, format } => {
@@ -49,6 +53,10 @@ pub fn answer_to(alloc: Global, command: Command<'_>) -> Result<Answer, Memory>
         Command::Kind { entry, kind } => {
             let truth = entry.is_of_kind(alloc, kind)?;
             Ok(Answer::Truth(truth))
+        }
+        Command::Leaf(html) => {
+            let text = leaf_text_of_html(alloc, html)?;
+            Ok(Answer::Text(text))
         }
     }
 }

@@ -1,13 +1,14 @@
 //! The program's work, over any two writers.
 
 ghost use Rattle.std.specs.Prelude.{◌≡◌, ◌⊎◌, None, OnOk, OnErr, is_ok, true, if◌then◌else◌};
-ghost use Rattle.csl_answers.specs.Answers.{Complains, OneRefuses, Replies, TakesLine};
-ghost use Rattle.csl_answers.specs.Answers.{complaint, out_of_memory};
+ghost use Rattle.csl_answers.specs.Answers.{Complains, IsRefused, OneRefuses, Replies, TakesLine};
+ghost use Rattle.csl_answers.specs.Answers.{complaint, not_html, out_of_memory};
 ghost use Rattle.csl_answers.specs.Words.{meaning, refusal};
 
 use crate::answers::{answer_to, write_answer};
 use crate::words::{WordsError, command_of};
-use lit_model::{Memory, Noting, Sink};
+use csl_tree::HtmlError;
+use lit_model::{Noting, Sink};
 use std::alloc::Global;
 use std::fmt;
 
@@ -40,7 +41,9 @@ fn status_of(written: fmt::Result, status: u8) -> u8
 /// - 0: the answer and a newline were written to `out`, and `fault` is as it was;
 /// - 2: the words are refused, `fault` took a line that says why, and `out` is as it was;
 /// - 3: memory ran out, `fault` took a line that says so, and `out` is as it was;
-/// - 4: a sink refused a text; what the sinks hold then is left open.
+/// - 4: a sink refused a text; what the sinks hold then is left open;
+/// - 5: the words ask for the leaf text of what is not HTML, `fault` took a line that says so, and
+///   `out` is as it was. Out of memory may come first.
 pub fn run_into<S: Sink, F: Sink>(alloc: Global, words: &[String], out: &mut S, fault: &mut F) -> u8
     ensures zero { result ≡ 0 → Replies S.write_str_gives (meaning words.now) out.old out.new }
     ensures zero_fault { result ≡ 0 → fault.new ≡ fault.old }
@@ -50,12 +53,17 @@ pub fn run_into<S: Sink, F: Sink>(alloc: Global, words: &[String], out: &mut S, 
     ensures three_words { result ≡ 3 → complaint (meaning words.now) ≡ None }
     ensures three_out { result ≡ 3 → out.new ≡ out.old }
     ensures four { result ≡ 4 → OneRefuses S.refused out.old out.new F.refused fault.old fault.new }
-    ensures no_other { (result ≡ 0) ⊎ ((result ≡ 2) ⊎ ((result ≡ 3) ⊎ (result ≡ 4))) }
+    ensures five { result ≡ 5 → IsRefused (meaning words.now)
+        × TakesLine F.write_str_gives fault.old not_html fault.new }
+    ensures five_out { result ≡ 5 → out.new ≡ out.old }
+    ensures refused { IsRefused (meaning words.now) → (result ≡ 5) ⊎ ((result ≡ 3) ⊎ (result ≡ 4)) }
+    ensures no_other { (result ≡ 0) ⊎ ((result ≡ 2) ⊎ ((result ≡ 3) ⊎ ((result ≡ 4) ⊎ (result ≡ 5)))) }
 {
     match command_of(words) {
         Ok(command) => match answer_to(alloc, command) {
             Ok(answer) => status_of(write_answer(&answer, out), 0),
-            Err(Memory) => status_of(fault.put("out of memory\n"), 3),
+            Err(HtmlError::Memory) => status_of(fault.put("out of memory\n"), 3),
+            Err(HtmlError::NotHtml) => status_of(fault.put("not html\n"), 5),
         },
         Err(error) => status_of(write_error(error, fault), 2),
     }
@@ -66,7 +74,9 @@ pub fn run_into<S: Sink, F: Sink>(alloc: Global, words: &[String], out: &mut S, 
 /// - 2: the words are refused, `fault` took a line that says why, and `out` is as it was;
 /// - 3: memory ran out, `fault` took a line that says so, and `out` is as it was;
 /// - 4: a writer refused a text; what the writers hold then is left open. That it comes only then
-///   is said by [`run_into`], since `fmt::Write` cannot tell.
+///   is said by [`run_into`], since `fmt::Write` cannot tell;
+/// - 5: the words ask for the leaf text of what is not HTML, `fault` took a line that says so, and
+///   `out` is as it was. Out of memory may come first.
 pub fn run<W: fmt::Write, F: fmt::Write>(
     alloc: Global,
     words: &[String],
@@ -80,7 +90,11 @@ pub fn run<W: fmt::Write, F: fmt::Write>(
     ensures three { result ≡ 3 → TakesLine F.write_str_gives fault.old out_of_memory fault.new }
     ensures three_words { result ≡ 3 → complaint (meaning words.now) ≡ None }
     ensures three_out { result ≡ 3 → out.new ≡ out.old }
-    ensures no_other { (result ≡ 0) ⊎ ((result ≡ 2) ⊎ ((result ≡ 3) ⊎ (result ≡ 4))) }
+    ensures five { result ≡ 5 → IsRefused (meaning words.now)
+        × TakesLine F.write_str_gives fault.old not_html fault.new }
+    ensures five_out { result ≡ 5 → out.new ≡ out.old }
+    ensures refused { IsRefused (meaning words.now) → (result ≡ 5) ⊎ ((result ≡ 3) ⊎ (result ≡ 4)) }
+    ensures no_other { (result ≡ 0) ⊎ ((result ≡ 2) ⊎ ((result ≡ 3) ⊎ ((result ≡ 4) ⊎ (result ≡ 5)))) }
 {
     let mut out_sink = Noting::new(out);
     let mut fault_sink = Noting::new(fault);

@@ -2,7 +2,7 @@
 
 ghost use Rattle.std.specs.Prelude.{◌≡◌, map, string_bytes};
 ghost use Rattle.csl_answers.specs.Words.{meaning, named_format, named_kind, verdict_of};
-ghost use Rattle.csl_answers.specs.Words.{title_verdict, label_verdict, kind_verdict, kind_verdict_of};
+ghost use Rattle.csl_answers.specs.Words.{title_verdict, label_verdict, kind_verdict, kind_verdict_of, leaf_verdict};
 ghost use Rattle.csl_answers.specs.Words.{cite_verdict, cite_verdict_of, cite_verdict_in};
 
 use csl_built_in::{BuiltIn, BuiltInStyle};
@@ -30,6 +30,8 @@ pub enum Command<'a> {
         entry: BuiltIn,
         kind: Kind,
     },
+    /// The leaf text of HTML.
+    Leaf(&'a str),
 }
 
 /// Why the words were refused.
@@ -55,6 +57,7 @@ pub fn command_of(words: &[String]) -> Result<Command<'_>, WordsError<'_>>
             "cite" => cite_command(words),
             "label" => label_command(words),
             "kind" => kind_command(words),
+            "leaf" => leaf_command(words),
             _ => Err(WordsError::Unknown(name.as_str())),
         },
     }
@@ -190,4 +193,17 @@ fn kind_of_name(name: &str) -> Option<Kind>
     ensures { result ≡ named_kind name.now }
 {
     Kind::from_name(name)
+}
+
+/// What the words after `leaf` ask for.
+fn leaf_command(words: &[String]) -> Result<Command<'_>, WordsError<'_>>
+    ensures { verdict_of result ≡ leaf_verdict (map string_bytes words.now) }
+{
+    let [html, more @ ..] = words else {
+        return Err(WordsError::Missing);
+    };
+    match more {
+        [] => Ok(Command::Leaf(html.as_str())),
+        [word, ..] => Err(WordsError::Unknown(word.as_str())),
+    }
 }

@@ -27,3 +27,12 @@ returns-clause-three g c three =
 pub returns-clause-three_out : goal.returns-clause-three_out
 returns-clause-three_out g c three =
     kept_back (λ s. s.inner) _ _ _ _ _ c.new-out_sink.ensures.lent c.into_inner.ensures (λ same. search rules) (c.run_into-status.ensures.three_out three)
+
+pub returns-clause-five : goal.returns-clause-five
+returns-clause-five g c five =
+    let h = c.run_into-status.ensures.five five in
+    (h.0, passed_back _ (λ s. s.inner) _ _ _ _ _ _ c.new-fault_sink.ensures.lent c.into_inner-2.ensures (λ same. search rules) h.1)
+
+pub returns-clause-five_out : goal.returns-clause-five_out
+returns-clause-five_out g c five =
+    kept_back (λ s. s.inner) _ _ _ _ _ c.new-out_sink.ensures.lent c.into_inner.ensures (λ same. search rules) (c.run_into-status.ensures.five_out five)
