@@ -42,7 +42,7 @@ pub(crate) fn alone<T: Drop>(alloc: Global, item: T) -> Result<Vec<T>, Memory> {
 pub(crate) enum Told {
     Nothing,
     /// The year suffix of that place.
-    Suffix(u8),
+    Suffix(u16),
     /// The whole name of the one person of a variable, and the form of other names.
     Name(NameVariable, DisambiguatedNameForm),
 }

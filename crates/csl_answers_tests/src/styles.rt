@@ -91,9 +91,10 @@ const AUTHOR_ALONE: SpecialForm = SpecialForm::VarOnly(Variable::Name(NameVariab
 
 const EDITOR: Told = Told::Name(NameVariable::Editor, DisambiguatedNameForm::LongFull);
 
-static CITES: [Row; 9] = [
+static CITES: [Row; 10] = [
     (Told::Nothing, None, "(Kwan, 2014)"),
     (Told::Suffix(0), None, "(Kwan, 2014a)"),
+    (Told::Suffix(702), None, "(Kwan, 2014aaa)"),
     (Told::Nothing, Some(SpecialForm::SuppressAuthor), "(2014)"),
     (
         Told::Suffix(0),

@@ -1,4 +1,4 @@
-use Rattle.std.proofs.Common.{ℕ, zero, suc, ◌+◌, ◌-◌, ◌*◌, ◌^◌, ◌<◌, ◌≤◌, ◌≡◌, ◌⊎◌, inl, inr, List, [], ◌∷◌, ◌++◌, length, refl, sym, ◌∙◌, ap, subst, lit<, lit≤, reverse, length-append, ◌↔◌, Bool, true, false, ◌==◌, if◌then◌else◌, arith}
+use Rattle.std.proofs.Common.{ℕ, zero, suc, ◌+◌, ◌-◌, ◌*◌, ◌/◌, ◌%◌, ◌^◌, ◌<◌, ◌≤◌, ◌≡◌, ◌⊎◌, inl, inr, List, [], ◌∷◌, ◌++◌, length, refl, sym, ◌∙◌, ap, subst, lit<, lit≤, reverse, length-append, ◌↔◌, Bool, true, false, ◌==◌, if◌then◌else◌, arith}
 use Rattle.std.proofs.Math.Nat.{pow-suc, pow-le-pow_right, one-le-pow}
 use Rattle.std.proofs.lemmas.Bool.{cases_order}
 use Rattle.std.proofs.lemmas.Grind.{reverse_onto}
@@ -181,3 +181,24 @@ order_at v w n hv hw e = (λ b. omega (arith, before_place v w hv hw b, e), λ l
 
 pub one_place : (v w : List ℕ) (n : ℕ) → IsWord v → IsWord w → place_of v ≡ n → place_of w ≡ n → v ≡ w
 one_place v w n hv hw ev ew = at_place v n hv ev ∙ sym (at_place w n hw ew)
+
+in_front : (q r p m : ℕ) → (26 * q + r + 1) * p + m ≡ q * (26 * p) + ((97 + r - 96) * p + m)
+in_front q r p m = omega (arith, ap (λ k. k * p) letter) where
+  letter : 97 + r - 96 ≡ r + 1
+  letter = omega arith
+
+-- by 26, the remainder of a place gives the last letter of its word, and the quotient less 1 the
+-- place of the word before that letter
+pub value_front : (rest n : ℕ) (w : List ℕ) → 26 ≤ rest → (rest + 1) * 26 ^ length w + word_value w ≡ n + 1 → (rest / 26 - 1 + 1) * 26 ^ suc (length w) + word_value ((97 + rest % 26) ∷ w) ≡ n + 1
+value_front rest n w h e = ap (λ k. k + word_value ((97 + rest % 26) ∷ w)) before ∙ (sym split ∙ e) where
+  whole : rest ≡ 26 * (rest / 26) + rest % 26
+  whole = omega arith
+
+  split : (rest + 1) * 26 ^ length w + word_value w ≡ rest / 26 * (26 * 26 ^ length w) + word_value ((97 + rest % 26) ∷ w)
+  split = ap (λ k. (k + 1) * 26 ^ length w + word_value w) whole ∙ in_front (rest / 26) (rest % 26) (26 ^ length w) (word_value w)
+
+  counted : rest / 26 - 1 + 1 ≡ rest / 26
+  counted = omega (arith, h)
+
+  before : (rest / 26 - 1 + 1) * 26 ^ suc (length w) ≡ rest / 26 * (26 * 26 ^ length w)
+  before = ap (λ k. k * 26 ^ suc (length w)) counted ∙ ap (λ p. rest / 26 * p) (next_power (length w))

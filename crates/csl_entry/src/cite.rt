@@ -61,8 +61,8 @@ pub enum DisambiguateState {
     NameDisambiguation(NameDisambiguationProperties),
     /// The branches of a style that ask for `disambiguate` (Choose: disambiguate).
     Choose,
-    /// The year suffix of that place: 0 is `a` (disambiguate-add-year-suffix).
-    YearSuffix(u8),
+    /// The year suffix of that place, from 0 to 65,535: 0 is `a` (disambiguate-add-year-suffix).
+    YearSuffix(u16),
 }
 
 /// What a citation says of a cite.

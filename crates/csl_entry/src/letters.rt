@@ -7,11 +7,11 @@ use lit_model::Memory;
 use std::alloc::Global;
 
 /// Word number `n` of the words over a to z, by length and then by alphabet: `a` is number 0, `z`
-/// 25 and `aa` 26 (CSL 1.0.2, Disambiguation: disambiguate-add-year-suffix).
+/// 25, `aa` 26 and `aaa` 702 (CSL 1.0.2, Disambiguation: disambiguate-add-year-suffix).
 ///
 /// # Errors
 /// [`Memory`]: there was no memory left.
-pub fn letter(alloc: Global, n: u8) -> Result<String, Memory>
+pub fn letter(alloc: Global, n: u16) -> Result<String, Memory>
     ensures letters { IfOk result (λ s. string_bytes s ≡ letters n) }
     ensures word { IfOk result (λ s. IsWord (string_bytes s)) }
     ensures place { IfOk result (λ s. place_of (string_bytes s) ≡ n) }
@@ -24,15 +24,20 @@ pub fn letter(alloc: Global, n: u8) -> Result<String, Memory>
     Ok(word)
 }
 
-/// The word of that place.
-fn word_at(alloc: Global, n: u8) -> Result<String, Memory>
+/// The word of that place. The letters before its last one, if there are some, are the word of
+/// place `n / 26 - 1`.
+fn word_at(alloc: Global, n: u16) -> Result<String, Memory>
     ensures word { IfOk result (λ s. IsWord (string_bytes s)) }
     ensures place { IfOk result (λ s. place_of (string_bytes s) ≡ n) }
 {
     let mut word = String::new(alloc);
-    if n >= 26 {
-        word.push(char::from(b'a' + (n / 26 - 1)))?;
+    let mut rest = n;
+    loop {
+        let last = b'a' + (rest % 26) as u8;
+        word.insert(0, char::from(last))?;
+        if rest < 26 {
+            return Ok(word);
+        }
+        rest = rest / 26 - 1;
     }
-    word.push(char::from(b'a' + n % 26))?;
-    Ok(word)
 }

@@ -70,7 +70,7 @@ pub enum Told {
     ByNothing,
     ByNames,
     ByChoice,
-    BySuffix(u8),
+    BySuffix(u16),
 }
 
 /// The state of a cite that is told so, where by names by those of the author.
@@ -111,10 +111,11 @@ fn copy_said(alloc: Global, told: Told) -> Result<(&'static str, usize), Memory>
 }
 
 /// What tells a cite from others, and what its state is.
-static STATES: [(Told, (&str, usize)); 4] = [
+static STATES: [(Told, (&str, usize)); 5] = [
     (Told::ByNothing, ("none", 0)),
     (Told::ByChoice, ("choose", 0)),
     (Told::BySuffix(3), ("year suffix", 3)),
+    (Told::BySuffix(256), ("year suffix", 256)),
     (Told::ByNames, ("names", 1)),
 ];
 

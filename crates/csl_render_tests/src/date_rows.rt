@@ -264,7 +264,7 @@ static FORMS: [Row; 18] = [
 ];
 
 /// Trees: what is sorted is one text, in the order of time.
-static TREES: [Row; 36] = [
+static TREES: [Row; 38] = [
     (YEAR, "date 2014", "[ 2014 ]:date dated"),
     (
         "@issued|b|/|<(|>)|,~+month|*+year",
@@ -369,6 +369,12 @@ static TREES: [Row; 36] = [
         "P000002014a dated",
     ),
     ("@issued+month", "date 2014/4 @ sorted letter:0", "05"),
+    (YEAR, "date 2014 @ sorted letter:256", "P000002014iw"),
+    (
+        YEAR,
+        "date 2014 @ sorted-by-variable letter:256",
+        "P000002014iw0000",
+    ),
     (
         YEAR,
         "date 2014 @ sorted letter:0 layout:=suffix",

@@ -196,7 +196,7 @@ pub(crate) struct Setting {
     /// The branches that ask for it tell the cite from others.
     is_told: bool,
     /// The place of its year suffix, if it has one.
-    suffix: Option<u8>,
+    suffix: Option<u16>,
     /// The forms of names that tell it apart, in words, if there are some.
     forms: Option<&'static str>,
 }
@@ -247,7 +247,7 @@ fn set_text(setting: &mut Setting, word: &'static str) -> Result<(), Fail> {
     match name {
         "after" => setting.before = text,
         "only" => setting.form = Some(SpecialForm::VarOnly(variable_named(text)?)),
-        "letter" => setting.suffix = Some(text.parse::<u8>()?),
+        "letter" => setting.suffix = Some(text.parse::<u16>()?),
         "locale" => setting.manner.date = Some(text),
         "layout" => setting.manner.layout = text,
         "names" => setting.manner.names = text,
