@@ -24,6 +24,8 @@ mod named;
 #[cfg(test)]
 mod places;
 #[cfg(test)]
+mod read;
+#[cfg(test)]
 mod search;
 #[cfg(test)]
 mod simplify;

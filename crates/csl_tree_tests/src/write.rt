@@ -163,7 +163,7 @@ static HTML: [(&str, &str); 6] = [
     ),
     (
         MIXED,
-        "<div><a href=\"https://x.y/?a=1&b=2\"><span style=\"font-style: italic;\">x</span></a>$m$ </div>",
+        "<div><a href=\"https://x.y/?a=1&amp;b=2\"><span style=\"font-style: italic;\">x</span></a>$m$ </div>",
     ),
 ];
 
@@ -184,6 +184,52 @@ fn displays_and_line_breaks_of_a_block(rt: HostRuntime) -> Result<(), Fail> {
     ] {
         assert_written(&rt, rt.alloc(), (source, BufWriteFormat::Plain), plain)?;
         assert_displayed(&rt, rt.alloc(), source, plain)?;
+    }
+    Ok(())
+}
+
+/// A tree of reserved characters, its HTML, and its plain text.
+static RESERVED: [(&str, &str, &str); 7] = [
+    ("a<b~&~\"c\"", "a&lt;b &amp; &quot;c&quot;", "a<b & \"c\""),
+    ("$a<b~&~\"c\"", "a&lt;b &amp; &quot;c&quot;", "a<b & \"c\""),
+    (
+        "@x|https://x.y/?a=1&b=2",
+        "<a href=\"https://x.y/?a=1&amp;b=2\">x</a>",
+        "x",
+    ),
+    (
+        "/>>ä",
+        "<span style=\"font-style: italic;\">&gt;&gt;ä</span>",
+        ">>ä",
+    ),
+    (
+        "@/<|>\"",
+        "<a href=\"&gt;&quot;\"><span style=\"font-style: italic;\">&lt;</span></a>",
+        "<",
+    ),
+    (
+        "( & )indent",
+        "<div style=\"padding-left: 4em;\">&amp;</div>",
+        "&",
+    ),
+    // What looks like a reference or a tag is a text.
+    ("&amp;</div>", "&amp;amp;&lt;/div&gt;", "&amp;</div>"),
+];
+
+fn assert_reserved(
+    rt: &impl Abort,
+    alloc: Global,
+    &(source, html, plain): &(&str, &str, &str),
+) -> Result<(), Fail> {
+    assert_written(rt, alloc, (source, BufWriteFormat::Html), html)?;
+    assert_written(rt, alloc, (source, BufWriteFormat::Plain), plain)
+}
+
+#[test]
+fn reserved_characters_are_escaped_in_html(rt: HostRuntime) -> Result<(), Fail> {
+    let rows: &[(&str, &str, &str)] = &RESERVED;
+    for row in rows {
+        assert_reserved(&rt, rt.alloc(), row)?;
     }
     Ok(())
 }

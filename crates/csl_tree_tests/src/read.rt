@@ -1,0 +1,223 @@
+//! How HTML is read back.
+
+use crate::asserted::assert_of;
+use crate::trees::{MIXED, assert_text, read};
+use csl_tree::{BufWriteFormat, HtmlError, leaf_text_of_html};
+use std::alloc::Global;
+use std::process::Abort;
+use std::test::Fail;
+
+/// HTML, and its leaf text.
+static READ: [(&str, &str); 18] = [
+    ("", ""),
+    ("a'b\n📚", "a'b\n📚"),
+    ("a&lt;b &amp; &quot;c&quot;", "a<b & \"c\""),
+    ("&gt;&gt;", ">>"),
+    // A text is unescaped once.
+    ("&amp;lt;", "&lt;"),
+    ("&amp;amp;", "&amp;"),
+    // An address is not part of the leaf text.
+    ("<a href=\"https://x.y/?a=1&amp;b=2\">x</a>", "x"),
+    ("<a href=\"\"></a>", ""),
+    (
+        "<a href=\"&lt;&gt;&quot;\"><span style=\"font-style: italic;\">x</span></a>",
+        "x",
+    ),
+    (
+        "(Title: <span style=\"font-style: italic;\">R&amp;D</span>)",
+        "(Title: R&D)",
+    ),
+    // A span has no declarations, some, or one for each attribute.
+    ("<span style=\"\">x</span>", "x"),
+    (
+        "<span style=\"font-weight: lighter;vertical-align: super;\">x</span>",
+        "x",
+    ),
+    (
+        "<span style=\"font-style: italic;font-weight: bold;text-decoration: underline;font-variant: small-caps;vertical-align: sub;\">x</span>",
+        "x",
+    ),
+    ("<div></div>", ""),
+    ("<div>a</div>b<div>c</div>", "abc"),
+    ("<div style=\"padding-left: 4em;\">x</div>", "x"),
+    (
+        "<div style=\"float: left;\">[1]</div><div style=\"float: right; clear: both;\"><div>ä</div>€</div>",
+        "[1]ä€",
+    ),
+    // Elements may be nested in any order.
+    (
+        "<span style=\"\"><a href=\"u\"><div>x</div></a><span style=\"\">y</span></span>",
+        "xy",
+    ),
+];
+
+/// Texts that are not HTML.
+static NOT_HTML: [&str; 36] = [
+    // An `&` that begins none of the four references.
+    "a&b",
+    "&amp",
+    "&AMP;",
+    "&apos;",
+    "&#38;",
+    "&;",
+    // A reserved character.
+    ">",
+    "\"",
+    "<",
+    "a < b",
+    // A tag that no tree is written with.
+    "<b>x</b>",
+    "<br>",
+    "<div",
+    "<span>x</span>",
+    "</div >",
+    "<div style=\"\">x</div>",
+    "<div style=\"float: right;\">x</div>",
+    "<SPAN style=\"\">x</SPAN>",
+    "<span style=''>x</span>",
+    "<span style=\"color: red;\">x</span>",
+    "<span style=\"font-style:italic;\">x</span>",
+    // Two declarations of one attribute.
+    "<span style=\"font-weight: bold;font-weight: lighter;\">x</span>",
+    "<span style=\"font-weight: bold;font-weight: bold;\">x</span>",
+    // Declarations in another order.
+    "<span style=\"font-weight: bold;font-style: italic;\">x</span>",
+    "<span style=\"vertical-align: sub;font-variant: small-caps;\">x</span>",
+    // A reserved character in an address.
+    "<a href=\"&\">x</a>",
+    "<a href=\"<\">x</a>",
+    "<a href=\">\">x</a>",
+    "<a href=\"\"\">x</a>",
+    // An element without its end, or an end without its element.
+    "<div>x",
+    "<a href=\"u\">x",
+    "<span style=\"\"><div>x</div>",
+    "x</div>",
+    "</a>",
+    "<div>&amp;</span>",
+    "<div><span style=\"\"></div></span>",
+];
+
+/// Asserts the leaf text of HTML.
+fn assert_leaves(
+    rt: &impl Abort,
+    alloc: Global,
+    html: &str,
+    wanted: &str,
+    asked: &str,
+) -> Result<(), Fail> {
+    let leaves = leaf_text_of_html(alloc, html)?;
+    assert_text(rt, leaves.as_str(), wanted, asked);
+    Ok(())
+}
+
+/// Asserts that a text is not HTML.
+fn assert_not_html(rt: &impl Abort, alloc: Global, text: &str, asked: &str) {
+    let error = leaf_text_of_html(alloc, text).err();
+    assert_of(rt, &error, &Some(HtmlError::NotHtml), &asked);
+}
+
+fn assert_read(rt: &impl Abort, alloc: Global, &(html, text): &(&str, &str)) -> Result<(), Fail> {
+    assert_leaves(rt, alloc, html, text, html)
+}
+
+#[test]
+fn html_and_its_leaf_text(rt: HostRuntime) -> Result<(), Fail> {
+    let rows: &[(&str, &str)] = &READ;
+    for row in rows {
+        assert_read(&rt, rt.alloc(), row)?;
+    }
+    Ok(())
+}
+
+#[test]
+fn texts_that_are_not_html(rt: HostRuntime) -> Result<(), Fail> {
+    let texts: &[&str] = &NOT_HTML;
+    for text in texts {
+        assert_not_html(&rt, rt.alloc(), *text, *text);
+    }
+    Ok(())
+}
+
+/// Ten thousand start tags, a text, and so many end tags.
+fn nested(alloc: Global, text: &str, ends: usize) -> Result<String, Fail> {
+    let mut html = "<div>".repeat(alloc, 10_000)?;
+    html.push_str(text)?;
+    html.push_str("</div>".repeat(alloc, ends)?.as_str())?;
+    Ok(html)
+}
+
+/// Asserts the text in as many elements, each in the next.
+fn assert_nested(rt: &impl Abort, alloc: Global, text: &str) -> Result<(), Fail> {
+    let html = nested(alloc, text, 10_000)?;
+    assert_leaves(rt, alloc, html.as_str(), text, "nested")
+}
+
+/// Asserts that the same is not HTML where other than as many of them end.
+fn assert_not_nested(rt: &impl Abort, alloc: Global, ends: usize) -> Result<(), Fail> {
+    let html = nested(alloc, "", ends)?;
+    assert_not_html(rt, alloc, html.as_str(), "nested");
+    Ok(())
+}
+
+#[test]
+fn ten_thousand_elements(rt: HostRuntime) -> Result<(), Fail> {
+    assert_nested(&rt, rt.alloc(), "")?;
+    assert_nested(&rt, rt.alloc(), "x")?;
+    assert_not_nested(&rt, rt.alloc(), 0)?;
+    assert_not_nested(&rt, rt.alloc(), 9_999)?;
+    assert_not_nested(&rt, rt.alloc(), 10_001)
+}
+
+/// A tree, and its leaf text.
+static TREES: [(&str, &str); 6] = [
+    ("a<b~&~\"c\">", "a<b & \"c\">"),
+    ("&lt;", "&lt;"),
+    ("$<&amp;>", "<&amp;>"),
+    ("@/x\"y|https://x.y/?a=1&b=\"<2>\"", "x\"y"),
+    (MIXED, "x$m$ "),
+    (
+        "/a&b ( $<m> @<|>\" #7 ~ ( _ )right )block:entry _ \"",
+        "a&b<m>< \"",
+    ),
+];
+
+/// The HTML of the tree of a description.
+fn html_of(alloc: Global, source: &str) -> Result<String, Fail> {
+    let tree = read(alloc, source)?;
+    let mut html = String::new(alloc);
+    let written = tree.write_buf(&mut html, BufWriteFormat::Html);
+    drop(tree);
+    written?;
+    Ok(html)
+}
+
+fn assert_read_back(
+    rt: &impl Abort,
+    alloc: Global,
+    &(source, text): &(&str, &str),
+) -> Result<(), Fail> {
+    let html = html_of(alloc, source)?;
+    assert_leaves(rt, alloc, html.as_str(), text, source)
+}
+
+#[test]
+fn trees_are_read_back(rt: HostRuntime) -> Result<(), Fail> {
+    let rows: &[(&str, &str)] = &TREES;
+    for row in rows {
+        assert_read_back(&rt, rt.alloc(), row)?;
+    }
+    Ok(())
+}
+
+fn assert_said(rt: &impl Abort, alloc: Global, error: HtmlError, wanted: &str) -> Result<(), Fail> {
+    let said = error.to_string(alloc)?;
+    assert_text(rt, said.as_str(), wanted, "error");
+    Ok(())
+}
+
+#[test]
+fn errors_in_words(rt: HostRuntime) -> Result<(), Fail> {
+    assert_said(&rt, rt.alloc(), HtmlError::Memory, "out of memory")?;
+    assert_said(&rt, rt.alloc(), HtmlError::NotHtml, "not html")
+}
