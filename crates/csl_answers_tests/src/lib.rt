@@ -13,6 +13,8 @@ mod entries;
 #[cfg(test)]
 mod forms;
 #[cfg(test)]
+mod leaf;
+#[cfg(test)]
 mod pairs;
 #[cfg(test)]
 mod refused;

@@ -76,3 +76,23 @@ fn a_refused_fault_is_status_four(rt: HostRuntime) -> Result<(), Fail> {
     }
     Ok(())
 }
+
+/// A text, how many texts of its answer and of its fault are taken, and the status of `leaf`.
+static LEAVES: [(&str, usize, usize, u8); 5] = [
+    ("<div>x</div>", 0, 0, 4),
+    ("<div>x</div>", 1, 0, 4),
+    ("<div>x</div>", 2, 0, 0),
+    ("<b>x</b>", 0, 0, 4),
+    ("<b>x</b>", 0, 1, 5),
+];
+
+#[test]
+fn a_refused_leaf_text_is_status_four(rt: HostRuntime) -> Result<(), Fail> {
+    let rows: &[(&'static str, usize, usize, u8)] = &LEAVES;
+    for (text, out, fault, wanted) in rows {
+        let words = ["leaf", *text];
+        let status = status_refusing(rt.alloc(), &words, *out, *fault)?;
+        assert_refused(&rt, status, *wanted, &words, *out);
+    }
+    Ok(())
+}

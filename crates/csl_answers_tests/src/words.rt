@@ -12,9 +12,12 @@ pub type Row = (&'static [&'static str], u8, &'static str, &'static str);
 
 const NATURE: &str = "(Title: <span style=\"font-style: italic;\">Nature</span>)\n";
 
-const AS_IT_IS: &str = "(Title: <span style=\"font-style: italic;\">é 📚 <b> & \n\"</span>)\n";
+const ESCAPED: &str =
+    "(Title: <span style=\"font-style: italic;\">é 📚 &lt;b&gt; &amp; \n&quot;</span>)\n";
 
-static ROWS: [Row; 31] = [
+const AND: &str = "(Title: <span style=\"font-style: italic;\">R&amp;D</span>)\n";
+
+static ROWS: [Row; 36] = [
     // A title in a format.
     (&["title", "Nature", "html"], 0, NATURE, ""),
     (&["title", "Nature", "plain"], 0, "(Title: Nature)\n", ""),
@@ -26,7 +29,9 @@ static ROWS: [Row; 31] = [
         "(Title: é 📚 <b> & \n\")\n",
         "",
     ),
-    (&["title", "é 📚 <b> & \n\"", "html"], 0, AS_IT_IS, ""),
+    (&["title", "é 📚 <b> & \n\"", "html"], 0, ESCAPED, ""),
+    (&["title", "R&D", "html"], 0, AND, ""),
+    (&["title", "R&D", "plain"], 0, "(Title: R&D)\n", ""),
     (&[], 0, NATURE, ""),
     // The label of an entry.
     (&["label", "crazy-rich"], 0, "Kwa14\n", ""),
@@ -51,6 +56,7 @@ static ROWS: [Row; 31] = [
     (&["label"], 2, "", "missing word\n"),
     (&["kind"], 2, "", "missing word\n"),
     (&["kind", "feminism"], 2, "", "missing word\n"),
+    (&["leaf"], 2, "", "missing word\n"),
     // A word is unknown, or one too many.
     (&["title", "Nature", "pdf"], 2, "", "unknown: pdf\n"),
     (&["title", "Nature", "html", "now"], 2, "", "unknown: now\n"),
@@ -66,6 +72,8 @@ static ROWS: [Row; 31] = [
         "",
         "unknown: now\n",
     ),
+    (&["leaf", "x", "now"], 2, "", "unknown: now\n"),
+    (&["leaf", "a&b", "x"], 2, "", "unknown: x\n"),
 ];
 
 /// The words as the program takes them.
