@@ -2,6 +2,7 @@
 
 use csl_context::RenderError;
 use csl_style::StyleError;
+use csl_tree::HtmlError;
 use lit_model::{Memory, NumericError};
 use std::alloc::AllocError;
 use std::fmt;
@@ -49,6 +50,15 @@ impl From<NumericError> for WorkError {
         match error {
             NumericError::Memory => WorkError::Memory,
             NumericError::NotNumeric => WorkError::Unexpected("not numeric"),
+        }
+    }
+}
+
+impl From<HtmlError> for WorkError {
+    fn from(error: HtmlError) -> WorkError {
+        match error {
+            HtmlError::Memory => WorkError::Memory,
+            HtmlError::NotHtml => WorkError::Unexpected("not html"),
         }
     }
 }

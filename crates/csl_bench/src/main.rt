@@ -8,6 +8,7 @@
 mod cite;
 mod entry;
 mod error;
+mod html;
 mod literature;
 mod pair;
 mod render;
@@ -27,7 +28,7 @@ const SMALL: usize = 10;
 const MANY_PARENTS: usize = 2000;
 
 /// The works, by name, and the size in which each is done without words.
-static WORKS: [(&'static str, usize); 22] = [
+static WORKS: [(&'static str, usize); 24] = [
     ("numeric", SMALL),
     ("pages", SMALL),
     ("initials", SMALL),
@@ -40,6 +41,8 @@ static WORKS: [(&'static str, usize); 22] = [
     ("search_deep", SMALL),
     ("simplify", SMALL),
     ("simplify_deep", SMALL),
+    ("html", SMALL),
+    ("html_plain", SMALL),
     ("style_chain", SMALL),
     ("style_dense", SMALL),
     ("answers", SMALL),
@@ -67,6 +70,8 @@ fn checksum(alloc: Global, work: &str, size: usize) -> Result<usize, WorkError> 
         "search_deep" => Ok(tree::search_deep(alloc, size)?),
         "simplify" => Ok(tree::simplify(alloc, size)?),
         "simplify_deep" => Ok(tree::simplify_deep(alloc, size)?),
+        "html" => html::html(alloc, size),
+        "html_plain" => html::html_plain(alloc, size),
         "style_chain" => style::chain(alloc, size),
         "style_dense" => style::dense(alloc, size),
         "answers" => Ok(entry::answers(alloc, size)?),

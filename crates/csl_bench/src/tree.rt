@@ -58,7 +58,8 @@ pub fn drain(alloc: Global, size: usize) -> Result<usize, Memory> {
     Ok(total(&stack))
 }
 
-fn text(alloc: Global, text: &str) -> Result<ElemChild, Memory> {
+/// A text in no formatting.
+pub fn text(alloc: Global, text: &str) -> Result<ElemChild, Memory> {
     let text = String::from_str(alloc, text)?;
     Ok(ElemChild::Text(Formatting::default().add_text(text)))
 }

@@ -1,0 +1,46 @@
+//! Works over HTML.
+
+use crate::error::WorkError;
+use crate::style::put;
+use crate::tree::text;
+use csl_tree::{BufWriteFormat, ElemChildren, leaf_text_of_html};
+use lit_model::Memory;
+use std::alloc::Global;
+
+/// A text with each reserved character of HTML.
+const RESERVED: &str = "a<b & \"c\">";
+
+/// A text of the same length without any.
+const PLAIN: &str = "a-b - .c._";
+
+/// A tree of so many copies of a text.
+fn copies(alloc: Global, words: &str, size: usize) -> Result<ElemChildren, Memory> {
+    let mut children = Vec::new(alloc);
+    for _ in 0..size {
+        put(&mut children, text(alloc, words)?)?;
+    }
+    Ok(ElemChildren(children))
+}
+
+/// The HTML of so many copies of a text.
+fn html_of(alloc: Global, words: &str, size: usize) -> Result<String, WorkError> {
+    let children = copies(alloc, words, size)?;
+    let mut html = String::new(alloc);
+    let written = children.write_buf(&mut html, BufWriteFormat::Html);
+    drop(children);
+    written?;
+    Ok(html)
+}
+
+/// Writes a tree of texts with reserved characters as HTML and reads it back. Counts the bytes of
+/// both.
+pub fn html(alloc: Global, size: usize) -> Result<usize, WorkError> {
+    let html = html_of(alloc, RESERVED, size)?;
+    let leaves = leaf_text_of_html(alloc, html.as_str())?;
+    Ok(html.len().wrapping_add(leaves.len()))
+}
+
+/// Writes a tree of texts without reserved characters as HTML, and counts the bytes.
+pub fn html_plain(alloc: Global, size: usize) -> Result<usize, WorkError> {
+    Ok(html_of(alloc, PLAIN, size)?.len())
+}
