@@ -58,7 +58,11 @@ IsRefused (leaf_of html) = IsNotHtml html
 IsRefused missing = ⊥
 IsRefused (unknown word) = ⊥
 
--- what is said then, without the newline
+-- nothing answers the words: they are refused, or ask for the leaf text of what is not HTML
+abbrev pub HasNoAnswer : Verdict → Type 0
+HasNoAnswer verdict = (text : List ℕ) → IsAnswer verdict text → ⊥
+
+-- what is said of what is not HTML, without the newline
 abbrev pub not_html : List ℕ
 not_html = codes "not html"
 

@@ -1,7 +1,7 @@
 //! The program's work, over any two writers.
 
 ghost use Rattle.std.specs.Prelude.{◌≡◌, ◌⊎◌, None, OnOk, OnErr, is_ok, true, if◌then◌else◌};
-ghost use Rattle.csl_answers.specs.Answers.{Complains, IsRefused, OneRefuses, Replies, TakesLine};
+ghost use Rattle.csl_answers.specs.Answers.{Complains, HasNoAnswer, IsRefused, OneRefuses, Replies, TakesLine};
 ghost use Rattle.csl_answers.specs.Answers.{complaint, not_html, out_of_memory};
 ghost use Rattle.csl_answers.specs.Words.{meaning, refusal};
 
@@ -41,7 +41,8 @@ fn status_of(written: fmt::Result, status: u8) -> u8
 /// - 0: the answer and a newline were written to `out`, and `fault` is as it was;
 /// - 2: the words are refused, `fault` took a line that says why, and `out` is as it was;
 /// - 3: memory ran out, `fault` took a line that says so, and `out` is as it was;
-/// - 4: a sink refused a text; what the sinks hold then is left open;
+/// - 4: a sink refused a text; what the sinks hold then is left open, but where the words have no
+///   answer `out` is as it was;
 /// - 5: the words ask for the leaf text of what is not HTML, `fault` took a line that says so, and
 ///   `out` is as it was. Out of memory may come first.
 pub fn run_into<S: Sink, F: Sink>(alloc: Global, words: &[String], out: &mut S, fault: &mut F) -> u8
@@ -53,6 +54,7 @@ pub fn run_into<S: Sink, F: Sink>(alloc: Global, words: &[String], out: &mut S, 
     ensures three_words { result ≡ 3 → complaint (meaning words.now) ≡ None }
     ensures three_out { result ≡ 3 → out.new ≡ out.old }
     ensures four { result ≡ 4 → OneRefuses S.refused out.old out.new F.refused fault.old fault.new }
+    ensures four_out { result ≡ 4 → HasNoAnswer (meaning words.now) → out.new ≡ out.old }
     ensures five { result ≡ 5 → IsRefused (meaning words.now)
         × TakesLine F.write_str_gives fault.old not_html fault.new }
     ensures five_out { result ≡ 5 → out.new ≡ out.old }
@@ -73,8 +75,9 @@ pub fn run_into<S: Sink, F: Sink>(alloc: Global, words: &[String], out: &mut S, 
 /// - 0: the answer and a newline were written to `out`, and `fault` is as it was;
 /// - 2: the words are refused, `fault` took a line that says why, and `out` is as it was;
 /// - 3: memory ran out, `fault` took a line that says so, and `out` is as it was;
-/// - 4: a writer refused a text; what the writers hold then is left open. That it comes only then
-///   is said by [`run_into`], since `fmt::Write` cannot tell;
+/// - 4: a writer refused a text; what the writers hold then is left open, but where the words have
+///   no answer `out` is as it was. That 4 comes only then is said by [`run_into`], since
+///   `fmt::Write` cannot tell;
 /// - 5: the words ask for the leaf text of what is not HTML, `fault` took a line that says so, and
 ///   `out` is as it was. Out of memory may come first.
 pub fn run<W: fmt::Write, F: fmt::Write>(
@@ -90,6 +93,7 @@ pub fn run<W: fmt::Write, F: fmt::Write>(
     ensures three { result ≡ 3 → TakesLine F.write_str_gives fault.old out_of_memory fault.new }
     ensures three_words { result ≡ 3 → complaint (meaning words.now) ≡ None }
     ensures three_out { result ≡ 3 → out.new ≡ out.old }
+    ensures four_out { result ≡ 4 → HasNoAnswer (meaning words.now) → out.new ≡ out.old }
     ensures five { result ≡ 5 → IsRefused (meaning words.now)
         × TakesLine F.write_str_gives fault.old not_html fault.new }
     ensures five_out { result ≡ 5 → out.new ≡ out.old }

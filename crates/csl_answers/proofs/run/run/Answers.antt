@@ -36,3 +36,7 @@ returns-clause-five g c five =
 pub returns-clause-five_out : goal.returns-clause-five_out
 returns-clause-five_out g c five =
     kept_back (λ s. s.inner) _ _ _ _ _ c.new-out_sink.ensures.lent c.into_inner.ensures (λ same. search rules) (c.run_into-status.ensures.five_out five)
+
+pub returns-clause-four_out : goal.returns-clause-four_out
+returns-clause-four_out g c four none =
+    kept_back (λ s. s.inner) _ _ _ _ _ c.new-out_sink.ensures.lent c.into_inner.ensures (λ same. search rules) (c.run_into-status.ensures.four_out four none)
