@@ -1,12 +1,13 @@
 //! The program `csl_cite`: it prints what a built-in style makes of an entry.
 //!
-//! All of its work is [`csl_answers::run::run`], over any two writers; `main` hands it the
+//! All of its work is [`csl_answers::run::run_into`], over any two sinks; `main` hands it the
 //! arguments and the standard streams.
 #![tactic(auto)]
 
 mod streams;
 
 use csl_answers::run;
+use lit_model::Noting;
 use std::env;
 use std::io::{self, ErrorKind};
 use std::process::ExitCode;
@@ -20,25 +21,27 @@ fn arguments(rt: &(impl Env + AllocGlobal)) -> io::Result<Vec<String>> {
     Ok(words.collect(rt.alloc())?)
 }
 
-/// Says why there are no arguments, and answers the status for it.
+/// Says why there are no arguments, and returns the status for it: 4 where standard error refuses
+/// the text.
 fn without_arguments(rt: &impl Eprint, error: &io::Error) -> u8 {
     let (line, status) = if error.kind() == ErrorKind::OutOfMemory {
         ("out of memory", 3)
     } else {
         ("not text", 2)
     };
-    // Where even this can't be said, the status says it.
-    let _ = rt.eprintln(line);
-    status
+    match rt.eprintln(line) {
+        Ok(()) => status,
+        Err(_) => 4,
+    }
 }
 
 fn main(rt: HostRuntime) -> ExitCode {
     let status = match arguments(&rt) {
-        Ok(words) => run::run(
+        Ok(words) => run::run_into(
             rt.alloc(),
             words.as_slice(),
-            &mut Output { rt: &rt },
-            &mut Fault { rt: &rt },
+            &mut Noting::new(&mut Output { rt: &rt }),
+            &mut Noting::new(&mut Fault { rt: &rt }),
         ),
         Err(error) => without_arguments(&rt, &error),
     };
