@@ -23,6 +23,7 @@ pub mod LastPlace
 pub mod NamesPlace
 pub mod NamesFirst
 pub mod NormalTest
+pub mod KeptLinks
 pub mod Fronts
 pub mod Escaped
 pub mod Tags

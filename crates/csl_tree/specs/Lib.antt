@@ -3,6 +3,7 @@ pub mod Tokens
 pub mod Escapes
 pub mod Html
 pub mod HtmlError
+pub mod Links
 pub mod Marks
 pub mod Reading
 pub mod Writing

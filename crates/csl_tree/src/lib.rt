@@ -14,6 +14,7 @@ pub mod flat;
 mod flat_items;
 pub mod formatting;
 pub mod html_error;
+mod links;
 mod marks;
 mod named;
 mod places;

@@ -10,7 +10,7 @@ use crate::formatting::Formatted;
 
 impl ElemChild {
     /// The element, if the child is one.
-    fn as_elem(&self) -> Option<&Elem>
+    pub(crate) fn as_elem(&self) -> Option<&Elem>
         ensures { option_copied result ≡ elem_of self.now }
     {
         match self {

@@ -20,6 +20,8 @@ mod formatting;
 #[cfg(test)]
 mod laws;
 #[cfg(test)]
+mod links;
+#[cfg(test)]
 mod named;
 #[cfg(test)]
 mod places;

@@ -25,6 +25,7 @@ pub mod Sink
 pub mod Source
 pub mod Spelled
 pub mod Text
+pub mod WebAddress
 pub mod Work
 pub mod Roman
 pub mod NumericForm

@@ -18,6 +18,7 @@ pub mod select;
 pub mod sink;
 pub mod source;
 pub mod text;
+pub mod web_address;
 
 pub use csl_common::{GrammarGender, LongShortForm, Memory, NumberForm, Ordinals, Season};
 pub use date::Date;
@@ -32,3 +33,4 @@ pub use select::{Bind, Clause, Field};
 pub use sink::{Displaying, Noting, Put, Sink, display_text, write_text};
 pub use source::{LanguageIdentifier, Publisher, QualifiedUrl, SerialNumber};
 pub use text::{ChunkKind, ChunkedString, FormatString, StringChunk};
+pub use web_address::is_web_address;

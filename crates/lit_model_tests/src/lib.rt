@@ -33,3 +33,5 @@ mod select;
 mod source;
 #[cfg(test)]
 mod text;
+#[cfg(test)]
+mod web_address;

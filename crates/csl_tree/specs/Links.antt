@@ -1,0 +1,50 @@
+-- Links, of which some addresses are allowed.
+use Rattle.std.specs.Prelude.{◌≡◌, ℕ, Bool, List, [], ◌∷◌, map, if◌then◌else◌}
+use Rattle.std.specs.List.{flat_map}
+use Rattle.std.specs.Borrow.{Bor}
+use Rattle.csl_tree.specs.declared.elem.ElemChild.{ElemChild}
+use Rattle.csl_tree.specs.declared.elem.ElemChild.TheOpen.{ElemChild-F, Text, Elem, Markup, Link, Transparent}
+use Rattle.csl_tree.specs.declared.elem.ElemChild.TheViews.{out-ElemChild}
+use Rattle.csl_tree.specs.declared.elem.ElemChild.TheVariants as variants
+use Rattle.csl_tree.specs.declared.elem.Elem as elem
+use Rattle.csl_tree.specs.declared.elem.ElemChildren.{ElemChildren}
+use Rattle.csl_tree.specs.Tokens.{Token, text, solid, markup, link, transparent, opened, closed}
+
+-- the token, where a link of another address is its text
+abbrev pub kept_link : (List ℕ → Bool) → Token → Token
+kept_link allowed (text bs f) = text bs f
+kept_link allowed (solid (markup bs)) = solid (markup bs)
+kept_link allowed (solid (link bs f url)) = if allowed url then solid (link bs f url) else text bs f
+kept_link allowed (solid (transparent n f)) = solid (transparent n f)
+kept_link allowed (solid (opened d m)) = solid (opened d m)
+kept_link allowed (solid (closed d)) = solid (closed d)
+
+abbrev pub kept_links : (List ℕ → Bool) → List Token → List Token
+kept_links allowed ts = map (kept_link allowed) ts
+
+abbrev pub layer_unlinked : ElemChild-F ElemChild elem.Elem ElemChildren → ElemChild → ElemChild
+layer_unlinked (Text t) k = k
+layer_unlinked (Elem e) k = k
+layer_unlinked (Markup s) k = k
+layer_unlinked (Link t u) k = variants.Text t
+layer_unlinked (Transparent n f) k = k
+
+-- the text of a link, and any other child as it is
+abbrev pub unlinked : ElemChild → ElemChild
+unlinked k = layer_unlinked (out-ElemChild k) k
+
+-- the addresses that a token leads to
+abbrev pub link_address : Token → List (List ℕ)
+link_address (text bs f) = []
+link_address (solid (markup bs)) = []
+link_address (solid (link bs f url)) = url ∷ []
+link_address (solid (transparent n f)) = []
+link_address (solid (opened d m)) = []
+link_address (solid (closed d)) = []
+
+abbrev pub addresses : List Token → List (List ℕ)
+addresses ts = flat_map link_address ts
+
+-- each call answers by the address alone
+abbrev pub AllowsBy : {F : Type 0} → (F → Bor (List ℕ) → Bool → F → Type 0) → (List ℕ → Bool) → Type 0
+AllowsBy {F} step allowed = (f after : F) (url : Bor (List ℕ)) (r : Bool) → step f url r after → r ≡ allowed url.now

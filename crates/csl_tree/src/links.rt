@@ -1,0 +1,84 @@
+//! Links whose address is not allowed.
+
+ghost use Rattle.std.specs.Prelude.{◌≡◌, Bool, List, ℕ, true};
+ghost use Rattle.std.specs.List.{list_all};
+ghost use Rattle.csl_tree.specs.Links.{AllowsBy, addresses, kept_links, unlinked};
+ghost use Rattle.csl_tree.specs.Tokens.{child_tokens, leaf_text, tokens};
+ghost use Rattle.csl_tree.specs.Writing.{plain};
+
+use crate::elem::{ElemChild, ElemChildren};
+use crate::formatting::Formatting;
+use std::mem;
+
+impl ElemChild {
+    /// The text of a link, and any other child as it is.
+    fn without_link(self) -> ElemChild
+        ensures { result ≡ unlinked self }
+    {
+        match self {
+            ElemChild::Link { text, .. } => ElemChild::Text(text),
+            other => other,
+        }
+    }
+
+    /// Makes a link its text, and leaves any other child as it is.
+    fn unlink(&mut self)
+        ensures { self.new ≡ unlinked self.old }
+    {
+        let other = ElemChild::Transparent {
+            cite_idx: 0,
+            format: Formatting::default(),
+        };
+        let child = mem::replace(self, other);
+        *self = child.without_link();
+    }
+
+    /// Keeps the links of the child whose address is allowed.
+    #[cycle(links)]
+    fn keep_links_by<F: FnMut(&str) -> bool>(&mut self, is_allowed: &mut F)
+        requires { F.IsAlwaysCallable is_allowed.old }
+        ensures callable { F.IsAlwaysCallable is_allowed.new }
+        ensures kept { (allowed : List ℕ → Bool) → AllowsBy F.step allowed
+            → child_tokens self.new ≡ kept_links allowed (child_tokens self.old) }
+        ensures leaves { leaf_text (child_tokens self.new) ≡ leaf_text (child_tokens self.old) }
+        ensures plain { plain (child_tokens self.new) ≡ plain (child_tokens self.old) }
+    {
+        if self.as_elem().is_some() {
+            self.children_mut().keep_links_by(is_allowed);
+        } else if let ElemChild::Link { url, .. } = self {
+            if !is_allowed(url.as_str()) {
+                self.unlink();
+            }
+        }
+    }
+}
+
+impl ElemChildren {
+    #[cycle(links)]
+    fn keep_links_by<F: FnMut(&str) -> bool>(&mut self, is_allowed: &mut F)
+        requires { F.IsAlwaysCallable is_allowed.old }
+        ensures callable { F.IsAlwaysCallable is_allowed.new }
+        ensures kept { (allowed : List ℕ → Bool) → AllowsBy F.step allowed
+            → tokens self.new ≡ kept_links allowed (tokens self.old) }
+        ensures leaves { leaf_text (tokens self.new) ≡ leaf_text (tokens self.old) }
+        ensures plain { plain (tokens self.new) ≡ plain (tokens self.old) }
+    {
+        for child in self.0.iter_mut() {
+            child.keep_links_by(is_allowed);
+        }
+    }
+
+    /// Makes each link its text whose address is not allowed, at any depth. Takes no memory.
+    pub fn keep_links<F: FnMut(&str) -> bool>(&mut self, mut is_allowed: F)
+        requires { F.IsAlwaysCallable is_allowed }
+        // Where `is_allowed` answers by the address alone, exactly the other links are texts now.
+        ensures kept { (allowed : List ℕ → Bool) → AllowsBy F.step allowed
+            → tokens self.new ≡ kept_links allowed (tokens self.old) }
+        ensures allowed { (allowed : List ℕ → Bool) → AllowsBy F.step allowed
+            → list_all allowed (addresses (tokens self.new)) ≡ true }
+        ensures leaves { leaf_text (tokens self.new) ≡ leaf_text (tokens self.old) }
+        ensures plain { plain (tokens self.new) ≡ plain (tokens self.old) }
+    {
+        self.keep_links_by(&mut is_allowed);
+    }
+}

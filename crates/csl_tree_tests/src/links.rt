@@ -1,0 +1,38 @@
+//! Links whose address is not allowed.
+
+use crate::trees::{assert_tree, read};
+use std::alloc::Global;
+use std::process::Abort;
+use std::test::Fail;
+
+/// A tree, and what is left of it where only addresses of `x.y` are allowed.
+static ROWS: [(&str, &str); 6] = [
+    ("a", "a"),
+    ("@x|https://x.y/", "@x|https://x.y/"),
+    ("@/x|javascript:alert(1)", "/x"),
+    ("@x|https://z/ y @x|https://x.y/", "x y @x|https://x.y/"),
+    (
+        "( ( @x|_ $m #7 )block:date y ) @_|z",
+        "( ( x $m #7 )block:date y ) _",
+    ),
+    ("( ( @x|https://x.y/ ) )", "( ( @x|https://x.y/ ) )"),
+];
+
+fn assert_kept(
+    rt: &impl Abort,
+    alloc: Global,
+    &(source, wanted): &(&str, &str),
+) -> Result<(), Fail> {
+    let mut tree = read(alloc, source)?;
+    tree.keep_links(|address: &str| address.starts_with("https://x.y"));
+    assert_tree(rt, alloc, tree, wanted, source)
+}
+
+#[test]
+fn other_links_become_their_texts(rt: HostRuntime) -> Result<(), Fail> {
+    let rows: &[(&str, &str)] = &ROWS;
+    for row in rows {
+        assert_kept(&rt, rt.alloc(), row)?;
+    }
+    Ok(())
+}
