@@ -1,2 +1,3 @@
+-- The definitions that several crates of literature and styles share.
 pub mod Lists
 pub mod Ordinals

@@ -1,6 +1,7 @@
--- What an entry answers (CSL 1.0.2, Appendix III: Types; Appendix IV: Variables), without where the
--- answers lie in memory.
--- Its key and its language stand apart: they are no answers.
+-- An entry of any type has an answer to each number, page, standard, name and date variable, and is
+-- of some kinds (CSL 1.0.2, Appendix III, Types; Appendix IV, Variables). A standard variable has
+-- an answer in the long form and one in the short. Each answer is a function of the entry. Its key
+-- and its language are not among the answers.
 use Rattle.std.specs.Prelude.{Bool, List, Option}
 use Rattle.std.specs.Cow.{cow_value}
 use Rattle.std.specs.declared.borrow.Cow.{Cow}
@@ -18,7 +19,7 @@ use Rattle.lit_model.specs.Page.{PartView}
 use Rattle.lit_model.specs.Person.{Named}
 use Rattle.lit_model.specs.Text.{Chunk}
 
--- what an entry answers to each variable, and the kinds that it is of
+-- the answer of an entry to each variable, and its kinds
 pub record Answers : Type 0 where
   pub numbers : NumberVariable → Option (MaybeView NumericView)
   pub pages : PageVariable → Option (MaybeView (List PartView))
@@ -27,6 +28,6 @@ pub record Answers : Type 0 where
   pub dates : DateVariable → Option Parts
   pub kinds : Kind → Bool
 
--- a view of what stands behind a value that may be borrowed
+-- a view of a value that may be borrowed
 abbrev pub behind : {T V : Type 0} → (T → V) → Cow T → V
 behind view c = view (cow_value c)

@@ -1,4 +1,4 @@
--- Texts of one piece (CSL 1.0.2, Standard Variables).
+-- A text of one chunk (CSL 1.0.2, Standard Variables), of a given kind.
 use Rattle.std.specs.Prelude.{ℕ, List, [], ◌∷◌}
 use Rattle.lit_model.specs.declared.text.ChunkKind.{ChunkKind}
 use Rattle.lit_model.specs.Text.{Chunk}

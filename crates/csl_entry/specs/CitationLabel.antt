@@ -1,5 +1,15 @@
--- Labels of a citation, as Kwa14 (CSL 1.0.2, Appendix IV: Standard Variables, citation-label).
--- Letters are extended grapheme clusters (Unicode, UAX #29).
+-- The label of an entry, such as `Kwa14`, is that of the whole that it is a part of: letters of its
+-- creators, then its year (CSL 1.0.2, Appendix IV, `citation-label`). A letter is an extended
+-- grapheme cluster (UAX #29).
+-- - One creator gives the first n letters of the name, two or three give the first letter of each
+--   name, and more give the first n letters of the first name and `+`. Without creators these are
+--   the first n letters of the organization, else of the title, else of the alphabetic characters
+--   of the key. By default n is 3.
+-- - The year is that of the first date along the work and its parents, else that of the visit to
+--   the first address along them: its last two digits without the sign, one more if the year is 0
+--   or less, in at least two digits. Without a date there is none.
+-- So a label depends on the creators, their stand-in and a date (`LabelParts`), and entries that
+-- show the same have the same label (`LabelIsShown`).
 use Rattle.std.specs.Prelude.{◌≡◌, ℕ, true, zero, suc, pos, negsuc, ℤ, ◌+◌, ◌%◌, List, [], ◌∷◌, ◌++◌, Option, Some, None, option_map, take, filter, chars, encode_utf8_all, codes, string_bytes, nat_lt, if◌then◌else◌}
 use Rattle.std.specs.Fmt.{decimal}
 use Rattle.std.specs.List.{concat}
@@ -35,8 +45,8 @@ creators_part n other (p ∷ q ∷ r ∷ s ∷ more) = first_letters n p.name ++
 abbrev pub alphabetic : List ℕ → List ℕ
 alphabetic key = encode_utf8_all (filter is_alphabetic (chars key))
 
--- what stands in for the creators: the organization, else the title, both in full; else the letters
--- of the key
+-- the stand-in for creators: the organization, else the title, both in full; else the letters of
+-- the key
 abbrev pub stand_in_of : Option FormatString → Option FormatString → List ℕ → List ℕ
 stand_in_of (Some organization) title key = text_of (chunks organization.value)
 stand_in_of None (Some title) key = text_of (chunks title.value)
@@ -64,7 +74,7 @@ abbrev pub year_part : Option Parts → List ℕ
 year_part None = []
 year_part (Some date) = two_digits (year_number date.year)
 
--- what the label of a work is made of: its creators, what stands in for them, and its date
+-- what the label of a work depends on: its creators, their stand-in, and its date
 pub record LabelParts : Type 0 where
   pub creators : List Named
   pub stand_in : List ℕ

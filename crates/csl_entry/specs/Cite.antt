@@ -1,6 +1,11 @@
--- What a citation says of a cite beside its entry, without where it lies in memory (CSL 1.0.2,
--- Choose: position; Locators;
--- Appendix IV: Number Variables; Disambiguation).
+-- The citation state of a cite (CSL 1.0.2, Choose, `position`; Locators; Appendix IV, Number
+-- Variables; Disambiguation). Some properties never change: the number of the first note, if any,
+-- whether the cite is the first of its entry, whether a near note cites it, and its index. Others
+-- are known as far as it was rendered: its locator, its citation number, its disambiguation, and
+-- how it relates to the cite before it.
+-- A *first cite* (`first_cite`) is the first of its entry: no note has it, none is near, its index
+-- and its citation number are 0, it has no locator, and the cite before it is of another entry. Its
+-- disambiguation is given.
 use Rattle.std.specs.Prelude.{ℕ, Bool, List, None, Option, false, option_map, true}
 use Rattle.csl_style.specs.declared.taxonomy.Locator.{Locator}
 use Rattle.csl_entry.specs.declared.cite.LocatorPayload.{LocatorPayload}
@@ -42,7 +47,7 @@ pub record CiteState : Type 0 where
   pub disambiguation : Disambiguation
   pub ibid : IbidState
 
--- a cite that no other one stands before: no note has it, and it points at no part of its entry
+-- the state of a first cite, with its disambiguation
 abbrev pub first_cite : Disambiguation → CiteState
 first_cite told = record {
   first_note = None;
@@ -68,7 +73,7 @@ disambiguation_of (of_state.NameDisambiguation p) = names (name_properties p)
 disambiguation_of of_state.Choose = choose
 disambiguation_of (of_state.YearSuffix n) = suffix n
 
--- what a citation says of a cite as far as it was rendered
+-- the properties of a cite that are known as far as it was rendered
 pub record Speculation : Type 0 where
   pub locator : Option Place
   pub citation_number : ℕ

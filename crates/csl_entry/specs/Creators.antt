@@ -1,5 +1,10 @@
--- The creators of a work, by whom its label is made (CSL 1.0.2, Appendix IV: Standard Variables,
--- citation-label).
+-- The *creators* of a work are its authors if it has a list of authors, else its editors if it has
+-- a list of editors, else its makers (CSL 1.0.2, Appendix IV, `citation-label`). An empty list
+-- counts as one. The makers are:
+-- - of a video with an issue and a volume, in a parent that is a video: its directors and then its
+--   writers; if there are none, the executive producers of the first such parent;
+-- - of any other video: its directors, else its executive producers;
+-- - of any other work: its compilers, else its translators.
 use Rattle.std.specs.Prelude.{List, [], ◌∷◌, ◌++◌, map, Option, Some, None, Vec, if◌then◌else◌}
 use Rattle.std.specs.declared.alloc.Global.{Global}
 use Rattle.lit_model.specs.declared.entry.Entry.{Entry, out-Entry}
@@ -32,18 +37,18 @@ abbrev pub video_makers : Entry → Option Entry → List Person
 video_makers e (Some s) = or_else (in_role Director e ++ in_role Writer e) (in_role ExecutiveProducer s)
 video_makers e None = or_else (in_role Director e) (in_role ExecutiveProducer e)
 
--- those who made a work that names neither authors nor editors
+-- the persons who made a work without lists of authors and editors
 abbrev pub makers : Entry → List Person
 makers e =
     if same_type (out-Entry e).entry_type Video
     then video_makers e (bound_select series e)
     else or_else (in_role Compiler e) (in_role Translator e)
 
--- those who are named; others where none are. A list that is named and empty counts.
+-- the listed persons, or the others where there is no list; an empty list counts as one
 abbrev pub persons_or : Option (Vec Person Global) → List Person → List Person
 persons_or (Some persons) others = persons.items
 persons_or None others = others
 
--- the authors, else the editors, else those who made it
+-- the creators of a work: its authors, else its editors, else its makers
 abbrev pub creators_of : Entry → List Named
 creators_of e = map named (persons_or (out-Entry e).authors (persons_or (out-Entry e).editors (makers e)))

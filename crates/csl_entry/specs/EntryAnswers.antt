@@ -1,4 +1,5 @@
--- What the built-in entry answers (CSL 1.0.2, Appendix III: Types; Appendix IV: Variables).
+-- The answers of the built-in entry (CSL 1.0.2, Appendix III, Types; Appendix IV, Variables), each
+-- defined in the file of its sort of variable.
 use Rattle.std.specs.Prelude.{ℕ, List, string_bytes}
 use Rattle.lit_model.specs.declared.entry.Entry.{Entry, out-Entry}
 use Rattle.csl_entry.specs.Answers.{Answers}

@@ -1,4 +1,8 @@
--- What an entry answers to a date variable (CSL 1.0.2, Appendix IV: Date Variables).
+-- The answers of the built-in entry to date variables (CSL 1.0.2, Appendix IV, Date Variables).
+-- - Accessed: the visit date of the first address along the work and its parents.
+-- - Issued: the first date along the work and its parents.
+-- - Event date, original date: the own date of the event, of the original.
+-- - Available date, submitted: none.
 use Rattle.std.specs.Prelude.{Option, None, option_map, option_and_then}
 use Rattle.csl_style.specs.declared.taxonomy.DateVariable.{DateVariable}
 use Rattle.csl_style.specs.declared.taxonomy.DateVariable.TheVariants.{Accessed, AvailableDate, EventDate, Issued, OriginalDate, Submitted}

@@ -1,6 +1,7 @@
--- The kinds of an entry (CSL 1.0.2, Appendix III: Types): how its own type, and the types of the
--- works that
--- it is directly a part of, make it of a kind. It may be of several kinds, or of none.
+-- The kinds of the built-in entry (CSL 1.0.2, Appendix III, Types). They depend only on its own
+-- type, the types of its direct parents, and whether it has a publisher and an address (`Typing`).
+-- So entries that show the same are of the same kinds. An entry may be of several kinds, or of
+-- none. The rule of each kind is at `is_kind`.
 use Rattle.std.specs.Prelude.{◌≡◌, Bool, false, not, ◌&&◌, ◌||◌, ◌==◌, List, [], ◌∷◌, length, map, filter, is_some}
 use Rattle.std.specs.List.{list_any}
 use Rattle.lit_model.specs.declared.entry.Entry.{Entry, out-Entry}
@@ -29,7 +30,7 @@ typing_of e = record {
   has_address = is_some (out-Entry e).url;
 }
 
--- the same from an entry's own fields, and those of the works that it is directly a part of
+-- the typing of an entry, from its own fields and those of its direct parents
 abbrev pub typing_from : Own → List Own → Typing
 typing_from own parents = record {
   own = own.entry_type;
@@ -50,11 +51,11 @@ is_a t y = same_type y.own t
 abbrev pub stands_in : List EntryType → Typing → Bool
 stands_in types y = list_any (λ t. is_among t types) y.parents
 
--- it is a part of nothing
+-- the entry has no parents
 abbrev pub stands_alone : Typing → Bool
 stands_alone y = length y.parents == 0
 
--- none of these is true of it
+-- none of these tests holds
 abbrev pub none_of : List (Typing → Bool) → Typing → Bool
 none_of tests y = not (list_any (λ test. test y) tests)
 
@@ -114,7 +115,25 @@ is_online y =
 abbrev pub is_figure : Typing → Bool
 is_figure y = is_a Artwork y && stands_in (Article ∷ []) y
 
--- whether an entry is of a kind
+-- Whether an entry is of a kind.
+-- - An article in a periodical, a newspaper or proceedings is a journal article, a newspaper
+--   article or a conference paper. An article that is none of these, no report and no thesis, and
+--   in no blog, is an article.
+-- - A report or a thesis, or anything in one, is one. A manuscript, a patent, an exhibition
+--   (event), a case, a repository (software), a miscellany (document) and an anthology (collection)
+--   have one kind each.
+-- - A book in a periodical is a periodical; any other book, and proceedings, are a book. A work in
+--   an anthology (type Anthos), or a chapter in a book, an anthology or proceedings, is a chapter.
+--   Anything in a work of reference is an encyclopedia entry; an entry that is in none is an entry.
+-- - An audio in a book, a periodical, a work of reference, a miscellany, a blog or a site is a
+--   musical score. A video without parents is a motion picture, an audio without parents a song,
+--   any other recording a broadcast. So a recording is of exactly one of these four.
+-- - A law with a publisher of its own is legislation, without one a bill. An artwork in an article
+--   is a figure, any other a graphic.
+-- - Anything in a blog is a weblog post. A post, or anything in a thread, is a post. A site, a
+--   blog, a thread, anything in a site or a blog, and a miscellany with an address are a web page,
+--   unless they are one of those two.
+-- - No entry is of any other kind.
 abbrev pub is_kind : Kind → Typing → Bool
 is_kind kind.Article y =
     is_a Article y

@@ -1,4 +1,18 @@
--- What an entry answers to a name variable (CSL 1.0.2, Appendix IV: Name Variables).
+-- The answers of the built-in entry to name variables (CSL 1.0.2, Appendix IV, Name Variables). The
+-- persons of a role are those of the entry's own groups of that role, in order.
+-- - Author: the own authors. Editor: the own editors if there is a list, else the container's.
+-- - Translator, compiler, composer, illustrator, narrator, organizer, producer, executive producer:
+--   the persons of that role. Contributor, performer, script writer: collaborators, cast members,
+--   writers.
+-- - Editor-translator: the own editors of whom a translator shows the same, in every text and the
+--   comma.
+-- - Collection editor: the collection's editors. Container author, original author: the
+--   container's, the original's authors. Chair: the directors of the first parent that is
+--   proceedings or a conference. Curator: the organizers of the first parent that is an exhibition.
+-- - Director, series creator: the directors, the founders of the recording (the first parent that
+--   is one, else the entry itself if it is one).
+-- - Editorial director, guest, host, interviewer, recipient, reviewed author: nobody. Nobody also
+--   where no work is found.
 use Rattle.std.specs.Prelude.{Bool, List, [], ◌∷◌, map, Option, Some, None}
 use Rattle.std.specs.List.{list_any, filter}
 use Rattle.csl_style.specs.declared.taxonomy.NameVariable.{NameVariable}
@@ -12,7 +26,7 @@ use Rattle.lit_model.specs.SamePerson.{same_named}
 use Rattle.lit_model.specs.Select.{Rule, parent_of, bound_select, original, audio_video, container_of, collection_of}
 use Rattle.csl_entry.specs.Creators.{in_role, persons_or}
 
--- the proceedings or the conference, the exhibition that an entry stands in
+-- selects the first parent that is proceedings or a conference
 abbrev pub meeting : List Rule
 meeting = parent_of [] (Proceedings ∷ Conference ∷ []) ∷ []
 

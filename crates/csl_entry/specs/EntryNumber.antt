@@ -1,4 +1,16 @@
--- What an entry answers to a number variable (CSL 1.0.2, Appendix IV: Number Variables).
+-- The answers of the built-in entry to number variables (CSL 1.0.2, Appendix IV, Number Variables).
+-- A text of a serial number is a number if its characters spell one, else it stays a text.
+-- - Chapter number: the own chapter; else the own volume of a work of type Anthos in an anthology,
+--   of an article in proceedings, or of any work in a work of reference or a book. Number: the own
+--   serial number named `serial`, else a chapter's own chapter.
+-- - Volume: the container's, else the own. Collection number: the collection's volume. Part number:
+--   the own volume of a work in an article, a blog, a book or a law.
+-- - Edition, issue: the first along the work and its parents. Printing number: `printing` in the
+--   first set of serial numbers along them. Version: the own `version` of a repository.
+-- - Number of pages, number of volumes: the own totals. First page: the first of the own pages, if
+--   they were parsed.
+-- - Section, supplement number: none. Citation number, first reference note number, locator: none,
+--   because the citation has them.
 use Rattle.std.specs.Prelude.{ℕ, List, Option, None, codes, option_map, option_and_then, if◌then◌else◌}
 use Rattle.std.specs.Option.{option_or}
 use Rattle.csl_style.specs.declared.taxonomy.NumberVariable.{NumberVariable}
@@ -26,7 +38,7 @@ number_answer o = option_map (maybe_view numeric_view) o
 abbrev pub numeric_answer : Option Numeric → Option (MaybeView NumericView)
 numeric_answer o = option_map (λ n. typed (numeric_view n)) o
 
--- a text of a serial number, as the number that it stands for, if it stands for one
+-- a text of a serial number: a number if it spells one, else the text
 abbrev pub serial_answer : Option (List ℕ) → Option (MaybeView NumericView)
 serial_answer o = option_map numeric_or_text o
 

@@ -1,4 +1,5 @@
--- What an entry answers to a page variable (CSL 1.0.2, Appendix IV: Number Variables, page).
+-- The answer of the built-in entry to `page` (CSL 1.0.2, Appendix IV, Number Variables): the own
+-- pages, or their text if they were not parsed.
 use Rattle.std.specs.Prelude.{List, Option, option_map}
 use Rattle.csl_style.specs.declared.taxonomy.PageVariable.{PageVariable}
 use Rattle.csl_style.specs.declared.taxonomy.PageVariable.TheVariants.{Page}
@@ -6,6 +7,6 @@ use Rattle.lit_model.specs.declared.entry.Entry.{Entry, out-Entry}
 use Rattle.lit_model.specs.MaybeTyped.{MaybeView, maybe_view}
 use Rattle.lit_model.specs.Page.{PartView, pages_view}
 
--- the pages on which the work itself stands
+-- the own pages of the work
 abbrev pub pages_of : Entry → PageVariable → Option (MaybeView (List PartView))
 pages_of e Page = option_map (maybe_view pages_view) (out-Entry e).page_range

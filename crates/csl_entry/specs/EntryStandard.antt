@@ -1,5 +1,18 @@
--- What an entry answers to the standard variables (CSL 1.0.2, Appendix IV: Variables, Standard
+-- The answers of the built-in entry to standard variables (CSL 1.0.2, Appendix IV, Standard
 -- Variables).
+-- - Own texts: title, note, call number, archive location, organization (authority), running time
+--   (dimensions).
+-- - The first along the entry and its parents: abstract, note (annote), archive, genre, publisher
+--   with its place, language, address.
+-- - Own fields of other works: titles of container and collection; title and place of the event;
+--   title, publisher and its place of the original; the title of the volume; the title of the
+--   repository that the entry is directly in (source).
+-- - A text is in the requested form. Title-short and container-title-short are in the short form in
+--   either case, which is the whole text if there is no short form.
+-- - One verbatim chunk: the key, DOI, ISBN, ISSN, PMCID and PMID (own serial numbers), the address.
+--   One normal chunk: the label of three letters; the language, then `-` and the region, if any.
+-- - None: archive-collection, archive-place, division, jurisdiction, keyword, license, medium,
+--   part-title, references, reviewed-genre, reviewed-title, scale, status, year-suffix.
 use Rattle.std.specs.Prelude.{ℕ, List, [], ◌∷◌, Option, Some, None, option_map, option_and_then, string_bytes, codes}
 use Rattle.csl_style.specs.declared.taxonomy.StandardVariable.{StandardVariable}
 use Rattle.csl_style.specs.declared.taxonomy.StandardVariable.TheVariants as var
@@ -21,7 +34,7 @@ use Rattle.csl_entry.specs.Chunk.{one_chunk}
 use Rattle.csl_entry.specs.CitationLabel.{label}
 use Rattle.csl_entry.specs.Language.{language_text}
 
--- a text in the form that is asked for
+-- a text in the requested form
 abbrev pub in_form : LongShortForm → Option FormatString → Option (List Chunk)
 in_form form text = option_map (λ t. chunks (select form t)) text
 
@@ -61,11 +74,11 @@ own_location e = (out-Entry e).location
 abbrev pub own_publisher : Entry → Option Publisher
 own_publisher e = (out-Entry e).publisher
 
--- the repository that an entry stands in
+-- the first parent that is a repository
 abbrev pub repository : List Rule
 repository = parent_of [] (Repository ∷ []) ∷ []
 
--- the answer to each variable, in the form that is asked for
+-- the answer to each variable, in the requested form
 abbrev pub standard_of : Entry → LongShortForm → StandardVariable → Option (List Chunk)
 standard_of e form var.Abstract = in_form form (inherited (λ x. (out-Entry x).abstract_) e)
 standard_of e form var.Annote = in_form form (inherited (λ x. (out-Entry x).note) e)

@@ -1,6 +1,14 @@
--- What a cite answers to a variable: the citation answers four of them, the entry all the others
--- (CSL 1.0.2, Appendix IV:
--- Variables; Locators; Disambiguation: disambiguate-add-year-suffix).
+-- An instance is a cite with its entry: the entry's answers, the citation state, the part of a sort
+-- key that is made if the cite is sorted, and the special form if not all of it is shown. *Look* is
+-- what an instance returns for a variable, one function for each sort of variable (CSL 1.0.2,
+-- Appendix IV, Variables; Locators; Disambiguation, `disambiguate-add-year-suffix`).
+-- The citation has four variables, and the entry has all others:
+-- - the citation number, one higher than it is held, and the first reference note number;
+-- - the locator: a number if its text spells one, else the text, or the place of the cite's index
+--   if the caller writes it;
+-- - the year suffix: one normal chunk of its letters, if the cite has one.
+-- A look depends on the citation state and on that one answer of the entry. For the citation's
+-- variables it reads no answer (`NumberAlike`, `StandardAlike`, `NumberOrPageAlike`).
 use Rattle.std.specs.Prelude.{◌≡◌, ℕ, false, ◌+◌, List, Option, Some, None, option_map, pos}
 use Rattle.csl_style.specs.declared.taxonomy.NumberVariable.{NumberVariable}
 use Rattle.csl_style.specs.declared.taxonomy.NumberVariable.TheVariants.{CitationNumber, FirstReferenceNoteNumber, Locator}
@@ -38,7 +46,7 @@ pub record Instance : Type 0 where
   pub sorting : Option Sorting
   pub special : Option SpecialForm
 
--- a cite, whose entry answers by that function
+-- a cite whose entry has the answers of this function
 abbrev pub instance_of : {T : Type 0} → (T → Answers) → InstanceContext T → Instance
 instance_of answers cite = record {
   answers = answers cite.entry.now;
@@ -51,8 +59,8 @@ instance_of answers cite = record {
 abbrev pub plain_number : ℕ → ResultView
 plain_number n = regular (typed (record { value = one (pos n); prefix = None; suffix = None }))
 
--- what a locator answers: the number that its text stands for, or else the text; what the caller
--- writes for the cite of that index
+-- the answer of a locator: a number if its text spells one, else the text; or what the caller
+-- writes, with the index of the cite
 abbrev pub locator_answer : ℕ → Payload → ResultView
 locator_answer index (printed bytes) = regular (numeric_or_text bytes)
 locator_answer index left_open = transparent index

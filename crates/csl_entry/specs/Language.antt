@@ -1,10 +1,11 @@
--- The language of an entry (CSL 1.0.2, Appendix IV: Standard Variables, language; Title Case
--- Conversion).
+-- The text of a language is the language, then `-` and the region if there is one (CSL 1.0.2,
+-- Appendix IV, `language`). An entry is English (Title Case Conversion) if its own language is
+-- `en`, whatever the region. Without a language this is unknown.
 use Rattle.std.specs.Prelude.{ℕ, Bool, List, [], ◌++◌, Option, Some, None, option_map, codes, bytes_eq}
 use Rattle.lit_model.specs.declared.entry.Entry.{Entry, out-Entry}
 use Rattle.lit_model.specs.Source.{Language, language_of}
 
--- a region behind its hyphen; without a region there is nothing
+-- a hyphen and the region, if there is one
 abbrev pub region_text : Option (List ℕ) → List ℕ
 region_text None = []
 region_text (Some region) = codes "-" ++ region

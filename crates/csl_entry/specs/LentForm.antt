@@ -1,4 +1,5 @@
--- A form of a name that is lent to be written.
+-- A form of a name as a mutable reference. A value written there replaces the form that was read
+-- (`with_form` of `NameProperties`), and nothing else changes.
 use Rattle.std.specs.Prelude.{◌≡◌, ℕ, Option, Some, OnSome}
 use Rattle.std.specs.Vec.{with_item}
 use Rattle.std.specs.Borrow.{Fml, MutBor, Lends, LendsSo}

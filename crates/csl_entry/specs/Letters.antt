@@ -1,6 +1,8 @@
--- The letters of a year suffix (CSL 1.0.2, Disambiguation: disambiguate-add-year-suffix): the words
--- over
--- a to z, by length and then by alphabet.
+-- The letters of a year suffix (CSL 1.0.2, Disambiguation, `disambiguate-add-year-suffix`). A word
+-- is one or more letters from a to z. Words are ordered by length, and words of one length by the
+-- first letter in which they differ. Word 0 is `a`. The next word counts on the last letter; after
+-- z it has `a` there and counts on the letter before it. A year suffix is one of the words 0 to
+-- 65,535.
 use Rattle.std.specs.Prelude.{ℕ, zero, suc, reverse, if◌then◌else◌, ◌==◌, ◌+◌, ◌-◌, ◌*◌, ◌^◌, ◌<◌, ◌≤◌, ◌≡◌, ◌⊎◌, List, [], ◌∷◌, length}
 
 -- the byte before `a`
@@ -22,12 +24,12 @@ AreLetters (c ∷ cs) = (letter_a ≤ c) × (c ≤ letter_z) × AreLetters cs
 abbrev pub IsWord : List ℕ → Type 0
 IsWord w = (0 < length w) × AreLetters w
 
--- of two words of one length: the first letter in which they differ is the earlier one in the first
+-- two words have one length, and the first letter in which they differ is earlier in the first word
 abbrev pub IsEarlier : List ℕ → List ℕ → Type 0
 IsEarlier (c ∷ cs) (d ∷ ds) = (c < d) ⊎ ((c ≡ d) × IsEarlier cs ds)
 IsEarlier _ _ = ⊥
 
--- by length and then by alphabet
+-- the order of words, by length and then by alphabet
 abbrev pub StandsBefore : List ℕ → List ℕ → Type 0
 StandsBefore v w = (length v < length w) ⊎ ((length v ≡ length w) × IsEarlier v w)
 
@@ -40,12 +42,12 @@ word_value (c ∷ cs) = (c - before_a) * 26 ^ length cs + word_value cs
 abbrev pub place_of : List ℕ → ℕ
 place_of w = word_value w - 1
 
--- the next word, last letter first: behind z comes a, and then the letter before counts on
+-- the next word, last letter first: after z comes a, and then the letter before counts on
 abbrev pub next_reversed : List ℕ → List ℕ
 next_reversed [] = letter_a ∷ []
 next_reversed (c ∷ cs) = (if c == letter_z then letter_a ∷ next_reversed cs else (c + 1) ∷ cs)
 
--- so many words after `a`, last letter first
+-- the word that is n words after `a`, last letter first
 abbrev pub reversed_word : ℕ → List ℕ
 reversed_word zero = letter_a ∷ []
 reversed_word (suc n) = next_reversed (reversed_word n)

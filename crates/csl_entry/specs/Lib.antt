@@ -1,3 +1,5 @@
+-- The definitions that the contracts of `csl_entry` cite: what an entry and a cite return for each
+-- variable.
 pub mod Answers
 pub mod Chunk
 pub mod CitationLabel

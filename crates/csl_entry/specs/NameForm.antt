@@ -1,4 +1,10 @@
--- How much of a name is shown (CSL 1.0.2, Disambiguation: disambiguate-add-givenname).
+-- The forms of a name (CSL 1.0.2, Disambiguation, `disambiguate-add-givenname`), from the least
+-- shown to the most: counted only; short with initials; short in full; long with initials; long in
+-- full. The last two show the given name. Short with initials gives way to long with initials.
+-- Short in full and long with initials give way to long in full, if full names may be shown. No
+-- other form gives way.
+-- To tell a name further apart, an absent form becomes the default form, and any other becomes the
+-- form that it gives way to, with full names allowed, if there is one (`further_form`).
 use Rattle.std.specs.Prelude.{Bool, true, false, Option, Some, None, ℕ, zero, suc, if◌then◌else◌}
 use Rattle.std.specs.Option.{option_or}
 use Rattle.std.specs.Ordering.{nat_cmp}
@@ -41,7 +47,7 @@ abbrev pub further_form : DisambiguatedNameForm → Option DisambiguatedNameForm
 further_form default None = Some default
 further_form default (Some form) = fuller_form true form
 
--- the form after so many steps of that kind
+-- the form after n steps of `further_form`
 abbrev pub told_apart : DisambiguatedNameForm → ℕ → Option DisambiguatedNameForm → Option DisambiguatedNameForm
 told_apart default zero form = form
 told_apart default (suc n) form = option_or (further_form default (told_apart default n form)) (told_apart default n form)

@@ -1,5 +1,7 @@
--- In which forms the names of a cite are shown (CSL 1.0.2, Disambiguation: disambiguate-add-names,
--- disambiguate-add-givenname).
+-- The forms that a citation keeps (CSL 1.0.2, Disambiguation, `disambiguate-add-names`,
+-- `disambiguate-add-givenname`): a default form for names that come to be shown, the variables, and
+-- for each list of names the form of each, absent if it is not shown. The standard leaves to the
+-- processor what is done with them; the four rules of this file are this project's.
 use Rattle.std.specs.Prelude.{ℕ, ◌+◌, ◌-◌, ◌<◌, List, [], ◌∷◌, ◌++◌, length, take, drop, map, count_by, position, ◌==◌, nat_lt, nat_le, Option, Some, None, is_some, IsSomeAnd, unwrap_or, slice_get, slice_set, slice_index_or, option_and_then, All, if◌then◌else◌}
 use Rattle.std.specs.List.{flat_map, sum_by, enumerate_from}
 use Rattle.std.specs.Option.{option_cmp, option_map, option_map_or, ForSome}
@@ -36,12 +38,14 @@ abbrev pub all_forms : List Forms → Forms
 all_forms lists = flat_map (λ forms. forms) lists
 
 -- ---- more names are shown (disambiguate-add-names)
+-- In the first list of at least n forms, each absent one of its first n becomes the default form.
+-- Without such a list nothing changes. An n of 0 finds the first list.
 
 -- absent forms become this one
 abbrev pub all_shown : DisambiguatedNameForm → Forms → Forms
 all_shown form forms = map (λ f. Some (unwrap_or f form)) forms
 
--- the same of the first n forms of a list alone
+-- the first n forms of a list, if they are absent, become this one
 abbrev pub first_shown : DisambiguatedNameForm → ℕ → Forms → Forms
 first_shown form n forms = all_shown form (take n forms) ++ drop n forms
 
@@ -53,13 +57,17 @@ first_as_long n lists = position (λ forms. nat_le n (length forms)) lists
 abbrev pub with_list : List Forms → (Forms → Forms) → ℕ → List Forms
 with_list lists change i = slice_set lists i (change (slice_index_or lists i []))
 
--- the first n names of that list are shown
+-- the first n names of the first list with as many are shown
 abbrev pub with_names_shown : ℕ → NameProperties → NameProperties
 with_names_shown n p = record p {
   lists = option_map_or (with_list p.lists (first_shown p.default_form n)) (first_as_long n p.lists) p.lists;
 }
 
 -- ---- names are told apart (disambiguate-add-givenname)
+-- The list at a variable's first position among the variables takes a step of `further_form` at
+-- each given place, as often as the place is given. This is allowed (`CanTellApart`) if the
+-- variable is not listed, and then nothing changes, or if that list exists and has each of the
+-- places.
 
 -- the first position of a variable, where it is listed
 abbrev pub first_listed : NameVariable → NameProperties → Option ℕ
@@ -70,24 +78,29 @@ abbrev pub CanTellApart : NameVariable → List ℕ → NameProperties → Type 
 CanTellApart variable places p = ForSome (first_listed variable p)
     (λ i. IsSomeAnd (slice_get p.lists i) (λ forms. All (λ k. k < length forms) places))
 
--- the form of each name after as many steps as its place stands among the given ones
+-- the form of each name after one step for each time that its place is given
 abbrev pub each_told_apart : DisambiguatedNameForm → List ℕ → Forms → Forms
 each_told_apart default places forms = map (λ f. told_apart default (count_by (λ k. k == f.0) places) f.1) (enumerate_from 0 forms)
 
--- the names at these places of that list are told apart
+-- the names at these places of a variable's list are told apart
 abbrev pub with_told_apart : NameVariable → List ℕ → NameProperties → NameProperties
 with_told_apart variable places p = record p {
   lists = option_map_or (with_list p.lists (each_told_apart p.default_form places)) (first_listed variable p) p.lists;
 }
 
 -- ---- which of two shows more
+-- The one with more present forms, over all lists, shows more. If both have as many, it is the one
+-- that is later by all forms, list after list, at the first place at which they differ. An absent
+-- form comes first, the others by how much they show, and a list before a longer one that it
+-- begins. The default form, the variables and the borders of the lists do not count, so two
+-- different ones may tie; then the second is taken.
 
 -- how many names are shown
 abbrev pub shown_count : NameProperties → ℕ
 shown_count p = sum_by (count_by is_some) p.lists
 
--- lists of forms by the first place at which they differ; an absent form stands first, and a list
--- before a longer one
+-- the order of lists of forms, by the first place at which they differ; an absent form comes first,
+-- and a list before a longer one
 abbrev pub forms_cmp : Forms → Forms → Ordering
 forms_cmp = slice_cmp (option_cmp form_cmp)
 
@@ -96,12 +109,15 @@ abbrev pub properties_cmp : NameProperties → NameProperties → Ordering
 properties_cmp p q = ordering_then (nat_cmp (shown_count p) (shown_count q)) (forms_cmp (all_forms p.lists) (all_forms q.lists))
 
 -- ---- one form
+-- The i-th of all forms, lists in order, from 0, absent ones counted. If it is absent, or there are
+-- fewer, it is the default form. A form that is written there goes to the place that was read, so
+-- the default form may change; nothing else does.
 
 -- the i-th of all forms, where it is there and not absent
 abbrev pub form_at : ℕ → NameProperties → Option DisambiguatedNameForm
 form_at i p = option_and_then (λ f. f) (slice_get (all_forms p.lists) i)
 
--- that form, or the default one
+-- the i-th of all forms, or the default one where it is absent
 abbrev pub form_or_default : ℕ → NameProperties → DisambiguatedNameForm
 form_or_default i p = unwrap_or (form_at i p) p.default_form
 
@@ -111,12 +127,12 @@ with_form_at i form [] = []
 with_form_at i form (forms ∷ lists) =
     if nat_lt i (length forms) then slice_set forms i (Some form) ∷ lists else forms ∷ with_form_at (i - length forms) form lists
 
--- another form stands where that one stood, be it in a list or the default one
+-- a form in the place of the i-th of all, or of the default one where that was read
 abbrev pub with_form : ℕ → NameProperties → DisambiguatedNameForm → NameProperties
 with_form i p form = if is_some (form_at i p) then record p { lists = with_form_at i form p.lists } else record p { default_form = form }
 
--- the list in which the i-th of all forms stands, and its place there, where it is not absent;
--- lists are counted from n on
+-- the list that has the i-th of all forms, and its place there, if it is not absent; lists are
+-- counted from n on
 abbrev pub shown_from : ℕ → ℕ → List Forms → Option (ℕ × ℕ)
 shown_from n i [] = None
 shown_from n i (forms ∷ lists) =

@@ -1,5 +1,10 @@
--- What a cite answers to a number variable (CSL 1.0.2, Number Variables), without where it lies in
--- memory, and how two such answers stand in order (CSL 1.0.2, Sorting).
+-- The answer of a cite to a number variable (CSL 1.0.2, Appendix IV, Number Variables) as plain
+-- data, and the order of such answers (Sorting). A number comes before a text, and both before what
+-- the caller writes, which is ordered by index. Texts are ordered by their bytes. Numbers are
+-- ordered by their list of signed numbers, a shorter list before a longer one that it begins, then
+-- by prefix and by suffix, as bytes, absent before present. What separates the numbers of a list
+-- does not count.
+-- `IsOrder`: swapping two values reverses their order, and the order is transitive.
 use Rattle.std.specs.Prelude.{◌≡◌, ℕ, List, Bool, true, false, IsTrue}
 use Rattle.std.specs.Cmp.Lexicographic.{slice_cmp}
 use Rattle.std.specs.Option.{option_cmp}
@@ -26,7 +31,7 @@ abbrev pub result_view : NumberVariableResult → ResultView
 result_view (Regular number) = regular (maybe_view (behind numeric_view) number)
 result_view (Transparent index) = transparent index
 
--- whether it borrows a number from the entry
+-- whether an answer borrows a number from the entry
 abbrev pub is_lent : NumberVariableResult → Bool
 is_lent (Regular (of_kind.Typed (Borrowed number))) = true
 is_lent (Regular (of_kind.Typed (Owned number))) = false
@@ -44,32 +49,33 @@ number_or_page_view (Page pages) = page (maybe_view pages_view pages)
 
 -- ---- the order (CSL 1.0.2, Sorting)
 
--- texts by their bytes
+-- the order of texts, by their bytes
 abbrev pub text_order : List ℕ → List ℕ → Ordering
 text_order s t = slice_cmp nat_cmp s t
 
--- numbers by the list of them, then by what stands before it, then by what stands after it; an
--- absent text stands before one that is present, and what separates the numbers counts for nothing
+-- the order of numbers: by their list, then by prefix, then by suffix; an absent text comes before
+-- one that is present, and what separates the numbers does not count
 abbrev pub numeric_order : NumericView → NumericView → Ordering
 numeric_order v w = ordering_then (slice_cmp int_cmp (numbers v.value) (numbers w.value))
     (ordering_then (option_cmp text_order v.prefix w.prefix) (option_cmp text_order v.suffix w.suffix))
 
--- a number stands before a text that is none
+-- the order of numbers and texts: a number comes before a text
 abbrev pub regular_order : MaybeView NumericView → MaybeView NumericView → Ordering
 regular_order (typed v) (typed w) = numeric_order v w
 regular_order (typed v) (text t) = Less
 regular_order (text s) (typed w) = Greater
 regular_order (text s) (text t) = text_order s t
 
--- a number or a text stands before what the caller writes, which goes by the index of its cite
+-- the order of all answers: a number or a text comes before what the caller writes, which is
+-- ordered by the index of its cite
 abbrev pub csl_order : ResultView → ResultView → Ordering
 csl_order (regular x) (regular y) = regular_order x y
 csl_order (regular x) (transparent j) = Less
 csl_order (transparent i) (regular y) = Greater
 csl_order (transparent i) (transparent j) = nat_cmp i j
 
--- The laws of an order: swapping two values reverses it, and what stands before a third value
--- through a second stands before it. Two values may stand at one place.
+-- The laws of an order: swapping two values reverses it, and it is transitive. Two different values
+-- may be equal in it.
 pub record IsOrder {X : Type 0} (order : X → X → Ordering) : Type 0 where
   pub swapped : (a b : X) → order b a ≡ ordering_reverse (order a b)
   pub chained : (a b c : X) → IsTrue (is_le (order a b)) → IsTrue (is_le (order b c)) → IsTrue (is_le (order a c))

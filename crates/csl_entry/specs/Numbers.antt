@@ -1,6 +1,5 @@
--- The numbers of citations and of notes (CSL 1.0.2, Appendix IV: Number Variables). Each is an i32
--- when
--- it is printed; a citation's is printed one higher, since it counts from 0.
+-- A citation number counts from 0 and is printed one higher, so it is at most 2147483646. The
+-- number of a note is at most 2147483647 (CSL 1.0.2, Appendix IV, Number Variables).
 use Rattle.std.specs.Prelude.{ℕ, ◌≤◌}
 use Rattle.csl_entry.specs.declared.numbers.CitationNumber.{CitationNumber}
 use Rattle.csl_entry.specs.declared.numbers.NoteNumber.{NoteNumber}

@@ -1,4 +1,5 @@
--- Characters by their numbers in Unicode, which are their bytes where they are ASCII.
+-- The characters that the grammars of numbers, pages and names refer to, by their Unicode code
+-- points. For an ASCII character that is also its byte.
 use Rattle.std.specs.Prelude.{ℕ}
 
 abbrev pub space_char : ℕ

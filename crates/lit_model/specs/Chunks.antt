@@ -1,4 +1,5 @@
--- What the chunks of a text say together.
+-- The text of a list of chunks is the texts of the chunks, one after another. It is white space if
+-- each of its characters is (Unicode White_Space), so an empty text is white space too.
 use Rattle.std.specs.Prelude.{ℕ, Bool, List, flat_map, length, chars, ◌==◌}
 use Rattle.std.specs.Char.{is_whitespace}
 use Rattle.std.specs.List.{list_all}

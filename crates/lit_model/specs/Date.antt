@@ -1,4 +1,8 @@
--- Dates by their parts. Months and days count from 0.
+-- A date has a year, may have a month, a day and a season, and may be approximate. Year 0 is the
+-- year before year 1. Months and days count from 0: month 0 is January, month 11 is December, and
+-- day 0 is the first day.
+-- A month and a day are on the calendar (`IsOnCalendar`) if the month, where there is one, is at
+-- most 11 and the day, where there is one, is at most 30. The length of the month does not count.
 use Rattle.std.specs.Prelude.{ℕ, ℤ, ◌≤◌, Bool, Option, IfSome}
 use Rattle.lit_model.specs.declared.date.Date.{Date}
 use Rattle.csl_common.specs.declared.season.Season.{Season}
@@ -7,7 +11,7 @@ use Rattle.csl_common.specs.declared.season.Season.{Season}
 abbrev pub IsOnCalendar : Option ℕ → Option ℕ → Type 0
 IsOnCalendar month day = IfSome month (λ m. m ≤ 11) × IfSome day (λ d. d ≤ 30)
 
--- what a date says
+-- the parts of a date
 pub record Parts : Type 0 where
   pub year : ℤ
   pub month : Option ℕ

@@ -1,4 +1,7 @@
--- An entry and the works that it is a part of.
+-- An entry has its own fields and a list of parents: the works that it is a part of. The *preorder*
+-- of an entry is the entry, then the preorder of its first parent, then that of the second, and so
+-- on. So a parent's parents come before the next parent. `Entry::map(f)` returns the first value
+-- that `f` returns along the preorder.
 use Rattle.std.specs.Prelude.{◌≡◌, ℕ, List, [], ◌∷◌, Option, None, Some, option_copied, option_and_then, flat_map, string_bytes, Vec}
 use Rattle.std.specs.Borrow.{Bor}
 use Rattle.std.specs.Option.{option_or}
@@ -12,7 +15,7 @@ use Rattle.lit_model.specs.declared.entry.Entry.{Entry, Entry-F, out-Entry, para
 abbrev pub parents_of : Entry → List Entry
 parents_of e = (out-Entry e).parents.items
 
--- One entry, given each parent with what the walk makes of it: the entry, then each parent's walk.
+-- One entry, given each parent with its walk: the entry, then each parent's walk.
 abbrev pub preorder_step : Entry-F (Entry × (Entry → List Entry)) → Entry → List Entry
 preorder_step x e = e ∷ flat_map (λ p. p.1 p.0) x.parents.items
 
@@ -20,11 +23,11 @@ preorder_step x e = e ∷ flat_map (λ p. p.1 p.0) x.parents.items
 abbrev pub preorder : Entry → List Entry
 preorder e = para-Entry (Entry → List Entry) preorder_step e e
 
--- what is asked answers the function g of the entry
+-- a closure returns what the function g gives for the entry
 abbrev pub AnswersBy : {X : Type 0} → (Bor Entry → Option (Bor X) → Type 0) → (Entry → Option X) → Type 0
 AnswersBy {X} post g = (e : Bor Entry) (r : Option (Bor X)) → post e r → option_copied r ≡ g e.now
 
--- an entry with this key and type, of which nothing else is known
+-- an entry with this key and type, and no other field
 pub record IsBare (key : List ℕ) (entry_type : EntryType) (e : Entry) : Type 0 where
   pub key_is : string_bytes (out-Entry e).key ≡ key
   pub type_is : (out-Entry e).entry_type ≡ entry_type

@@ -1,4 +1,9 @@
--- Given names with their letters marked.
+-- A given name with its single letters marked (CSL 1.0.2, Name, `initialize-with` where
+-- `initialize` is off). The words are those of `Initials`. A word that is one uppercase letter
+-- (general category Lu), with or without a dot at its end, becomes that letter and the given text.
+-- Any other word stays as it is.
+-- A space separates two words, unless the given text follows the first of them and ends in white
+-- space. After the last word the given text loses its trailing white space.
 use Rattle.std.specs.Prelude.{ℕ, Bool, true, false, ◌==◌, List, [], ◌∷◌, ◌++◌, Option, Some, None, unwrap_or, codes, nat_lt, length, chars, if◌then◌else◌}
 use Rattle.std.specs.Str.{trim_end}
 use Rattle.ucd_category.specs.declared.GeneralCategory.{GeneralCategory}
@@ -28,12 +33,12 @@ without_dot (b ∷ c ∷ bs) = b ∷ without_dot (c ∷ bs)
 abbrev pub single_letter : List ℕ → Option (List ℕ)
 single_letter word = if is_single_capital (chars (without_dot word)) then Some (without_dot word) else None
 
--- what is written of a word: a letter with the given text behind it, or the word
+-- a word as it is written: its single letter and the given text, or the word
 abbrev pub lettered : List ℕ → Option (List ℕ) → List ℕ → List ℕ
 lettered text None word = word
 lettered text (Some letter) word = letter ++ text
 
--- the same at the end, where no white space stands behind it
+-- the last word as it is written: after its single letter the text has no trailing white space
 abbrev pub lettered_last : List ℕ → Option (List ℕ) → List ℕ → List ℕ
 lettered_last text None word = word
 lettered_last text (Some letter) word = letter ++ trim_end text
@@ -41,12 +46,12 @@ lettered_last text (Some letter) word = letter ++ trim_end text
 abbrev pub ends_in_white_space : List ℕ → Bool
 ends_in_white_space text = nat_lt (length (trim_end text)) (length text)
 
--- a space behind a word, unless white space is there
+-- the space after a word, unless the given text is there and ends in white space
 abbrev pub space_behind : List ℕ → Option (List ℕ) → List ℕ
 space_behind text None = codes " "
 space_behind text (Some letter) = if ends_in_white_space text then [] else codes " "
 
--- the words of a given name
+-- the words of a given name as they are written, with a space between two of them
 abbrev pub lettered_words : List ℕ → List (List ℕ) → List ℕ
 lettered_words text [] = []
 lettered_words text (w ∷ []) = lettered_last text (single_letter w) w

@@ -1,4 +1,10 @@
--- How a given name is shortened to its initials.
+-- The initials of a given name (CSL 1.0.2, Name, `initialize-with`, `initialize-with-hyphen`). The
+-- name is cut into words: its longest runs of characters that are not white space (Unicode
+-- White_Space). Each word is cut into pieces at each `-`. The initial of a piece is its first
+-- extended grapheme cluster (UAX #29), so an empty piece has none.
+-- The initials follow one another in order, each with the given text after it. At the end that text
+-- loses its trailing white space. Where hyphens are kept, the initials of one word have between
+-- them the given text without its trailing white space, and a `-`.
 use Rattle.std.specs.Prelude.{ℕ, Bool, true, false, ◌==◌, List, [], ◌∷◌, ◌++◌, map, filter, Option, Some, None, unwrap_or, codes, slice_get, chars, encode_utf8_all, filter_map, if◌then◌else◌}
 use Rattle.std.specs.Char.{is_whitespace}
 use Rattle.std.specs.List.{slice_split}
@@ -27,7 +33,7 @@ first_grapheme piece = slice_get (graphemes true piece) 0
 abbrev pub initials_of : List ℕ → List (List ℕ)
 initials_of word = filter_map first_grapheme (slice_split (λ b. b == hyphen_char) word)
 
--- What stands between the initials of a word: the given text; where hyphens are kept, that text
+-- The text between two initials of a word: the given text; where hyphens are kept, that text
 -- without its trailing white space, and a hyphen.
 abbrev pub between : List ℕ → Bool → List ℕ
 between text hyphen = if hyphen then trim_end text ++ codes "-" else text
@@ -38,7 +44,7 @@ word_initials text hyphen [] = []
 word_initials text hyphen (g ∷ []) = g
 word_initials text hyphen (g ∷ h ∷ gs) = g ++ (between text hyphen ++ word_initials text hyphen (h ∷ gs))
 
--- Those of words, each of which has some: the given text stands behind each word's, and at the end
+-- The initials of words that each have some. The given text follows those of each word, at the end
 -- without its trailing white space.
 abbrev pub all_initials : List ℕ → Bool → List (List (List ℕ)) → List ℕ
 all_initials text hyphen [] = []

@@ -1,3 +1,5 @@
+-- The definitions that the contracts of `lit_model` cite: entries and their parts, numeric texts
+-- and pages, selections, and names of persons.
 pub mod Characters
 pub mod Chunks
 pub mod Date

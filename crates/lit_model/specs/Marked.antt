@@ -1,10 +1,11 @@
--- How the words of a given name are written one after another: each behind the gap that the one
--- before it left.
+-- The words of `FirstNames`, each after the gap that the word before it left. A word whose letter
+-- is marked leaves the white space that ends the given text, or else a space. Any other word leaves
+-- a space.
 use Rattle.std.specs.Prelude.{ℕ, List, [], ◌∷◌, ◌++◌, Option, Some, None, codes, length, drop, if◌then◌else◌}
 use Rattle.std.specs.Str.{trim_end}
 use Rattle.lit_model.specs.FirstNames.{single_letter, lettered_last, ends_in_white_space}
 
--- What stands before the next word: the white space that ends the text written, or else a space.
+-- The gap before the next word: the white space that ends the given text, or else a space.
 abbrev pub gap_after : List ℕ → Option (List ℕ) → List ℕ
 gap_after text None = codes " "
 gap_after text (Some letter) = if ends_in_white_space text then drop (length (trim_end text)) text else codes " "

@@ -1,4 +1,5 @@
--- A value that was understood, or a text.
+-- A field of an entry as plain data: the value that its text was parsed to, or the text where it
+-- was not parsed.
 use Rattle.std.specs.Prelude.{ℕ, List, string_bytes}
 use Rattle.lit_model.specs.declared.maybe_typed.MaybeTyped.{MaybeTyped}
 use Rattle.lit_model.specs.declared.maybe_typed.MaybeTyped.TheVariants as of_kind

@@ -1,5 +1,16 @@
--- The parts of a person's name: particle, article, and whether it is of an institution or in a CJK
--- script.
+-- The parts of a person's name.
+-- - An *institution* has no given name, no prefix and no suffix. A given name that is present and
+--   empty counts as present.
+-- - A *CJK name*: the name and the given name together have a letter, and each of their letters has
+--   the script Han, Hiragana, Katakana, Hangul or Bopomofo. A letter has the property Alphabetic
+--   (Unicode Standard, DerivedCoreProperties). Its script is the property Script (UAX #24), not
+--   Script_Extensions.
+-- - The *particle*: the name is cut at each space (U+0020), and empty words count. A particle word
+--   begins with a character of general category Ll (UAX #44). The particle is the longest run of
+--   particle words at the front that leaves the last word. If it has no word, there is no particle.
+--   The rest of the name is what follows the particle and one space.
+-- - The *article*: a name that begins with `The `, `the `, `A `, `a `, `An ` or `an `, and goes on
+--   after it, loses it. Any other name stays as it is.
 use Rattle.std.specs.Prelude.{ℕ, Bool, true, false, not, ◌&&◌, ◌==◌, List, [], ◌∷◌, ◌++◌, filter, drop, length, Option, Some, None, is_some, unwrap_or, codes, nat_lt, chars, if◌then◌else◌}
 use Rattle.std.specs.Option.{option_or}
 use Rattle.std.specs.List.{list_all, slice_split, join_with_byte, starts_with}
@@ -34,7 +45,7 @@ is_cjk_script _ = false
 abbrev pub letters : List ℕ → List ℕ
 letters text = filter is_alphabetic (chars text)
 
--- there are letters, and each is of such a script
+-- there are letters, and each has a script of Chinese, Japanese or Korean
 abbrev pub are_cjk : List ℕ → Bool
 are_cjk cs = nat_lt 0 (length cs) && list_all (λ c. is_cjk_script (script c)) cs
 
@@ -42,7 +53,7 @@ are_cjk cs = nat_lt 0 (length cs) && list_all (λ c. is_cjk_script (script c)) c
 abbrev pub given_or_empty : Named → List ℕ
 given_or_empty p = unwrap_or p.given_name []
 
--- the name and the given name together are in such scripts
+-- the letters of the name and the given name together are in such scripts
 abbrev pub is_cjk : Named → Bool
 is_cjk p = are_cjk (letters p.name ++ letters (given_or_empty p))
 
@@ -70,7 +81,7 @@ particle_words [] = []
 particle_words (w ∷ []) = []
 particle_words (w ∷ v ∷ ws) = if is_particle_word w then w ∷ particle_words (v ∷ ws) else []
 
--- the words after that front
+-- the words after the particle words
 abbrev pub after_particle : List (List ℕ) → List (List ℕ)
 after_particle [] = []
 after_particle (w ∷ []) = w ∷ []
@@ -85,7 +96,7 @@ spaced (w ∷ ws) = Some (join_with_byte space_char (w ∷ ws))
 abbrev pub name_particle : List ℕ → Option (List ℕ)
 name_particle name = spaced (particle_words (words name))
 
--- the name after its particle and the space behind it
+-- the name after its particle and one space
 abbrev pub name_without_particle : List ℕ → List ℕ
 name_without_particle name = join_with_byte space_char (after_particle (words name))
 
@@ -95,12 +106,12 @@ name_without_particle name = join_with_byte space_char (after_particle (words na
 abbrev pub without : List ℕ → List ℕ → Option (List ℕ)
 without article text = if starts_with ◌==◌ text article && nat_lt (length article) (length text) then Some (drop (length article) text) else None
 
--- the same for the first of several that it begins with
+-- the text without the first of several articles that it begins with
 abbrev pub first_without : List (List ℕ) → List ℕ → Option (List ℕ)
 first_without [] text = None
 first_without (a ∷ articles) text = option_or (without a text) (first_without articles text)
 
--- the English articles, with the space behind them
+-- the English articles, each with a space after it
 abbrev pub articles : List (List ℕ)
 articles = codes "The " ∷ codes "the " ∷ codes "A " ∷ codes "a " ∷ codes "An " ∷ codes "an " ∷ []
 

@@ -1,4 +1,5 @@
--- Writers that note their refusals, by what they write to and whether it has refused a text.
+-- A writer that remembers a refusal is seen as the writer inside it, and whether that has refused a
+-- text.
 use Rattle.std.specs.Prelude.{Bool}
 use Rattle.std.specs.Borrow.{MutBor}
 use Rattle.std.specs.declared.fmt.Formatter.{Formatter}

@@ -1,4 +1,17 @@
--- Numbers: their values, and the grammar of the texts that stand for them.
+-- Numeric texts (CSL 1.0.2, Number; Choose, `is-numeric`). White space is Unicode White_Space, as
+-- in Rust's `char::is_whitespace`; digits are ASCII. The grammar is over characters, not bytes, so
+-- a prefix never cuts a character.
+-- - A delimiter is `,`, `&` or `-`. An affix character is not a digit, not white space and not a
+--   delimiter.
+-- - A number is one or more digits with a decimal value below 2^31; leading zeros are allowed. Two
+--   numbers have a delimiter between them, with or without white space around it.
+-- - A text spells a value (`Spells`) if it is optional white space, a prefix, one or more numbers,
+--   a suffix, and optional white space. A prefix or suffix is affix characters; an empty one is
+--   `None`. One number is `Number`. Several are a `Set`: each has the delimiter after it, and the
+--   last has none.
+-- - A value is writable (`IsWritable`) if its numbers are from 0 to 2^31 - 1, exactly the last of
+--   two or more has no delimiter, and a prefix or suffix that is present is one or more affix
+--   characters. These are exactly the values that some text spells.
 use Rattle.std.specs.Prelude.{◌≡◌, ℕ, ◌^◌, ◌<◌, ◌≤◌, Bool, true, false, not, map, is_none, int_lt, ◌&&◌, ◌||◌, ◌==◌, List, [], ◌∷◌, ◌++◌, length, ℤ, pos, negsuc, Option, Some, None, IsSome, IsUtf8, chars, ⊤, option_map, string_bytes, encode_utf8_all}
 use Rattle.std.specs.Char.{is_ascii_digit, is_whitespace}
 use Rattle.std.specs.List.{AllByRecursion}
@@ -41,8 +54,8 @@ only_number [] = None
 only_number (n ∷ []) = Some n
 only_number (n ∷ m ∷ more) = None
 
--- whether a term beside the numbers is in the plural: several are, and where they count things, one
--- above 1 is
+-- whether a term beside the numbers is in the plural: beside several numbers, and beside one above
+-- 1 where they count things, such as pages or volumes
 abbrev pub plural : Bool → List ℤ → Bool
 plural counts [] = false
 plural counts (n ∷ []) = counts && int_lt (pos 1) n

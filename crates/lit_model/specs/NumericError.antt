@@ -1,4 +1,4 @@
--- The texts of the errors of a parse.
+-- The text that `Display` writes for each error of parsing a number.
 use Rattle.std.specs.Prelude.{ℕ, List, codes}
 use Rattle.lit_model.specs.declared.numeric.error.NumericError.{NumericError}
 use Rattle.lit_model.specs.declared.numeric.error.NumericError.TheVariants.{Memory, NotNumeric}

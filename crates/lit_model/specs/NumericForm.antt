@@ -1,4 +1,9 @@
--- The texts of numbers in a form, by their bytes.
+-- The text of a number in a form (CSL 1.0.2, Number, `form`; Ordinals). A number with a prefix or a
+-- suffix has the text that `Display` writes. Otherwise each number has its own text:
+-- - Numeric: the number in decimal.
+-- - Ordinal: the number, then the suffix that the locale has for it, if any.
+-- - LongOrdinal: the word that the locale has for 1 to 10, else as Ordinal.
+-- - Roman: a lower-case roman numeral for 1 to 3999, else the number in decimal.
 use Rattle.std.specs.Prelude.{ℕ, Bool, ◌&&◌, if◌then◌else◌, int_le, List, [], ◌++◌, ℤ, pos, negsuc, Option, unwrap_or}
 use Rattle.std.specs.Fmt.{signed_decimal}
 use Rattle.csl_common.specs.declared.form.NumberForm.{NumberForm}
@@ -29,6 +34,6 @@ form_text ordinals long forms.Ordinal gender n = ordinal_text ordinals gender n
 form_text ordinals long forms.LongOrdinal gender n = long_ordinal_text ordinals long gender n
 form_text ordinals long forms.Roman gender n = roman_text n
 
--- numbers in a form, number by number, where there is no prefix and no suffix; else as they stand
+-- numbers in a form, number by number; with a prefix or a suffix, the text of `Display`
 abbrev pub numeric_in_form : OrdinalTexts → OrdinalTexts → NumberForm → Option GrammarGender → NumericView → List ℕ
 numeric_in_form ordinals long form gender v = if is_bare v then value_text (form_text ordinals long form gender) v.value else numeric_text v

@@ -1,4 +1,6 @@
--- What the parser reads, step by step: functions of the characters that are left.
+-- The grammar of `Numeric` as a parser. Each step is a function of the characters that are left. It
+-- returns the value that it reads and the characters after it, or nothing where the text does not
+-- fit.
 use Rattle.std.specs.Prelude.{ℕ, zero, suc, ◌^◌, Bool, ◌==◌, nat_lt, if◌then◌else◌, List, [], ◌∷◌, length, ℤ, pos, Option, Some, None, option_and_then, option_map, count_by, encode_utf8_all}
 use Rattle.std.specs.Char.{is_ascii_digit, is_whitespace}
 use Rattle.std.specs.Str.Parse.{digits_value}
@@ -23,7 +25,7 @@ abbrev pub front : (ℕ → Bool) → List ℕ → List ℕ
 front p [] = []
 front p (c ∷ cs) = if p c then c ∷ front p cs else []
 
--- what follows that front
+-- what follows the longest front whose characters pass the test
 abbrev pub after : (ℕ → Bool) → List ℕ → List ℕ
 after p [] = []
 after p (c ∷ cs) = if p c then after p cs else c ∷ cs
@@ -50,7 +52,7 @@ delimiter_first (c ∷ cs) = do
   d ← delimiter_of c
   Some (d, after is_whitespace cs)
 
--- the same behind white space
+-- the delimiter after white space, and what follows it and white space
 unfoldable pub delimiter_at : List ℕ → Option (NumericDelimiter × List ℕ)
 delimiter_at cs = delimiter_first (after is_whitespace cs)
 

@@ -1,4 +1,6 @@
--- The texts of numbers: what is written of them, by their bytes.
+-- The text of a number. `Display` writes the prefix, the numbers and the suffix; `fmt_value` leaves
+-- out prefix and suffix. Two numbers have `, `, ` & ` or `-` between them. For sorting, each number
+-- has zeros before it up to four places, and a minus sign counts as a place, as in Rust's `{:04}`.
 use Rattle.std.specs.Prelude.{ℕ, suc, ◌-◌, Bool, true, false, List, [], ◌∷◌, ◌++◌, length, replicate, ℤ, pos, negsuc, Option, Some, None, codes, decimal, unwrap_or}
 use Rattle.std.specs.Fmt.{signed_decimal}
 use Rattle.std.specs.List.{flat_map}
@@ -21,14 +23,14 @@ abbrev pub integer_text : Bool → ℤ → List ℕ
 integer_text true n = sorted_integer n
 integer_text false n = signed_decimal n
 
--- what stands between two numbers
+-- the text between two numbers
 abbrev pub delimiter_text : Option NumericDelimiter → List ℕ
 delimiter_text None = []
 delimiter_text (Some Comma) = codes ", "
 delimiter_text (Some Ampersand) = codes " & "
 delimiter_text (Some Hyphen) = codes "-"
 
--- numbers, each as its text says, with their delimiters
+-- numbers by the given text of each, with their delimiters
 abbrev pub numbers_text : (ℤ → List ℕ) → List (ℤ × Option NumericDelimiter) → List ℕ
 numbers_text text numbers = flat_map (λ x. text x.0 ++ delimiter_text x.1) numbers
 

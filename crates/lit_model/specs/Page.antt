@@ -1,4 +1,15 @@
--- Pages: their values, and the grammar of the texts that stand for them.
+-- Pages (CSL 1.0.2, Appendix IV, `page`). Numbers, white space and the affix characters are those
+-- of `Numeric`, but an en dash is no affix character here.
+-- - A separator is `,` or `&`. A range mark is `-` or the en dash (U+2013).
+-- - A page is a prefix, one number and a suffix, with nothing between them.
+-- - An item is a page, or two pages with a range mark between them, with or without white space
+--   around it.
+-- - A text spells pages (`SpellsPages`) if it is optional white space, items with a separator
+--   between each two, and optional white space. A separator may have white space around it. The
+--   parts are the items and the separators, in order. No text spells an escaped range.
+-- - `first_page` is the page that the first item begins with; separators are passed over. A term is
+--   in the plural (`plural_pages`) beside a range, also an escaped one, and beside more than one
+--   part.
 use Rattle.std.specs.Prelude.{◌≡◌, ℕ, Bool, true, false, not, ◌&&◌, ◌||◌, ◌==◌, List, [], ◌∷◌, ◌++◌, map, ℤ, Option, Some, None, ⊤}
 use Rattle.std.specs.Option.{option_or}
 use Rattle.lit_model.specs.Characters.{ampersand_char, comma_char, en_dash_char, hyphen_char}

@@ -1,4 +1,5 @@
--- Pages that were read, before anything of them is copied.
+-- A page and an item as the parser finds them: numbers, and slices of the text that is read. Each
+-- stands for a page or an item of `Page`.
 use Rattle.lit_model.specs.declared.page.parse.PageShape.{PageShape}
 use Rattle.lit_model.specs.declared.page.parse.ItemShape.{ItemShape}
 use Rattle.lit_model.specs.declared.page.parse.ItemShape.TheVariants.{Single, Pair}

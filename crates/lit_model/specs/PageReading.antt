@@ -1,4 +1,6 @@
--- What the parser of pages reads, step by step: functions of the characters that are left.
+-- The grammar of `Page` as a parser. Each step is a function of the characters that are left. It
+-- returns the value that it reads and the characters after it, or nothing where the text does not
+-- fit.
 use Rattle.std.specs.Prelude.{ℕ, zero, suc, ◌==◌, if◌then◌else◌, List, [], ◌∷◌, Option, Some, None, count_by}
 use Rattle.std.specs.Char.{is_whitespace}
 use Rattle.lit_model.specs.Characters.{ampersand_char, comma_char}
@@ -17,7 +19,7 @@ abbrev pub mark_first : List ℕ → Option (List ℕ)
 mark_first [] = None
 mark_first (c ∷ cs) = if is_range_mark c then Some (after is_whitespace cs) else None
 
--- the same behind white space
+-- what follows the mark of a range after white space, and white space
 unfoldable pub mark_at : List ℕ → Option (List ℕ)
 mark_at cs = mark_first (after is_whitespace cs)
 
@@ -32,7 +34,7 @@ separator_first (c ∷ cs) = do
   s ← separator_of c
   Some (s, after is_whitespace cs)
 
--- the same behind white space
+-- the separator after white space, and what follows it and white space
 unfoldable pub separator_at : List ℕ → Option (PartView × List ℕ)
 separator_at cs = separator_first (after is_whitespace cs)
 

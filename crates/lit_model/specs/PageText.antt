@@ -1,4 +1,5 @@
--- The texts of pages, by their bytes.
+-- The text of pages, as `Display` writes it: the parts in order, `, ` and ` & ` for separators, and
+-- a `-` between the two pages of a range.
 use Rattle.std.specs.Prelude.{ℕ, List, ◌++◌, codes}
 use Rattle.std.specs.List.{flat_map}
 use Rattle.lit_model.specs.Page.{PartView, ampersand, comma, escaped, single, range}

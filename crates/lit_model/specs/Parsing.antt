@@ -1,4 +1,5 @@
--- What a parser answers, against what it reads.
+-- The result of a parser, against the value that the text spells. `Ok` is that value, `NotNumeric`
+-- means that there is none, and `Memory` may come with any text.
 use Rattle.std.specs.Prelude.{◌≡◌, ℕ, List, Option, Some, None, Result, Ok, Err, chars}
 use Rattle.lit_model.specs.Numeric.{ValueView}
 use Rattle.lit_model.specs.NumericReading.{read_of, value_at, text_from, numeric_from}
@@ -6,7 +7,7 @@ use Rattle.lit_model.specs.declared.numeric.parse.Shape.{Shape}
 use Rattle.lit_model.specs.declared.numeric.error.NumericError.{NumericError}
 use Rattle.lit_model.specs.declared.numeric.error.NumericError.TheVariants as errors
 
--- an error says that nothing was read, or that memory ran out
+-- an error means that no value was read, or that memory ran out
 abbrev pub Fails : {Y : Type 0} → NumericError → Option Y → Type 0
 Fails errors.Memory read = Unit {0}
 Fails errors.NotNumeric read = read ≡ None

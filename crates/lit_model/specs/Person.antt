@@ -1,4 +1,4 @@
--- Persons by their texts.
+-- Persons, their roles, and groups of persons with one role, as plain data: texts as bytes.
 use Rattle.std.specs.Prelude.{ℕ, Bool, List, [], map, Option, option_map, string_bytes, flat_map, if◌then◌else◌}
 use Rattle.lit_model.specs.declared.person.Person.{Person}
 use Rattle.lit_model.specs.declared.person.PersonRole.{PersonRole}

@@ -1,4 +1,5 @@
--- Roman numerals in lower case.
+-- Roman numerals in lower case, for 1 to 3999: thousands, hundreds, tens and units. Four is one
+-- before five, and nine is one before ten.
 use Rattle.std.specs.Prelude.{ℕ, ◌-◌, ◌/◌, ◌%◌, ◌==◌, Bool, ◌&&◌, nat_lt, if◌then◌else◌, List, [], ◌∷◌, ◌++◌, replicate}
 use Rattle.lit_model.specs.Characters.{letter_c, letter_d, letter_i, letter_l, letter_m, letter_v, letter_x}
 

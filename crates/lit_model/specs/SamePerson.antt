@@ -1,4 +1,6 @@
--- Whether persons show the same in every text.
+-- Two persons *show the same* if name, given name, prefix, suffix and alias have the same bytes, or
+-- are absent in both, and either both or neither have a comma before the suffix. Two lists show the
+-- same if they have the same length and show the same at each place.
 use Rattle.std.specs.Prelude.{ℕ, Bool, ◌&&◌, List, Option}
 use Rattle.std.specs.Bool.{beq}
 use Rattle.std.specs.Cmp.Lexicographic.{pointwise}

@@ -1,4 +1,4 @@
--- The classes of characters, and what a reader answers.
+-- The classes of characters that the parsers skip or take, and the result of one such step.
 use Rattle.std.specs.Prelude.{ℕ, Bool, List, Option, option_map, chars}
 use denote.Ref.{Bor}
 use Rattle.std.specs.Char.{is_ascii_digit, is_whitespace}

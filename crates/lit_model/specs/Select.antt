@@ -1,4 +1,17 @@
 -- Selections: which of an entry and its direct parents a list of clauses selects.
+-- - A clause has the types of the entry (`own`; none means every type), the fields that the entry
+--   itself must have, the types of a direct parent (`parent`; not set: none is needed; empty: any
+--   type), and what it selects (`bind`): nothing, the child or the parent.
+-- - An entry *fits* a clause if its type is in `own`, it has each of the fields, and, where a
+--   parent is needed, some direct parent has one of the types. A list of clauses *matches* if one
+--   of them fits. It *selects* what the first clause that fits selects: nothing, the entry, or the
+--   first direct parent of one of the types. A clause that selects the parent and needs none
+--   selects nothing.
+-- - The *whole* of a chapter or a scene without a title is the whole of its first parent, if it has
+--   one. The whole of any other entry is the entry (`full_of`).
+-- - The *container* of an entry is the parent that `container` selects. The *collection* is the
+--   container's first parent where there is a container, else the parent that `collection` selects.
+--   The *original* is the first parent of type Original. The other selections are for other crates.
 use Rattle.std.specs.Prelude.{Bool, true, ◌&&◌, ◌||◌, List, [], ◌∷◌, Option, Some, None, is_some, is_none, option_map, option_and_then, find, slice_get, if◌then◌else◌}
 use Rattle.std.specs.List.{list_any, list_all}
 use denote.Enum.Bare.{sameb}
@@ -28,7 +41,7 @@ rule_of c = record { own = c.own.now; fields = c.fields.now; parent = option_map
 abbrev pub same_type : EntryType → EntryType → Bool
 same_type = sameb the_type
 
--- the type is among these; no types stand for every type
+-- the type is among these; an empty list means every type
 abbrev pub is_among : EntryType → List EntryType → Bool
 is_among t [] = true
 is_among t (x ∷ xs) = list_any (λ y. same_type y t) (x ∷ xs)
@@ -44,7 +57,7 @@ has_field e Volume = is_some (out-Entry e).volume
 abbrev pub parent_among : List EntryType → Entry → Option Entry
 parent_among types e = find (λ p. is_among (out-Entry p).entry_type types) (parents_of e)
 
--- a direct parent is of one of the types, where a parent is asked for
+-- a direct parent has one of the types, if a parent is needed
 abbrev pub has_parent : Option (List EntryType) → Entry → Bool
 has_parent None e = true
 has_parent (Some types) e = is_some (parent_among types e)
@@ -76,8 +89,10 @@ parent_of own parents = record { own = own; fields = []; parent = Some parents; 
 abbrev pub child_of : List EntryType → List EntryType → Rule
 child_of own parents = record { own = own; fields = []; parent = Some parents; bind = Child }
 
--- the work that holds this one: the book of a chapter, the journal of an article, the site of
--- anything
+-- The container is the parent of a chapter in a book, an anthology or proceedings; of a work of
+-- type Anthos in an anthology; of an entry (type Entry) in anything; of an article in proceedings,
+-- a periodical, a newspaper, a blog or a site; of anything in a work of reference, a site or a
+-- blog.
 abbrev pub container : List Rule
 container =
     parent_of (Chapter ∷ []) (Book ∷ Anthology ∷ Proceedings ∷ [])
@@ -87,11 +102,12 @@ container =
     ∷ parent_of [] (Reference ∷ Web ∷ Blog ∷ [])
     ∷ []
 
--- the collection of a work that stands in no other
+-- The collection of a work without a container is the parent of a book, an anthology, proceedings,
+-- a work of reference or a report in a book, an anthology, a periodical or a work of reference.
 abbrev pub collection : List Rule
 collection = parent_of (Book ∷ Anthology ∷ Proceedings ∷ Reference ∷ Report ∷ []) (Book ∷ Anthology ∷ Periodical ∷ Reference ∷ []) ∷ []
 
--- the work that was translated or printed again
+-- the original: the parent of type Original
 abbrev pub original : List Rule
 original = parent_of [] (Original ∷ []) ∷ []
 
@@ -144,7 +160,8 @@ abbrev collection_after : Option Entry → Entry → Option Entry
 collection_after None e = bound_select collection e
 collection_after (Some c) e = first_parent c
 
--- the collection that the entry, or the work that holds it, stands in
+-- the collection of an entry: the first parent of its container, else the parent that `collection`
+-- selects
 abbrev pub collection_of : Entry → Option Entry
 collection_of e = collection_after (container_of e) e
 
@@ -152,8 +169,8 @@ abbrev pub first_full : List (Entry × (Entry → Entry)) → Entry → Entry
 first_full [] e = e
 first_full (p ∷ ps) e = p.1 p.0
 
--- One entry, given each parent with the whole of it: an untitled chapter or scene stands for its
--- first parent's whole, anything else for itself.
+-- One entry, given each parent with its whole: the whole of an untitled chapter or scene is its
+-- first parent's whole, that of anything else is the entry.
 abbrev pub full_step : Entry-F (Entry × (Entry → Entry)) → Entry → Entry
 full_step x e = if is_untitled_part e then first_full x.parents.items e else e
 

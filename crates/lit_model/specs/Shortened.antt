@@ -1,11 +1,13 @@
--- How initials are written one after another: each after what stands before it.
+-- The initials of `Initials`, each after the text that precedes it: nothing before the first, and
+-- then a text that depends on whether the initial before it belongs to another word or to the same
+-- one.
 use Rattle.std.specs.Prelude.{ℕ, Bool, List, [], ◌∷◌, ◌++◌}
 use Rattle.std.specs.Str.{trim_end}
 use Rattle.lit_model.specs.Initials.{between}
 use Rattle.lit_model.specs.declared.initials.Before.{Before}
 use Rattle.lit_model.specs.declared.initials.Before.TheVariants.{Nothing, Word, Piece}
 
--- what is written before an initial: nothing before the first, the given text after another word
+-- the text before an initial: nothing before the first, the given text after another word
 abbrev pub gap : List ℕ → Bool → Before → List ℕ
 gap text hyphen Nothing = []
 gap text hyphen Word = text
@@ -16,7 +18,7 @@ abbrev pub word_text : List ℕ → Bool → Before → List (List ℕ) → List
 word_text text hyphen before [] = []
 word_text text hyphen before (g ∷ gs) = gap text hyphen before ++ (g ++ word_text text hyphen Piece gs)
 
--- what the next piece, or the next word, stands after
+-- what precedes the next piece, or the next word
 abbrev pub before_piece : Before → List (List ℕ) → Before
 before_piece before [] = before
 before_piece before (g ∷ gs) = Piece
@@ -26,7 +28,7 @@ before_word Nothing = Nothing
 before_word Word = Word
 before_word Piece = Word
 
--- after the last initial stands the given text without its trailing white space
+-- the text after the last initial: the given text without its trailing white space
 abbrev pub end_text : List ℕ → Before → List ℕ
 end_text text Nothing = []
 end_text text Word = trim_end text

@@ -1,4 +1,5 @@
--- Publishers, addresses, serial numbers and languages, without where their texts lie.
+-- Publishers, addresses, serial numbers and languages as plain data: texts as bytes. An address is
+-- its parts (URL Standard), or the text that they serialize to.
 use Rattle.std.specs.Prelude.{ℕ, List, map, Option, option_map, string_bytes, String}
 use Rattle.std.specs.declared.alloc.Global.{Global}
 use Rattle.std.specs.BTreeMap.{get_by_text}

@@ -1,4 +1,7 @@
--- Texts by their chunks.
+-- A text is a list of chunks. Each chunk is a run of bytes with a kind: normal, verbatim or
+-- mathematics. A format string is a text that may have a short form. `select` returns the short
+-- form where the style asks for Short and there is one, else the whole text (CSL 1.0.2, Text,
+-- `form`).
 use Rattle.std.specs.Prelude.{ℕ, List, map, Option, option_map, string_bytes, unwrap_or}
 use Rattle.lit_model.specs.declared.text.StringChunk.{StringChunk}
 use Rattle.lit_model.specs.declared.text.ChunkKind.{ChunkKind}
@@ -27,7 +30,7 @@ pub record Forms : Type 0 where
 abbrev pub forms_of : FormatString → Forms
 forms_of t = record { value = chunks t.value; short = option_map chunks t.short }
 
--- the text in a form: the short form where it is asked for and there is one
+-- the text in a form: the short form where it is requested and there is one
 abbrev pub select : LongShortForm → FormatString → ChunkedString
 select Long t = t.value
 select Short t = unwrap_or t.short t.value

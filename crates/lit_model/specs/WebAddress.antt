@@ -1,4 +1,5 @@
--- Addresses that a web page may link to.
+-- A text is the address of a web page if it parses, without a base, to an absolute URL with the
+-- scheme `http` or `https` (URL Standard, 4.1 and 4.4).
 use Rattle.std.specs.Prelude.{◌≡◌, ◌⊎◌, ℕ, List, None, Ok, codes}
 use Rattle.url.specs.Parser.{parse_url}
 use Rattle.url.specs.Parts.{Parts}

@@ -1,4 +1,7 @@
--- Entries without where their texts lie.
+-- What an entry *shows*. Texts show their bytes, lists show their items, and addresses show their
+-- parts (URL Standard). An entry shows `works`: the preorder of the entry and its parents, each
+-- with its own fields and its number of parents. A copy shows the same. Two entries are equal
+-- (`==`) if they have the same `spelled`, which is `works` with each address by its text.
 use Rattle.std.specs.Prelude.{ℕ, List, map, length, Option, None, option_map, string_bytes}
 use Rattle.lit_model.specs.declared.date.Date.{Date}
 use Rattle.lit_model.specs.declared.entry.Entry.{Entry, out-Entry}
@@ -98,7 +101,7 @@ spelled_of e = record {
   parent_count = length (parents_of e);
 }
 
--- The same of the entry and its parents, in preorder. Two addresses of one text may differ in their
--- parts, so this tells less than `works`.
+-- The entry and its parents in preorder, with each address by its text. Two addresses with one text
+-- may differ in their parts, so this distinguishes less than `works`.
 abbrev pub spelled : Entry → List Spelled
 spelled e = map spelled_of (preorder e)
