@@ -1,5 +1,5 @@
--- Which places of a style's macros are called, each as often as it is: the graph in which cycles
--- are searched.
+-- The calls between the macros of a style, as a graph: the places of the macros, with an edge for
+-- each call, as often as it occurs. Cycles are searched in this graph (CSL 1.0.2, Macro).
 use Rattle.std.specs.Prelude.{◌≡◌, ℕ, zero, suc, ◌<◌, List, [], ◌∷◌, ◌++◌, length}
 use Rattle.std.specs.Option.{option_to_list}
 use Rattle.csl_style.specs.Reaches.{Graph, row_at}

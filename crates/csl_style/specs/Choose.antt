@@ -1,4 +1,5 @@
--- The branches of a choice (CSL 1.0.2, Choose).
+-- The branches of a choice are the `if` branch and then each `else-if` in order (CSL 1.0.2,
+-- Choose).
 use Rattle.std.specs.Prelude.{List, ◌∷◌}
 use Rattle.csl_style.specs.declared.element.Choose.{Choose, out-Choose}
 use Rattle.csl_style.specs.declared.element.ChooseBranch.{ChooseBranch}

@@ -1,13 +1,12 @@
--- The macro that a cyclic style is refused for (CSL 1.0.2, Macro): the first of the list that leads
--- back to itself.
+-- A style is cyclic if some macro leads back to itself (CSL 1.0.2, Macro). It is refused for the
+-- first such macro of its list. A macro that an earlier one of the same name hides does not count.
 use Rattle.std.specs.Prelude.{◌≡◌, ℕ, ◌<◌, List, Some}
 use Rattle.csl_style.specs.View.{Definition}
 use Rattle.csl_style.specs.Meaning.{place}
 use Rattle.csl_style.specs.Leads.{Leads}
 
 -- The macro of the name leads back to itself, and no earlier one of the list does. Those that an
--- earlier one of their name hides
--- have no place.
+-- earlier one of their name hides have no place.
 pub record IsFirstCyclic (ds : List Definition) (name : List ℕ) : Type 0 where
   pub index : ℕ
   pub here : place name ds ≡ Some index

@@ -1,4 +1,5 @@
--- Dates of a style's locales (CSL 1.0.2, Localized Date Formats).
+-- The date of a form is the first date of that form, over the locales in order (CSL 1.0.2,
+-- Localized Date Formats).
 use Rattle.std.specs.Prelude.{Bool, List, Option, Some, find}
 use Rattle.std.specs.Option.{option_eq}
 use denote.Enum.Bare.{sameb}
@@ -8,7 +9,7 @@ use Rattle.csl_style.specs.contracts.date.DateForm.{the_type}
 use Rattle.csl_style.specs.declared.locale.Locale.{Locale}
 use Rattle.csl_common.specs.Lists.{first_some}
 
--- the date has that form
+-- whether a date has this form
 abbrev pub is_in_form : DateForm → Date → Bool
 is_in_form form d = option_eq (sameb the_type) d.form (Some form)
 

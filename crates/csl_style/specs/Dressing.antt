@@ -1,5 +1,6 @@
--- What stands around the text that a node prints (CSL 1.0.2, Formatting, Affixes, Display, Quotes,
--- Strip-periods), as data.
+-- The attributes around the text of a node (CSL 1.0.2, Formatting, Affixes, Display, Quotes,
+-- Strip-periods), as data. Attributes over others (`dressing_over`) take each field of the
+-- formatting and the affixes that is set, else the other's. The display is their own.
 use Rattle.std.specs.Prelude.{ℕ, Bool, List, Option, option_map, String, string_bytes}
 use Rattle.std.specs.Option.{option_or}
 use Rattle.std.specs.declared.alloc.Global.{Global}
@@ -26,14 +27,14 @@ pub record Dressing : Type 0 where
 abbrev pub dressing_of : Formatting → Affixes → Option Display → Dressing
 dressing_of f a d = record { formatting = f; affixes = affix_texts a; display = d }
 
--- of a text node
+-- the attributes of a text node
 pub record TextDressing : Type 0 where
   pub dressing : Dressing
   pub quotes : Bool
   pub strip_periods : Bool
 
--- what is set, else what the other has, of a formatting and of affixes; the place on the page is
--- its own
+-- attributes over a base: each field of the formatting and the affixes that is set, else that of
+-- the base; the display is their own
 abbrev pub dressing_over : Dressing → Dressing → Dressing
 dressing_over d base = record {
   formatting = over d.formatting base.formatting;

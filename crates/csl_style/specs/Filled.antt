@@ -1,9 +1,9 @@
--- A rendering element with each macro in the place of its name, and its size.
+-- A rendering element, a layout or a node, with each macro in the place of its name, and its size.
 use Rattle.std.specs.Prelude.{ℕ, suc, List, Option}
 use Rattle.csl_style.specs.Node.{Full, Fulls, FullLayout, fill, fill_layout, size, sizes}
 use Rattle.csl_style.specs.View.{ElementView, whole, part}
 
--- a whole layout, or what stands in one
+-- a whole layout, or a node of one
 pub data FullElement : Type 0 where
   full_layout : FullLayout → FullElement
   full_part : Full → FullElement
@@ -12,7 +12,7 @@ abbrev pub fill_element : (List ℕ → Option Fulls) → ElementView → FullEl
 fill_element env (whole l) = full_layout (fill_layout env l)
 fill_element env (part n) = full_part (fill env n)
 
--- A layout counts like a group: one above what stands in it.
+-- A layout counts like a group: one more than its elements.
 abbrev pub layout_size : FullLayout → ℕ
 layout_size l = suc (sizes l.elements)
 

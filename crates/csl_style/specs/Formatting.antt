@@ -1,5 +1,6 @@
--- One formatting over another (CSL 1.0.2, Formatting): each attribute that is set, else that of the
--- base.
+-- A node may set five attributes (CSL 1.0.2, Formatting): font style, font variant, font weight,
+-- text decoration and vertical alignment. One formatting over another takes each attribute that it
+-- sets, and the other's for the rest.
 use Rattle.std.specs.Option.{option_or}
 use Rattle.csl_style.specs.declared.formatting.Formatting.{Formatting}
 

@@ -1,4 +1,5 @@
--- What is in the six sets, and what a walk over a style adds to them.
+-- `has` reads the six sets of a `Named` as one set (`NamedSet`): five of variables, by sort, and
+-- one of kinds. A walk over a style adds to it.
 use Rattle.std.specs.Prelude.{◌≡◌, ℕ, true, List, Option}
 use Rattle.std.specs.BTreeSet.{BTreeSet, contains}
 use Rattle.std.specs.Cmp.Lexicographic.{slice_cmp}
@@ -30,7 +31,7 @@ pub record Walked : Type 0 where
   pub style : StyleParts
   pub named : Named
 
--- these are named beside what was
+-- a walk keeps its style and names these beside what it named before
 pub record Adds (ns : NamedSet) (old new : Walked) : Type 0 where
   pub style : new.style ≡ old.style
   pub named : has new.named ≡ joined (has old.named) ns

@@ -1,6 +1,7 @@
--- Which macros lead to which (CSL 1.0.2, Macro): by the names that the first macro of a name calls,
--- in its groups, in each branch of a
--- choose and where none is chosen, and in each substitute of names.
+-- A macro *leads to* a name (CSL 1.0.2, Macro) if it calls it, in a text at any depth, or if it
+-- calls a macro that leads to it. Any depth means in groups, in each branch of a choice and where
+-- no branch is chosen, and in each substitute of names. Of several macros of one name only the
+-- first counts.
 use Rattle.std.specs.Prelude.{◌≡◌, ℕ, List, Option, Some, None, ◌⊎◌}
 use Rattle.csl_style.specs.Node.{Node, text, call, number, label, date, names, choose, group, Nodes, no_nodes, node, Branches, no_branches, otherwise, branch, Substitutes, no_substitutes, substitute}
 use Rattle.csl_style.specs.View.{Definition}
@@ -35,7 +36,7 @@ abbrev pub BodyCalls : List ℕ → Option Nodes → Type 0
 BodyCalls name None = ⊥
 BodyCalls name (Some ns) = OneCalls name ns
 
--- by one call or more
+-- one macro leads to another, by one call or more
 pub data Leads (ds : List Definition) : List ℕ → List ℕ → Type 0 where
   at_once : {a b : List ℕ} → BodyCalls b (body a ds) → Leads ds a b
   by_way_of : {a b c : List ℕ} → BodyCalls b (body a ds) → Leads ds b c → Leads ds a c

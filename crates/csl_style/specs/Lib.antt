@@ -1,3 +1,5 @@
+-- The definitions that the contracts of `csl_style` cite: styles, locales and nodes as plain data,
+-- and what follows from a style alone.
 pub mod Choose
 pub mod Date
 pub mod Formatting

@@ -1,4 +1,4 @@
--- What a style's locales say, by their texts (CSL 1.0.2, Locale).
+-- The terms and the ordinals of a locale (CSL 1.0.2, Locale) as plain data: texts as bytes.
 use Rattle.std.specs.Prelude.{ℕ, List, [], ◌∷◌, map, Option, None, option_map, string_bytes}
 use Rattle.std.specs.Option.{option_or}
 use Rattle.csl_common.specs.declared.ordinal.GrammarGender.{GrammarGender}

@@ -1,5 +1,7 @@
--- What a macro's name stands for (CSL 1.0.2, Macro): what the first macro of that name holds, with
--- each name in it followed too.
+-- What a macro's name stands for (CSL 1.0.2, Macro). Of several macros of one name the first
+-- counts; the others are never looked at. Macros have *ranks* if each has a number and calls only
+-- macros of lower number, or names that the style lacks. An accepted style has ranks. Then a name
+-- stands for the nodes of its macro, with each name in them replaced in the same way (`meaning`).
 use Rattle.std.specs.Prelude.{◌≡◌, ℕ, zero, suc, nat_lt, Bool, true, ◌&&◌, List, [], ◌∷◌, length, slice_index, Option, Some, None, option_map, if◌then◌else◌}
 use Rattle.std.specs.Str.{bytes_eq}
 use Rattle.csl_style.specs.Node.{Node, text, call, number, label, date, names, choose, group, Nodes, no_nodes, node, Branches, no_branches, otherwise, branch, Substitutes, no_substitutes, substitute, Fulls, fills}
@@ -10,7 +12,7 @@ abbrev pub place : List ℕ → List Definition → Option ℕ
 place name [] = None
 place name (d ∷ ds) = if bytes_eq d.0 name then Some 0 else option_map suc (place name ds)
 
--- what that macro holds
+-- the nodes of the first macro of the name
 abbrev pub body : List ℕ → List Definition → Option Nodes
 body name [] = None
 body name (d ∷ ds) = if bytes_eq d.0 name then Some d.1 else body name ds
@@ -63,8 +65,7 @@ body_below rank r None = true
 body_below rank r (Some ns) = all_below rank r ns
 
 -- Ranks: a number for each place of the list, below their count. The first macro of each name calls
--- only first macros of lower rank,
--- or names that the style lacks.
+-- only first macros of lower rank, or names that the style lacks.
 pub record AreRanks (ds : List Definition) (ranks : List ℕ) : Type 0 where
   pub each : length ranks ≡ length ds
   pub small : (name : List ℕ) → is_below (rank_of ranks ds name) (length ds) ≡ true

@@ -1,5 +1,15 @@
--- The options of names: which count, and which names they leave out (CSL 1.0.2, Inheritable Name
--- Options; Name: et-al-min and those after it).
+-- The options of names (CSL 1.0.2, Inheritable Name Options; Name, `et-al-min` and those after it).
+-- - One set of options over another takes each option that is set, else the other's
+--   (`options_over`).
+-- - Names are written by the options that are set, and else by defaults: `, ` for the delimiter and
+--   the sort separator, the long form, initialize on, contextual for both delimiter behaviours, the
+--   last name not kept, and nothing between two lists.
+-- - A name at a place of a list is left out (`is_suppressed`) if et-al-min and et-al-use-first are
+--   set, the list has at least et-al-min names, the place is not below et-al-use-first, and it is
+--   not the last name that et-al-use-last keeps. That option keeps the last name of a list that has
+--   at least two names more than et-al-use-first.
+-- - For a later cite, et-al-subsequent-min and et-al-subsequent-use-first replace the two numbers,
+--   each where it is set.
 use Rattle.std.specs.Prelude.{ℕ, ◌+◌, Bool, true, false, not, ◌&&◌, ◌==◌, nat_le, List, [], Option, Some, None, option_map, unwrap_or, string_bytes, codes, if◌then◌else◌}
 use Rattle.std.specs.Option.{option_or}
 use Rattle.csl_style.specs.declared.names.NameForm.{NameForm}
@@ -30,7 +40,7 @@ pub record SetOptions : Type 0 where
   pub sort_separator : Option (List ℕ)
   pub names_delimiter : Option (List ℕ)
 
--- those that a node or a style sets
+-- the options that a node or a style sets
 abbrev pub own_options : InheritableNameOptions → SetOptions
 own_options o = record {
   and = o.and;
@@ -50,7 +60,7 @@ own_options o = record {
   names_delimiter = option_map string_bytes o.names_delimiter;
 }
 
--- those that are set somewhere around a node
+-- the options that a node inherits
 abbrev pub inherited_options : InheritedNameOptions → SetOptions
 inherited_options o = record {
   and = o.and;
@@ -144,7 +154,7 @@ with_defaults o = record {
   sort_separator = unwrap_or o.sort_separator (codes ", ");
 }
 
--- what stands between the lists of two variables
+-- the delimiter between the lists of two variables
 abbrev pub names_delimiter_of : SetOptions → List ℕ
 names_delimiter_of o = unwrap_or o.names_delimiter []
 
@@ -152,7 +162,7 @@ names_delimiter_of o = unwrap_or o.names_delimiter []
 abbrev pub limit_of : Option ℕ → Option ℕ → Bool → Option ℕ
 limit_of own later subsequent = if subsequent then option_or later own else own
 
--- the last of a list that is longer than what stands first by two names or more
+-- the name is the last of a list with at least two names more than are shown first
 abbrev pub is_kept_last : ℕ → ℕ → ℕ → Bool
 is_kept_last first idx len = nat_le (first + 2) len && (idx + 1 == len)
 
@@ -163,7 +173,7 @@ is_cut (Some min) None use_last idx len = false
 is_cut (Some min) (Some first) use_last idx len =
     nat_le min len && (nat_le first idx && not (use_last && is_kept_last first idx len))
 
--- the name at this place of a list so long is left out
+-- whether the name at this place of a list of this length is left out
 abbrev pub is_suppressed : UsedOptions → ℕ → ℕ → Bool → Bool
 is_suppressed o idx len subsequent =
     is_cut (limit_of o.et_al_min o.et_al_subsequent_min subsequent)

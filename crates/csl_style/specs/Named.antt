@@ -1,6 +1,12 @@
--- What a style names of an entry: the variables and kinds that are written in it (CSL 1.0.2,
--- Rendering Elements; Choose; Substitute).
--- A set is a function that says what is in it.
+-- A layout *names* a variable or a kind of entry that is written in it or in a macro that it
+-- reaches, each macro in the place of its name (CSL 1.0.2, Rendering Elements; Choose; Substitute):
+-- - the variable of a text, a number, a label and a date, and the variables of names;
+-- - what the tests of a branch ask of the entry: variables by `is-numeric`, `is-uncertain-date` and
+--   `variable`, kinds by `type`.
+-- Every branch counts, chosen or not, and so does every substitute. A names node without children
+-- in a substitute names its own variables and those of the node that is rendered in its place. A
+-- macro that the style lacks names nothing. The four variables of the citation (`OfCitation`) are
+-- not named. A set is a function from variables and kinds to a boolean (`NamedSet`).
 use Rattle.std.specs.Prelude.{ℕ, Bool, false, not, ◌&&◌, ◌||◌, List, [], ◌∷◌, Option, Some, None}
 use Rattle.std.specs.BTreeMap.{is_at}
 use Rattle.csl_style.specs.declared.taxonomy.Variable.{Variable}
@@ -28,11 +34,11 @@ NamedSet = Asked → Bool
 abbrev pub nothing_named : NamedSet
 nothing_named q = false
 
--- what is in one of the two
+-- the union of two sets
 unfoldable pub joined : NamedSet → NamedSet → NamedSet
 joined a b q = a q || b q
 
--- a variable, unless the citation answers it
+-- the set of one variable, or of none if it is one of the citation
 unfoldable pub the_variable : Variable → NamedSet
 the_variable v (a_variable u) = is_at (cmp_variable.it v) u && not (is_of_citation v)
 the_variable v (a_kind k) = false
@@ -107,7 +113,7 @@ abbrev mutual
   of_insteads no_insteads = nothing_named
   of_insteads (instead fs is) = joined (of_fulls fs) (of_insteads is)
 
--- what a macro's name stands for
+-- the set that the nodes of a macro's name name
 abbrev pub of_meaning : Option Fulls → NamedSet
 of_meaning None = nothing_named
 of_meaning (Some fs) = of_fulls fs

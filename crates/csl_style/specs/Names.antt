@@ -1,5 +1,6 @@
--- How a names node writes its persons (CSL 1.0.2, Names, Name, Et-al, Label, Substitute,
--- Inheritable Name Options), as data.
+-- A names node (CSL 1.0.2, Names, Name, Et-al, Label, Substitute, Inheritable Name Options) as
+-- data, without its substitutes. It keeps all its name children, because a dry run checks each of
+-- them. The first one writes the names.
 use Rattle.std.specs.Prelude.{ℕ, Bool, List, [], ◌∷◌, map, Option, Some, None}
 use Rattle.std.specs.Option.{option_or}
 use Rattle.csl_style.specs.declared.formatting.Formatting.{Formatting}
@@ -38,7 +39,7 @@ pub record EtAlNode : Type 0 where
 abbrev pub view_et_al : EtAl → EtAlNode
 view_et_al e = record { term = e.term; formatting = e.formatting }
 
--- a label, whatever it stands beside
+-- a label, without what it labels
 pub record LabelNode : Type 0 where
   pub form : TermForm
   pub plural : LabelPluralize
@@ -55,7 +56,7 @@ view_label l = record {
   strip_periods = l.strip_periods;
 }
 
--- the label of names, before or behind them
+-- the label of names, and whether it is after them
 pub record NamesLabel : Type 0 where
   pub label : LabelNode
   pub is_behind : Bool
@@ -78,10 +79,9 @@ first_of (x ∷ xs) = Some x
 abbrev pub first_name : NamesNode → Option NameNode
 first_name n = first_of n.name_children
 
--- A names node without children in a substitute, under the node that it stands in for: it has that
--- node's name, et al. and label,
--- its own variables and place on the page, and all else field by field from itself, else from that
--- node.
+-- A names node without children in a substitute, in the place of the node around it. It has that
+-- node's name, et al. and label, and its own variables and display. All else is its own where it is
+-- set, field by field, and that node's elsewhere.
 abbrev pub in_place_of : NamesNode → NamesNode → NamesNode
 in_place_of original own = record {
   variables = own.variables;

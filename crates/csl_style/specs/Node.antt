@@ -1,6 +1,10 @@
--- The nodes of a style (CSL 1.0.2, Rendering Elements) as data, in two forms: as they are written,
--- and with what each macro holds
--- in the place of its name.
+-- The nodes of a style (CSL 1.0.2, Rendering Elements) as plain data, in two forms. As written
+-- (`Node`), a text of a macro holds a name. With no name left (`Full`), it holds the macro's nodes,
+-- filled too, or is `lacking` if the style has no such macro.
+-- A names node without children that is directly in a substitute is kept twice, as written and as
+-- rendered (`shorthand`). As rendered, it has the name, et-al and label of the names around it, and
+-- its own display. Its options, delimiter, affixes and formatting are its own where they are set,
+-- field by field, and those of the names around it elsewhere.
 use Rattle.std.specs.Prelude.{ℕ, ◌+◌, suc, Bool, true, false, ◌&&◌, is_none, List, [], ◌∷◌, Option, Some, None, if◌then◌else◌}
 use Rattle.csl_common.specs.declared.form.LongShortForm.{LongShortForm}
 use Rattle.csl_common.specs.declared.form.NumberForm.{NumberForm}
@@ -47,7 +51,7 @@ pub record DateNode : Type 0 where
   pub delimiter : Option (List ℕ)
   pub dressing : Dressing
 
--- what a branch asks (CSL 1.0.2, Choose)
+-- the tests of a branch (CSL 1.0.2, Choose)
 pub record Tests : Type 0 where
   pub disambiguate : Option Bool
   pub is_numeric : Option (List Variable)
@@ -75,13 +79,13 @@ mutual
     no_nodes : Nodes
     node : Node → Nodes → Nodes
 
-  -- the branches in order, and behind them what is printed where none is chosen
+  -- the branches in order, and after them the nodes for when none is chosen
   pub data Branches : Type 0 where
     no_branches : Branches
     otherwise : Nodes → Branches
     branch : Tests → Nodes → Branches → Branches
 
-  -- of several the first one counts
+  -- the substitutes of a names node, of which the first one counts
   pub data Substitutes : Type 0 where
     no_substitutes : Substitutes
     substitute : Nodes → Substitutes → Substitutes
@@ -155,7 +159,7 @@ within original (names n ss) f = if is_childless n ss then shorthand n (in_place
 within original (choose bs) f = f
 within original (group delimiter d ns) f = f
 
--- What each name stands for is put in its place.
+-- A node with what each name stands for in the place of the name.
 abbrev mutual
   pub fill : (List ℕ → Option Fulls) → Node → Full
   fill env (text t d) = printed t d
@@ -188,8 +192,8 @@ abbrev mutual
 abbrev pub fill_layout : (List ℕ → Option Fulls) → LayoutNode → FullLayout
 fill_layout env l = record { delimiter = l.delimiter; formatting = l.formatting; elements = fills env l.elements }
 
--- A count of what is inside, by which a recursion falls. A names node without children counts alike
--- in a substitute and elsewhere.
+-- A count of the nodes inside, by which a recursion falls. A names node without children counts the
+-- same in a substitute and elsewhere.
 abbrev mutual
   pub size : Full → ℕ
   size (printed t d) = 0

@@ -1,12 +1,12 @@
--- The variables that the citation answers, and not the entry (CSL 1.0.2, Appendix IV: Variables).
+-- The citation, and not the entry, provides four variables (CSL 1.0.2, Appendix IV): the citation
+-- number, the number of the first note, the locator and the year suffix.
 use Rattle.std.specs.Prelude.{Bool, true, false}
 use Rattle.csl_style.specs.declared.taxonomy.Variable.{Variable}
 use Rattle.csl_style.specs.declared.taxonomy.Variable.TheVariants as variable
 use Rattle.csl_style.specs.declared.taxonomy.NumberVariable.TheVariants.{CitationNumber, FirstReferenceNoteNumber, Locator}
 use Rattle.csl_style.specs.declared.taxonomy.StandardVariable.TheVariants.{YearSuffix}
 
--- the number of the entry in the list, the note that cites it first, the place that is cited, and
--- what tells entries of a year apart
+-- the citation number, the number of the first note, the locator and the year suffix
 abbrev pub is_of_citation : Variable → Bool
 is_of_citation (variable.Number CitationNumber) = true
 is_of_citation (variable.Number FirstReferenceNoteNumber) = true

@@ -1,4 +1,12 @@
--- The ordinals of a style's locales (CSL 1.0.2, Ordinals and Gender-specific Ordinals).
+-- The ordinals of a style are those of the first locale that has any (CSL 1.0.2, Ordinals;
+-- Gender-specific Ordinals).
+-- - A slot from 0 to 99 fits a number whose digits are the slot: the last digit for a slot below 10
+--   and the last two for any other, unless the ordinal names the last digit, the last two digits or
+--   the whole number. The sign of the number does not count.
+-- - The slots from 10 to 99 come first, then those from 0 to 9, then the default. In each of these
+--   three groups, the first ordinal of the requested gender comes before the first neutral one.
+-- - The word for an ordinal is that of the slot of that word, for 1 to 10 only, with the same rule
+--   of gender.
 use Rattle.std.specs.Prelude.{ℕ, ◌%◌, Bool, false, ◌&&◌, ◌==◌, nat_lt, nat_le, List, [], ◌∷◌, unsigned_abs, Option, Some, None, option_map, find, if◌then◌else◌}
 use Rattle.std.specs.Option.{option_or, option_eq}
 use denote.Enum.Bare.{sameb}
@@ -15,7 +23,7 @@ use Rattle.csl_style.specs.declared.locale.ordinals.OrdinalGroup.TheVariants.{Be
 use Rattle.csl_style.specs.Locale.{OrdinalView}
 
 -- the digits of a number that are compared with a slot: the last for the slots 0 to 9 and the last
--- two for 10 to 99, unless the ordinal says which
+-- two for 10 to 99, unless the ordinal sets which
 abbrev pub digits_for : Option OrdinalMatch → ℕ → ℕ → ℕ
 digits_for None slot n = if nat_lt slot 10 then n % 10 else n % 100
 digits_for (Some LastDigit) slot n = n % 10
@@ -28,11 +36,11 @@ slot_between low high n Default matching = false
 slot_between low high n (Two slot) matching = nat_le low slot && (nat_le slot high && (slot == digits_for matching slot n))
 slot_between low high n (Long word) matching = false
 
--- it is for the number, by a slot from low to high
+-- the ordinal is for the number n, by a slot from low to high
 abbrev pub is_between : ℕ → ℕ → ℕ → OrdinalView → Bool
 is_between low high n o = slot_between low high n o.slot o.matching
 
--- its slot is that one
+-- the ordinal has this slot
 abbrev pub is_in : OrdinalSlot → OrdinalView → Bool
 is_in slot o = eq-value.it o.slot slot
 

@@ -1,4 +1,5 @@
--- One formatting over another, and both over a third (CSL 1.0.2, Formatting).
+-- Two formattings over a third are the first over what the second is over the third (CSL 1.0.2,
+-- Formatting). The same holds for each attribute over a base in which all attributes are set.
 use Rattle.std.specs.Prelude.{◌≡◌, unwrap_or}
 use Rattle.csl_style.specs.declared.formatting.Formatting.{Formatting}
 use Rattle.csl_style.specs.declared.formatting.FontStyle.{FontStyle}

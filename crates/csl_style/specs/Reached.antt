@@ -1,6 +1,8 @@
--- What a style's layouts reach: each macro in the place of its name (CSL 1.0.2, Macro), and the
--- text of the year suffix in them
--- (Disambiguation: the suffix stands where such a text does, and else behind the first year).
+-- A layout *reaches* a text of the year suffix if one is in it, once each macro is in the place of
+-- its name (CSL 1.0.2, Macro; Disambiguation). It may be in any group, in any branch of a choice,
+-- also one that is never chosen, and in any substitute, also one that is never taken. A scope whose
+-- layout reaches none, and a scope without a layout, render the suffix implicitly, after the first
+-- year.
 use Rattle.std.specs.Prelude.{ℕ, Bool, true, false, not, ◌||◌, List, Option, Some, None, option_map}
 use Rattle.csl_style.specs.declared.taxonomy.Variable.{Variable}
 use Rattle.csl_style.specs.declared.taxonomy.Variable.TheVariants as variable
@@ -28,7 +30,7 @@ prints_year_suffix (of_variable v form) = is_year_suffix v
 prints_year_suffix (of_term t form plural) = false
 prints_year_suffix (of_value bs) = false
 
--- A text of the year suffix stands in it: also in a branch that is never chosen, and in a
+-- Whether a text of the year suffix is in it, also in a branch that is never chosen and in a
 -- substitute that is never taken.
 abbrev mutual
   pub has_year_suffix : Full → Bool
@@ -56,14 +58,14 @@ abbrev mutual
   instead_has_year_suffix no_insteads = false
   instead_has_year_suffix (instead fs is) = any_has_year_suffix fs || instead_has_year_suffix is
 
--- in a child of names as it is written: a substitute
+-- a text of the year suffix is in a child of names as written, which is a substitute
 abbrev pub child_has_year_suffix : (List ℕ → Option Fulls) → Child → Bool
 child_has_year_suffix env (a_name n) = false
 child_has_year_suffix env (an_et_al e) = false
 child_has_year_suffix env (a_label l) = false
 child_has_year_suffix env (a_substitute ns) = any_has_year_suffix (fills env ns)
 
--- no text of it stands in the layout, or there is no layout
+-- no text of the year suffix is in the layout, or there is no layout
 abbrev pub is_year_suffix_implicit : Option FullLayout → Bool
 is_year_suffix_implicit None = true
 is_year_suffix_implicit (Some l) = not (any_has_year_suffix l.elements)

@@ -1,5 +1,5 @@
--- Which places of a graph lead to which: the macros of a style, and those that each calls (CSL
--- 1.0.2, Macros).
+-- Which places of a graph lead to which, by one edge or more. The places are the macros of a style,
+-- and the edges are their calls (CSL 1.0.2, Macro).
 use Rattle.std.specs.Prelude.{◌≡◌, ℕ, zero, suc, ◌<◌, List, [], ◌∷◌, length, slice_index, slice_index_or, Vec, Bool, true, false, All, Contains}
 use Rattle.std.specs.declared.alloc.Global.{Global}
 
@@ -20,7 +20,7 @@ row_at (row ∷ rows) (suc a) = row_at rows a
 abbrev pub HasEdge : Graph → ℕ → ℕ → Type 0
 HasEdge g a b = Contains (row_at g a) b
 
--- by one edge or more
+-- one place leads to another, by one edge or more
 pub data Reaches (g : Graph) : ℕ → ℕ → Type 0 where
   along_edge : {a b : ℕ} → HasEdge g a b → Reaches g a b
   along_edges : {a b c : ℕ} → HasEdge g a b → Reaches g b c → Reaches g a c
@@ -46,6 +46,6 @@ pub record ArePlaceRanks (g : Graph) (ranks : List ℕ) : Type 0 where
   pub small : (a : ℕ) → a < length g → slice_index ranks a < length g
   pub fall : (a b : ℕ) → HasEdge g a b → slice_index ranks b < slice_index ranks a
 
--- so no place leads back to itself
+-- a graph with ranks, in which no place leads back to itself
 abbrev pub HasRanks : Graph → Type 0
 HasRanks g = (ranks : List ℕ) × ArePlaceRanks g ranks

@@ -1,5 +1,7 @@
--- What a style sets for a scope (CSL 1.0.2, Inheritable Name Options) and by its first locale
--- (Locale: style-options).
+-- The settings of a scope. A names node inherits the scope's own options over those of the whole
+-- style (CSL 1.0.2, Inheritable Name Options). The first locale decides whether punctuation goes
+-- into quotes and whether only the first day of a month is an ordinal (Locale, style-options).
+-- Without a locale both are false.
 use Rattle.std.specs.Prelude.{Bool, false, List, [], ◌∷◌}
 use Rattle.csl_style.specs.declared.locale.Locale.{Locale}
 use Rattle.csl_style.specs.declared.names.options.InheritableNameOptions.{InheritableNameOptions}
@@ -8,7 +10,7 @@ use Rattle.csl_style.specs.declared.style.settings.Scope.TheVariants.{Citation, 
 use Rattle.csl_style.specs.declared.style.settings.StyleSettings.{StyleSettings}
 use Rattle.csl_style.specs.NameOptions.{SetOptions, own_options, options_over}
 
--- those of the citation, or of the bibliography
+-- the options of names that the style sets for the citation, or for the bibliography
 abbrev pub scope_names : Scope → StyleSettings → InheritableNameOptions
 scope_names Citation s = s.citation_names
 scope_names Bibliography s = s.bibliography_names
@@ -18,14 +20,14 @@ scope_names Bibliography s = s.bibliography_names
 abbrev pub base_options : Scope → StyleSettings → SetOptions
 base_options scope s = options_over (own_options (scope_names scope s)) (own_options s.names)
 
--- a comma or period behind a closing quote goes before it, by the first locale; not where there is
--- no locale
+-- whether a comma or period after a closing quote goes before it, by the first locale; false
+-- without a locale
 abbrev pub is_punctuation_in_quote : List Locale → Bool
 is_punctuation_in_quote [] = false
 is_punctuation_in_quote (l ∷ ls) = l.punctuation_in_quote
 
--- only the first day of a month is written as an ordinal, by the first locale; each is where there
--- is no locale
+-- whether only the first day of a month is written as an ordinal, by the first locale; false
+-- without a locale
 abbrev pub are_day_ordinals_limited : List Locale → Bool
 are_day_ordinals_limited [] = false
 are_day_ordinals_limited (l ∷ ls) = l.limit_day_ordinals_to_day_1

@@ -1,4 +1,7 @@
--- A style (CSL 1.0.2, Style Structure), and why one is refused.
+-- A style (CSL 1.0.2, Style Structure) has settings, macros, a layout for citations, perhaps one
+-- for the bibliography, and locales. It is refused for the first macro of its list that leads back
+-- to itself. If there is none, it is refused for a Chicago page format (`IsRefusal`). A `Memory`
+-- error may come before either is found.
 use Rattle.std.specs.Prelude.{◌≡◌, ℕ, ◌++◌, Bool, true, false, List, Option, Some, None, ⊤, string_bytes, codes}
 use Rattle.csl_style.specs.declared.element.CslMacro.{CslMacro}
 use Rattle.csl_style.specs.declared.element.Layout.{Layout}

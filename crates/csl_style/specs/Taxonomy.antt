@@ -1,5 +1,6 @@
--- The names of the kinds of entries, and the variables (CSL 1.0.2, Appendix III: Types; Appendix
--- IV: Variables).
+-- A variable is a standard, number, page, date or name variable (CSL 1.0.2, Appendix IV). A
+-- `cs:number` may have a number variable or a page variable. Each kind of entry has one name, such
+-- as `article-journal` (Appendix III, Types); a text is the name of one kind or of none.
 use Rattle.std.specs.Prelude.{ℕ, List, codes}
 use Rattle.csl_style.specs.declared.taxonomy.Kind.{Kind}
 use Rattle.csl_style.specs.declared.taxonomy.Kind.TheVariants as kinds

@@ -1,4 +1,10 @@
--- The term that a style's locales have (CSL 1.0.2, Terms and Locale).
+-- A term is looked up in the locales of a style (CSL 1.0.2, Terms; Locale), form by form: long
+-- alone; short, then long; verb, then long; short verb, then verb, then long; symbol, then short,
+-- then long. Each form is looked up in the locales in order, and in a locale in the order of its
+-- terms. The first match counts.
+-- Its text for several is its own plural text if it has one, else its text for one. The gender of
+-- what a term names is that of the first long entry of the term, over the locales in order, that
+-- has a gender.
 use Rattle.std.specs.Prelude.{ℕ, Bool, ◌&&◌, List, [], ◌∷◌, Option, None, option_map, unwrap_or, find, if◌then◌else◌}
 use denote.Enum.Bare.{sameb}
 use Rattle.csl_common.specs.declared.ordinal.GrammarGender.{GrammarGender}
@@ -22,7 +28,7 @@ forms_for Verb = Verb ∷ Long ∷ []
 forms_for VerbShort = VerbShort ∷ Verb ∷ Long ∷ []
 forms_for Symbol = Symbol ∷ Short ∷ Long ∷ []
 
--- it is the term in that form
+-- the entry is of this term in this form
 abbrev pub is_term : Term → TermForm → TermView → Bool
 is_term term form t = same_term t.term term && sameb the_type t.form form
 
@@ -34,7 +40,7 @@ in_form locales term form = first_some (find (is_term term form)) locales
 abbrev pub found_term : List (List TermView) → Term → TermForm → Option TermView
 found_term locales term form = first_some (in_form locales term) (forms_for form)
 
--- its text for one, or for several where it has another
+-- the text of an entry for one, or for several where it has another
 abbrev pub entry_text : Bool → TermView → List ℕ
 entry_text plural t = if plural then unwrap_or t.multiple t.single else t.single
 

@@ -1,4 +1,5 @@
--- The node that each value of a style stands for. Nothing else matches on the declared values.
+-- The node of each value of a style, as plain data: texts as bytes, lists as lists. Of several
+-- et-al children or labels of a names node the first counts.
 use Rattle.std.specs.Prelude.{ℕ, Bool, true, false, List, [], ◌∷◌, map, Option, Some, None, option_map, Vec, string_bytes}
 use Rattle.std.specs.declared.alloc.Global.{Global}
 use Rattle.csl_style.specs.Dressing.{affix_texts, dressing_of, TextDressing, text_if}
@@ -95,8 +96,8 @@ first_et_al (an_et_al e ∷ cs) = Some e
 first_et_al (a_label l ∷ cs) = first_et_al cs
 first_et_al (a_substitute ns ∷ cs) = first_et_al cs
 
--- The first label stands behind the names where a name child comes before it: `behind` says that
--- one came already.
+-- The first label is after the names if a name child comes before it; `behind` is whether one came
+-- already.
 abbrev pub first_label : Bool → List Child → Option NamesLabel
 first_label behind [] = None
 first_label behind (a_name n ∷ cs) = first_label true cs
@@ -195,7 +196,7 @@ views es = nodes_of (map view es)
 abbrev pub view_layout : Layout → LayoutNode
 view_layout l = record { delimiter = text_if l.delimiter; formatting = l.formatting; elements = views l.elements.items }
 
--- a rendering element: a whole layout, or what stands in one
+-- a rendering element: a whole layout, or a node of one
 pub data ElementView : Type 0 where
   whole : LayoutNode → ElementView
   part : Node → ElementView
