@@ -1,3 +1,5 @@
+-- The definitions that the contracts of `csl_context` cite: what a rendering reads, and what it
+-- writes.
 pub mod State
 pub mod World
 pub mod Texts

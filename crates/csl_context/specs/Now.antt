@@ -1,4 +1,18 @@
--- What a context holds, and what each call makes of it.
+-- A context is what rendering reads and writes. Its record has what never changes (style, scope,
+-- entry, citation state, sorting, special form), the open parts, the inherited values, the state,
+-- and whether it has failed. Each call is one equation on the whole record, so what it does not
+-- name stays.
+-- - An element, the middle of affixes and the inside of quotes are *open parts*, and the root is
+--   always open. Text goes into the innermost. A part is closed by its mark, which is the innermost
+--   one (`IsInnermost`). It becomes an element (nothing if it is empty), or joins the part around
+--   it as it is, between affixes or in quotes, or is dropped. Opening and closing leave everything
+--   else as it was (`with_part`, `closed_by`). No contract mentions how a part is stored.
+-- - `ensure_space` writes a space unless the leaf text of the innermost part is empty or ends in
+--   white space (`with_space`).
+-- - On `Ok` the context had not failed and is as its clause states (`Leaves`). `Memory`: it had not
+--   failed and has now. `Failed`: it had failed, and nothing changes (`FailsAs`). A shared look
+--   that returns `Memory` leaves the context as it was. Pops and `discard_elem` return nothing, and
+--   do not change a failed context.
 use Rattle.std.specs.Prelude.{◌≡◌, ℕ, ◌+◌, Bool, true, false, not, List, [], ◌∷◌, length, Option, Some, None}
 use Rattle.std.specs.Bool.{OnFalse}
 use Rattle.std.specs.Option.{option_or}
@@ -27,8 +41,8 @@ use Rattle.csl_context.specs.declared.error.RenderError.{RenderError}
 use Rattle.csl_context.specs.declared.error.RenderError.TheVariants.{Memory, Failed}
 
 -- What never changes; the innermost open part and those around it, from the inside out; what is
--- inherited, with what lies under
--- each inherited value, from the inside out; the state; whether the context has failed.
+-- inherited, with what lies under each inherited value, from the inside out; the state; whether the
+-- context has failed.
 pub record Now (T : Type 0) : Type 0 where
   pub style : StyleParts
   pub scope : Scope
@@ -70,7 +84,7 @@ base_inherited style scope = record {
   stripping = false;
 }
 
--- nothing is written yet
+-- the context at the beginning of a rendering, with nothing written
 abbrev pub begun : {T : Type 0} → StyleParts → Scope → T → CiteState → Option Sorting → Option SpecialForm → State → Now T
 begun style scope entry cite sorting special state = record {
   style = style;
@@ -91,13 +105,13 @@ begun style scope entry cite sorting special state = record {
 
 -- ---- how a call ends
 
--- A call failed: for want of memory, which fails the context, or since the context had failed,
--- which changes nothing.
+-- A call failed: out of memory, which fails the context, or because the context had failed, which
+-- changes nothing.
 abbrev pub FailsAs : {T : Type 0} → RenderError → Now T → Now T → Type 0
 FailsAs Memory old new = (old.failed ≡ false) × (new.failed ≡ true)
 FailsAs Failed old new = (old.failed ≡ true) × (new ≡ old)
 
--- A call on a context that had not failed left it as said.
+-- A call on a context that had not failed left it as wanted.
 pub record Leaves {T : Type 0} (wanted : Now T → Now T) (old new : Now T) : Type 0 where
   pub sound : old.failed ≡ false
   pub left : new ≡ wanted old
@@ -127,11 +141,12 @@ abbrev pub closed_into : {T : Type 0} → List Token → Now T → List (List To
 closed_into content now [] = now
 closed_into content now (part ∷ parts) = record now { inner = part ++> content; outer = parts }
 
--- the context whose innermost part is closed, and what is made of it stands in the part around it
+-- the context after the innermost part is closed, and what is made of it appended to the part
+-- around it
 abbrev pub closed_by : {T : Type 0} → (Inherited → List Token → List Token) → Now T → Now T
 closed_by f now = closed_into (f now.inherited now.inner) now now.outer
 
--- what is left of a part that is dropped: nothing
+-- a dropped part leaves nothing
 abbrev pub dropped : Inherited → List Token → List Token
 dropped inh c = []
 
@@ -139,8 +154,8 @@ dropped inh c = []
 abbrev pub turned : {T : Type 0} → Now T → Now T
 turned now = record now { inherited = record now.inherited { in_quotes = not now.inherited.in_quotes } }
 
--- the context whose innermost part, the inside of quotes, is closed, and stands in quotes in the
--- part around it
+-- the context after the innermost part, the inside of quotes, is closed and appended in quotes to
+-- the part around it
 unfoldable pub with_quotes : {T : Type 0} → Option (List ℕ) → Now T → Now T
 with_quotes suffix now = closed_into (quoted_in now.style now.inherited suffix now.inner) now now.outer
 

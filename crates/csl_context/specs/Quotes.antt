@@ -1,5 +1,10 @@
--- Quotes around a content, and a comma or period behind them (CSL 1.0.2, Quotes; Locale:
--- punctuation-in-quote).
+-- *Quoted* (CSL 1.0.2, Quotes; Locale, `punctuation-in-quote`): nothing around nothing, else the
+-- opening term, the content, the moved character and the closing term. Inside of an even number of
+-- quotes these are the outer terms, inside of an odd number the inner ones. A term that no locale
+-- has writes nothing.
+-- The moved character is a `,` or `.` that the suffix of the same node begins with, before any
+-- stripping. It moves if the first locale asks for it, and the suffix is then written without it
+-- (`affixed_after`). Around nothing no character moves.
 use Rattle.std.specs.Prelude.{ℕ, Bool, true, false, ◌||◌, ◌&&◌, ◌==◌, List, [], ◌∷◌, Option, Some, None, is_some, option_map, if◌then◌else◌}
 use Rattle.lit_model.specs.Characters.{comma_char, dot_char}
 use Rattle.csl_style.specs.declared.term.OtherTerm.{OtherTerm}
@@ -15,7 +20,7 @@ use Rattle.csl_context.specs.State.{Inherited}
 use Rattle.csl_context.specs.Texts.{text_in_if, affixed_in}
 use Rattle.csl_context.specs.World.{term_in}
 
--- inside of an odd number of quotes stand the inner ones
+-- the opening term: the inner one inside of an odd number of quotes
 abbrev pub opening : Bool → OtherTerm
 opening false = OpenQuote
 opening true = OpenInnerQuote
@@ -35,22 +40,23 @@ abbrev pub front : List ℕ → Option (List ℕ)
 front [] = None
 front (b ∷ bs) = if is_movable b then Some (b ∷ []) else None
 
--- the suffix without it
+-- the suffix without the comma or period that it begins with
 abbrev pub behind_front : List ℕ → List ℕ
 behind_front [] = []
 behind_front (b ∷ bs) = if is_movable b then bs else b ∷ bs
 
--- what goes from the suffix before the closing quote, where the first locale wants it there
+-- the character that moves from the suffix to before the closing quote, if the first locale asks
+-- for it
 abbrev pub moved_front : StyleParts → Option (List ℕ) → Option (List ℕ)
 moved_front style None = None
 moved_front style (Some suffix) = if is_punctuation_in_quote style.locales then front suffix else None
 
--- something did, around this content: nothing is moved into the quotes of nothing
+-- whether a character moves into the quotes around this content; none does where the content is
+-- nothing
 abbrev pub has_moved : StyleParts → Option (List ℕ) → List Token → Bool
 has_moved style suffix c = is_some (moved_front style suffix) && has_children c
 
--- Quoted: the content in quotes, with the front of the suffix that stands behind it, where that is
--- moved
+-- Quoted: the content in quotes, with the front of the suffix after it, where that is moved
 abbrev pub quoted_in : StyleParts → Inherited → Option (List ℕ) → List Token → List Token
 quoted_in style inh suffix c =
     affixed (text_in_if inh (quote style (opening inh.in_quotes)))

@@ -1,6 +1,10 @@
--- What a node leaves for those after it, and what it inherits from those around it (CSL 1.0.2,
--- Formatting, Delimiter, Inheritable
--- Name Options, Quotes, Strip-periods; Names: substitute; Date: the first date of a cite).
+-- *State* is what a node leaves for those after it: the suppressed variables, the suppressing
+-- switch, whether a date was rendered, even to nothing, and the names that were printed first (CSL
+-- 1.0.2, Names, Substitute; Date). Only the first names are kept.
+-- *Inherited* is what a node takes from those around it: the formatting, the delimiter or none, the
+-- options of names that are set, whether an odd number of quotes is around it, and whether texts
+-- lose their periods (Formatting, Delimiter, Inheritable Name Options, Quotes, Strip-periods). Only
+-- the parity of quotes counts, so no depth grows too large.
 use Rattle.std.specs.Prelude.{ℕ, Bool, List, Option, if◌then◌else◌}
 use Rattle.std.specs.BTreeSet.{insert_key}
 use Rattle.std.specs.BTreeMap.{is_at}
@@ -12,9 +16,8 @@ use Rattle.csl_style.specs.NameOptions.{SetOptions}
 use Rattle.csl_tree.specs.declared.formatting.Formatting.{Formatting}
 use Rattle.csl_entry.specs.NameProperties.{NameProperties}
 
--- The variables that answer nothing any more; whether a look for printing adds its own to them;
--- whether a date was rendered, be it to nothing; the
--- names that were printed first.
+-- The suppressed variables; whether a look for printing adds its variable to them; whether a date
+-- was rendered, even to nothing; the names that were printed first.
 pub record State : Type 0 where
   pub suppressed : List Variable
   pub suppressing : Bool
@@ -33,9 +36,8 @@ is_suppressed s v = list_any (is_at (variable_cmp v)) s.suppressed
 abbrev pub looked : Variable → State → State
 looked v s = record s { suppressed = if s.suppressing then insert_key variable_cmp s.suppressed v else s.suppressed }
 
--- The formatting of what is written here; the delimiter between children, if any; the options of
--- names that are set; whether
--- quotes stand around it, an odd number of them; whether its texts lose their periods.
+-- The formatting; the delimiter between children, if any; the options of names that are set;
+-- whether an odd number of quotes is around it; whether its texts lose their periods.
 pub record Inherited : Type 0 where
   pub formatting : Formatting
   pub delimiter : Option (List ℕ)

@@ -1,4 +1,11 @@
--- The content of a text in what it inherits (CSL 1.0.2, Formatting, Strip-periods, Affixes).
+-- A text is one text of the tree in the inherited formatting (CSL 1.0.2, Formatting). If periods
+-- are stripped (Strip-periods), it loses each `.` first. An empty rest writes nothing (`text_in`).
+-- A normal chunk is such a text, a verbatim one keeps its periods, and mathematics becomes markup.
+-- A link and its address stay as they are. The place of a cite that the caller writes is a
+-- transparent.
+-- *Affixed* (Affixes): nothing around nothing, else prefix, content and suffix, the two as texts in
+-- the inherited formatting. A gap (`gap_after`) is a space, unless there is no text yet or the text
+-- ends in white space.
 use Rattle.std.specs.Prelude.{ℕ, Bool, not, ◌&&◌, ◌==◌, List, [], ◌∷◌, Option, Some, None, filter, encode_utf8_all, if◌then◌else◌}
 use Rattle.std.specs.Str.{chars}
 use Rattle.lit_model.specs.Characters.{dot_char, space_char}
@@ -51,7 +58,7 @@ chunk_in_kind inh Math bs = markup_content bs
 abbrev pub chunk_in : Inherited → Chunk → List Token
 chunk_in inh c = chunk_in_kind inh c.kind c.value
 
--- a text in pieces
+-- the content of a list of chunks
 abbrev pub chunks_in : Inherited → List Chunk → List Token
 chunks_in inh [] = []
 chunks_in inh (c ∷ cs) = chunk_in inh c ++> chunks_in inh cs

@@ -1,4 +1,4 @@
--- What a film answers that depends on what is asked.
+-- The answers of a film, the entry of these tests: a title, and the kind of a motion picture.
 use Rattle.std.specs.Prelude.{List, Option, Some, None, Bool, true, false}
 use Rattle.lit_model.specs.Text.{Chunk}
 use Rattle.csl_style.specs.declared.taxonomy.Kind.{Kind}
@@ -6,7 +6,7 @@ use Rattle.csl_style.specs.declared.taxonomy.Kind.TheVariants.{MotionPicture}
 use Rattle.csl_style.specs.declared.taxonomy.StandardVariable.{StandardVariable}
 use Rattle.csl_style.specs.declared.taxonomy.StandardVariable.TheVariants.{Title}
 
--- of the texts it has the title
+-- a standard variable of a film: only the title has an answer
 abbrev pub title_alone : List Chunk → StandardVariable → Option (List Chunk)
 title_alone title Title = Some title
 title_alone title _ = None

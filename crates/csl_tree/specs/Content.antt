@@ -1,4 +1,9 @@
--- Contents: lists of tokens, joined so that texts of one formatting that meet become one text.
+-- A *content* is what a node prints: a list of tokens. Of two contents in a row (`++>`), a last
+-- text and a first text of equal formatting become one text. An empty text has no content, and
+-- neither has a markup or a link with an empty text. An element around no content is no content. So
+-- what these build has no empty leaf and no element without children (`IsContent`).
+-- A content between affixes (CSL 1.0.2, Affixes) is nothing if the content is nothing, else prefix,
+-- content and suffix in a row.
 use Rattle.std.specs.Prelude.{◌≡◌, ℕ, List, [], ◌∷◌, ◌++◌, Option, Some, None, option_map, string_bytes, if◌then◌else◌}
 use Rattle.std.specs.Borrow.{Bor}
 use Rattle.csl_style.specs.declared.formatting.Display.{Display}
@@ -26,7 +31,7 @@ abbrev pub joined : Token → List Token → List Token → List Token
 joined t [] b = last_before t b
 joined t (u ∷ a) b = t ∷ joined u a b
 
--- both contents in a row
+-- two contents in a row, in which texts of equal formatting that meet become one
 infixr 65 ◌++>◌
 abbrev pub ◌++>◌ : List Token → List Token → List Token
 [] ++> b = b
@@ -42,7 +47,7 @@ abbrev pub optional_text : Option (List ℕ) → Formatting → List Token
 optional_text None f = []
 optional_text (Some bs) f = text_content bs f
 
--- the same of a text behind a reference
+-- the content of a borrowed text, if there is one
 abbrev pub lent_text : Option (Bor (List ℕ)) → Formatting → List Token
 lent_text t f = optional_text (option_map (λ s. s.now) t) f
 

@@ -1,5 +1,6 @@
--- Text in HTML: a reference stands for each of the four reserved characters. The four are ASCII, so
--- their bytes are no part of another character.
+-- Text in HTML: `&`, `<`, `>` and `"` are written as `&amp;`, `&lt;`, `&gt;` and `&quot;`, all
+-- other characters as themselves. The four are ASCII, so their bytes are no part of another
+-- character.
 use Rattle.std.specs.Prelude.{◌≡◌, ℕ, Bool, false, not, ◌||◌, ◌==◌, List, [], ◌∷◌, codes, if◌then◌else◌}
 use Rattle.std.specs.List.{flat_map}
 

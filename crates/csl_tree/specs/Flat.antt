@@ -1,4 +1,8 @@
--- Contents that are being written: that of each open part, and what calls make of them.
+-- The contents that are being written: that of the innermost open part (`inner`), and those of the
+-- parts around it from the inside out (`outer`), of which the last is the root. So there is always
+-- at least one. Opening a part adds an empty content. Closing it removes its content, and appends
+-- to the content around it what was made of it: an element, the content between two texts, or
+-- nothing.
 use Rattle.std.specs.Prelude.{Option, None, Some, List, [], ◌∷◌, string_bytes}
 use Rattle.csl_tree.specs.Tokens.{Token}
 use Rattle.csl_tree.specs.Content.{◌++>◌, text_content}
@@ -9,19 +13,19 @@ pub record Parts : Type 0 where
   pub inner : List Token
   pub outer : List (List Token)
 
--- the root is open, and nothing stands in it
+-- only the root is open, and it has no content
 abbrev pub no_parts : Parts
 no_parts = record { inner = []; outer = [] }
 
--- the innermost content with another behind it
+-- the contents with another one appended to the innermost
 abbrev pub with_tokens : List Token → Parts → Parts
 with_tokens c p = record { inner = p.inner ++> c; outer = p.outer }
 
--- a part is opened
+-- the contents after a part is opened
 abbrev pub with_open : Parts → Parts
 with_open p = record { inner = []; outer = p.inner ∷ p.outer }
 
--- the innermost part is closed, and a content made of it stands in the part around it
+-- the innermost part is closed, and a content made of it is appended to the part around it
 abbrev pub closed_onto : List Token → Parts → List (List Token) → Parts
 closed_onto c p [] = p
 closed_onto c p (part ∷ parts) = record { inner = part ++> c; outer = parts }

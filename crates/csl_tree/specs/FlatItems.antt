@@ -1,4 +1,6 @@
--- Children in a row, with a mark where each open part begins, and the contents that they stand for.
+-- A row of items, children and marks, and its contents (`parts`), item by item: a child joins the
+-- innermost content, and a mark opens a part. So the contents do not depend on how a text is split
+-- over items.
 use Rattle.std.specs.Prelude.{◌≡◌, ℕ, ◌+◌, ◌-◌, ◌<◌, ◌≤◌, List, [], ◌∷◌, ◌++◌, length, take, drop, get_or}
 use Rattle.csl_tree.specs.Tokens.{Token, child_tokens}
 use Rattle.csl_tree.specs.Content.{◌++>◌}
@@ -6,7 +8,7 @@ use Rattle.csl_tree.specs.Flat.{Parts, no_parts, with_tokens, with_open}
 use Rattle.csl_tree.specs.declared.flat_items.Item.{Item}
 use Rattle.csl_tree.specs.declared.flat_items.Item.TheVariants.{Child, Mark}
 
--- one item more
+-- the contents after one more item
 abbrev pub step : Parts → Item → Parts
 step p (Child k) = with_tokens (child_tokens k) p
 step p Mark = with_open p
@@ -18,7 +20,7 @@ parts_from p (x ∷ xs) = parts_from (step p x) xs
 abbrev pub parts : List Item → Parts
 parts xs = parts_from no_parts xs
 
--- the same, where texts that meet stay apart
+-- the innermost content after one more item, where texts that meet stay apart
 abbrev pub plain_step : List Token → Item → List Token
 plain_step c (Child k) = c ++ child_tokens k
 plain_step c Mark = []
@@ -30,7 +32,7 @@ plain_from c (x ∷ xs) = plain_from (plain_step c x) xs
 abbrev pub plain_inner : List Item → List Token
 plain_inner xs = plain_from [] xs
 
--- how many children stand behind the last mark
+-- the number of children after the last mark, after one more item
 abbrev pub run_step : ℕ → Item → ℕ
 run_step n (Child k) = n + 1
 run_step n Mark = 0
@@ -42,13 +44,13 @@ run_from n (x ∷ xs) = run_from (run_step n x) xs
 abbrev pub run : List Item → ℕ
 run xs = run_from 0 xs
 
--- children alone
+-- each item is a child
 abbrev pub IsRun : List Item → Type 0
 IsRun [] = Unit {0}
 IsRun (Child k ∷ xs) = IsRun xs
 IsRun (Mark ∷ xs) = ⊥
 
--- the last so many items are those of the innermost part
+-- the last n items are those of the innermost part
 abbrev pub IsLastPart : List Item → ℕ → Type 0
 IsLastPart xs n = (n ≤ length xs) × IsRun (drop (length xs - n) xs) × (n < length xs → get_or xs (length xs - n - 1) Mark ≡ Mark)
 
@@ -56,7 +58,7 @@ IsLastPart xs n = (n ≤ length xs) × IsRun (drop (length xs - n) xs) × (n < l
 abbrev pub IsJoined : List Item → Type 0
 IsJoined xs = plain_inner xs ≡ (parts xs).inner
 
--- nothing stands in the innermost part
+-- the innermost part has no content
 abbrev pub IsFresh : List Item → Type 0
 IsFresh xs = (plain_inner xs ≡ []) × ((parts xs).inner ≡ [])
 
@@ -71,7 +73,7 @@ abbrev pub Joins : Item → Item → Item → Type 0
 Joins x Mark z = ⊥
 Joins x (Child b) z = JoinsAs x (child_tokens b) z
 
--- both stand for the same
+-- both items are marks, or children with the same tokens
 abbrev pub IsSame : Item → Item → Type 0
 IsSame Mark Mark = Unit {0}
 IsSame Mark (Child b) = ⊥

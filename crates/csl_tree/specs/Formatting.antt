@@ -1,4 +1,7 @@
--- Formatting (CSL 1.0.2, Formatting): a node's over that of its place, and when two are equal.
+-- In a tree each of the five attributes of a formatting has a value (CSL 1.0.2, Formatting). The
+-- default is the first value of each: normal, normal, normal, none, none. A node's formatting over
+-- that of its place takes each attribute that the node sets, and the other's for the rest. Two
+-- formattings are equal if all five attributes are.
 use Rattle.std.specs.Prelude.{ℕ, Bool, ◌&&◌, ◌==◌, unwrap_or}
 use Rattle.csl_style.specs.declared.formatting.FontStyle.{FontStyle}
 use Rattle.csl_style.specs.declared.formatting.FontStyle.TheVariants as style
@@ -23,7 +26,7 @@ over p f = record {
   vertical_align = unwrap_or p.vertical_align f.vertical_align;
 }
 
--- the formatting of a text of which nothing is said
+-- the formatting of a text without a set attribute
 abbrev pub default_formatting : Formatting
 default_formatting = record {
   font_style = style.Normal;

@@ -1,4 +1,13 @@
--- HTML of a tree: a list of start tags, end tags and texts, and its bytes.
+-- HTML is the bytes of a list of start tags, end tags and texts, in which texts and addresses are
+-- escaped. An element with a display is a `div` around its children. A text whose formatting is not
+-- the default is in a `span`. A link is an anchor around its text. A span declares font-style,
+-- font-weight, text-decoration, font-variant and vertical-align in this order, with nothing between
+-- them. Normal values and the alignments none and baseline declare nothing.
+-- A list is *nested* if it is empty, or a text and a nested list, or a start tag, a nested list,
+-- its end tag and a nested list. A text is HTML (`IsHtmlOf`) if it is the bytes of a nested list.
+-- Its text is the texts of that list, joined. So a span may have any declarations, in their order
+-- and one for each attribute at most, or none. No other tag, attribute or reference is HTML. HTML
+-- has exactly one such text, and a tree is written as HTML of its leaf text.
 use Rattle.std.specs.Prelude.{◌≡◌, ℕ, List, [], ◌∷◌, ◌++◌, Some, None, codes, if◌then◌else◌}
 use Rattle.std.specs.List.{flat_map}
 use Rattle.csl_style.specs.declared.formatting.Display.{Display}
@@ -45,7 +54,7 @@ html_of (solid (closed (Some d))) = end_tag (div d) ∷ []
 abbrev pub html : List Token → List HtmlToken
 html ts = flat_map html_of ts
 
--- each start tag has its end tag behind it, with a nested list between them
+-- each start tag has its end tag after it, with a nested list between them
 pub data IsNested : List HtmlToken → Type 0 where
   nothing : IsNested []
   text_then : (bs : List ℕ) (rest : List HtmlToken) → IsNested rest → IsNested (characters bs ∷ rest)

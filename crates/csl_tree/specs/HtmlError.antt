@@ -1,4 +1,4 @@
--- The texts of the errors of the reader of HTML.
+-- The text that `Display` writes for each error of reading HTML.
 use Rattle.std.specs.Prelude.{ℕ, List, codes}
 use Rattle.csl_tree.specs.declared.html_error.HtmlError.{HtmlError}
 use Rattle.csl_tree.specs.declared.html_error.HtmlError.TheVariants.{Memory, NotHtml}

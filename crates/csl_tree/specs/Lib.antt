@@ -1,3 +1,5 @@
+-- The definitions that the contracts of `csl_tree` cite: output trees as tokens and as nodes,
+-- contents, HTML, and places in a tree.
 pub mod Formatting
 pub mod Tokens
 pub mod Escapes

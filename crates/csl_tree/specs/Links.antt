@@ -1,4 +1,4 @@
--- Links, of which some addresses are allowed.
+-- In a tree in which only some addresses are allowed, each other link becomes its text.
 use Rattle.std.specs.Prelude.{◌≡◌, ℕ, Bool, List, [], ◌∷◌, map, if◌then◌else◌}
 use Rattle.std.specs.List.{flat_map}
 use Rattle.std.specs.Borrow.{Bor}
@@ -45,6 +45,6 @@ link_address (solid (closed d)) = []
 abbrev pub addresses : List Token → List (List ℕ)
 addresses ts = flat_map link_address ts
 
--- each call answers by the address alone
+-- each call of a closure returns what the test gives for the address
 abbrev pub AllowsBy : {F : Type 0} → (F → Bor (List ℕ) → Bool → F → Type 0) → (List ℕ → Bool) → Type 0
 AllowsBy {F} step allowed = (f after : F) (url : Bor (List ℕ)) (r : Bool) → step f url r after → r ≡ allowed url.now

@@ -1,5 +1,6 @@
--- What HTML begins with. HTML is a list of pieces, each of which its first bytes tell: start tags, end
--- tags, and the bytes of texts.
+-- HTML is read as *pieces*: start tags, end tags and the escaped bytes of texts. Its first bytes
+-- decide the first piece, so it is one list of pieces at most. A mark is what the reader takes at
+-- once: a start tag, an end tag or a text.
 use Rattle.std.specs.Prelude.{◌≡◌, ℕ, ◌<◌, ◌==◌, List, [], ◌∷◌, ◌++◌, length, Option, Some, None, option_map, option_and_then, unwrap_or, codes, if◌then◌else◌}
 use denote.Ref.{Bor}
 use Rattle.csl_tree.specs.Escapes.{escape, escaped, is_plain, ampersand, less_than, greater_than, quotation_mark}

@@ -1,4 +1,6 @@
--- The place of the first element that a `cs:names` made, lent to be written.
+-- The place of the first element, in preorder, that a `cs:names` made, and that element as a
+-- mutable reference. When the reference ends, the tree has the last value that was written there,
+-- and is otherwise as it was.
 use Rattle.std.specs.Prelude.{ℕ, ◌+◌, Bool, true, false, List, [], ◌∷◌, Option, Some, None, ◌||◌, if◌then◌else◌}
 use Rattle.std.specs.Borrow.{Fml, MutBor, Lends, LendsIf}
 use Rattle.std.specs.declared.vec.Vec.{Vec}
@@ -60,7 +62,7 @@ names_find = fold-ElemChildren Found Found (Option (List ℕ)) find_child find_e
 abbrev pub find_of_child : ElemChild → Found
 find_of_child = fold-ElemChild Found Found (Option (List ℕ)) find_child find_elem find_children
 
--- where the child at an index has it
+-- where the child at an index has the first element of names
 abbrev pub find_at : ElemChildren → ℕ → Found
 find_at c i = find_of_child (child_at c i)
 

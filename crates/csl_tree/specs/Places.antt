@@ -1,5 +1,6 @@
--- Places in a tree that are lent to be written: the children at the end of a path, and the tree
--- with others there.
+-- A place in a tree is a path of indices. When a mutable reference to a place ends, the tree has
+-- the last value that was written there, and is otherwise as it was. The tree ends at the path that
+-- goes down the last child as long as that is an element.
 use Rattle.std.specs.Prelude.{ℕ, ◌-◌, Bool, List, [], ◌∷◌, Option, Some, None, length, is_some, unwrap_or, slice_index_or}
 use Rattle.std.specs.Vec.{with_item}
 use Rattle.std.specs.Borrow.{Fml, MutBor, Lends, LendsIf}
@@ -55,7 +56,7 @@ layer_text (Transparent n f) = None
 abbrev pub text_of_child : ElemChild → Option Formatted
 text_of_child k = layer_text (out-ElemChild k)
 
--- what is read beyond the last child
+-- the child that is read beyond the last one
 abbrev pub no_child : ElemChild
 no_child = variants.Transparent 0 default_formatting
 
@@ -66,7 +67,7 @@ child_at c i = slice_index_or c.0.items i no_child
 abbrev pub put_child : ElemChildren → ℕ → ElemChild → ElemChildren
 put_child c i k = record { 0 = with_item c.0 i k }
 
--- one level down
+-- the children of the child at an index
 abbrev pub down : ElemChildren → ℕ → ElemChildren
 down c i = unwrap_or (children_of (child_at c i)) c
 
@@ -114,7 +115,7 @@ last_path = fold-ElemChildren (Option (List ℕ)) (List ℕ) (List ℕ) child_pa
 abbrev pub last_path_of_child : ElemChild → Option (List ℕ)
 last_path_of_child = fold-ElemChild (Option (List ℕ)) (List ℕ) (List ℕ) child_path elem_path children_path
 
--- the items there, and the tree with others there
+-- the items where the tree ends, and the tree with others there
 abbrev pub last_items : ElemChildren → Vec ElemChild Global
 last_items c = (get_at (last_path c) c).0
 
@@ -128,7 +129,7 @@ put_final c k = put_at (last_path c) c (put_child (get_at (last_path c) c) (last
 abbrev pub put_last_text : ElemChildren → Formatted → ElemChildren
 put_last_text c t = put_final c (variants.Text t)
 
--- what is lent
+-- the type of a list of children, for a mutable reference to one
 abbrev pub items_row : RattleType
 items_row = vec.the_row child.the_row global.the_row ghosts
 

@@ -1,4 +1,5 @@
--- Reading HTML piece by piece: the texts so far, and the elements that have not ended.
+-- Reading HTML, piece by piece: the text so far, and the elements that have not ended. An end tag
+-- names a `div`, a `span` or an anchor, and has to end the innermost element that has not ended.
 use Rattle.std.specs.Prelude.{◌≡◌, ℕ, ◌==◌, List, [], ◌∷◌, ◌++◌, Option, Some, None, option_and_then, if◌then◌else◌}
 use Rattle.std.specs.List.{flat_map}
 use Rattle.csl_tree.specs.declared.marks.Element.{Element}
@@ -34,12 +35,12 @@ within_after within (start_piece tag) = Some (element_of tag ∷ within)
 within_after within (end_piece e) = within_after_end within e
 within_after within (byte_piece b) = Some within
 
--- the elements around what follows several
+-- the elements around what follows several pieces
 abbrev pub within_after_all : List Element → List Piece → Option (List Element)
 within_after_all within [] = Some within
 within_after_all within (p ∷ ps) = option_and_then (λ more. within_after_all more ps) (within_after within p)
 
--- the same of a mark
+-- the elements around what follows a mark
 abbrev pub within_after_mark : List Element → Mark → Option (List Element)
 within_after_mark within (marks.Text text) = Some within
 within_after_mark within (marks.Start e) = Some (e ∷ within)
@@ -50,7 +51,7 @@ mark_text (marks.Text text) = text.now
 mark_text (marks.Start e) = []
 mark_text (marks.End e) = []
 
--- the pieces before the rest have these texts, and the rest stands within these elements
+-- the pieces before the rest have these texts, and the rest is within these elements
 pub record IsReadTo (html rest : List ℕ) (within : List Element) (leaves : List ℕ) : Type 0 where
   pub pieces : List Piece
   pub bytes : html ≡ pieces_bytes pieces ++ rest

@@ -1,4 +1,8 @@
--- Searches in a tree: an element, then what stands inside it, then its right neighbours.
+-- Searches in a tree. *Preorder* is an element, then the elements inside it, then those to its
+-- right. A search returns the first element in preorder that passes its test. The *last text* is
+-- the last child if that is a text, the last text inside it if it is an element, else none.
+-- `remove_any_meta` takes out tokens that open with the first element that has a meta. The tokens
+-- before and after them stay, and meet (`TakenOut`).
 use Rattle.std.specs.Prelude.{◌≡◌, ◌⊎◌, Bool, true, false, List, [], ◌∷◌, ◌++◌, Option, Some, None, is_some, flat_map}
 use Rattle.std.specs.Borrow.{Bor}
 use Rattle.std.specs.List.{list_any}
@@ -36,16 +40,16 @@ children_walk c = flat_map (λ k. k.1) c.0.items
 abbrev pub preorder : ElemChildren → List elem.Elem
 preorder = para-ElemChildren Walk Walk Walk child_walk elem_walk children_walk
 
--- those of one child
+-- the elements of one child in preorder
 abbrev pub child_preorder : ElemChild → List elem.Elem
 child_preorder = para-ElemChild Walk Walk Walk child_walk elem_walk children_walk
 
--- the first of which something holds
+-- the value is the first item of the list for which P holds, or None
 abbrev pub IsFirst : {A : Type 0} → (A → Type 0) → List A → Option A → Type 0
 IsFirst P [] o = o ≡ None
 IsFirst P (x ∷ xs) o = (P x × (o ≡ Some x)) ⊎ ((P x → ⊥) × IsFirst P xs o)
 
--- what is asked answers the test p of the element
+-- a closure returns what the test p gives for the element
 abbrev pub AnswersBy : (Bor elem.Elem → Bool → Type 0) → (elem.Elem → Bool) → Type 0
 AnswersBy post p = (e : Bor elem.Elem) (r : Bool) → post e r → r ≡ p e.now
 
@@ -88,7 +92,7 @@ of_names (Some meta.CitationLabel) = false
 abbrev pub is_names : elem.Elem → Bool
 is_names e = of_names (elem.out-Elem e).meta
 
--- something is noted of what made the element
+-- the element has a meta
 abbrev pub has_meta : elem.Elem → Bool
 has_meta e = is_some (elem.out-Elem e).meta
 
@@ -125,11 +129,11 @@ layer_has_meta (Markup s) = false
 layer_has_meta (Link t url) = false
 layer_has_meta (Transparent n f) = false
 
--- the child is an element of which something is noted
+-- the child is an element with a meta
 abbrev pub child_has_meta : ElemChild → Bool
 child_has_meta k = layer_has_meta (out-ElemChild k)
 
--- an element opens here of which something is noted
+-- an element with a meta opens here
 abbrev pub opens_meta : Token → Bool
 opens_meta (text bs f) = false
 opens_meta (solid (markup bs)) = false
@@ -138,12 +142,12 @@ opens_meta (solid (transparent n f)) = false
 opens_meta (solid (opened d m)) = is_some m
 opens_meta (solid (closed d)) = false
 
--- nothing is noted of any element
+-- no element has a meta
 abbrev pub NothingNoted : List Token → Type 0
 NothingNoted ts = list_any opens_meta ts ≡ false
 
--- Some tokens are taken out of others: what stood before them and after them meets.
--- They open with the first element of which something is noted.
+-- Some tokens are taken out of others, and the tokens before and after them meet. No element before
+-- them has a meta.
 pub record TakenOut (old taken new : List Token) : Type 0 where
   pub before : List Token
   pub after : List Token

@@ -1,5 +1,6 @@
--- What a stack ends as, once a `&mut` into it has ended, and the last item that a predicate
--- accepts.
+-- A stack is a list of at least one item, and contracts see the list. When a mutable reference to
+-- an item ends, the list has the last value that was written there, and is otherwise as it was. The
+-- last item that a predicate accepts is one that it accepts while it rejects each later one.
 use Rattle.std.specs.Prelude.{Bool, true, false, ◌+◌, ◌≤◌, ◌≡◌, ℕ, ◌<◌, List, length, Option, slice_index_or, slice_set, IfSome}
 use Rattle.std.specs.Borrow.{Bor, Fml, RattleType, MutBor, Lends, LendsSo}
 use Rattle.std.specs.Fn.{Shared, FnReturnsAt}

@@ -1,6 +1,15 @@
--- An output tree as a list of tokens: each text, and around each element where it opens and where
--- it closes.
--- It forgets how the texts are stored, and nothing else.
+-- An output tree as a list of tokens: one for each text, markup, link and transparent, and for each
+-- element one where it opens, with its display and meta, and one where it closes. The list forgets
+-- how texts are stored, and nothing else.
+-- - The *leaf text* is the text of the texts, markups and links, in order. A transparent has none.
+--   The length of a tree is the number of bytes of its leaf text, or `usize::MAX` if there are
+--   more.
+-- - A text, a markup and a link are *empty* if their text is, and an element if each of its
+--   children is. A transparent is never empty.
+-- - A link and a transparent *have content*. A text and a markup have content if one of their
+--   characters is not white space (Unicode White_Space), and an element if one of its children has.
+-- - A tree *has text* if its leaf text is not empty. It *ends in white space* if its leaf text has
+--   a last character and this is white space. It *has children* if it has any, even empty ones.
 use Rattle.std.specs.Prelude.{ℕ, Bool, true, false, not, List, [], ◌∷◌, ◌++◌, Option, Some, None, ◌==◌, string_bytes, length, map, Vec}
 use Rattle.std.specs.List.{flat_map, list_any, list_all, last_or}
 use Rattle.std.specs.Char.{is_whitespace, is_not_whitespace}
@@ -125,13 +134,12 @@ is_white_space (Some c) = is_whitespace c
 abbrev pub ends_in_white_space : List Token → Bool
 ends_in_white_space ts = is_white_space (last_char (leaf_text ts))
 
--- there is anything, be it empty
+-- there is a child, even an empty one
 abbrev pub has_children : List Token → Bool
 has_children [] = false
 has_children (t ∷ ts) = true
 
--- nothing stands in an empty text, markup or link, or in an element of such; a transparent is not
--- empty
+-- an empty text, markup or link is empty, and so is an element of such; a transparent is not empty
 abbrev pub is_empty_token : Token → Bool
 is_empty_token (text bs f) = length bs == 0
 is_empty_token (solid (markup bs)) = length bs == 0

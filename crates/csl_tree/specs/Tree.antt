@@ -1,5 +1,6 @@
--- An output tree as nodes in a row: texts, other leaves, and elements around trees.
--- It forgets how the texts are stored, and nothing else, and has the tokens of the tree.
+-- An output tree as nested nodes: texts with their formatting, leaves (markup, links and
+-- transparents), and elements around nodes (`tree`). Its tokens are those of the nodes, in order.
+-- It forgets how texts are stored, and nothing else. CSL has no section on this.
 use Rattle.std.specs.Prelude.{ℕ, List, [], ◌∷◌, ◌++◌, map, Option, string_bytes}
 use Rattle.csl_style.specs.declared.formatting.Display.{Display}
 use Rattle.csl_tree.specs.declared.formatting.Formatting.{Formatting}
