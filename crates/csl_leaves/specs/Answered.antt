@@ -1,5 +1,9 @@
--- What an answer to a number or page variable prints (CSL 1.0.2, Text: variable; Number; Number
--- Variables).
+-- The answer to a number or page variable, as it prints (CSL 1.0.2, Text, `variable`; Number;
+-- Number Variables). The place of a cite that the caller writes stays as it is.
+-- - By a number node (`shown_by_number`): a number in the node's form and gender, a text as it is,
+--   pages in the format of the style.
+-- - By a text node (`shown_by_text`): a number in decimal, a text as it is, pages in the format of
+--   the style, and a text in place of pages with an en dash for each hyphen.
 use Rattle.std.specs.Prelude.{ℕ, List, Option, None, option_map, string_bytes}
 use Rattle.csl_common.specs.declared.ordinal.GrammarGender.{GrammarGender}
 use Rattle.csl_common.specs.declared.form.NumberForm.{NumberForm}
@@ -35,19 +39,20 @@ abbrev pub shown_in : Inherited → ShownView → List Token
 shown_in inh (words bs) = text_in inh bs
 shown_in inh (place index) = transparent_in inh index
 
--- a number in a form, and what is none as it stands
+-- the answer to a number variable: a number in a form, a text as it is, or the place of the caller
 abbrev pub number_shown : StyleParts → NumberForm → Option GrammarGender → ResultView → ShownView
 number_shown style form gender (regular (typed n)) = words (number_text style form gender n)
 number_shown style form gender (regular (text bs)) = words bs
 number_shown style form gender (transparent index) = place index
 
--- by a number: pages as the style writes them, and what is none as it stands
+-- an answer as a number node prints it: pages as the style writes them, and a text as it is
 abbrev pub shown_by_number : StyleParts → NumberForm → Option GrammarGender → NumberOrPageView → ShownView
 shown_by_number style form gender (number r) = number_shown style form gender r
 shown_by_number style form gender (page (typed parts)) = words (pages_in_style style parts)
 shown_by_number style form gender (page (text bs)) = words bs
 
--- by a text: numbers plainly, and a text in the place of pages with an en dash for each hyphen
+-- an answer as a text node prints it: numbers in decimal, and a text in the place of pages with an
+-- en dash for each hyphen
 abbrev pub shown_by_text : StyleParts → NumberOrPageView → ShownView
 shown_by_text style (number r) = number_shown style Numeric None r
 shown_by_text style (page (typed parts)) = words (pages_in_style style parts)

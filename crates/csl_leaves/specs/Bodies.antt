@@ -1,4 +1,4 @@
--- The content of a body, as it is written.
+-- The content of the body of a node, from the value that the code holds.
 use Rattle.std.specs.Prelude.{List}
 use Rattle.lit_model.specs.Text.{chunks}
 use Rattle.csl_tree.specs.Tokens.{Token}

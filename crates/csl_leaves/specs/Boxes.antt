@@ -1,5 +1,6 @@
--- What stands around the body of a node that has no quotes (CSL 1.0.2, Formatting, Affixes,
--- Display, Strip-periods).
+-- The box of a node without quotes (CSL 1.0.2, Formatting, Affixes, Display, Strip-periods): its
+-- body in its affixes, in its formatting, with its display and meta. Periods are stripped in the
+-- body alone.
 use Rattle.std.specs.Prelude.{Bool, ◌||◌, List, Some}
 use Rattle.csl_style.specs.Dressing.{Dressing}
 use Rattle.csl_tree.specs.Content.{boxed}

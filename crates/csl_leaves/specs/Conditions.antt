@@ -1,6 +1,7 @@
--- Conditions (CSL 1.0.2, Choose): what the tests of a branch answer, how a match takes them
--- together, and which nodes are chosen.
--- Each look is silent, and in the long form.
+-- The tests of a branch (CSL 1.0.2, Choose) are one list of booleans, one for each test, in the
+-- order disambiguate, is-numeric, is-uncertain-date, locator, position, type, variable
+-- (`conditions`). A match combines them, and a choice takes the nodes of the first branch whose
+-- match holds. Each look is silent, and in the long form.
 use Rattle.std.specs.Prelude.{Bool, true, false, not, ◌==◌, List, [], ◌∷◌, ◌++◌, map, length, Option, Some, None, is_some, chars, if◌then◌else◌}
 use Rattle.std.specs.List.{list_all, list_any}
 use denote.Enum.Bare.{sameb}
@@ -33,12 +34,25 @@ use Rattle.csl_leaves.specs.declared.conditions.BranchConditionPos.{BranchCondit
 use Rattle.csl_leaves.specs.declared.conditions.BranchConditionPos.TheVariants as arm
 
 -- ---- one test
+-- - *disambiguate* compares the wanted boolean with whether the citation state asks to take such
+--   branches.
+-- - A standard variable *is numeric* if its text spells a number, and a number or pages are if they
+--   were parsed. No date and no name is, nor what the caller writes. A date *is uncertain* if it is
+--   found and approximate.
+-- - *locator* holds if the cite points to a part of that kind, suppressed or not.
+-- - *position*: first if no cite of the entry comes before; subsequent if one does; ibid if the
+--   cite before is of the same entry, with the same locator or another; ibid with locator if the
+--   cite has a locator that the one before did not have; near note as the citation state has it. In
+--   a bibliography each is false.
+-- - *type* is one of the entry's kinds.
+-- - A *variable* is present if it is found: a text with a character that is not white space, names
+--   with a person.
 
 abbrev pub is_some_and : {A : Type 0} → (A → Bool) → Option A → Bool
 is_some_and p None = false
 is_some_and p (Some x) = p x
 
--- the text stands for a number
+-- the text spells a number
 unfoldable pub is_number : List Chunk → Bool
 is_number cs = is_some (numeric_from (chars (text_of cs)))
 
@@ -62,7 +76,7 @@ is_numeric w s (variable.Date v) = false
 abbrev pub is_uncertain : World → State → DateVariable → Bool
 is_uncertain w s v = is_some_and (λ d. d.approximate) (date_look w s v)
 
--- The cite points to a part of that kind: no look is asked, so a locator that is suppressed counts.
+-- The cite points to a part of that kind. This is not a look, so a suppressed locator counts.
 abbrev pub is_located : World → Locator → Bool
 is_located w kind = is_some_and (λ place. sameb the_locator place.kind kind) w.instance.cite.locator
 
@@ -83,7 +97,7 @@ stands_at c Ibid = is_ibid c.ibid
 stands_at c IbidWithLocator = is_ibid_with_locator c.ibid
 stands_at c NearNote = c.is_near_note
 
--- In a bibliography each test of a position answers false.
+-- In a bibliography each test of a position is false.
 abbrev is_positioned_in : Scope → CiteState → TestPosition → Bool
 is_positioned_in Citation c p = stands_at c p
 is_positioned_in Bibliography c p = false
@@ -102,14 +116,14 @@ is_present w s (variable.Page v) = is_some (page_look w s v)
 is_present w s (variable.Name v) = not (length (name_look w s v) == 0)
 is_present w s (variable.Date v) = is_some (date_look w s v)
 
--- `disambiguate` may be asked for, or against
+-- whether the cite takes the branches that ask for `disambiguate`, or does not, as wanted
 abbrev pub is_disambiguated : World → Bool → Bool
 is_disambiguated w true = is_choose w.instance.cite.disambiguation
 is_disambiguated w false = not (is_choose w.instance.cite.disambiguation)
 
 -- ---- the tests of a branch
 
--- the one thing that is asked, or all of several
+-- the one item of a test, or all items of a test
 abbrev pub one_if : {A : Type 0} → Option A → List A
 one_if None = []
 one_if (Some x) = x ∷ []
@@ -118,7 +132,7 @@ abbrev pub all_if : {A : Type 0} → Option (List A) → List A
 all_if None = []
 all_if (Some xs) = xs
 
--- what the tests of one sort answer
+-- the booleans of the tests of one sort
 abbrev pub conditions_at : World → State → Tests → BranchConditionPos → List Bool
 conditions_at w s ts arm.Disambiguate = map (is_disambiguated w) (one_if ts.disambiguate)
 conditions_at w s ts arm.IsNumeric = map (is_numeric w s) (all_if ts.is_numeric)
@@ -149,6 +163,9 @@ module _ (w : World) (s : State) (ts : Tests) where
   conditions = conditions_at w s ts arm.Disambiguate ++ of_numbers
 
 -- ---- branches
+-- The match takes all of the list, any, or none: all of an empty list holds, any of it does not,
+-- none of it does. A choice *takes* the nodes of the first branch whose list satisfies its match,
+-- else those of its `else`, if it has one.
 
 abbrev pub satisfies : ChooseMatch → List Bool → Bool
 satisfies matched.All bs = list_all (λ b. b) bs

@@ -1,4 +1,5 @@
--- The conditions of a branch that are still to be read, and what one reading gives.
+-- The conditions of a branch that an iterator has not read yet, and one reading of it: the next
+-- condition, or an error, after which nothing is left.
 use Rattle.std.specs.Prelude.{◌≡◌, ℕ, Bool, true, false, not, List, [], ◌∷◌, ◌++◌, drop, Option, Some, None, option_map, Result, MatchOption, MatchResult, if◌then◌else◌}
 use Rattle.csl_style.specs.Node.{Tests}
 use Rattle.csl_style.specs.declared.element.ChooseMatch.{ChooseMatch}
@@ -16,7 +17,7 @@ use Rattle.csl_leaves.specs.declared.conditions.BranchConditionIter.{BranchCondi
 
 -- ---- the sorts of tests
 
--- the sort behind one
+-- the sort of tests that comes after one
 abbrev pub arm_behind : BranchConditionPos → Option BranchConditionPos
 arm_behind arm.Disambiguate = Some arm.IsNumeric
 arm_behind arm.IsNumeric = Some arm.IsUncertainDate
@@ -39,7 +40,7 @@ place arm.Position = 4
 place arm.Type_ = 5
 place arm.Variable = 6
 
--- those from one on
+-- the sorts of tests from one on, without the last
 abbrev pub arms_from : BranchConditionPos → List BranchConditionPos
 arms_from p = drop (place p) all_but_last
 
@@ -59,7 +60,7 @@ conditions_from w s ts p i = drop i (conditions_at w s ts p) ++ conditions_behin
 
 -- ---- readings
 
--- what a branch asks, part by part
+-- the tests of a branch, as data
 abbrev pub tests_of : ChooseBranch → Tests
 tests_of b = let branch = out-ChooseBranch b in record {
   disambiguate = branch.disambiguate;
@@ -76,13 +77,13 @@ tests_of b = let branch = out-ChooseBranch b in record {
 abbrev pub context_of : {T : Type 0} → BranchConditionIter T → Now T
 context_of it = it.ctx.now
 
--- what is left to be read: nothing behind an error
+-- the conditions that are left to be read: none after an error
 abbrev pub conditions_left : {T : Type 0} → (T → Answers) → BranchConditionIter T → List Bool
 conditions_left answers it =
     if it.ended then []
     else conditions_from (world answers (context_of it)) (context_of it).state (tests_of it.branch.now) it.pos it.index
 
--- what is left behind the first that is so: nothing where none is
+-- the conditions after the first that passes the test; none where none passes
 abbrev pub behind_first : (Bool → Bool) → List Bool → List Bool
 behind_first p [] = []
 behind_first p (b ∷ bs) = if p b then bs else behind_first p bs
@@ -103,8 +104,8 @@ abbrev pub ReadsAt : {T : Type 0} → Now T → Option Bool → Option (Result B
 ReadsAt now None r = r ≡ None
 ReadsAt now (Some b) r = MatchOption r ⊥ (λ x. MatchResult x (λ c. (now.failed ≡ false) × (c ≡ b)) (λ e. FailsSilently e now))
 
--- The first condition that is left, or an error, behind which nothing is left; none where nothing
--- is left, and nothing from then on.
+-- One reading returns the first condition that is left, or an error, after which nothing is left.
+-- Where nothing is left, it returns None, now and later.
 abbrev pub Reads : {T : Type 0} → (T → Answers) → BranchConditionIter T → Option (Result Bool RenderError) → BranchConditionIter T → Type 0
 Reads answers s r t =
     (context_of t ≡ context_of s) × MatchOption r ((conditions_left answers s ≡ []) × (conditions_left answers t ≡ []))

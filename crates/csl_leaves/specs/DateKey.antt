@@ -1,4 +1,11 @@
--- Sort keys of dates (CSL 1.0.2, Sorting): texts whose bytes are in the order of time.
+-- Sort keys of dates (CSL 1.0.2, Sorting): texts whose bytes are in the order of time. A year is
+-- `P` and its number in nine places. Before year 0 it is `N` and 2147483647 plus the year in nine
+-- places, with the sign among them. The year suffix follows the year. A month and a day are two
+-- digits, or `00` where there is none.
+-- A key has year, month and day in this order, of the parts that it has (`keyed_parts`). For a date
+-- with a form these are the ones that the node's own date-parts names, or all if it names none,
+-- whatever the locale has. Else they are all for a variable, and the listed parts for a macro.
+-- *Time* compares year, month and day, with an absent one first.
 use Rattle.std.specs.Prelude.{◌≡◌, ℕ, ◌+◌, suc, Bool, true, false, List, [], ◌∷◌, ◌++◌, ℤ, pos, negsuc, ◌+ℤ◌, neg_ℤ, ◌≤ℤ◌, Option, Some, None, unwrap_or, codes, decimal}
 use Rattle.std.specs.Cmp.Lexicographic.{slice_cmp}
 use Rattle.std.specs.List.{list_any}
@@ -27,13 +34,13 @@ abbrev pub nine_places : ℤ → List ℕ
 nine_places (pos n) = with_zeros 9 (decimal n)
 nine_places (negsuc n) = hyphen_char ∷ with_zeros 8 (decimal (suc n))
 
--- The years before year 0 stand before all others. They are counted from far enough back that the
--- later one has the larger number.
+-- The years before year 0 come before all others. They are counted from far enough back that a
+-- later year has a larger number.
 abbrev pub year_key : ℤ → List ℕ
 year_key (pos n) = codes "P" ++ nine_places (pos n)
 year_key (negsuc n) = codes "N" ++ nine_places (pos 2147483647 +ℤ negsuc n)
 
--- a month or a day, before all of which stands that there is none
+-- a month or a day, and `00` for none, which comes before them
 abbrev pub place_key : Option ℕ → List ℕ
 place_key None = codes "00"
 place_key (Some n) = two_digits (n + 1)
@@ -44,9 +51,8 @@ place_key (Some n) = two_digits (n + 1)
 abbrev pub lists_part : List DatePartNode → DatePartName → Bool
 lists_part ps name = list_any (λ p. sameb the_type p.name name) ps
 
--- the parts that a key has: with a form those that the date itself names, whatever a locale says;
--- else all of a variable, and of a macro
--- those that the date lists
+-- the parts that a key has: with a form those that the date itself names, whatever the locale has;
+-- else all for a variable, and for a macro those that the date lists
 abbrev keyed_parts : Option DateForm → Sorting → DateNode → DatePartName → Bool
 keyed_parts (Some form) for n part = names_part (unwrap_or n.parts upto.YearMonthDay) part
 keyed_parts None sorting.Variable n part = true
@@ -77,10 +83,10 @@ full_key d = key_of (λ part. true) [] d
 abbrev pub HasKeyYear : ℤ → Type 0
 HasKeyYear year = (neg_ℤ (pos 1147483647) ≤ℤ year) × (year ≤ℤ pos 999999999)
 
--- by year, month and day, of which an absent one comes first
+-- the order of dates by year, month and day, of which an absent one comes first
 abbrev pub time_order : Parts → Parts → Ordering
 time_order a b = ordering_then (int_cmp a.year b.year) (ordering_then (option_cmp nat_cmp a.month b.month) (option_cmp nat_cmp a.day b.day))
 
--- The bytes of a date's key stand to those of any other's full key as the dates do in time.
+-- The bytes of a date's key are ordered against any other date's full key as the dates are in time.
 abbrev pub SortsByTime : List ℕ → Date → Type 0
 SortsByTime key d = (other : Date) → HasKeyYear d.year → HasKeyYear other.year → slice_cmp nat_cmp key (full_key (date_parts other)) ≡ time_order (date_parts d) (date_parts other)

@@ -1,6 +1,17 @@
--- What the value of a date's part prints (CSL 1.0.2, Date; Date-part; Localized Date Formats;
--- Ordinals; AD and BC; Seasons), before any affix.
--- Months and days count from 0; year 0 is the year before year 1.
+-- The text of a part of a date, before suffix and affixes (CSL 1.0.2, Date; Date-part; Localized
+-- Date Formats; Ordinals; AD and BC; Seasons). Months and days count from 0 and print one higher;
+-- year 0 is the year before year 1. A form that a part does not know counts as none. A year is
+-- always written, a month if year and month or the whole date are, and in any date that has a
+-- season, a day only if the whole date is (`is_written`).
+-- - *Day*: its number; with leading zeros, in at least two digits. As an ordinal, the style's
+--   ordinal follows, if any, in the gender of the month's term. If the first locale limits ordinals
+--   to the first day, any other day is plain.
+-- - *Month*: its term, long unless the short one is requested. It is a number if the style lacks
+--   the term or the form is numeric; with leading zeros, in at least two digits. Without a month it
+--   is the short term of the season, or nothing.
+-- - *Year*: from 1000 on in full, or its last two digits in the short form. From 1 to 999 the AD
+--   term follows it, else ` AD`. Earlier years count backwards from 1 at year 0, with the BC term,
+--   else ` BC`.
 use Rattle.std.specs.Prelude.{ℕ, ◌+◌, ◌%◌, suc, zero, Bool, true, false, not, ◌&&◌, ◌||◌, ◌==◌, nat_lt, List, [], ◌++◌, map, ℤ, pos, negsuc, Option, Some, None, is_some, unwrap_or, codes, decimal, if◌then◌else◌}
 use Rattle.csl_common.specs.declared.season.Season.{Season}
 use Rattle.csl_common.specs.declared.ordinal.GrammarGender.{GrammarGender}
@@ -46,13 +57,13 @@ is_written parts d Year = true
 abbrev pub word : StyleParts → OtherTerm → TermForm → Option (List ℕ)
 word style t form = term_in style (term.Other t) form false
 
--- with two digits at least
+-- a number in at least two digits
 abbrev pub two_digits : ℕ → List ℕ
 two_digits n = with_zeros 2 (decimal n)
 
 -- ---- years
 
--- what stands behind the years 1 to 999, and behind those before year 1
+-- the era after the years 1 to 999, and after those before year 1
 abbrev pub ad_text : StyleParts → List ℕ
 ad_text style = unwrap_or (word style other.Ad term_form.Long) (codes " AD")
 
@@ -88,7 +99,7 @@ year_text style form year = year_in_eras (is_short form) (ad_text style) (bc_tex
 abbrev pub month_named : StyleParts → TermForm → ℕ → List ℕ
 month_named style form n = unwrap_or (word style (other.Month n) form) (decimal (n + 1))
 
--- in a form that a month does not know, as where none is asked: in the long one
+-- a month in a form; the long term for a form that a month does not know, and for none
 abbrev pub month_text : StyleParts → Option DateAnyForm → ℕ → List ℕ
 month_text style None n = month_named style term_form.Long n
 month_text style (Some Numeric) n = decimal (n + 1)
@@ -114,7 +125,7 @@ abbrev pub month_gender : StyleParts → Option ℕ → Option GrammarGender
 month_gender style None = None
 month_gender style (Some n) = gender_in style (term.Other (other.Month n))
 
--- what makes an ordinal of a number in a gender, if the style has it
+-- the suffix of a number's ordinal in a gender, if the style has one
 abbrev pub ordinal_suffix : StyleParts → Option GrammarGender → ℕ → List ℕ
 ordinal_suffix style gender n = unwrap_or (ordinals (map ordinals_of style.locales) (pos n) gender) []
 
@@ -124,7 +135,7 @@ ordinal_day style month n =
     if are_day_ordinals_limited style.locales && not (n == 0) then decimal (n + 1)
     else decimal (n + 1) ++ ordinal_suffix style (month_gender style month) (n + 1)
 
--- in a form that a day does not know, as where none is asked: by its number
+-- a day in a form; its number for a form that a day does not know, and for none
 abbrev pub day_text : StyleParts → Option DateAnyForm → Option ℕ → ℕ → List ℕ
 day_text style None month n = decimal (n + 1)
 day_text style (Some Numeric) month n = decimal (n + 1)
@@ -139,7 +150,7 @@ day_if style form month (Some n) = day_text style form month n
 
 -- ---- a part
 
--- nothing where the date lacks what the part shows
+-- the text of a part; nothing where the date lacks it
 unfoldable pub part_text : StyleParts → DatePartName → Option DateAnyForm → Parts → List ℕ
 part_text style Day form d = day_if style form d.month d.day
 part_text style Month form d = month_or_season style form d.month d.season

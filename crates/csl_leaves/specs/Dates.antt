@@ -1,6 +1,7 @@
--- Dates (CSL 1.0.2, Date; Date-part; Localized Date Formats; Sorting; Disambiguation:
--- disambiguate-add-year-suffix): what a date says, shows
--- and makes.
+-- Dates (CSL 1.0.2, Date; Date-part; Localized Date Formats; Sorting; Disambiguation,
+-- `disambiguate-add-year-suffix`): the dry run of a date, the variables that it shows, its content
+-- and the state that it leaves (`date_info`, `date_shows`, `date_tree`). The texts of its parts are
+-- in `DateText`, and its sort keys in `DateKey`.
 use Rattle.std.specs.Prelude.{ℕ, Bool, true, false, not, ◌&&◌, List, [], ◌∷◌, ◌++◌, map, Option, Some, None, option_map, is_some, unwrap_or, find, if◌then◌else◌}
 use Rattle.std.specs.Option.{option_or}
 use denote.Enum.Bare.{sameb}
@@ -41,15 +42,20 @@ use Rattle.csl_leaves.specs.Numbers.{number_said}
 use Rattle.csl_leaves.specs.Text.{Made, made, same_variable, no_affixes}
 
 -- ---- dry runs
+-- A date shows its variable, unless only another one is to be shown. Under the two forms for the
+-- first date and the year suffix it shows any variable, even without one of its own, until a date
+-- of the cite was rendered, even to nothing; from then on it shows none.
+-- A date without a variable calls one and does not print. A date that does not show its own
+-- variable does not print and has no flags. Any other date prints if its variable is found, which
+-- is then called and not empty; else it only calls it. Whether any of its parts prints something
+-- does not count.
 
 abbrev pub is_own : Option DateVariable → Variable → Bool
 is_own None asked = false
 is_own (Some v) asked = same_variable (variable.Date v) asked
 
--- A date shows the variable that is asked for where it is its own, and where no other one alone is
--- to be shown. Under the two forms
--- for dates and for suffixes the first date of a cite shows every variable, and no later one shows
--- any.
+-- A date shows its own variable, unless only another one is to be shown. Under the two forms for
+-- dates and for suffixes the first date of a cite shows every variable, and no later one shows any.
 abbrev pub date_shown : Option SpecialForm → Bool → Option DateVariable → Variable → Bool
 date_shown None first own asked = is_own own asked
 date_shown (Some (VarOnly only)) first own asked = is_own own asked && is_own own only
@@ -71,17 +77,21 @@ abbrev pub variable_info : World → State → Option DateVariable → Info
 variable_info w s None = number_said false
 variable_info w s (Some v) = if shows_date w s v then number_said (is_some (date_look w s v)) else nothing_said
 
--- it is called, unless it is not shown, and non-empty where it is found
+-- the dry run of a date: its variable is called, unless it is not shown, and non-empty where it is
+-- found
 abbrev pub date_info : World → State → DateNode → Info
 date_info w s n = variable_info w s n.variable
 
--- ---- the year suffix behind the first year
+-- ---- the year suffix after the first year
+-- The year of the first date that is printed has the *implicit year suffix* after it, inside its
+-- affixes: that of the cite, if the layout of the scope reaches no text of the year suffix. Under
+-- the form for the suffix the parts are this suffix alone, without affixes.
 
 abbrev pub suffix_text : Option (List Chunk) → List ℕ
 suffix_text None = []
 suffix_text (Some cs) = text_of cs
 
--- it stands there only where the style has no other place for it
+-- the year suffix after the first year, if the layout of the scope reaches no text of it
 abbrev pub implicit_suffix : World → State → List ℕ
 implicit_suffix w s =
     if is_year_suffix_implicit (reached_layout w.scope w.style) then suffix_text (standard_look w s text_form.Long YearSuffix) else []
@@ -98,6 +108,12 @@ is_suffix_alone (Some OnlyYearSuffix) = true
 is_suffix_alone (Some SuppressAuthor) = false
 
 -- ---- a localized date with the node over it
+-- A date with a form is the style's localized date of that form with the node over it, and nothing
+-- if the style has none. The localized date has the parts in order and the delimiter between them,
+-- even none. The node's affixes and display stay. Its date-parts and its formatting are over those
+-- of the localized date.
+-- A part of the localized date takes, from the first part of the node that has its name, the form,
+-- set or not, and the formatting over its own. Its affixes and stripping stay.
 
 -- the node's own part of that name
 abbrev pub own_part : List DatePartNode → DatePartName → Option DatePartNode
@@ -111,9 +127,8 @@ abbrev pub formatting_over : Option DatePartNode → partial.Formatting → part
 formatting_over None f = f
 formatting_over (Some own) f = over own.formatting f
 
--- The node's own part, where it has one of that name, gives the form, set or not, and its
--- formatting over that of the localized one,
--- whose affixes and stripping stay.
+-- A localized part takes from the node's own part of its name, if there is one, the form, set or
+-- not, and the formatting over its own. Its affixes and stripping stay.
 abbrev pub part_over : List DatePartNode → DatePartNode → DatePartNode
 part_over own p = record p {
   form = form_over (own_part own p.name) p.form;
@@ -140,8 +155,8 @@ abbrev pub dressing_over : Dressing → Option DateNode → Dressing
 dressing_over own l = record own { formatting = whole_formatting own.formatting l }
 
 -- The localized date gives the parts in order and the delimiter between them; the node its affixes
--- and its place on the page. Which parts
--- are written, and the formatting, are the node's over those of the localized date.
+-- and its place on the page. Which parts are written, and the formatting, are the node's over those
+-- of the localized date.
 abbrev pub date_over : DateNode → Option DateNode → DateNode
 date_over n l = record n {
   parts = parts_over n.parts l;
@@ -150,12 +165,14 @@ date_over n l = record n {
   dressing = dressing_over n.dressing l;
 }
 
--- the date as it is written: a form asks for the localized date of the style, which may lack it
+-- the date as it is written: with a form it is the style's localized date under the node, or none
 abbrev pub written_as : StyleParts → DateNode → Option DateForm → Option DateNode
 written_as style n None = Some n
 written_as style n (Some form) = option_map (λ l. date_over n (Some l)) (localized style form)
 
 -- ---- a part
+-- A part is its text, in its affixes, in its formatting. Only a month loses periods, and its
+-- affixes keep theirs.
 
 -- the suffix comes with the year
 abbrev pub suffix_with : DatePartName → List ℕ → List ℕ
@@ -163,7 +180,7 @@ suffix_with Day suffix = []
 suffix_with Month suffix = []
 suffix_with Year suffix = suffix
 
--- what a part says
+-- the text of a part: its value, unless only the suffix is written, and after a year its suffix
 abbrev pub part_value : StyleParts → Bool → DateParts → List ℕ → Parts → DatePartName → Option DateAnyForm → List ℕ
 part_value style alone parts suffix d name form =
     (if not alone && is_written parts d name then part_text style name form d else []) ++ suffix_with name suffix
@@ -174,7 +191,7 @@ is_stripped Day strip = false
 is_stripped Month strip = strip
 is_stripped Year strip = false
 
--- no affixes stand around the suffix alone
+-- the attributes of a part; it has no affixes where only the suffix is written
 abbrev pub part_dressing : Bool → DatePartNode → Dressing
 part_dressing alone p = record { formatting = p.formatting; affixes = if alone then no_affixes else p.affixes; display = None }
 
@@ -184,7 +201,8 @@ part_content w parts suffix d inh p =
     plain_between (part_dressing alone p) inh (text_in (in_plain (part_dressing alone p) (is_stripped p.name p.strip_periods) inh)
     (part_value w.style alone parts suffix d p.name p.form))
 
--- ---- the parts that print something, with the delimiter between them
+-- ---- the parts that print something, in order, with the delimiter between them, in the date's
+-- formatting
 
 abbrev pub behind_delimiter : Inherited → Option (List ℕ) → Bool → List Token → List Token
 behind_delimiter inh delimiter true c = c
@@ -201,15 +219,20 @@ date_body w n suffix d inh =
     joined_parts inh n.delimiter true (map (part_content w (unwrap_or n.parts YearMonthDay) suffix d inh) n.date_part)
 
 -- ---- rendering
+-- A date without a variable, or one that does not show it, is nothing. Any other date looks its
+-- variable up for printing, and is nothing if it finds none. While sorting it is its sort key, one
+-- text without box, affixes or formatting, and it is no printed date then. Else it is a box, in its
+-- formatting, around its parts in its affixes, with the meta of a date. From then on a date was
+-- printed, even to nothing.
 
--- from now on a date was printed, whether it printed something or not
+-- the state after a date was printed, even to nothing
 abbrev pub date_seen : State → State
 date_seen s = record s { first_date_seen = true }
 
 abbrev pub date_box : World → DateNode → List ℕ → Parts → Inherited → List Token
 date_box w n suffix d inh = plain_box n.dressing of_date inh (date_body w n suffix d (in_plain n.dressing false inh))
 
--- nothing where the style lacks the localized date
+-- a date that prints; nothing where the style lacks the localized date
 abbrev pub printed_date : World → Option DateNode → Parts → Inherited → State → Made
 printed_date w None d inh s = made [] s
 printed_date w (Some n) d inh s = made (date_box w n (first_suffix w s) d inh) (date_seen s)

@@ -1,4 +1,15 @@
--- Labels (CSL 1.0.2, Label; Locators): what a label says and makes. It shows no variable.
+-- Labels (CSL 1.0.2, Label; Locators). A label has no flags and shows no variable.
+-- - *Printing.* If only one number is to be shown, a label of any other variable does not print.
+--   Otherwise, under the forms for one variable, the first date and the year suffix, each label
+--   prints except that of a locator. Any other label prints if its variable and its term are found,
+--   by a silent look.
+-- - *Term.* It is the variable's; for a locator that of its kind, and none if the kind is the
+--   citation's own. Beside pages it is in the plural if these are. Beside a number variable it is
+--   always or never, if the label sets so, and else if the number is in the plural. So it is in the
+--   singular beside a text or a place that the caller writes.
+-- - *Rendering.* A label that prints, and finds its variable and its term, is a box without a
+--   display, in its own formatting, around its term in its affixes. Periods are stripped in the
+--   term alone.
 use Rattle.std.specs.Prelude.{ℕ, Bool, true, false, not, ◌||◌, List, [], Option, Some, None, is_some, unwrap_or, if◌then◌else◌}
 use denote.Enum.Bare.{sameb}
 use Rattle.lit_model.specs.MaybeTyped.{MaybeView, typed, text}
@@ -34,12 +45,12 @@ use Rattle.csl_leaves.specs.Text.{Made, made, same_variable}
 
 -- ---- the term
 
--- that of the kind of a locator, unless the kind is the citation's own
+-- the term of the kind of a locator, unless the kind is the citation's own
 abbrev pub kind_term : Option Place → Option Term
 kind_term None = None
 kind_term (Some place) = if sameb the_locator place.kind Custom then None else Some (terms.Locator place.kind)
 
--- else that of the variable
+-- the term of a label: that of the locator's kind, or of any other variable
 abbrev pub label_term : CiteState → NumberOrPageVariable → Option Term
 label_term cite (number_or_page.Number v) = if sameb the_number v Locator then kind_term cite.locator else Some (terms.Number v)
 label_term cite (number_or_page.Page v) = Some (terms.Page v)
@@ -60,7 +71,7 @@ abbrev pub plural_page : MaybeView (List PartView) → Bool
 plural_page (typed parts) = plural_pages parts
 plural_page (text bs) = false
 
--- what the label asks for counts beside a number alone
+-- the plural beside a number variable, as the label sets it
 abbrev pub plural_by : LabelPluralize → Bool → ResultView → Bool
 plural_by Contextual counts r = plural_number counts r
 plural_by Always counts r = true
@@ -80,7 +91,7 @@ abbrev pub text_beside : World → NumberOrPageVariable → LabelNode → Option
 text_beside w v l None = None
 text_beside w v l (Some found) = term_if w l (label_term w.instance.cite v) (is_plural l.plural v found)
 
--- the look is silent
+-- the text of a label, by a silent look
 abbrev pub label_text : World → State → NumberOrPageVariable → LabelNode → Option (List ℕ)
 label_text w s v l = text_beside w v l (number_or_page_look w s v)
 
@@ -90,7 +101,7 @@ abbrev pub is_locator : NumberOrPageVariable → Bool
 is_locator (number_or_page.Number v) = sameb the_number v Locator
 is_locator (number_or_page.Page v) = false
 
--- it is a number, and another variable
+-- the one variable to be shown is a number, and not the label's
 abbrev pub is_other_number : Variable → NumberOrPageVariable → Bool
 is_other_number (variable.Standard u) v = false
 is_other_number (variable.Number u) v = not (same_variable (variable.Number u) (variable_of v))
@@ -101,9 +112,8 @@ is_other_number (variable.Date u) v = false
 abbrev pub unless_locator : NumberOrPageVariable → Option Bool
 unless_locator v = if is_locator v then None else Some true
 
--- what a special form says without a look: no label stands beside another number than the one
--- alone, and any other label but that of
--- a locator stays
+-- what a special form decides without a look: if only a number is to be shown, the label of any
+-- other variable does not print; any other label prints, except that of a locator
 abbrev pub said_by_form : Option SpecialForm → NumberOrPageVariable → Option Bool
 said_by_form None v = None
 said_by_form (Some (VarOnly only)) v = if is_other_number only v then Some false else unless_locator v

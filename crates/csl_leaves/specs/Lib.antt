@@ -1,3 +1,7 @@
+-- The definitions that the contracts of `csl_leaves` cite: what a node that holds no other nodes
+-- returns in a dry run and renders. They are whole contents over nodes with no macro name left.
+-- They read the world (style, scope and cite), the state, and, for contents, what the node
+-- inherits.
 pub mod Flags
 pub mod Usages
 pub mod Pages

@@ -1,4 +1,14 @@
--- Numbers (CSL 1.0.2, Number; Sorting): what a number says, shows and makes.
+-- Numbers (CSL 1.0.2, Number; Sorting).
+-- - *Dry run.* A number shows its variable, unless only another one is to be shown. Under the two
+--   forms for the first date and the year suffix a number of a locator shows any variable, and no
+--   other number shows one. A number that shows its own variable prints if it finds that, which is
+--   then called and not empty. Else it calls it and does not print.
+-- - *Rendering.* A number that does not show its own variable is nothing. Else it looks it up for
+--   printing. While sorting, a number or pages are their sort text, one text without box, affixes
+--   or formatting of its own: each number in at least four places without prefix and suffix, pages
+--   in full. Else it is a box, in its own formatting, around the answer in its affixes
+--   (`shown_by_number`), in the gender of the variable's term. The meta is that of a number, or of
+--   a citation number.
 use Rattle.std.specs.Prelude.{ℕ, Bool, true, false, ◌&&◌, List, [], Option, Some, None, is_some, if◌then◌else◌}
 use denote.Enum.Bare.{sameb}
 use Rattle.lit_model.specs.MaybeTyped.{typed, text}
@@ -26,9 +36,8 @@ use Rattle.csl_leaves.specs.Text.{Made, made, same_variable, is_left_by_only}
 
 -- ---- dry runs
 
--- A number of a variable shows the one that is asked for where it is that one, and where no other
--- one alone is to be shown. The two
--- forms for dates and for suffixes show each number of a locator, and no other.
+-- A number shows its own variable, unless only another one is to be shown. Under the two forms for
+-- dates and for suffixes a number of a locator shows every variable, and any other shows none.
 abbrev pub is_shown : Option SpecialForm → Variable → Variable → Bool
 is_shown None own asked = same_variable own asked
 is_shown (Some (VarOnly only)) own asked = same_variable own asked && same_variable only own
@@ -42,7 +51,7 @@ number_shows w v n = is_shown w.instance.special (variable_of n.variable) v
 abbrev pub shows_own : World → NumberNode → Bool
 shows_own w n = number_shows w (variable_of n.variable) n
 
--- it is called, and non-empty where it is found
+-- the dry run of a number: its variable is called, and non-empty where it is found
 abbrev pub number_said : Bool → Info
 number_said found = info_of found (flags true found false false)
 
@@ -51,9 +60,8 @@ number_info w s n = number_said (if shows_own w n then is_some (number_or_page_l
 
 -- ---- rendering
 
--- the text by which an answer is sorted, unless it is no number and no pages: each number in four
--- places at least, with nothing
--- around it; pages in full
+-- the text by which a number or pages are sorted: each number in at least four places, without
+-- prefix and suffix; pages in full
 abbrev pub sort_text : NumberOrPageView → Option (List ℕ)
 sort_text (number (regular (typed n))) = Some (value_text (integer_text true) n.value)
 sort_text (number (regular (text bs))) = None
@@ -70,7 +78,7 @@ abbrev pub number_meta : NumberOrPageVariable → Meta
 number_meta (number_or_page.Number v) = if sameb the_number v CitationNumber then of_citation_number else of_number
 number_meta (number_or_page.Page v) = of_number
 
--- an answer in the number's form, and in the gender of what its variable is called
+-- an answer in the number's form, in the gender of its variable's term
 abbrev pub number_body : World → NumberNode → NumberOrPageView → Inherited → List Token
 number_body w n found inh = shown_in inh (shown_by_number w.style n.form (gender_in w.style (term_of n.variable)) found)
 

@@ -1,5 +1,10 @@
--- Pages in the format of a style (CSL 1.0.2, Terms: page-range-delimiter; Appendix V: Page Range
--- Formats), by their bytes.
+-- Pages in the format of a style (CSL 1.0.2, Terms, `page-range-delimiter`; Appendix V, Page Range
+-- Formats): their parts in order, with `, ` and ` & ` for separators. Between the two ends of a
+-- range is the style's term for it, else an en dash.
+-- If both ends are ASCII digits alone, the second is filled from the front of the first if it is
+-- shorter. Then, if it is as long, `minimal` drops what it repeats of the first one's front but
+-- keeps one digit, and `minimal-two` keeps two of an end of two or more. An escaped range is filled
+-- only. Any other end stays as it is.
 use Rattle.std.specs.Prelude.{ℕ, ◌-◌, min, Bool, false, ◌&&◌, ◌==◌, nat_eq, List, [], ◌∷◌, ◌++◌, length, take, drop, map, chars, encode_utf8_all, Option, Some, None, unwrap_or, codes, if◌then◌else◌}
 use Rattle.std.specs.Char.{is_ascii_digit}
 use Rattle.std.specs.List.{list_all, flat_map, common_prefix_len}
@@ -20,7 +25,7 @@ en_dash = 0xE2 ∷ 0x80 ∷ 0x93 ∷ []
 
 -- ---- the end of a range
 
--- ASCII digits alone
+-- each byte is an ASCII digit
 abbrev pub is_digits : List ℕ → Bool
 is_digits bs = list_all is_ascii_digit bs
 
@@ -28,7 +33,7 @@ is_digits bs = list_all is_ascii_digit bs
 abbrev pub filled : List ℕ → List ℕ → List ℕ
 filled from to = take (length from - length to) from ++ to
 
--- an end without the front that repeats the start's; so many of its digits are kept
+-- an end without the front that repeats the start's, with at least `kept` of its digits
 abbrev pub shortened : ℕ → List ℕ → List ℕ → List ℕ
 shortened kept from to = drop (min (common_prefix_len nat_eq from to) (length to - kept)) to
 
@@ -47,7 +52,7 @@ abbrev pub shortened_to : Option ℕ → List ℕ → List ℕ → List ℕ
 shortened_to None from to = to
 shortened_to (Some kept) from to = if length from == length to then shortened kept from to else to
 
--- where both ends are digits, the second is filled and then shortened; else it stands as it is
+-- the second end of a range: filled and then shortened where both are digits, else as it is
 abbrev pub end_text : Option ℕ → List ℕ → List ℕ → List ℕ
 end_text kept from to = if is_digits from && is_digits to then shortened_to kept from (filled from to) else to
 

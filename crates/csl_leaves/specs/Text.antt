@@ -1,5 +1,6 @@
--- Texts (CSL 1.0.2, Text; Affixes; Quotes; Strip-periods): what a text that calls no macro finds,
--- says, shows and makes.
+-- Texts that call no macro (CSL 1.0.2, Text; Affixes; Quotes; Strip-periods; Appendix VI, Links):
+-- what they find, their dry run, the variables that they show, their content and the state that
+-- they leave.
 use Rattle.std.specs.Prelude.{ℕ, Bool, true, false, not, ◌&&◌, ◌||◌, ◌==◌, List, [], ◌++◌, length, Option, Some, None, option_map, is_some, codes, bytes_eq, if◌then◌else◌}
 use denote.Enum.Bare.{sameb}
 use Rattle.lit_model.specs.Text.{Chunk}
@@ -35,7 +36,7 @@ use Rattle.csl_context.specs.Quotes.{quoted_in, has_moved, affixed_after}
 use Rattle.csl_leaves.specs.Answered.{number_or_page_look, shown_in, shown_by_text}
 use Rattle.csl_leaves.specs.Flags.{flags, no_flags, Info, info_of}
 
--- what a node makes: a content, and the state that it leaves
+-- the rendering of a node: its content, and the state that it leaves
 pub record Made : Type 0 where
   pub content : List Token
   pub state : State
@@ -43,11 +44,11 @@ pub record Made : Type 0 where
 abbrev pub made : List Token → State → Made
 made c s = record { content = c; state = s }
 
--- behind a content
+-- a content, and then what is made after it
 abbrev pub then_made : List Token → Made → Made
 then_made c m = made (c ++> m.content) m.state
 
--- a context after what was made
+-- a context after a rendering is appended to it
 abbrev pub with_made : {T : Type 0} → Made → Now T → Now T
 with_made m now = record now { inner = now.inner ++> m.content; state = m.state }
 
@@ -83,7 +84,7 @@ shows_words (Some OnlyFirstDate) = false
 shows_words (Some OnlyYearSuffix) = false
 shows_words (Some SuppressAuthor) = true
 
--- a text of a macro always is, without its affixes where one variable alone is shown
+-- a text of a macro has its affixes, unless one variable alone is shown
 abbrev pub shows_macro_affixes : Option SpecialForm → Bool
 shows_macro_affixes None = true
 shows_macro_affixes (Some (VarOnly u)) = false
@@ -92,10 +93,13 @@ shows_macro_affixes (Some OnlyYearSuffix) = true
 shows_macro_affixes (Some SuppressAuthor) = true
 
 -- ---- what a text finds
+-- A text finds the answer to its variable, the text of its term, or its value. Under the form for
+-- one variable only a text of that variable finds anything. Under the two forms for the first date
+-- and the year suffix only the year suffix and the locator do. A text of a name or a date variable
+-- never finds anything.
 
 -- the answer to a standard variable, the answer to one that holds a number or pages, the text of a
--- term, the value that the style
--- gives
+-- term, the value that the style gives
 pub data Found : Type 0 where
   answer : StandardVariable → List Chunk → Found
   numeral : NumberOrPageVariable → NumberOrPageView → Found
@@ -122,6 +126,10 @@ found w s (of_term t form plural) = if shows_words w.instance.special then term_
 found w s (of_value bs) = if shows_words w.instance.special then Some (value bs) else None
 
 -- ---- dry runs
+-- Looks are silent. A text that finds nothing does not print. It still calls its variable, except
+-- for the year suffix. A text that finds an answer calls it, and prints unless that is an empty
+-- standard text. A term that is found prints, and a value that is not empty does; neither has
+-- flags. A text shows its variable if it finds it.
 
 -- a text calls its variable also where it finds nothing, but for the year suffix
 abbrev pub calls_variable : Variable → Bool
@@ -146,7 +154,7 @@ found_info called (Some (value bs)) = info_of (not (length bs == 0)) no_flags
 abbrev pub target_info : World → State → Target → Info
 target_info w s t = found_info (calls t) (found w s t)
 
--- it is a text of the variable
+-- whether a text is of the variable
 abbrev pub is_of : Variable → Target → Bool
 is_of v (of_variable u form) = same_variable u v
 is_of v (of_term t form plural) = false
@@ -155,7 +163,10 @@ is_of v (of_value bs) = false
 abbrev pub target_shows : World → State → Variable → Target → Bool
 target_shows w s v t = is_some (found w s t) && is_of v t
 
--- ---- links (CSL 1.0.2, Appendix VI: Links)
+-- ---- links (CSL 1.0.2, Appendix VI, Links)
+-- The answer to DOI, PMID or PMCID is a link to the address that a prefix and the answer make, and
+-- the answer to URL is a link to itself. If the node's prefix is that of the address, it begins the
+-- text of the link, and the node has no affixes.
 
 abbrev pub doi_prefix : List ℕ
 doi_prefix = codes "https://doi.org/"
@@ -166,7 +177,7 @@ pmid_prefix = codes "https://www.ncbi.nlm.nih.gov/pubmed/"
 abbrev pub pmcid_prefix : List ℕ
 pmcid_prefix = codes "https://www.ncbi.nlm.nih.gov/pmc/articles/"
 
--- what stands before the answer in the address that it links to
+-- the text before the answer in the address that it links to
 abbrev pub url_prefix : StandardVariable → Option (List ℕ)
 url_prefix v =
     if is_standard standard.DOI v then Some doi_prefix
@@ -174,7 +185,8 @@ url_prefix v =
     else if is_standard standard.PMCID v then Some pmcid_prefix
     else None
 
--- the address itself has no prefix: it is the answer
+-- the text before the answer in the address that it links to; for a URL it is empty, because the
+-- answer is the address
 abbrev pub address_prefix : StandardVariable → Option (List ℕ)
 address_prefix v = if is_standard standard.URL v then Some [] else url_prefix v
 
@@ -187,11 +199,18 @@ abbrev is_address_prefix : Option (List ℕ) → Option (List ℕ) → Bool
 is_address_prefix None prefix = false
 is_address_prefix (Some bs) prefix = is_prefix prefix bs
 
--- Then it begins the text of the link, and no affixes stand.
+-- whether the node's prefix is that of the address: then it begins the text of the link, and the
+-- node has no affixes
 abbrev pub begins_link : TextDressing → StandardVariable → Bool
 begins_link d v = is_address_prefix (url_prefix v) d.dressing.affixes.prefix
 
 -- ---- rendering
+-- A text that finds something is a box, in its own formatting, around its body in quotes and
+-- affixes. Periods are stripped in the body alone. The body of a standard answer is its chunks, or
+-- its link. For a number or page variable it is `shown_by_text` of `Answered`. The box has the meta
+-- of a text, a citation label or a citation number if a variable is printed, and none else.
+-- A text of a variable, unless a name or a date, looks it up for printing, whatever it finds. If a
+-- form leaves the variable out, there is no look.
 
 -- what is inherited inside a node's formatting
 abbrev pub within : partial.Formatting → Inherited → Inherited
@@ -219,7 +238,7 @@ abbrev pub in_quotes_if : Bool → StyleParts → Inherited → Option (List ℕ
 in_quotes_if true style inh suffix c = quoted_in style inh suffix c
 in_quotes_if false style inh suffix c = c
 
--- the front of the suffix went into them
+-- whether the front of the suffix moved into the quotes
 abbrev pub moved_if : Bool → StyleParts → Option (List ℕ) → List Token → Bool
 moved_if true style suffix c = has_moved style suffix c
 moved_if false style suffix c = false
@@ -237,14 +256,14 @@ text_box style a d meta inh c =
 abbrev pub no_affixes : AffixTexts
 no_affixes = record { prefix = None; suffix = None }
 
--- the affixes that stand
+-- the affixes of a text: none where its prefix begins a link
 abbrev pub found_affixes : TextDressing → Found → AffixTexts
 found_affixes d (answer v cs) = if begins_link d v then no_affixes else d.dressing.affixes
 found_affixes d (numeral v n) = d.dressing.affixes
 found_affixes d (term bs) = d.dressing.affixes
 found_affixes d (value bs) = d.dressing.affixes
 
--- which node the box is said to be of
+-- the meta of a text's box
 abbrev pub standard_meta : StandardVariable → Meta
 standard_meta v = if is_standard standard.CitationLabel v then of_citation_label else of_text
 
@@ -258,7 +277,7 @@ found_meta (numeral v n) = Some (numeral_meta v)
 found_meta (term bs) = None
 found_meta (value bs) = None
 
--- an answer with an address is a link to it, any other stands as it is
+-- an answer with an address is a link to it, any other is its chunks
 abbrev pub answer_body : Option (List ℕ) → Bool → Inherited → List Chunk → List Token
 answer_body (Some p) begins inh cs = link_in inh (if begins then p ++ text_of cs else text_of cs) (p ++ text_of cs)
 answer_body None begins inh cs = chunks_in inh cs

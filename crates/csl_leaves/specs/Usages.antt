@@ -1,4 +1,4 @@
--- What the answer of a dry run says.
+-- The result of a dry run as plain data, from the value that the code returns.
 use Rattle.std.specs.Prelude.{Bool}
 use Rattle.csl_leaves.specs.declared.usage.UsageInfo.{UsageInfo}
 use Rattle.csl_leaves.specs.Flags.{Flags, flags, Info, info_of}

@@ -1,4 +1,4 @@
--- A date as code holds it: the node, and the localized date that it is over.
+-- A date as the code holds it: the node, and the localized date that it is over, if any.
 use Rattle.std.specs.Prelude.{List, [], map, Option, Some, None, option_map}
 use Rattle.std.specs.Borrow.{Bor}
 use Rattle.csl_style.specs.declared.date.Date.{Date}
@@ -10,7 +10,7 @@ use Rattle.csl_leaves.specs.Dates.{date_over}
 abbrev pub written_node : Written → DateNode
 written_node d = date_over (view_date d.node.now) (option_map (λ l. view_date l.now) d.localized)
 
--- the parts that stand over those of the localized date, if there is one
+-- the node's parts that are over those of the localized date, if there is one
 abbrev pub over_localized : Date → Option (Bor Date) → List DatePartNode
 over_localized n None = []
 over_localized n (Some l) = map view_date_part n.date_part.items

@@ -1,6 +1,13 @@
--- In which forms a names node writes its names, and that they are kept for those who tell cites
--- apart (CSL 1.0.2, Disambiguation:
--- disambiguate-add-names, disambiguate-add-givenname).
+-- The forms that a names node writes and keeps (CSL 1.0.2, Disambiguation,
+-- `disambiguate-add-names`, `disambiguate-add-givenname`).
+-- - Forms of the citation are a node's if they are of exactly its variables as written, in its
+--   order, before editors and translators are merged (`forms_for`). Then its first list has their
+--   first list of forms, and so on, and none if there are fewer, whatever its options set for forms
+--   and limits. Under any other citation state the forms are its own: each name has the default
+--   form, or none if it is left out (`own_forms`).
+-- - The forms that a node uses (`forms_in`) are the citation's as they are, or its own with the
+--   default form and the node's variables. They are *kept* in the state if none are kept yet. Names
+--   that are counted keep none (`keeping_by`).
 use Rattle.std.specs.Prelude.{Bool, not, List, Option, Some, None, if◌then◌else◌}
 use Rattle.std.specs.Option.{unwrap_or, option_or}
 use Rattle.csl_style.specs.declared.names.NameForm.{NameForm}
@@ -20,7 +27,7 @@ forms_for vs (names p) = if same_variables p.variables vs then Some p else None
 forms_for vs choose = None
 forms_for vs (suffix n) = None
 
--- those that the options give to the names of each list
+-- the forms that the options give to the names of each list
 abbrev pub own_forms : List NameVariable → UsedOptions → Bool → Lists → NameProperties
 own_forms vs o later ls = record { default_form = default_form o; variables = vs; lists = default_forms o later ls }
 

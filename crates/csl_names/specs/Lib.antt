@@ -1,3 +1,5 @@
+-- The definitions that the contracts of `csl_names` cite: how one name, a list of names and the
+-- lists of a names node are written.
 pub mod Piece
 pub mod OneName
 pub mod Ways

@@ -1,5 +1,7 @@
--- How a list of names is written by a style (CSL 1.0.2, Name, Et-al): what the Name, the options
--- and the terms of the style say.
+-- How a style writes a list of names (CSL 1.0.2, Name; Et-al). The word before the last name is
+-- `&`, or the long term `and`, or nothing if the style lacks the term (`and_word`). `et al.` is the
+-- long form of the term that the Et-al names. Delimiter, rules and order come from the options
+-- (`list_way`, `list_in`).
 use Rattle.std.specs.Prelude.{ℕ, Bool, false, List, [], Option, Some, None, codes, is_some, unwrap_or}
 use Rattle.lit_model.specs.Person.{Named}
 use Rattle.csl_style.specs.declared.names.NameAnd.{NameAnd}
@@ -38,10 +40,10 @@ list_way style sorting name o et_al variable = record {
   et_al_formatting = et_al.formatting;
 }
 
--- the same in a context
+-- how a list of names is written in a context
 abbrev pub list_in : {T : Type 0} → Now T → NameNode → UsedOptions → EtAlNode → NameVariable → ListHow
 list_in now name o et_al variable = list_way now.style (is_some now.sorting) name o et_al variable
 
--- the context behind a list of names
+-- the context after a list of names
 abbrev pub with_name_list : {T : Type 0} → NameNode → UsedOptions → EtAlNode → NameVariable → List Named → Forms → Now T → Now T
 with_name_list name o et_al variable persons forms now = with_names (list_in now name o et_al variable) persons forms now

@@ -1,7 +1,8 @@
--- A list of names (CSL 1.0.2, Name: and, delimiter, delimiter-precedes-et-al,
--- delimiter-precedes-last, et-al-use-last,
--- name-as-sort-order; Et-al): which names are shown, what stands before each, and what stands for
--- those that are left out.
+-- A list of names (CSL 1.0.2, Name: `and`, `delimiter`, `delimiter-precedes-et-al`,
+-- `delimiter-precedes-last`, `et-al-use-last`, `name-as-sort-order`; Et-al) has persons, and a form
+-- or none for each place (`Forms`). It is a list of pieces too (`name_list`): the names, and what
+-- replaces those that are left out. A gap of the list sees all of the innermost open part, also
+-- what is before the list.
 use Rattle.std.specs.Prelude.{ℕ, ◌+◌, ◌-◌, Bool, true, false, ◌&&◌, ◌==◌, nat_lt, nat_le, min, List, [], ◌∷◌, ◌++◌, length, Option, Some, None, option_map, is_none, slice_get, codes, if◌then◌else◌}
 use Rattle.std.specs.List.{position}
 use Rattle.lit_model.specs.Person.{Named}
@@ -22,10 +23,9 @@ use Rattle.csl_names.specs.Piece.{Piece, word, gap, whole, with_pieces}
 use Rattle.csl_names.specs.OneName.{NameHow, name_how, name_content}
 
 -- The variable; how each name is written; what stands between two names; the word before the last
--- one, where there is to be one; when
--- a delimiter stands before that word and before `et al.`; whether the last name is kept; which
--- names begin with the family name; the
--- text of `et al.`, where the style has one, and its formatting.
+-- one, where there is to be one; when a delimiter stands before that word and before `et al.`;
+-- whether the last name is kept; which names begin with the family name; the text of `et al.`,
+-- where the style has one, and its formatting.
 pub record ListHow : Type 0 where
   pub variable : NameVariable
   pub name : NameHow
@@ -53,6 +53,9 @@ list_how s = record {
 }
 
 -- ---- who is shown
+-- The names up to the first place without a form (`names_from`). There may be fewer forms than
+-- persons, or more. Each name is in an element of its own, with the variable and the place
+-- (`one_whole`), and its gaps see that name alone.
 
 -- the form of each name: one without a form is left out
 abbrev pub Forms : Type 0
@@ -66,7 +69,7 @@ form_or_none (Some form) = form
 abbrev pub form_at : Forms → ℕ → Option DisambiguatedNameForm
 form_at forms place = form_or_none (slice_get forms place)
 
--- the place of the first name that is said to be left out, if one is
+-- the place of the first name that the forms leave out, if any
 abbrev pub first_absent : Forms → Option ℕ
 first_absent forms = position (λ form. is_none form) forms
 
@@ -76,6 +79,8 @@ whole_count None count = Some count
 whole_count (Some place) count = None
 
 -- ---- order
+-- A *reversed* name begins with its family name: every name under `All`, the one at place 0 under
+-- `First`.
 
 -- the name at a place begins with the family name
 abbrev pub is_reversed : Option NameAsSortOrder → ℕ → Bool
@@ -83,15 +88,21 @@ is_reversed None place = false
 is_reversed (Some First) place = place == 0
 is_reversed (Some All) place = true
 
--- every name does
+-- whether every name begins with the family name
 abbrev pub is_all : Option NameAsSortOrder → Bool
 is_all None = false
 is_all (Some First) = false
 is_all (Some All) = true
 
--- ---- what stands before a name
+-- ---- before a name
+-- Before each name but the first is the delimiter (`join`). Before the last name of a list that is
+-- shown whole, if there is an `and`, are the delimiter or a space, the word, and a gap
+-- (`last_join`).
+-- A delimiter precedes the word or `et al.` (`precedes`) under `Always`; never under `Never`; under
+-- `Contextual` after two names or more; under `AfterInvertedName` if a name is shown and the last
+-- one shown is reversed.
 
--- a delimiter stands behind this many names, of which this many are shown
+-- whether a delimiter follows this many names, of which `shown` are shown
 abbrev pub precedes : DelimiterBehavior → Option NameAsSortOrder → ℕ → ℕ → Bool
 precedes Contextual order names shown = nat_le 2 names
 precedes AfterInvertedName order names shown = nat_lt 0 shown && is_reversed order (shown - 1)
@@ -101,8 +112,8 @@ precedes Never order names shown = false
 abbrev pub delimiter_of : ListHow → Piece
 delimiter_of how = word how.delimiter plain
 
--- before the last name at a place: the word behind a delimiter or a space, and a gap; the
--- delimiter, where there is no word
+-- the pieces before the last name: a delimiter or a space, the word and a gap; the delimiter where
+-- there is no word
 abbrev pub last_join : ListHow → ℕ → Option (List ℕ) → List Piece
 last_join how place None = delimiter_of how ∷ []
 last_join how place (Some and) =
@@ -113,7 +124,7 @@ abbrev pub is_last : Option ℕ → ℕ → Bool
 is_last None place = false
 is_last (Some count) place = place + 1 == count
 
--- before the name at a place; `ends` is the number of names, where all are shown
+-- the pieces before the name at a place; `ends` is the number of names, where all are shown
 abbrev pub join : ListHow → Option ℕ → ℕ → List Piece
 join how ends place =
     if nat_lt 0 place then (if is_last ends place then last_join how place how.and_word else delimiter_of how ∷ []) else []
@@ -124,7 +135,7 @@ join how ends place =
 abbrev pub one_whole : Inherited → ListHow → DisambiguatedNameForm → Bool → ℕ → Named → Piece
 one_whole inh how form reversed place p = whole (boxed None (Some (of_name how.variable place)) (name_content how.name form reversed p inh))
 
--- a name that has a form, and those behind it; nothing, where it has none
+-- a name that has a form, and the pieces after it; nothing if it has none
 abbrev pub from_form : Inherited → ListHow → Option ℕ → ℕ → Named → List Piece → Option DisambiguatedNameForm → List Piece
 from_form inh how ends place p behind None = []
 from_form inh how ends place p behind (Some form) =
@@ -136,9 +147,15 @@ names_from inh how ends forms place [] = []
 names_from inh how ends forms place (p ∷ ps) =
     from_form inh how ends place p (names_from inh how ends forms (place + 1) ps) (form_at forms place)
 
--- ---- what stands for those that are left out
+-- ---- after the names
+-- If the forms leave a name out, the list ends with more pieces (`list_end`). With et-al-use-last
+-- and a form at the last place (`last_form`): the delimiter, an ellipsis and a space, and the last
+-- person in that form, with that person's place, reversed only under `All` (`kept_last`).
+-- Else, unless a sort key is made or the style lacks the term (`others`): the delimiter, if it
+-- precedes by the place of the first name left out and the persons before it, without the
+-- formatting of `et al.`; then a gap and the term in that formatting.
 
--- `et al.`, behind this many names, of which this many are shown
+-- `et al.` after this many names, of which `shown` are shown
 abbrev pub others : ListHow → ℕ → ℕ → Option (List ℕ) → List Piece
 others how names shown None = []
 others how names shown (Some term) =
@@ -149,7 +166,7 @@ others how names shown (Some term) =
 abbrev pub ellipsis : List ℕ
 ellipsis = 226 ∷ 128 ∷ 166 ∷ 32 ∷ []
 
--- the last name behind an ellipsis
+-- the last name, after the delimiter and an ellipsis
 abbrev pub kept_last : Inherited → ListHow → List Named → DisambiguatedNameForm → Option Named → List Piece
 kept_last inh how persons form None = []
 kept_last inh how persons form (Some p) =
@@ -159,8 +176,8 @@ kept_last inh how persons form (Some p) =
 abbrev pub last_form : ListHow → Forms → Option DisambiguatedNameForm
 last_form how forms = if how.use_last then form_at forms (length forms - 1) else None
 
--- behind the names, of which that at a place is the first without a form; a sort key has no `et
--- al.`
+-- the pieces after the names, of which the one at place `names` is the first without a form; a sort
+-- key has no `et al.`
 abbrev pub cut_end : Inherited → ListHow → ℕ → Forms → List Named → Option DisambiguatedNameForm → List Piece
 cut_end inh how names forms persons (Some form) = kept_last inh how persons form (slice_get persons (length persons - 1))
 cut_end inh how names forms persons None = if how.name.sorting then [] else others how names (min names (length persons)) how.et_al
@@ -176,8 +193,8 @@ name_list inh how persons forms =
     names_from inh how (whole_count (first_absent forms) (length persons)) forms 0 persons
     ++ list_end inh how forms persons (first_absent forms)
 
--- a context behind one name, and behind the list: a gap of the list looks at what is written in the
--- innermost open part
+-- the context after one name, and after the list; a gap of the list sees all of the innermost open
+-- part
 abbrev pub with_whole : {T : Type 0} → ListHow → DisambiguatedNameForm → Bool → ℕ → Named → Now T → Now T
 with_whole how form reversed place p now = with_pieces (one_whole now.inherited how form reversed place p ∷ []) now
 

@@ -1,5 +1,5 @@
--- What a names node writes of its lists (CSL 1.0.2, Names; Label in Names; Affixes; Display; Name:
--- form).
+-- The content of a names node that has persons, and the state that it leaves (CSL 1.0.2, Names;
+-- Label in Names; Affixes; Display; Name, `form`).
 use Rattle.std.specs.Prelude.{ℕ, ◌+◌, Bool, true, false, not, ◌&&◌, ◌||◌, ◌==◌, List, [], ◌∷◌, length, Option, Some, None, slice_get, decimal, if◌then◌else◌}
 use Rattle.std.specs.Option.{unwrap_or, option_or}
 use Rattle.lit_model.specs.Person.{Named}
@@ -26,8 +26,11 @@ use Rattle.csl_names.specs.NamesForms.{count_of, counted}
 use Rattle.csl_names.specs.KeptForms.{forms_in, keeping_by}
 
 -- ---- how the lists are written
+-- The first Name, Et-al and Label among the children count. Options are those of the Name over
+-- those of the node over the inherited ones. Between two lists is the names delimiter of the Name,
+-- else the delimiter of the node, else that of the node's options over the inherited ones.
 
--- the name, its options, et al., the label, and what stands between two lists
+-- the name, its options, et al., the label, and the delimiter between two lists
 pub record NamesHow : Type 0 where
   pub name : NameNode
   pub options : UsedOptions
@@ -38,7 +41,7 @@ pub record NamesHow : Type 0 where
 abbrev pub name_of : NamesNode → NameNode
 name_of n = unwrap_or (first_name n) default_name
 
--- those of the name count first, then those of the node, then the inherited ones
+-- the options that are set: those of the name, over those of the node, over the inherited ones
 abbrev pub set_options : NamesNode → SetOptions → SetOptions
 set_options n inherited = options_over (name_of n).options (options_over n.options inherited)
 
@@ -57,8 +60,12 @@ names_how n inherited = record {
 }
 
 -- ---- labels
+-- The label of a list is the affixed term of its variable, in the label's formatting, in the plural
+-- unless there is one person. Only the term is stripped. Nothing is written if the style lacks the
+-- term, or while a sort key is made. A label is after the names if a name child comes before it. It
+-- has no box.
 
--- the affixed term of a label in its formatting, of which the term alone is stripped
+-- what the term of a label inherits: the label's formatting, and stripping of the term alone
 abbrev pub in_label : LabelNode → Inherited → Inherited
 in_label l inh = record (under l.formatting inh) { stripping = l.strip_periods || inh.stripping }
 
@@ -70,24 +77,27 @@ label_content l term inh = affixed_in (under l.formatting inh) l.affixes (text_i
 abbrev pub list_term : StyleParts → LabelNode → NameVariable → ℕ → Option (List ℕ)
 list_term style l v count = term_in style (terms.Name v) l.form (not (count == 1))
 
--- the label, where it stands on that side and no sort key is made
+-- the label, if it is on this side and no sort key is made
 abbrev pub label_on : Bool → Bool → Option NamesLabel → Option LabelNode
 label_on sorting behind None = None
 label_on true behind (Some l) = None
 label_on false true (Some l) = if l.is_behind then Some l.label else None
 label_on false false (Some l) = if l.is_behind then None else Some l.label
 
--- behind what is written, a label; nothing where the style lacks the term
+-- what is written, with a label after it, unless the style lacks the term
 abbrev pub with_term : LabelNode → Option (List ℕ) → Inherited → List Token → List Token
 with_term l None inh ts = ts
 with_term l (Some term) inh ts = ts ++> label_content l term inh
 
--- the same, if there is a label
+-- what is written, with a label after it, if there is one
 abbrev pub with_label : StyleParts → Option LabelNode → NameVariable → ℕ → Inherited → List Token → List Token
 with_label style None v count inh ts = ts
 with_label style (Some l) v count inh ts = with_term l (list_term style l v count) inh ts
 
 -- ---- lists
+-- A list is the label before it, the names in the formatting of the Name, and the label after it
+-- (`with_one`). A list that is empty or has no forms is left out, and takes no delimiter
+-- (`with_lists`).
 
 -- a list that is empty, or has no forms, is left out
 abbrev pub is_skipped : List Named → Option Forms → Bool
@@ -96,7 +106,7 @@ is_skipped [] (Some forms) = true
 is_skipped (p ∷ ps) (Some forms) = false
 
 module _ (style : StyleParts) (sorting : Bool) (how : NamesHow) (inh : Inherited) where
-  -- behind what is written, the names of a list, in the formatting of the name
+  -- what is written, with the names of a list after it, in the formatting of the name
   abbrev pub with_list : List Named → NameVariable → Forms → List Token → List Token
   with_list persons v forms ts =
       written (under how.name.formatting inh)
@@ -110,7 +120,7 @@ module _ (style : StyleParts) (sorting : Bool) (how : NamesHow) (inh : Inherited
       (with_label style (label_on sorting false how.label) v (length persons) inh
       (if first then ts else ts ++> text_in inh how.delimiter)))
 
-  -- unless it is left out
+  -- a list after what is written, unless it is left out
   abbrev pub with_one_if : Bool → List Named → NameVariable → Option Forms → List Token → List Token
   with_one_if first persons v None ts = ts
   with_one_if first [] v (Some forms) ts = ts
@@ -124,6 +134,9 @@ module _ (style : StyleParts) (sorting : Bool) (how : NamesHow) (inh : Inherited
       (with_one_if first l.0 l.1 (slice_get forms place) ts)
 
 -- ---- the node
+-- A box of the node's display, in its formatting, around the affixes and what is between them: the
+-- lists in their forms, or, if the form is the count, the number of names, whatever forms the
+-- citation has. The box has the lists as its meta. After it the forms are kept (`names_state`).
 
 -- what is inherited inside a node's box
 abbrev pub inside : Dressing → Inherited → Inherited
@@ -135,7 +148,7 @@ written_by Count style sorting cite vs how ls inh = text_in inh (decimal (counte
 written_by Short style sorting cite vs how ls inh = with_lists style sorting how inh true 0 (forms_in cite vs how.options ls).lists ls []
 written_by Long style sorting cite vs how ls inh = with_lists style sorting how inh true 0 (forms_in cite vs how.options ls).lists ls []
 
--- which node the box is said to be
+-- the meta of a names node's box
 abbrev pub lists_meta : Lists → Option Meta
 lists_meta ls = Some (of_names ls)
 
@@ -146,7 +159,7 @@ names_content style sorting cite n ls inh = boxed n.dressing.display (lists_meta
     (affixed_in (inside n.dressing inh) n.dressing.affixes
     (written_by (names_how n inh.options).options.form style sorting cite n.variables (names_how n inh.options) ls (inside n.dressing inh)))
 
--- the state behind it: the first names that are not counted keep their forms
+-- the state after the node: the first names that are not counted keep their forms
 abbrev pub names_state : CiteState → NamesNode → Lists → Inherited → State → State
 names_state cite n ls inh s =
     keeping_by (names_how n inh.options).options.form (forms_in cite n.variables (names_how n inh.options).options ls) s

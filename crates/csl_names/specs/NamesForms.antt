@@ -1,6 +1,16 @@
--- In which form each name of a names node is written, which are left out, and when none is written
--- (CSL 1.0.2, Name: form,
--- initialize, et-al-min and those after it).
+-- The forms of a node's names, and when none is written (CSL 1.0.2, Name: `form`, `initialize`,
+-- `et-al-min` and those after it).
+-- - The *default form* is the count if the options ask for it, else the short or the long one. It
+--   has initials if the options set `initialize-with` and initialize is on (`default_form`). A name
+--   has the default form, or none if it is left out, in a first cite or a later one (`form_in`,
+--   `default_forms`).
+-- - *The count* is the number of names of all lists that are not left out (`count_of`). The number
+--   that is printed stops at 2^64 - 1.
+-- - A node is *void* (`is_void`) if it has no persons. It is also void if each of its name
+--   children, or the default one where it has none, leaves out all names of all lists: by its
+--   options over those of the node alone, et-al-min and et-al-use-first are set, the latter is 0,
+--   and each list has at least et-al-min persons. In a dry run these are the lists of silent looks,
+--   editors and translators merged.
 use Rattle.std.specs.Prelude.{ℕ, ◌+◌, Bool, false, not, ◌&&◌, ◌||◌, ◌==◌, nat_le, min, List, [], ◌∷◌, map, length, count_by, Option, Some, None, is_some, if◌then◌else◌}
 use Rattle.std.specs.List.{list_all, range_with_len}
 use Rattle.csl_style.specs.declared.names.NameForm.{NameForm}
@@ -27,8 +37,8 @@ form_by Long initialized = if initialized then forms.LongInitialized else forms.
 abbrev pub default_form : UsedOptions → DisambiguatedNameForm
 default_form o = form_by o.form (is_initialized o)
 
--- the form of the name at a place of a list so long, in a first or in a later cite; a name that is
--- left out has none
+-- the form of the name at a place of a list of this length, in a first or a later cite; a name that
+-- is left out has none
 abbrev pub form_in : UsedOptions → Bool → ℕ → ℕ → Option DisambiguatedNameForm
 form_in o later len place = if is_suppressed o place len later then None else Some (default_form o)
 
@@ -40,11 +50,11 @@ default_forms o later ls = map (λ l. list_forms o later (length l.0)) ls
 
 -- ---- counts
 
--- the number of names of a list so long that are not left out
+-- the number of names of a list of this length that are not left out
 abbrev pub shown_count : UsedOptions → Bool → ℕ → ℕ
 shown_count o later len = count_by (λ place. not (is_suppressed o place len later)) (range_with_len 0 len)
 
--- of all lists together
+-- the number of names of all lists that are not left out
 abbrev pub count_of : UsedOptions → Bool → Lists → ℕ
 count_of o later [] = 0
 count_of o later (l ∷ ls) = shown_count o later (length l.0) + count_of o later ls

@@ -1,5 +1,10 @@
--- The lists of persons of a names node, one for each of its variables (CSL 1.0.2, Names; Name
--- Variables: editortranslator).
+-- The lists of a names node (CSL 1.0.2, Names; Name Variables, `editortranslator`): persons for
+-- each of its variables, in their order. If the variables are the editors and the translators
+-- alone, in either order, and the style has the long term for who is both (`merges`), the lists are
+-- the editors and then the translators. Of these an empty list is dropped, and two that show the
+-- same persons are one list of the variable of both (`merged`).
+-- A dry run looks for the lists silently (`found_lists`). For printing each look counts for the
+-- next ones (`printed_lists`), and `lists_state` is the state after all of them.
 use Rattle.std.specs.Prelude.{Bool, true, false, ◌&&◌, ◌||◌, List, [], ◌∷◌, is_some, if◌then◌else◌}
 use Rattle.std.specs.List.{list_all}
 use Rattle.std.specs.Cmp.Lexicographic.{pointwise}
@@ -32,11 +37,12 @@ all_empty ls = list_all (λ l. has_none l.0) ls
 abbrev pub same_variables : List NameVariable → List NameVariable → Bool
 same_variables = pointwise (sameb the_type)
 
--- these two alone, in either order
+-- the variables are the editors and the translators alone, in either order
 abbrev pub is_pair : List NameVariable → Bool
 is_pair vs = same_variables vs (Editor ∷ Translator ∷ []) || same_variables vs (Translator ∷ Editor ∷ [])
 
--- they may be one list: the style has a term for who is both
+-- editors and translators may be one list: the node has these two alone, and the style has a term
+-- for who is both
 abbrev pub merges : StyleParts → List NameVariable → Bool
 merges style vs = is_some (term_in style (terms.Name EditorTranslator) Long false) && is_pair vs
 
@@ -51,7 +57,7 @@ merged (e ∷ es) (t ∷ ts) =
 -- ---- the lists of a node
 
 module _ (w : World) where
-  -- by silent looks
+  -- the list of each variable, by silent looks
   abbrev pub each_found : State → List NameVariable → Lists
   each_found s [] = []
   each_found s (v ∷ vs) = (name_look w s v, v) ∷ each_found s vs
@@ -59,7 +65,8 @@ module _ (w : World) where
   abbrev pub found_lists : State → List NameVariable → Lists
   found_lists s vs = if merges w.style vs then merged (name_look w s Editor) (name_look w s Translator) else each_found s vs
 
-  -- by looks for printing, each of which may suppress its variable for those after it
+  -- the list of each variable, by looks for printing, each of which may suppress its variable for
+  -- the next ones
   abbrev pub each_printed : State → List NameVariable → Lists
   each_printed s [] = []
   each_printed s (v ∷ vs) = (name_look w s v, v) ∷ each_printed (looked (variable.Name v) s) vs

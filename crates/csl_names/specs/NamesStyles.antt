@@ -1,4 +1,4 @@
--- How the lists of a names node are written, as the code borrows it from the style.
+-- The style of a node's lists as plain data, from the values that the code borrows.
 use Rattle.std.specs.Prelude.{option_map}
 use Rattle.csl_style.specs.Names.{view_name, view_et_al}
 use Rattle.csl_style.specs.NameOptions.{used_options}

@@ -1,6 +1,9 @@
--- One name: its texts and gaps (CSL 1.0.2, Name; Name-part; name-as-sort-order;
--- demote-non-dropping-particle; initialize-with;
--- sort-separator).
+-- One name (CSL 1.0.2, Name; Name-part; `name-as-sort-order`, `demote-non-dropping-particle`,
+-- `initialize-with`, `sort-separator`) is a list of pieces (`one_name`). It depends on the form, on
+-- whether the name is reversed, and on how it is written (`NameHow`): the two parts with their
+-- formattings and affixes, the separator, the text after initials, whether these keep a hyphen,
+-- whether a particle is demoted, and whether a sort key is made. `name_content` is the content of
+-- these pieces alone, so its gaps see only this name.
 use Rattle.std.specs.Prelude.{ℕ, Bool, true, false, ◌||◌, List, [], ◌∷◌, ◌++◌, Option, Some, None, option_map, if◌then◌else◌}
 use Rattle.lit_model.specs.Person.{Named}
 use Rattle.lit_model.specs.Name.{is_institutional, is_cjk, name_particle, name_without_particle, name_without_article}
@@ -31,9 +34,9 @@ part_how p = record {
   affixes = record { prefix = option_map (λ t. t.now) p.prefix; suffix = option_map (λ t. t.now) p.suffix };
 }
 
--- The two parts; what stands behind a family name that comes first; what follows an initial, where
--- given names are cut down;
--- whether initials keep a hyphen; whether a particle goes behind; whether a sort key is made.
+-- The two parts; the separator after a family name that comes first; the text after an initial, if
+-- given names are shortened; whether initials keep a hyphen; whether a particle is demoted; whether
+-- a sort key is made.
 pub record NameHow : Type 0 where
   pub given : PartHow
   pub family : PartHow
@@ -55,6 +58,11 @@ name_how s = record {
 }
 
 -- ---- its words
+-- A *part* is its prefix and a text, both in the part's formatting, and then its suffix outside of
+-- that. The *given block* is the given part's prefix, the first name, a gap and the person's
+-- prefix, in the given part's formatting. The *first name* is the given name as it is. With
+-- `initialize-with` it is its initials in the form `LongInitialized`, and in any other form the
+-- name with its single letters marked.
 
 -- a text as a part of a name: the prefix and it in the part's formatting, the suffix outside
 abbrev pub part_text : PartHow → List ℕ → List Piece
@@ -62,7 +70,7 @@ part_text part name =
     optional_word part.affixes.prefix part.formatting
     ++ (word name part.formatting ∷ optional_word part.affixes.suffix plain)
 
--- a text behind the separator, if there is one
+-- the separator and a text, if there is one
 abbrev pub separated_word : List ℕ → Option (List ℕ) → List Piece
 separated_word separator None = []
 separated_word separator (Some bs) = word separator plain ∷ word bs plain ∷ []
@@ -89,13 +97,13 @@ abbrev pub given_word : NameHow → DisambiguatedNameForm → Named → List Pie
 given_word how form p =
     optional_word (option_map (given_text how.initialize_with how.hyphen form) p.given_name) how.given.formatting
 
--- the given name and what stands before the family name, in the given part's formatting
+-- the given name and the person's prefix, in the given part's formatting
 abbrev pub given_block : NameHow → DisambiguatedNameForm → Named → List Piece
 given_block how form p =
     optional_word how.given.affixes.prefix how.given.formatting
     ++ (given_word how form p ++ spaced_word p.prefix how.given.formatting)
 
--- the name as it comes first, and the particle that goes behind
+-- the name as it comes first, and the demoted particle
 abbrev pub front_of : NameHow → Named → List ℕ
 front_of how p = if how.demotes then name_without_particle p.name else p.name
 
@@ -103,6 +111,20 @@ abbrev pub particle_of : NameHow → Named → Option (List ℕ)
 particle_of how p = if how.demotes then name_particle p.name else None
 
 -- ---- its shapes
+-- The first case that fits counts.
+-- - An institution in sorting: its name without article in the family part's formatting, without
+--   affixes. Any other institution: the family part of its name.
+-- - A form without given names: the family part of the name alone.
+-- - A name in a Chinese, Japanese or Korean script: both parts without a gap, the family part
+--   first.
+-- - In sorting, or reversed: the family part of the name without a demoted particle; if there is a
+--   given name, the separator, the given block, a gap and the demoted particle, and the given
+--   suffix; then the separator and the suffix of the person.
+-- - Else: the given block and the given suffix, a gap, the family prefix and the name, the suffix
+--   of the person after a gap (and after the separator if it wants a comma), the family suffix.
+-- A text that a person lacks takes along the gap and the separator before it. So without a given
+-- name a demoted particle is dropped. The given part's affixes stay without a given name where that
+-- would come first, but not where it would come second.
 
 -- what follows a family name that comes first, where there is a given name
 abbrev pub given_behind : NameHow → DisambiguatedNameForm → Named → Option (List ℕ) → List Piece
@@ -117,7 +139,7 @@ family_first how form p =
     part_text how.family (front_of how p)
     ++ (given_behind how form p p.given_name ++ separated_word how.separator p.suffix)
 
--- the suffix of a person, behind the separator where it wants a comma
+-- the suffix of a person, after the separator if it wants a comma
 abbrev pub suffix_behind : NameHow → Bool → Option (List ℕ) → List Piece
 suffix_behind how comma None = []
 suffix_behind how true (Some bs) = word how.separator plain ∷ gap plain ∷ word bs plain ∷ []
@@ -156,6 +178,6 @@ one_name how form reversed p =
     if is_institutional p then institution how p
     else (if shows_given_name form then long_name how form reversed p else part_text how.family p.name)
 
--- its content, in a place that inherits this: the gaps see this name alone
+-- the content of one name, in a place that inherits this: the gaps see this name alone
 abbrev pub name_content : NameHow → DisambiguatedNameForm → Bool → Named → Inherited → List Token
 name_content how form reversed p inh = written inh (one_name how form reversed p) []

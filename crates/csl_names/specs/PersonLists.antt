@@ -1,4 +1,4 @@
--- Lists of persons as code holds them, seen as lists of names.
+-- Lists of persons with their variables, as plain data.
 use Rattle.std.specs.Prelude.{List, map}
 use Rattle.std.specs.declared.alloc.Global.{Global}
 use Rattle.std.specs.declared.borrow.Cow.{Cow}

@@ -1,5 +1,8 @@
--- A text that is read from the left: its texts, the gaps between them, and contents that stand as
--- they are (CSL 1.0.2, Name).
+-- A name, or a list of names, is a list of pieces, read from the left: a text in a formatting over
+-- that of its place (`word`), a space unless there is no text yet or the text ends in white space
+-- (`gap`), and a content as it is (`whole`). Only `then_piece`, which appends a piece, knows what
+-- is written before it; any other definition of names is a plain list. Under stripping, texts lose
+-- their periods, as all texts of a context do (CSL 1.0.2, Name).
 use Rattle.std.specs.Prelude.{ℕ, List, [], ◌∷◌, Option, Some, None}
 use Rattle.csl_style.specs.declared.formatting.Formatting as partial
 use Rattle.csl_tree.specs.Formatting.{over}
@@ -27,7 +30,7 @@ then_piece inh ts (word bs p) = ts ++> text_in (under p inh) bs
 then_piece inh ts (gap p) = ts ++> text_in (under p inh) (gap_after ts)
 then_piece inh ts (whole more) = ts ++> more
 
--- pieces behind what is written
+-- what is written, and then pieces
 abbrev pub written : Inherited → List Piece → List Token → List Token
 written inh [] ts = ts
 written inh (p ∷ ps) ts = written inh ps (then_piece inh ts p)
@@ -41,7 +44,7 @@ abbrev pub optional_word : Option (List ℕ) → partial.Formatting → List Pie
 optional_word None p = []
 optional_word (Some bs) p = word bs p ∷ []
 
--- a text behind a gap, if there is one
+-- a gap and a text, if there is one
 abbrev pub spaced_word : Option (List ℕ) → partial.Formatting → List Piece
 spaced_word None p = []
 spaced_word (Some bs) p = gap p ∷ word bs p ∷ []

@@ -1,6 +1,8 @@
--- How a name is written by a style: what a Name, the options of names, the style's settings and
--- sorting say (CSL 1.0.2, Name;
--- Name-part; demote-non-dropping-particle; initialize-with-hyphen).
+-- How a style writes one name (CSL 1.0.2, Name; Name-part; `demote-non-dropping-particle`,
+-- `initialize-with-hyphen`). The first part of each sort in a Name counts, else a part that sets
+-- nothing (`part_in`). A particle is demoted always, only in sorting, or never, by the style's
+-- setting (`demotes`). The separator and `initialize-with` come from the options (`name_way`,
+-- `way_in`).
 use Rattle.std.specs.Prelude.{Bool, true, false, Option, Some, None, is_some}
 use Rattle.lit_model.specs.Person.{Named}
 use Rattle.csl_style.specs.declared.names.NamePartName.{NamePartName}
@@ -15,7 +17,7 @@ use Rattle.csl_entry.specs.declared.name_form.DisambiguatedNameForm.{Disambiguat
 use Rattle.csl_context.specs.Now.{Now, with_content}
 use Rattle.csl_names.specs.OneName.{PartHow, NameHow, name_content}
 
--- a part as it is said, or one of which nothing is said
+-- a part as the Name sets it, or one that sets nothing
 abbrev pub part_said : Option NamePartNode → PartHow
 part_said None = record { formatting = plain; affixes = record { prefix = None; suffix = None } }
 part_said (Some p) = record { formatting = p.formatting; affixes = p.affixes }
@@ -24,7 +26,7 @@ part_said (Some p) = record { formatting = p.formatting; affixes = p.affixes }
 abbrev pub part_in : NamePartName → NameNode → PartHow
 part_in which name = part_said (first_part which name)
 
--- a particle goes behind a family name that comes first
+-- whether a particle is demoted, by the style's setting
 abbrev pub demotes : DemoteNonDroppingParticle → Bool → Bool
 demotes DisplayAndSort sorting = true
 demotes SortOnly sorting = sorting
@@ -42,7 +44,7 @@ name_way settings sorting name o = record {
   sorting = sorting;
 }
 
--- the same in a context
+-- how a name is written in a context
 abbrev pub way_in : {T : Type 0} → Now T → NameNode → UsedOptions → NameHow
 way_in now name o = name_way now.style.settings (is_some now.sorting) name o
 

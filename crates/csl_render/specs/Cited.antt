@@ -1,4 +1,5 @@
--- What a style makes of the first cite of an entry, where nothing was written before.
+-- A style's rendering of a first cite without disambiguation (`cited`): the content of its citation
+-- layout in a new context. The cite is not sorted, and the whole of it is shown.
 use Rattle.std.specs.Prelude.{List, None}
 use Rattle.csl_style.specs.declared.style.settings.Scope.TheVariants.{Citation}
 use Rattle.csl_style.specs.Node.{fill_layout}
@@ -18,7 +19,7 @@ first_world style answers = record {
   instance = record { answers = answers; cite = first_cite nothing; sorting = None; special = None };
 }
 
--- the content that the citation layout makes
+-- the content of the citation layout in a new context
 abbrev pub cited : StyleParts → Answers → List Token
 cited style answers =
     (layout_tree (first_world style answers) (fill_layout (env style) (view_layout style.citation)) (base_inherited style Citation) no_state).content

@@ -1,3 +1,5 @@
+-- The definitions that the contracts of `csl_render` cite: what any node, and a layout, returns in
+-- a dry run and renders.
 pub mod Names
 pub mod Tree
 pub mod Rendering

@@ -1,5 +1,6 @@
--- Names (CSL 1.0.2, Names; Substitute; Label in Names; Name: et-al-min and those after it): what a
--- names node says, shows and makes.
+-- Names (CSL 1.0.2, Names; Substitute; Label in Names; Name, `et-al-min` and those after it): the
+-- dry run of a names node, the variables that it shows, and its content and state. Its lists and
+-- their content are those of `csl_names`.
 use Rattle.std.specs.Prelude.{ℕ, Bool, true, false, not, ◌&&◌, ◌||◌, List, [], Option, Some, None, is_some, if◌then◌else◌}
 use Rattle.std.specs.List.{list_any}
 use denote.Enum.Bare.{sameb}
@@ -41,6 +42,10 @@ is_of_names (variable.Name v) vs = has_variable v vs
 is_of_names (variable.Date v) vs = false
 
 -- ---- substitutes
+-- Of several substitutes the first one counts. Names without children directly in a substitute are
+-- rendered as their node in the place of the names around it (`in_place_of` of `csl_style`): with
+-- those names' name, et-al and label, with their affixes, formatting, delimiter and options where
+-- the node sets none, and without a substitute.
 
 -- a names node of the variable
 abbrev pub names_it : NameVariable → Full → Bool
@@ -59,12 +64,12 @@ abbrev pub any_names_it : NameVariable → Fulls → Bool
 any_names_it v none = false
 any_names_it v (more f fs) = names_it v f || any_names_it v fs
 
--- of the nodes that are chosen, if there are any
+-- whether one of the nodes that are chosen, if any, is a names node of the variable
 abbrev pub choice_names_it : NameVariable → Option Fulls → Bool
 choice_names_it v None = false
 choice_names_it v (Some fs) = any_names_it v fs
 
--- directly in the substitute stands a names node of the variable
+-- whether a names node of the variable is directly in the first substitute
 abbrev pub substitutes_it : NameVariable → Insteads → Bool
 substitutes_it v no_insteads = false
 substitutes_it v (instead fs is) = any_names_it v fs
@@ -73,13 +78,17 @@ substitutes_it v (instead fs is) = any_names_it v fs
 abbrev pub insteads_of : (List ℕ → Option Fulls) → Names → Insteads
 insteads_of env n = fill_substitutes env (names_node n) (names_substitutes n)
 
--- a node as it stands in the substitute of another one, where that is a names node without
--- children; else as it stands elsewhere
+-- a node in the substitute of another one: a names node without children is in that one's place,
+-- any other is as elsewhere
 abbrev pub standing_in : NamesNode → Full → Option NamesNode → Full
 standing_in original f None = f
 standing_in original f (Some own) = shorthand own (in_place_of original own)
 
 -- ---- special forms
+-- If only one variable is to be shown, names stay if it is one of theirs, or if they have no
+-- persons and names of it are directly in their substitute: not in a group, a choice or a macro
+-- there. The two forms for the first date and the year suffix leave no names. If the author is
+-- suppressed, names that show it are refused.
 
 -- Where one variable alone is to be shown, names of another one are refused; where there are no
 -- persons, those of the substitute count.
@@ -90,7 +99,7 @@ refuses_alone (variable.Page v) n empty is = true
 refuses_alone (variable.Name v) n empty is = not (has_variable v n.variables || (empty && substitutes_it v is))
 refuses_alone (variable.Date v) n empty is = true
 
--- a form that leaves no names; `shows_author` says that these would show the authors
+-- whether a special form refuses the names; `shows_author` is whether they would show the authors
 abbrev pub is_refused : Option SpecialForm → NamesNode → Bool → Insteads → Bool → Bool
 is_refused None n empty is shows_author = false
 is_refused (Some (VarOnly v)) n empty is shows_author = refuses_alone v n empty is
@@ -99,12 +108,18 @@ is_refused (Some OnlyYearSuffix) n empty is shows_author = true
 is_refused (Some SuppressAuthor) n empty is shows_author = shows_author
 
 -- ---- dry runs
+-- Names show a variable of theirs, and without persons also one that a child of their substitute
+-- shows. Refused names do not print and have no flags. All others call a variable. Names that are
+-- not void print, and are not empty. Void ones print if a child of the substitute does, with the
+-- flags of the children except the group flag. Names without children in a substitute have the dry
+-- run there that they have elsewhere.
 
--- a variable of its own, or where there are no persons one that the substitute would show
+-- names show a variable of theirs, or without persons one that the substitute would show
 abbrev pub names_show : Variable → NamesNode → Bool → Bool → Bool
 names_show v n empty substitute_shows = is_of_names v n.variables || (empty && substitute_shows)
 
--- Names that write no name print where the substitute does, and note what it notes.
+-- The dry run of names that are not refused. They call a variable; void ones print if the
+-- substitute does, with its flags.
 abbrev pub names_said : Bool → Info → Info
 names_said false sub = info_of true (flags true true false false)
 names_said true sub = info_of sub.prints (flags true sub.flags.non_empty sub.flags.used_macro false)
@@ -114,6 +129,15 @@ names_info special n ls is shows_author sub =
     if is_refused special n (all_empty ls) is shows_author then nothing_said else names_said (is_void n ls) sub
 
 -- ---- rendering
+-- The lists are what looks for printing find, from left to right. Refusal depends on these lists;
+-- it and the substitute use the state after those looks, which refused names leave.
+-- Names with persons are their content, and keep the forms of their names (`names_content` and
+-- `names_state` of `csl_names`). Names without persons are a box of their display, with the lists
+-- as its meta, around the children of the substitute, one after another, up to and including the
+-- one that brings a text, or all of them (`until_text` of `Tree`). Without a substitute nothing is
+-- made.
+-- The children inherit the names' formatting, the names' options over the inherited ones, and no
+-- affixes. Their looks suppress what they look up; after them looks do as they did before.
 
 -- what the children of a substitute inherit: no affixes
 abbrev pub in_substitute : NamesNode → Inherited → Inherited
@@ -133,7 +157,8 @@ abbrev pub own_made : World → NamesNode → Lists → Inherited → State → 
 own_made w n ls inh s =
     made (names_content w.style (is_some w.instance.sorting) w.instance.cite n ls inh) (names_state w.instance.cite n ls inh s)
 
--- in the state after the looks for these lists: nothing, what the substitute makes, or the lists
+-- the content of names, from the state after the looks for their lists: nothing, what the
+-- substitute makes, or the lists
 abbrev pub names_made : World → NamesNode → Lists → Bool → Inherited → Made → State → Made
 names_made w n ls refused inh sub s =
     if refused then made [] s else if all_empty ls then substitute_made n ls sub s else own_made w n ls inh s

@@ -1,5 +1,9 @@
--- What a layout makes of a cite, whatever its entry, that begins with what another rendering left
--- (CSL 1.0.2, Layout).
+-- What a layout *prints* of a cite that begins with the state of another rendering (CSL 1.0.2,
+-- Layout): the content and the state that it makes from that state, and the HTML of the content.
+-- Two entries, of one type or of two, are *alike* for a layout if they answer alike on all that it
+-- and the macros that it reaches name. Then the layout prints the same of both, in one style and
+-- cite and from one state: content, state and HTML. It may also print the same of entries that are
+-- not alike, because both forms of a title are compared and every branch counts, chosen or not.
 use Rattle.std.specs.Prelude.{◌≡◌, ℕ, List, Option}
 use Rattle.csl_style.specs.declared.element.Layout.{Layout}
 use Rattle.csl_style.specs.declared.style.settings.Scope.{Scope}
@@ -21,7 +25,7 @@ use Rattle.csl_context.specs.World.{World, env}
 use Rattle.csl_leaves.specs.Text.{Made}
 use Rattle.csl_render.specs.Tree.{layout_tree}
 
--- a cite of an entry that answers so
+-- the world of a cite of an entry with these answers
 abbrev pub citing : StyleParts → Scope → CiteState → Option Sorting → Option SpecialForm → Answers → World
 citing style scope cite sorting special answers = record {
   style = style;
@@ -29,7 +33,7 @@ citing style scope cite sorting special answers = record {
   instance = record { answers = answers; cite = cite; sorting = sorting; special = special };
 }
 
--- the same cite of another entry
+-- the world of a cite with the answers of another entry
 abbrev pub answered_by : Answers → World → World
 answered_by answers w = record w { instance = record w.instance { answers = answers } }
 

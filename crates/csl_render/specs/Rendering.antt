@@ -1,4 +1,6 @@
--- What can be rendered, and what each of the three calls makes of a context.
+-- What can be rendered, a layout or a node of one, and its three calls: dry run (`info_in`), shown
+-- variables (`shows_in`) and content (`tree_in`). A rendering appends the content to the innermost
+-- open part of a context and leaves the state. Nothing else of the context changes (`rendered`).
 use Rattle.std.specs.Prelude.{Bool}
 use Rattle.csl_style.specs.declared.taxonomy.Variable.{Variable}
 use Rattle.csl_style.specs.Node.{Full, FullLayout}
@@ -13,7 +15,7 @@ use Rattle.csl_leaves.specs.Flags.{Info, but_groups}
 use Rattle.csl_leaves.specs.Text.{Made, with_made}
 use Rattle.csl_render.specs.Tree.{info, infos, shows, any_shows, tree, layout_tree}
 
--- a layout, or a node that stands in one
+-- a layout, or a node of one
 pub data Rendering : Type 0 where
   whole : FullLayout → Rendering
   part : Full → Rendering
@@ -34,7 +36,7 @@ abbrev pub tree_in : World → Rendering → Inherited → State → Made
 tree_in w (whole l) inh s = layout_tree w l inh s
 tree_in w (part f) inh s = tree w f inh s
 
--- a context in whose innermost open part all is made anew
+-- a context whose innermost open part is replaced by a rendering
 abbrev pub with_all_made : {T : Type 0} → Made → Now T → Now T
 with_all_made m now = record now { inner = m.content; state = m.state }
 

@@ -1,5 +1,12 @@
--- What a node says in a dry run, what it shows, and what it makes (CSL 1.0.2, Rendering Elements;
--- Group; Layout; Macro; Choose; Names).
+-- The dry run of a node (`info`), the variables that it shows (`shows`), and its content and the
+-- state that it leaves (`tree`), for nodes with no macro name left (CSL 1.0.2, Rendering Elements;
+-- Group; Layout; Macro; Choose; Names). They read the world, the state and, for contents, what the
+-- node inherits.
+-- A text of a macro, a group and a layout show what a child shows. A choice has the dry run of the
+-- nodes that it takes, together, and shows what one of them shows. If it takes none, it does not
+-- print, has no flags and shows nothing.
+-- A layout is what its elements make one after another, in its formatting (`layout_tree`). No
+-- delimiter is between them: that of the layout is inherited by a choice directly in it.
 use Rattle.std.specs.Prelude.{ℕ, Bool, true, false, ◌||◌, List, [], Option, Some, None, if◌then◌else◌}
 use Rattle.csl_style.specs.declared.taxonomy.Variable.{Variable}
 use Rattle.csl_style.specs.Dressing.{AffixTexts, Dressing, TextDressing}
@@ -32,8 +39,12 @@ is_group (chosen cs) = false
 is_group (grouped delimiter d fs) = true
 
 -- ---- Delimited
+-- Of some nodes in order, those that print in the state that the earlier ones left are admitted.
+-- The first is in a box, each later one in a box with the delimiter before its own box, or in a box
+-- alone where there is no delimiter. A choice is the delimited nodes that it takes, under the
+-- inherited delimiter and without a box of its own; without such nodes it is nothing.
 
--- one child that is admitted, behind the delimiter unless it is the first
+-- one admitted child, after the delimiter unless it is the first
 abbrev pub admitted : Option (List ℕ) → Bool → Inherited → List Token → List Token
 admitted delimiter true inh c = boxed None None c
 admitted None false inh c = boxed None None c
@@ -43,6 +54,10 @@ abbrev pub admitted_made : Bool → Inherited → Made → Made
 admitted_made first inh m = made (admitted inh.delimiter first inh m.content) m.state
 
 -- ---- macros
+-- A text of a macro is a box around what the macro's nodes make one after another, with no
+-- delimiter inherited, if the rule holds for its dry run. Else it is nothing and leaves the state
+-- as it was. It has no affixes if one variable alone is shown. A text of a macro that the style
+-- lacks is nothing.
 
 abbrev pub macro_affixes : World → TextDressing → AffixTexts
 macro_affixes w d = if shows_macro_affixes w.instance.special then d.dressing.affixes else no_affixes
@@ -56,6 +71,9 @@ abbrev pub macro_made : Bool → World → TextDressing → Inherited → Made �
 macro_made shows w d inh m s = if shows then made (text_box w.style (macro_affixes w d) d None inh m.content) m.state else made [] s
 
 -- ---- groups
+-- A group is a box, in its own formatting, around its children, delimited by its own delimiter, in
+-- its affixes, if the rule holds for its dry run at its start. Else it is nothing. It leaves its
+-- children's state in both cases.
 
 abbrev pub in_group : Option (List ℕ) → Dressing → Inherited → Inherited
 in_group delimiter d inh = record (within d.formatting inh) { delimiter = delimiter }
@@ -108,7 +126,7 @@ module _ (w : World) where
     info s (dated n) = date_info w s n
     info s (named n is) =
         names_info w.instance.special n (found_lists w s n.variables) is (shows s author (named n is)) (substitute_info s is)
-    -- as it is written, and with no substitute
+    -- a names node without children in a substitute: as it is written, and with no substitute
     info s (shorthand written n) =
         names_info w.instance.special written (found_lists w s written.variables) no_insteads (shows s author (shorthand written n)) nothing_said
     info s (chosen cs) = cases_info s cs
@@ -136,7 +154,7 @@ module _ (w : World) where
   abbrev pub names_tree : NamesNode → Insteads → Inherited → Made → Lists → State → Made
   names_tree n is inh sub ls s = names_made w n ls (refused_in n is ls s) inh sub s
 
-  -- of names without children in a substitute
+  -- the content of names without children in a substitute
   abbrev pub shorthand_tree : NamesNode → Inherited → State → Made
   shorthand_tree n inh s =
       let after = lists_state w s n.variables in
@@ -182,7 +200,7 @@ module _ (w : World) where
     substitute_tree no_insteads inh s = made [] s
     substitute_tree (instead fs is) inh s = until_text fs inh (made [] s)
 
-    -- behind what is made so far, unless that has a text
+    -- what is made so far, and the nodes after it, up to the first that brings a text
     pub until_text : Fulls → Inherited → Made → Made
     until_text none inh m = m
     until_text (more f fs) inh m = if has_text m.content then m else until_text fs inh (then_made m.content (tree f inh m.state))
@@ -190,7 +208,7 @@ module _ (w : World) where
   abbrev pub layout_tree : FullLayout → Inherited → State → Made
   layout_tree l inh s = sum_of l.elements (record (within l.formatting inh) { delimiter = l.delimiter }) s
 
-  -- what is said, shown and made of the nodes that were chosen, if there are any
+  -- the dry run, the shown variables and the content of the nodes that were chosen, if any
   abbrev pub choice_info : State → Option Fulls → Info
   choice_info s None = nothing_said
   choice_info s (Some fs) = but_groups (infos s fs)

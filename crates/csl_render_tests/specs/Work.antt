@@ -1,4 +1,4 @@
--- What a work answers: one text.
+-- The answers of a work, an entry of these tests: one standard variable has a text.
 use Rattle.std.specs.Prelude.{List, Option, Some, None, if◌then◌else◌}
 use denote.Enum.Bare.{sameb}
 use Rattle.lit_model.specs.Text.{Chunk}
