@@ -1,4 +1,6 @@
--- What the program writes for its words.
+-- What the program writes for its words: the content of a cite in its format, the label with three
+-- letters, `true` or `false`, or the leaf text, and a newline. A missing word, an unknown word and
+-- a text that is not HTML are refused, with a line of their own.
 use Rattle.std.specs.Prelude.{◌≡◌, ◌⊎◌, ℕ, Bool, true, false, List, ◌++◌, Option, Some, None, IsSomeAnd, codes, string_bytes}
 use Rattle.std.specs.Fmt.{WritesInCalls}
 use Rattle.csl_tree.specs.Html.{IsHtmlOf, IsNotHtml}
@@ -20,9 +22,9 @@ abbrev pub truth_text : Bool → List ℕ
 truth_text true = codes "true"
 truth_text false = codes "false"
 
--- The text answers the words: what the style of the command makes of the title or of the built-in
--- entry, as it is written; the label, with three letters, of the built-in entry; whether that entry
--- is of the kind; the leaf text of the HTML.
+-- The text answers the words: the cite of the title or of the built-in entry in the style of the
+-- command, as it is written; the label of the built-in entry, with three letters; whether that
+-- entry is of the kind; the leaf text of the HTML.
 abbrev pub IsAnswer : Verdict → List ℕ → Type 0
 IsAnswer (title_in title format) text = (content : List Token) × IsTitleContent title content × (text ≡ written format content)
 IsAnswer (cite_in entry style format) text = (content : List Token) × IsEntryContent entry style content × (text ≡ written format content)
@@ -32,13 +34,13 @@ IsAnswer (leaf_of html) text = IsHtmlOf html text
 IsAnswer missing text = ⊥
 IsAnswer (unknown word) text = ⊥
 
--- what the code's answer writes
+-- the text that an answer of the code writes
 abbrev pub text_of : Answer → List ℕ
 text_of (Content content format) = written format (tokens content)
 text_of (Text text) = string_bytes text
 text_of (Truth truth) = truth_text truth
 
--- what is said of words that were refused, without the newline
+-- the complaint about words that were refused, without the newline
 abbrev pub complaint : Verdict → Option (List ℕ)
 complaint (title_in title format) = None
 complaint (cite_in entry style format) = None
@@ -58,15 +60,15 @@ IsRefused (leaf_of html) = IsNotHtml html
 IsRefused missing = ⊥
 IsRefused (unknown word) = ⊥
 
--- nothing answers the words: they are refused, or ask for the leaf text of what is not HTML
+-- no text answers the words
 abbrev pub HasNoAnswer : Verdict → Type 0
 HasNoAnswer verdict = (text : List ℕ) → IsAnswer verdict text → ⊥
 
--- what is said of what is not HTML, without the newline
+-- the complaint about a text that is not HTML, without the newline
 abbrev pub not_html : List ℕ
 not_html = codes "not html"
 
--- what is said where memory ran out, without the newline
+-- the complaint where memory ran out, without the newline
 abbrev pub out_of_memory : List ℕ
 out_of_memory = codes "out of memory"
 

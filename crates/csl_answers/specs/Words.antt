@@ -1,4 +1,12 @@
--- The words of the program, and the verdict on them, from the left.
+-- The words of the program, read from the left. No words ask for the title `Nature` in HTML.
+-- - `title`, a text, and `plain` or `html`: that title in that format.
+-- - `cite`, a key, the name of a style, and `plain` or `html`: a cite of that built-in entry in
+--   that built-in style.
+-- - `label` and a key: the label of that built-in entry.
+-- - `kind`, a key and the name of a kind: whether that built-in entry is of that kind.
+-- - `leaf` and a text: the leaf text of that HTML.
+-- A word that is not expected at its place, or that follows the last one, is unknown. Where a word
+-- is expected and none is left, one is missing.
 use Rattle.std.specs.Prelude.{ℕ, List, [], ◌∷◌, Option, Some, None, find, map, Result, Ok, Err, String, codes, string_bytes, if◌then◌else◌}
 use Rattle.std.specs.Str.{bytes_eq}
 use Rattle.std.specs.declared.alloc.Global.{Global}
@@ -16,8 +24,9 @@ use Rattle.csl_answers.specs.declared.words.Command.TheVariants as commands
 use Rattle.csl_answers.specs.declared.words.WordsError.{WordsError}
 use Rattle.csl_answers.specs.declared.words.WordsError.TheVariants.{Missing, Unknown}
 
--- What is asked for: a title in a format, a cite of an entry by a style in a format, the label of
--- an entry, whether an entry is of a kind, the leaf text of HTML. Or a word is missing, or unknown.
+-- What the words ask for: a title in a format, a cite of an entry by a style in a format, the label
+-- of an entry, whether an entry is of a kind, the leaf text of HTML. Or a word is missing, or
+-- unknown.
 pub data Verdict : Type 0 where
   title_in : List ℕ → BufWriteFormat → Verdict
   cite_in : BuiltIn → BuiltInStyle → BufWriteFormat → Verdict
@@ -27,7 +36,7 @@ pub data Verdict : Type 0 where
   missing : Verdict
   unknown : List ℕ → Verdict
 
--- no word may follow
+-- a verdict after which no word may follow
 abbrev pub when_last : Verdict → List (List ℕ) → Verdict
 when_last v [] = v
 when_last v (word ∷ words) = unknown word
@@ -67,7 +76,7 @@ abbrev pub label_verdict : List (List ℕ) → Verdict
 label_verdict [] = missing
 label_verdict (key ∷ words) = or_unknown key (named_built_in key) (λ entry. when_last (label_of entry) words)
 
--- the kind of a name
+-- all kinds of entries
 abbrev pub all_kinds : List Kind
 all_kinds =
     kinds.Article ∷ kinds.ArticleJournal ∷ kinds.ArticleMagazine ∷ kinds.ArticleNewspaper ∷ kinds.Bill ∷ kinds.Book ∷ kinds.Broadcast ∷ kinds.Chapter
@@ -105,7 +114,7 @@ verdict_on (name ∷ words) =
     else (if bytes_eq name (codes "kind") then kind_verdict words
     else (if bytes_eq name (codes "leaf") then leaf_verdict words else unknown name))))
 
--- what the code's answer says
+-- the verdict of an error, and of the result that the code returns
 abbrev pub refusal : WordsError → Verdict
 refusal Missing = missing
 refusal (Unknown word) = unknown word.now

@@ -1,4 +1,10 @@
--- The locale of the built-in styles (CSL 1.0.2, Locale).
+-- The English locale of the built-in styles (CSL 1.0.2, Locale), `IsEnglish`.
+-- - Terms in the long form alone: `and`, `et al.`, the dash of page ranges, the quotes and those
+--   inside them, and the twelve months. The terms for pages and volumes, for one and for several,
+--   in the long and the short form.
+-- - Ordinals of no gender: `th`; `st`, `nd` and `rd` for 1, 2 and 3; `th` for 11, 12 and 13.
+-- - A comma or period goes before a closing quote. Ordinal days are not limited to the first of a
+--   month. There are no dates and no other terms.
 use Rattle.std.specs.Prelude.{◌≡◌, ℕ, true, false, List, [], ◌∷◌, ◌++◌, Some, None, codes}
 use Rattle.std.specs.Borrow.{Bor}
 use Rattle.csl_style.specs.declared.locale.Locale.{Locale}

@@ -1,4 +1,7 @@
--- The built-in entries.
+-- Four entries are built in, each with a key (`IsBuiltIn`). Their texts are one normal chunk each.
+-- Their parents have no key. The address of one is what the URL Standard's parser makes of its
+-- text. The label and the kinds of a built-in entry follow from the listed fields: authors, title
+-- and date; own type, the parent's type, and whether there is a publisher and an address.
 use Rattle.std.specs.Prelude.{◌≡◌, ℕ, pos, Bool, false, List, [], ◌∷◌, Option, Some, None, Ok, Err, codes, option_map, unwrap_or, if◌then◌else◌}
 use Rattle.std.specs.Str.{bytes_eq}
 use Rattle.url.specs.Parser.{Parsed, parse_url}
@@ -60,7 +63,7 @@ pages from to = typed (range (bare_number from) (bare_number to) ∷ [])
 abbrev pub calendar_date : ℕ → Option ℕ → Option ℕ → Parts
 calendar_date year month day = record { year = pos year; month = month; day = day; season = None; approximate = false }
 
--- only a key and a type
+-- an entry's own fields with only a key and a type
 abbrev pub bare : List ℕ → EntryType → Own
 bare key entry_type = record {
   key = key;
@@ -107,11 +110,11 @@ pub record Shows (own : Own) (date : Option Parts) (e : Entry) : Type 0 where
   pub fields : own_of e ≡ record own { date = (out-Entry e).date }
   pub date_is : option_map date_parts (out-Entry e).date ≡ date
 
--- it has these fields of its own, no date and no parents
+-- an entry has these fields of its own, no date and no parents
 abbrev pub StandsAlone : Own → Entry → Type 0
 StandsAlone own e = Shows own None e × (parents_of e ≡ [])
 
--- its one parent stands alone with these fields
+-- an entry has one parent, with these fields, no date and no parents
 abbrev pub HasParent : Own → Entry → Type 0
 HasParent own e = (parent : Entry) × (parents_of e ≡ parent ∷ []) × StandsAlone own parent
 
@@ -181,7 +184,7 @@ IsBuiltIn Feminism e = Shows feminism (Some (calendar_date 2015 (Some 8) (Some 2
 
 -- ---- what tells the label and the kinds of a built-in entry
 
--- its own fields but the date, its date, and the fields of the works that it is directly a part of
+-- a built-in entry's own fields but the date, its date, and the fields of its parents
 abbrev pub own_fields : BuiltIn → Own
 own_fields CrazyRich = crazy_rich
 own_fields QuantizedVortex = quantized_vortex
@@ -200,7 +203,8 @@ parent_fields QuantizedVortex = nuovo_cimento ∷ []
 parent_fields Dependence = transactions ∷ []
 parent_fields Feminism = aeon ∷ []
 
--- its authors, its title where there are none, and its date
+-- what the label of a built-in entry is made of: its authors, its title where there are none, and
+-- its date
 abbrev pub label_parts_of : BuiltIn → LabelParts
 label_parts_of entry = record {
   creators = unwrap_or (own_fields entry).authors [];
@@ -208,10 +212,10 @@ label_parts_of entry = record {
   date = Some (date_of entry);
 }
 
--- its label, with three letters
+-- the label of a built-in entry, with three letters
 abbrev pub label_text : BuiltIn → List ℕ
 label_text entry = label_from 3 (label_parts_of entry)
 
--- whether it is of a kind
+-- whether a built-in entry is of a kind
 abbrev pub is_built_in_kind : Kind → BuiltIn → Bool
 is_built_in_kind kind entry = is_kind kind (typing_from (own_fields entry) (parent_fields entry))

@@ -1,10 +1,10 @@
--- The parts of a style's nodes that say nothing, or one thing.
+-- Parts of nodes that set nothing, or one thing: formatting, affixes and attributes.
 use Rattle.std.specs.Prelude.{ℕ, List, Some, None, false}
 use Rattle.csl_style.specs.declared.formatting.Formatting.{Formatting}
 use Rattle.csl_style.specs.declared.formatting.FontStyle.TheVariants.{Italic}
 use Rattle.csl_style.specs.Dressing.{AffixTexts, Dressing, TextDressing}
 
--- a node says nothing of its formatting
+-- a formatting that sets nothing
 abbrev pub no_formatting : Formatting
 no_formatting = record { font_style = None; font_variant = None; font_weight = None; text_decoration = None; vertical_align = None }
 
@@ -26,7 +26,7 @@ around prefix suffix = record { prefix = Some prefix; suffix = Some suffix }
 abbrev pub undressed : Formatting → Dressing
 undressed f = record { formatting = f; affixes = no_affixes; display = None }
 
--- affixes and nothing else
+-- a node's attributes that set affixes alone
 abbrev pub affixed : AffixTexts → Dressing
 affixed affixes = record (undressed no_formatting) { affixes = affixes }
 

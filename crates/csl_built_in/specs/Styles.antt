@@ -1,4 +1,14 @@
--- The built-in styles (CSL 1.0.2, Rendering Elements).
+-- Two styles are built in, by name (`IsBuiltInStyle`; CSL 1.0.2, Rendering Elements). Each is the
+-- layout of a cite and nothing else: no bibliography, no macros, settings that set nothing, and one
+-- locale (`IsEnglish`). A date part has no form of its own unless one is named here.
+-- - `author-date` is a group in parentheses, delimited by `, `: the authors in their short form,
+--   with the word `and` before the last, and the year of issue.
+-- - `reference` is two groups. The first ends with a period and is delimited by `, `: the authors,
+--   the first with the family name first and the last after the word `and`, with the editors as
+--   their substitute, written as they are; the title in quotes; the title of the container in
+--   italics; the volume and the pages, each after its short label and a space; the month of issue
+--   in its long form and the year, with a space between them. The second begins with a space and
+--   has the DOI after `https://doi.org/`.
 use Rattle.std.specs.Prelude.{◌≡◌, ℕ, Bool, true, false, List, [], ◌∷◌, Option, Some, None, codes, if◌then◌else◌}
 use Rattle.std.specs.Str.{bytes_eq}
 use Rattle.csl_common.specs.declared.form.NumberForm.TheVariants as number_forms
@@ -58,7 +68,7 @@ variable_text variable formatting affixes quotes = text (of_variable variable Lo
   strip_periods = false;
 })
 
--- the short label of a number or of pages, for several where several stand beside it
+-- the short label of a number or of pages, in the plural beside several
 abbrev pub short_label : NumberOrPageVariable → Node
 short_label variable = label variable (record {
   form = forms.Short;
@@ -117,8 +127,8 @@ author_date = group (Some (codes ", ")) (affixed (around (codes "(") (codes ")")
 abbrev pub editors : Node
 editors = persons_by Editor []
 
--- The first has the family name first. Where there are none, the editors stand in, and are written
--- as they are.
+-- The authors, the first with the family name first. The editors are their substitute, and are
+-- written as they are.
 abbrev pub authors : Node
 authors = persons_by Author (a_name (name_by (joined_by_and None (Some First))) ∷ a_substitute (node editors no_nodes) ∷ [])
 
@@ -128,7 +138,7 @@ quoted_title = variable_text (Standard Title) no_formatting no_affixes true
 abbrev pub container_title : Node
 container_title = variable_text (Standard ContainerTitle) italic no_affixes false
 
--- two with a space between them
+-- a group of two nodes with a space between them
 abbrev pub spaced : Node → Node → Node
 spaced first second = group (Some (codes " ")) (undressed no_formatting) (node first (node second no_nodes))
 
@@ -147,11 +157,11 @@ month_and_year = date (issued (date_part Month (Some part_forms.Long) ∷ date_p
 abbrev pub described : Nodes
 described = node authors (node quoted_title (node container_title (node volume (node page (node month_and_year no_nodes)))))
 
--- with commas between them, and a period
+-- the first group of a reference: its parts with commas between them, and a period
 abbrev pub description : Node
 description = group (Some (codes ", ")) (affixed (behind (codes "."))) described
 
--- the address of its digital object identifier behind a space
+-- the second group of a reference: the address of its digital object identifier, after a space
 abbrev pub address : Node
 address =
     group None (affixed (before (codes " ")))

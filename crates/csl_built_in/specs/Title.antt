@@ -1,4 +1,6 @@
--- An entry that has a title and nothing else, and the style that it is cited in.
+-- An entry that has a title and nothing else, and the style that it is cited in (`CitesTitles`): no
+-- macros, no locales, and a layout that is a group in parentheses, delimited by `: `, of the word
+-- `Title` and the title in italics.
 use Rattle.std.specs.Prelude.{◌≡◌, ℕ, List, [], ◌∷◌, Option, Some, None, false, codes}
 use Rattle.lit_model.specs.Text.{Chunk}
 use Rattle.lit_model.specs.declared.text.ChunkKind.TheVariants.{Normal}
@@ -45,7 +47,7 @@ title_text = text (of_variable (Standard Title) Long) (bare italic)
 abbrev pub label_and_title : Nodes
 label_and_title = node label (node title_text no_nodes)
 
--- these two in parentheses
+-- the label and the title in parentheses
 abbrev pub title_group : Node
 title_group = group (Some (codes ": ")) (affixed (around (codes "(") (codes ")"))) label_and_title
 

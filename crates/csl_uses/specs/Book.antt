@@ -1,4 +1,4 @@
--- The book, and the parts that it is made of.
+-- The book of the examples, with its title, authors, date and publisher.
 use Rattle.std.specs.Prelude.{◌≡◌, ℕ, pos, List, [], ◌∷◌, Some, None, false, map, option_map, codes}
 use Rattle.lit_model.specs.declared.entry.Entry.{Entry, out-Entry}
 use Rattle.lit_model.specs.declared.text.ChunkKind.TheVariants.{Normal}

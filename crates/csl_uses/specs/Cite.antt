@@ -1,4 +1,5 @@
--- The house style as data (CSL 1.0.2, Layout; Group; Text).
+-- The house style of the examples (CSL 1.0.2, Layout; Group; Text): the title in italics, and the
+-- publisher in parentheses if there is one.
 use Rattle.std.specs.Prelude.{◌≡◌, [], Some, None, false, codes}
 use Rattle.csl_common.specs.declared.form.LongShortForm.TheVariants.{Long}
 use Rattle.csl_style.specs.declared.formatting.FontStyle.TheVariants.{Italic}

@@ -1,4 +1,4 @@
--- A film: what it answers to a style, as plain data, and one that is made.
+-- A film of the examples: its answers to a style, and the one that is made.
 use Rattle.std.specs.Prelude.{◌≡◌, ℕ, pos, List, [], ◌∷◌, Option, Some, None, Bool, true, false, codes}
 use Rattle.lit_model.specs.Chunks.{text_of}
 use Rattle.lit_model.specs.Date.{Parts, date_parts}

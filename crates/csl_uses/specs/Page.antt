@@ -1,4 +1,4 @@
--- The page: its tokens, and its HTML.
+-- The page of the examples: its tokens, and its HTML.
 use Rattle.std.specs.Prelude.{ℕ, List, [], ◌∷◌, Some, codes}
 use Rattle.csl_style.specs.declared.formatting.Display.TheVariants.{Block}
 use Rattle.csl_style.specs.declared.formatting.FontStyle.TheVariants.{Italic}
