@@ -1,4 +1,5 @@
-//! What the models of literature and of styles share: forms, seasons, ordinals, and want of memory.
+//! What the models of literature and of styles share: forms, seasons, ordinals, and the error of
+//! running out of memory.
 #![tactic(auto)]
 
 pub mod form;

@@ -1,4 +1,4 @@
-//! Want of memory.
+//! The error of running out of memory.
 
 ghost use Rattle.std.specs.Prelude.{Some, codes};
 

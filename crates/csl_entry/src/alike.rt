@@ -17,9 +17,6 @@ use std::alloc::Global;
 use std::collections::BTreeSet;
 
 /// Whether both answer a number alike.
-///
-/// # Errors
-/// [`Memory`]: there was no memory left.
 fn is_number_alike<T: EntryLike, U: EntryLike>(
     alloc: Global,
     a: &T,
@@ -35,9 +32,6 @@ fn is_number_alike<T: EntryLike, U: EntryLike>(
 }
 
 /// Whether both answer the pages alike.
-///
-/// # Errors
-/// [`Memory`]: there was no memory left.
 fn are_pages_alike<T: EntryLike, U: EntryLike>(
     alloc: Global,
     a: &T,
@@ -53,9 +47,6 @@ fn are_pages_alike<T: EntryLike, U: EntryLike>(
 }
 
 /// Whether both answer a date alike.
-///
-/// # Errors
-/// [`Memory`]: there was no memory left.
 fn is_date_alike<T: EntryLike, U: EntryLike>(
     alloc: Global,
     a: &T,
@@ -71,9 +62,6 @@ fn is_date_alike<T: EntryLike, U: EntryLike>(
 }
 
 /// Whether both answer the persons of a variable alike.
-///
-/// # Errors
-/// [`Memory`]: there was no memory left.
 fn are_people_alike<T: EntryLike, U: EntryLike>(
     alloc: Global,
     a: &T,
@@ -89,9 +77,6 @@ fn are_people_alike<T: EntryLike, U: EntryLike>(
 }
 
 /// Whether both answer a text alike in one form.
-///
-/// # Errors
-/// [`Memory`]: there was no memory left.
 fn is_text_alike<T: EntryLike, U: EntryLike>(
     alloc: Global,
     a: &T,
@@ -108,9 +93,6 @@ fn is_text_alike<T: EntryLike, U: EntryLike>(
 }
 
 /// Whether both answer a text alike in both forms.
-///
-/// # Errors
-/// [`Memory`]: there was no memory left.
 fn is_standard_alike<T: EntryLike, U: EntryLike>(
     alloc: Global,
     a: &T,
@@ -133,9 +115,6 @@ fn is_kind_alike<T: EntryLike, U: EntryLike>(a: &T, b: &U, kind: Kind) -> bool
 }
 
 /// Whether both answer all these numbers alike.
-///
-/// # Errors
-/// [`Memory`]: there was no memory left.
 fn are_numbers_alike<T: EntryLike, U: EntryLike>(
     alloc: Global,
     a: &T,
@@ -154,9 +133,6 @@ fn are_numbers_alike<T: EntryLike, U: EntryLike>(
 }
 
 /// Whether both answer all these variables of pages alike.
-///
-/// # Errors
-/// [`Memory`]: there was no memory left.
 fn are_all_pages_alike<T: EntryLike, U: EntryLike>(
     alloc: Global,
     a: &T,
@@ -175,9 +151,6 @@ fn are_all_pages_alike<T: EntryLike, U: EntryLike>(
 }
 
 /// Whether both answer all these texts in both forms alike.
-///
-/// # Errors
-/// [`Memory`]: there was no memory left.
 fn are_standards_alike<T: EntryLike, U: EntryLike>(
     alloc: Global,
     a: &T,
@@ -196,9 +169,6 @@ fn are_standards_alike<T: EntryLike, U: EntryLike>(
 }
 
 /// Whether both answer all these variables of persons alike.
-///
-/// # Errors
-/// [`Memory`]: there was no memory left.
 fn are_names_alike<T: EntryLike, U: EntryLike>(
     alloc: Global,
     a: &T,
@@ -217,9 +187,6 @@ fn are_names_alike<T: EntryLike, U: EntryLike>(
 }
 
 /// Whether both answer all these dates alike.
-///
-/// # Errors
-/// [`Memory`]: there was no memory left.
 fn are_dates_alike<T: EntryLike, U: EntryLike>(
     alloc: Global,
     a: &T,
@@ -250,7 +217,7 @@ fn are_kinds_alike<T: EntryLike, U: EntryLike>(a: &T, b: &U, set: &BTreeSet<Kind
     true
 }
 
-/// Whether all six are so.
+/// Whether two entries answer alike in all six sets.
 fn all(numbers: bool, pages: bool, standards: bool, names: bool, dates: bool, kinds: bool) -> bool
     ensures { result
         ≡ (numbers && (pages && (standards && (names && (dates && kinds))))) }

@@ -8,9 +8,6 @@ use lit_model::{ChunkKind, ChunkedString, Memory, StringChunk};
 use std::alloc::Global;
 
 /// The text as one piece of that kind (CSL 1.0.2, Standard Variables).
-///
-/// # Errors
-/// [`Memory`]: there was no memory left.
 pub(crate) fn one_chunk(
     alloc: Global,
     text: String,

@@ -100,7 +100,7 @@ fn push_letters(label: &mut String, text: &str, count: usize) -> Result<(), Memo
     Ok(())
 }
 
-/// What stands in for creators.
+/// The text in place of creators: the organization, else the title, else the letters of the key.
 fn stand_in(alloc: Global, work: &Entry) -> Result<String, Memory>
     ensures { IfOk result (λ s. string_bytes s ≡ stand_in work.now) }
 {

@@ -11,11 +11,11 @@ use std::alloc::Global;
 /// How a cite stands to the one before it (CSL 1.0.2, Choose: position).
 #[derive(Clone, Copy, Debug, PartialEq, Eq, Hash)]
 pub enum IbidState {
-    /// It cites another entry, or no cite stands before it.
+    /// The cite before it is of another entry, or there is none.
     Different,
-    /// It cites the same entry with the same locator.
+    /// The cite before it is of the same entry with the same locator.
     Ibid,
-    /// It cites the same entry, and has a locator that the one before it had not.
+    /// The cite before it is of the same entry, and this one has a locator that it did not have.
     IbidWithLocator,
 }
 
@@ -29,13 +29,13 @@ pub enum Sorting {
 /// A form of a cite that shows a part of what it would show.
 #[derive(Clone, Copy, Debug, PartialEq, Eq)]
 pub enum SpecialForm {
-    /// This variable alone.
+    /// Shows one variable alone.
     VarOnly(Variable),
-    /// The first date alone.
+    /// Shows the first date alone.
     OnlyFirstDate,
-    /// The year suffix alone.
+    /// Shows the year suffix alone.
     OnlyYearSuffix,
-    /// All but the author.
+    /// Shows all but the author.
     SuppressAuthor,
 }
 
@@ -46,18 +46,18 @@ pub struct SpecificLocator<'a>(pub Locator, pub LocatorPayload<'a>);
 /// What a locator prints.
 #[derive(Clone, Copy, Debug, PartialEq, Eq)]
 pub enum LocatorPayload<'a> {
-    /// This text.
+    /// The locator is this text.
     Str(&'a str),
-    /// What the caller writes at its place.
+    /// The caller writes the locator at its place.
     Transparent,
 }
 
-/// What tells a cite from those that look like it (CSL 1.0.2, Disambiguation).
+/// How a cite is disambiguated (CSL 1.0.2, Disambiguation).
 #[derive(Drop)]
 pub enum DisambiguateState {
-    /// Nothing does, or nothing has to.
+    /// The cite is not disambiguated.
     None,
-    /// These forms of its names (disambiguate-add-names, disambiguate-add-givenname).
+    /// By these forms of its names (disambiguate-add-names, disambiguate-add-givenname).
     NameDisambiguation(NameDisambiguationProperties),
     /// The branches of a style that ask for `disambiguate` (Choose: disambiguate).
     Choose,
@@ -68,9 +68,9 @@ pub enum DisambiguateState {
 /// What a citation says of a cite.
 #[derive(Drop)]
 pub struct CiteProperties<'s> {
-    /// What no rendering changes.
+    /// The properties that no rendering changes.
     pub certain: CertainCiteProperties,
-    /// What may change when the other cites are rendered.
+    /// The properties that may change when the other cites are rendered.
     pub speculative: SpeculativeCiteProperties<'s>,
 }
 
@@ -96,7 +96,7 @@ pub struct SpeculativeCiteProperties<'s> {
     pub locator: Option<SpecificLocator<'s>>,
     /// Its citation number, which counts from 0 (CSL 1.0.2, Number Variables: citation-number).
     pub citation_number: CitationNumber,
-    /// What tells the cite from those that look like it.
+    /// How the cite is disambiguated.
     pub disambiguation: DisambiguateState,
     /// How it stands to the cite before it.
     pub ibid: IbidState,

@@ -25,9 +25,6 @@ fn series() -> &'static [Clause<'static>]
 
 /// The creators, in order: the authors; where none are named, the editors; else, by its type,
 /// those who made it. A list that is named and empty counts.
-///
-/// # Errors
-/// [`Memory`]: there was no memory left.
 #[tactic(auto, using(crate::proofs::Persons::named_each))]
 pub(crate) fn creators(alloc: Global, entry: &Entry) -> Result<Vec<&Person>, Memory>
     ensures { IfOk result (λ v. map (λ p. named p.now) v.items ≡ creators_of entry.now) }
@@ -50,7 +47,7 @@ fn references(alloc: Global, persons: &[Person]) -> Result<Vec<&Person>, Memory>
     Ok(list)
 }
 
-/// Those who made a work that names neither authors nor editors.
+/// The persons who made a work without lists of authors and editors.
 fn makers(alloc: Global, entry: &Entry) -> Result<Vec<&Person>, Memory>
     ensures { IfOk result (λ v. map (λ p. p.now) v.items ≡ makers entry.now) }
 {
@@ -80,7 +77,7 @@ fn followed_by<'a>(
     Ok(first)
 }
 
-/// These persons; where there are none, those who have the role in the entry.
+/// The given persons; if there are none, the persons of a role in the entry.
 fn or_role<'a>(
     alloc: Global,
     persons: Vec<&'a Person>,

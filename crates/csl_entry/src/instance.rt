@@ -32,7 +32,7 @@ use std::borrow::Cow;
 
 /// A cite: its entry, and what its citation says of it.
 pub struct InstanceContext<'s, T> {
-    /// The entry.
+    /// The entry that is cited.
     pub entry: &'s T,
     /// What the citation says of the cite.
     pub cite_props: &'s CiteProperties<'s>,

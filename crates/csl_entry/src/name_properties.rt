@@ -25,8 +25,8 @@ pub struct NameDisambiguationProperties {
 }
 
 impl NameDisambiguationProperties {
-    /// Of these parts. `default_name_form` is the form of a name that comes to be shown,
-    /// `variables` are those whose names these are, and `name_forms` has, for each list of names,
+    /// Forms of names: `default_name_form` is the form of a name that comes to be shown,
+    /// `variables` are the variables of the lists, and `name_forms` has, for each list of names,
     /// the form of each name, or `None` where the name is not shown.
     pub fn new(
         default_name_form: DisambiguatedNameForm,

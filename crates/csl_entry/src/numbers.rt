@@ -25,7 +25,7 @@ impl CitationNumber {
         Some(CitationNumber { number })
     }
 
-    /// The number.
+    /// The number as it is held.
     pub fn get(self) -> u32
         ensures value { result ≡ citation_number self }
         ensures range { IsCitationNumber result }
@@ -56,7 +56,7 @@ impl NoteNumber {
         Some(NoteNumber { number })
     }
 
-    /// The number.
+    /// The number as it is held.
     pub fn get(self) -> u32
         ensures value { result ≡ note_number self }
         ensures range { IsNoteNumber result }

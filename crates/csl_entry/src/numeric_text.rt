@@ -10,9 +10,6 @@ use std::alloc::Global;
 
 /// The number that a text stands for, or the text itself where it stands for none (CSL 1.0.2,
 /// Number).
-///
-/// # Errors
-/// [`Memory`]: there was no memory left.
 pub(crate) fn numeric_or_text(alloc: Global, text: &str) -> Result<MaybeTyped<Numeric>, Memory>
     ensures exact { IfOk result (λ found.
         maybe_view numeric_view found ≡ numeric_or_text text.now) }

@@ -1,4 +1,8 @@
-//! Whether two answers show the same, whichever entries gave them.
+//! When two answers are equal, whichever entries gave them and whether they are borrowed: both are
+//! absent, or both are present and show the same. Texts show the text and the kind of each chunk;
+//! numbers their numbers, what separates these, prefix and suffix; pages the pages, ranges and
+//! separators in order; dates year, month, day, season and whether they are approximate; persons,
+//! one by one, every text and the comma. A number or pages never equal a text that is neither.
 
 ghost use Rattle.std.specs.Prelude.{◌≡◌, ◌↔◌, map, option_map, option_copied, IsTrue};
 ghost use Rattle.lit_model.specs.Date.{date_parts};
@@ -26,7 +30,7 @@ pub fn same_people(people: &[Cow<'_, Person>], others: &[Cow<'_, Person>]) -> bo
     same_each(people, others)
 }
 
-/// The same, person by person.
+/// Compares two lists of persons, person by person.
 fn same_each(people: &[Cow<'_, Person>], others: &[Cow<'_, Person>]) -> bool
     ensures { result ≡ same_people (map (behind named) people.now) (map (behind named) others.now) }
 {

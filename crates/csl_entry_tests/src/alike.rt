@@ -154,7 +154,7 @@ fn name(named: &mut Named, variable: Variable) -> Result<(), Memory> {
     Ok(())
 }
 
-/// These variables, and a kind.
+/// The set of some variables, and perhaps a kind.
 fn named(alloc: Global, variables: &[Variable], kind: Option<Kind>) -> Result<Named, Memory> {
     let mut named = Named {
         numbers: BTreeSet::new(alloc),

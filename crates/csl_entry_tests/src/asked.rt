@@ -25,7 +25,8 @@ pub fn number_said(
     }
 }
 
-/// The same of a cite; behind `@` the index of what the caller writes.
+/// The answer of a cite to a number variable, in words; after `@` the index of what the caller
+/// writes.
 pub fn result_said(
     alloc: Global,
     found: Option<&NumberVariableResult<'_>>,
@@ -70,7 +71,7 @@ pub fn borrowed<'a, T: Drop>(found: &'a Option<Cow<'_, T>>) -> Option<&'a T> {
     }
 }
 
-/// What is alone in the list.
+/// The only item of a list.
 pub fn only<T>(list: &[T]) -> Result<&T, Fail> {
     match list {
         [value] => Ok(value),

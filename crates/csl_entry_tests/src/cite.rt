@@ -160,8 +160,8 @@ fn on_page_five() -> Result<CiteProperties<'static>, Fail> {
 /// index.
 type Certain = (Option<NoteNumber>, bool, bool, usize);
 
-/// What else it says: what tells the cite from others, its place, its number and how it stands to
-/// the one before it.
+/// What a citation may say anew of a cite: its disambiguation, its place, its number and how it
+/// relates to the cite before it.
 type Speculative<'s> = (&'static str, Option<SpecificLocator<'s>>, u32, IbidState);
 
 /// What a citation says of a cite.
@@ -184,7 +184,7 @@ fn all_said<'s>(cite: &CiteProperties<'s>) -> (Certain, Speculative<'s>) {
     )
 }
 
-/// What it says of the first cite of an entry that a choice of the style tells apart.
+/// The properties of the first cite of an entry that a choice of the style disambiguates.
 fn said_of_the_first() -> (Certain, Speculative<'static>) {
     let cite = CiteProperties::first(DisambiguateState::Choose);
     let said = all_said(&cite);
@@ -203,7 +203,7 @@ fn what_the_first_cite_says(rt: HostRuntime) {
     );
 }
 
-/// What a copy says.
+/// The properties of a copy of a cite.
 fn copied(alloc: Global) -> Result<(Certain, Speculative<'static>), Fail> {
     let cite = on_page_five()?;
     let copy = cite.clone(alloc);

@@ -44,7 +44,7 @@ fn chain(alloc: Global, works: &str) -> Result<Vec<Entry>, Fail> {
     Ok(chain)
 }
 
-/// The work, a part of these.
+/// The work that clauses describe, as a part of other works.
 fn part_of(alloc: Global, clauses: &str, wholes: Vec<Entry>) -> Result<Vec<Entry>, Fail> {
     let (name, rest) = clauses.split_once("; ").unwrap_or((clauses, ""));
     let mut works = bare(alloc, type_named(name)?, wholes)?;
@@ -63,7 +63,7 @@ fn state_all(alloc: Global, work: &mut Entry, clauses: &str) -> Result<(), Fail>
     Ok(())
 }
 
-/// A list of one.
+/// A list of one item.
 pub fn alone<T: Drop>(alloc: Global, item: T) -> Result<Vec<T>, Memory> {
     let mut items = Vec::new(alloc);
     put(&mut items, item)?;
@@ -82,7 +82,7 @@ fn bare(alloc: Global, kind: EntryType, wholes: Vec<Entry>) -> Result<Vec<Entry>
     alone(alloc, work)
 }
 
-/// Says one thing of the work.
+/// Sets the field of a work that a word names.
 fn state(alloc: Global, work: &mut Entry, word: &str, value: &str) -> Result<(), Fail> {
     if state_text(alloc, work, word, value)?
         || state_number(alloc, work, word, value)?
@@ -188,7 +188,7 @@ pub fn text(alloc: Global, text: &str) -> Result<FormatString, Fail> {
     })
 }
 
-/// The text of these pieces.
+/// The text of the chunks that a text describes.
 pub fn pieces(alloc: Global, text: &str) -> Result<ChunkedString, Fail> {
     let mut chunks = Vec::new(alloc);
     for piece in text.split('+') {

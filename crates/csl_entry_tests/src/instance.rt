@@ -227,7 +227,7 @@ fn two_numbers(alloc: Global, page: &str) -> Result<Option<(Separated, Separated
     numbers
 }
 
-/// The two numbers of the locator of these properties.
+/// The two numbers of a locator, where it is a list of two, from the properties of the cite.
 fn two_numbers_in<'s>(
     alloc: Global,
     samples: &'s [Sample],

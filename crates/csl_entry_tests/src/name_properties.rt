@@ -109,8 +109,8 @@ fn letter_of(form: Option<DisambiguatedNameForm>) -> char {
     }
 }
 
-/// Of these variables and lists. A list is a word, `.` one of no names; the default form is that of
-/// `default`.
+/// The forms of names of some variables and lists. A list is a word, `.` a list of no names; the
+/// default form is `default`.
 fn made(
     alloc: Global,
     default: DisambiguatedNameForm,

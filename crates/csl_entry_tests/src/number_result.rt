@@ -17,23 +17,23 @@ fn same(a: &NumberVariableResult<'_>, b: &NumberVariableResult<'_>) -> bool
     *a == *b
 }
 
-/// The same where the answer may be of pages, which are no number.
+/// Two answers, to number or page variables, are equal exactly if their views are.
 fn same_kind(a: &NumberOrPageVariableResult<'_>, b: &NumberOrPageVariableResult<'_>) -> bool
     ensures { IsTrue result ↔ (number_or_page_view a.now ≡ number_or_page_view b.now) }
 {
     *a == *b
 }
 
-/// An answer, to be made.
+/// The description of an answer.
 #[derive(Clone, Copy, Debug)]
 enum Answer {
     /// The number that the text spells.
     Spelled(&'static str),
-    /// That one number, which no text need spell.
+    /// One number, even if no text spells it.
     One(i32),
     /// A text that is no number.
     Text(&'static str),
-    /// What the caller writes at that index.
+    /// What the caller writes, with the index of the cite.
     Index(usize),
 }
 

@@ -59,7 +59,7 @@ pub struct Entry {
     pub runtime: Option<FormatString>,
     /// The numbers that name it.
     pub serial_number: Option<SerialNumber>,
-    /// Its language.
+    /// The language of the work.
     pub language: Option<LanguageIdentifier>,
     /// The archive that keeps it.
     pub archive: Option<FormatString>,
@@ -267,7 +267,7 @@ impl Entry {
         self.serial_number.as_ref()
     }
 
-    /// Its language.
+    /// The language of the work.
     pub fn language(&self) -> Option<&LanguageIdentifier>
         ensures { option_copied result ≡ (out-Entry self.now).language }
     {

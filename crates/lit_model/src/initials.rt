@@ -11,7 +11,7 @@ use crate::sink::{Noting, Sink};
 use std::fmt;
 use unicode_segmentation::UnicodeSegmentation;
 
-/// What an initial stands after.
+/// What precedes an initial.
 #[derive(Clone, Copy)]
 enum Before {
     /// No other initial.
@@ -25,9 +25,9 @@ enum Before {
 /// How initials are written.
 #[derive(Clone, Copy)]
 struct Shortened<'a> {
-    /// What follows each.
+    /// The text that follows each initial.
     text: &'a str,
-    /// A hyphen in a name is kept.
+    /// Whether a hyphen in a name is kept.
     hyphen: bool,
 }
 
@@ -124,7 +124,7 @@ impl Shortened<'_> {
 }
 
 impl Before {
-    /// What the next word stands after.
+    /// What precedes the first initial of the next word.
     fn before_word(self) -> Before
         ensures { result ≡ before_word self }
     {

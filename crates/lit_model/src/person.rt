@@ -249,7 +249,7 @@ fn has_letter(text: &str) -> bool
     text.chars().any(|c| is_alphabetic(c))
 }
 
-/// Each letter of the text is of a Chinese, Japanese or Korean script.
+/// Whether each letter of the text is of a Chinese, Japanese or Korean script.
 fn is_cjk_text(text: &str) -> bool
     ensures { result
         ≡ list_all (λ c. not (is_alphabetic c) || is_cjk_script (script c)) (chars text.now) }
@@ -278,7 +278,7 @@ fn without<'a>(article: &str, text: &'a str) -> Option<&'a str>
     if rest.is_empty() { None } else { Some(rest) }
 }
 
-/// The same for the first of the articles that the text begins with.
+/// The text after the first of the articles that it begins with, if more follows.
 fn first_without<'a>(articles: &[&str], text: &'a str) -> Option<&'a str>
     ensures { option_copied result ≡ first_without (map (λ a. a.now) articles.now) text.now }
 {

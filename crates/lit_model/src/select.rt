@@ -42,7 +42,7 @@ pub struct Clause<'a> {
     /// The types of which a direct parent must have one, where a parent is asked for. None at all:
     /// every type.
     pub parent: Option<&'a [EntryType]>,
-    /// What is selected.
+    /// What the clause selects of an entry that fits it.
     pub bind: Bind,
 }
 
@@ -317,7 +317,7 @@ impl Clause<'_> {
         }
     }
 
-    /// What it selects of an entry that matches it.
+    /// What the clause selects of an entry that fits it.
     fn bound<'e>(&self, entry: &'e Entry) -> Option<&'e Entry>
         ensures { option_copied result
             ≡ bound_by self.now.bind (rule_of self.now).parent entry.now }

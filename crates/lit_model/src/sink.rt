@@ -12,7 +12,7 @@ use std::fmt;
 
 /// A writer that tells whether it has refused a text.
 pub trait Sink: fmt::Write {
-    /// It has refused a text.
+    /// Whether the writer has refused a text.
     ghost refused: { Self → Bool };
 
     /// Hands over a text.

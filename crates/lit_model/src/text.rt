@@ -9,12 +9,12 @@ use std::alloc::Global;
 /// How a chunk of text may be changed.
 #[derive(Clone, Copy, Debug, Default, PartialEq, Eq, Hash)]
 pub enum ChunkKind {
-    /// As a style pleases.
+    /// A style may change the text, for example its case.
     #[default]
     Normal,
-    /// Not at all.
+    /// No style changes the text.
     Verbatim,
-    /// Not at all, and it is mathematics.
+    /// Mathematics, which no style changes.
     Math,
 }
 
@@ -23,7 +23,7 @@ pub enum ChunkKind {
 pub struct StringChunk {
     /// The text.
     pub value: String,
-    /// How it may be changed.
+    /// How a style may change the text.
     pub kind: ChunkKind,
 }
 

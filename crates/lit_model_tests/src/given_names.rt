@@ -8,11 +8,11 @@ use std::test::Fail;
 /// How given names are written.
 #[derive(Clone, Copy)]
 enum Form {
-    /// Those of one letter are marked.
+    /// Words of one letter are marked.
     Marked,
-    /// Each is its initial.
+    /// Each word is cut down to its initial.
     Initials,
-    /// The same, without hyphens.
+    /// Each word is cut down to its initial, and hyphens are dropped.
     WithoutHyphens,
 }
 

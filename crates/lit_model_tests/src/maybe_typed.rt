@@ -16,14 +16,14 @@ fn same_number(a: &MaybeTyped<Numeric>, b: &MaybeTyped<Numeric>) -> bool
     *a == *b
 }
 
-/// The same for pages.
+/// `==` of pages or texts is equality of their views.
 fn same_pages(a: &MaybeTyped<PageRanges>, b: &MaybeTyped<PageRanges>) -> bool
     ensures { IsTrue result ↔ (maybe_view pages_view a.now ≡ maybe_view pages_view b.now) }
 {
     *a == *b
 }
 
-/// What a number or pages are compared with.
+/// The value that a number or pages are compared with.
 #[derive(Clone, Copy)]
 enum Other {
     Copy,

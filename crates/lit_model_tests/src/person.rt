@@ -24,14 +24,14 @@ fn hashed_alike(a: &Person, b: &Person)
     let _same = *a == *b;
 }
 
-/// The same for roles.
+/// `==` of roles is equality of their views.
 fn same_role(a: &PersonRole, b: &PersonRole) -> bool
     ensures { IsTrue result ↔ (role_of a.now ≡ role_of b.now) }
 {
     *a == *b
 }
 
-/// The same for persons with their role.
+/// `==` of persons with a role is equality of their views.
 fn same_group(a: &PersonsWithRoles, b: &PersonsWithRoles) -> bool
     ensures { IsTrue result ↔ (group_of a.now ≡ group_of b.now) }
 {

@@ -7,7 +7,7 @@ use lit_model::{
 use std::alloc::Global;
 use std::process::Abort;
 
-/// A list of one.
+/// A list of one item.
 pub fn alone<T: Drop>(alloc: Global, item: T) -> Result<Vec<T>, Memory> {
     let mut items = Vec::new(alloc);
     put(&mut items, item)?;
@@ -102,12 +102,12 @@ pub fn entries(alloc: Global, works: &[Work]) -> Result<Vec<Entry>, Memory> {
     Ok(entries)
 }
 
-/// The answer is this text.
+/// Asserts that an answer is a text.
 pub fn assert_text(rt: &impl Abort, answer: &str, wanted: &str, of: &str) {
     assert_eq!(rt; answer, wanted, "of {of}");
 }
 
-/// The answer is this yes or no.
+/// Asserts that an answer is a boolean.
 pub fn assert_whether(rt: &impl Abort, answer: bool, wanted: bool, of: &str) {
     assert_of(rt, &answer, &wanted, &of);
 }

@@ -7,7 +7,7 @@ use lit_model::{Bind, Clause, Entry, EntryType, Field, Memory, PersonRole, Perso
 use std::alloc::Global;
 use std::process::Abort;
 
-/// What a work is asked for.
+/// The selection that a row asks of a work.
 #[derive(Clone, Copy, Debug)]
 enum Asked {
     Container,
@@ -39,7 +39,7 @@ const CHAPTER: &[Work] = &[
     ("chapter", EntryType::Chapter, Shown::Nothing, 1),
 ];
 
-/// The same with an empty title.
+/// A chapter with an empty title, in a scene, in a video.
 const TITLED_CHAPTER: &[Work] = &[
     ("video", EntryType::Video, Shown::Nothing, 0),
     ("scene", EntryType::Scene, Shown::Nothing, 1),
@@ -57,7 +57,7 @@ const TRANSLATION: &[Work] = &[
     ("work", EntryType::Book, Shown::Nothing, 3),
 ];
 
-/// The same with a date.
+/// A translation with a date, of a book and of two originals.
 const DATED_TRANSLATION: &[Work] = &[
     ("book", EntryType::Book, Shown::Nothing, 0),
     ("original", EntryType::Original, Shown::Nothing, 0),
@@ -341,7 +341,7 @@ fn assert_directors_of(rt: &impl Abort, alloc: Global, film: &Entry) -> Result<(
     Ok(())
 }
 
-/// The same of a film that is made for it.
+/// Asserts the directors of a film.
 fn assert_directors(rt: &impl Abort, alloc: Global) -> Result<(), Memory> {
     let film = film(alloc)?;
     let asserted = assert_directors_of(rt, alloc, &film);

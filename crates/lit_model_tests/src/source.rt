@@ -152,7 +152,7 @@ fn with_domain(alloc: Global) -> Result<QualifiedUrl, Memory> {
     })
 }
 
-/// One of the same text, whose host is an IP address.
+/// An address with the text of another one, whose host is an IP address.
 fn with_ip(alloc: Global) -> Result<QualifiedUrl, Memory> {
     let mut value = address(alloc, "foo://h/")?;
     let host = IpAddr::V4(Ipv4Addr::new(1, 2, 3, 4));

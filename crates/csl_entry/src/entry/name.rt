@@ -15,9 +15,6 @@ use std::alloc::Global;
 use std::borrow::Cow;
 
 /// The persons, in order, borrowed from the entry and its parents.
-///
-/// # Errors
-/// [`Memory`]: there was no memory left.
 pub(super) fn name_variable(
     alloc: Global,
     entry: &Entry,
@@ -131,7 +128,7 @@ fn editors_or_of_container(entry: &Entry) -> &[Person]
     }
 }
 
-/// These persons, as an answer.
+/// Persons of the entry as an answer, each borrowed.
 fn name_answer(alloc: Global, persons: &[Person]) -> Result<Vec<Cow<'_, Person>>, Memory>
     ensures { IfOk result (λ found. map (behind named) found.items ≡ map named persons.now) }
 {
@@ -142,7 +139,7 @@ fn name_answer(alloc: Global, persons: &[Person]) -> Result<Vec<Cow<'_, Person>>
     Ok(found)
 }
 
-/// The same of references to persons.
+/// Referenced persons of the entry as an answer, each borrowed.
 fn reference_answer<'a>(
     alloc: Global,
     persons: &[&'a Person],
@@ -204,7 +201,7 @@ fn is_translator(entry: &Entry, person: &Person) -> bool
     false
 }
 
-/// One of the persons shows the same as this one.
+/// Whether one of the persons shows the same as `person`.
 fn is_one_of(persons: &[Person], person: &Person) -> bool
     ensures { result ≡ is_one_of persons.now person.now }
 {

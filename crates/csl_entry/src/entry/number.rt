@@ -16,9 +16,6 @@ use std::borrow::Cow;
 /// The number that an entry answers (CSL 1.0.2, Number Variables), or its text where it is no
 /// number. What the citation knows (`CitationNumber`, `FirstReferenceNoteNumber`, `Locator`) the
 /// entry does not answer, nor `Section` and `SupplementNumber`.
-///
-/// # Errors
-/// [`Memory`]: there was no memory left.
 pub(crate) fn number_variable(
     alloc: Global,
     entry: &Entry,

@@ -11,9 +11,6 @@ use std::alloc::Global;
 
 /// The pages that an entry answers (CSL 1.0.2, Number Variables: page): a copy of those on which
 /// it stands itself.
-///
-/// # Errors
-/// [`Memory`]: there was no memory left.
 pub(crate) fn page_variable(
     alloc: Global,
     entry: &Entry,

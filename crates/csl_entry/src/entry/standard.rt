@@ -37,9 +37,6 @@ fn repository() -> &'static [Clause<'static>]
 
 /// The text that an entry answers to a standard variable (CSL 1.0.2, Appendix IV: Variables), in
 /// the form that is asked for, where it has one. What the entry holds is borrowed.
-///
-/// # Errors
-/// [`Memory`]: there was no memory left.
 pub(crate) fn standard_variable(
     alloc: Global,
     entry: &Entry,
@@ -126,9 +123,6 @@ fn in_form(text: Option<&FormatString>, form: LongShortForm) -> Option<Cow<'_, C
 }
 
 /// The text as one piece that no style changes, where it is known.
-///
-/// # Errors
-/// [`Memory`]: there was no memory left.
 fn verbatim<'t>(alloc: Global, text: Option<&str>) -> Result<Option<Cow<'t, ChunkedString>>, Memory>
     ensures { IfOk result (λ found. option_map (behind chunks) found
         ≡ verbatim (option_copied text.entry)) }
@@ -144,9 +138,6 @@ fn verbatim<'t>(alloc: Global, text: Option<&str>) -> Result<Option<Cow<'t, Chun
 }
 
 /// The language as one piece, where it is known.
-///
-/// # Errors
-/// [`Memory`]: there was no memory left.
 fn language_answer<'t>(
     alloc: Global,
     language: Option<&LanguageIdentifier>,
@@ -165,9 +156,6 @@ fn language_answer<'t>(
 }
 
 /// The label of an entry as one piece.
-///
-/// # Errors
-/// [`Memory`]: there was no memory left.
 fn label_answer<'t>(alloc: Global, entry: &Entry) -> Result<Option<Cow<'t, ChunkedString>>, Memory>
     ensures { IfOk result (λ found. option_map (behind chunks) found
         ≡ Some (spec.one_chunk Normal (label 3 entry.now))) }

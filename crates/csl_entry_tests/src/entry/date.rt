@@ -22,7 +22,7 @@ const POST: &str = "article; \
     also conference; date 2002; \
     also original; date 1999";
 
-/// The same, with a date of its own.
+/// A post with a date of its own, and works around it that have dates.
 const DATED_POST: &str = "article; date 2010; \
     in blog; date 2001; url https://aeon.co/essays 2015; \
     also conference; date 2002; \

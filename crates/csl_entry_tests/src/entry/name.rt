@@ -37,12 +37,12 @@ const CHAPTER: &str = "chapter; authors Ann, Ben; \
     in anthology; authors Max; editors Eve, Eli; \
     in periodical; editors Sam";
 
-/// The same chapter, with an editor.
+/// A chapter in an anthology, with an editor of its own.
 const EDITED_CHAPTER: &str = "chapter; authors Ann, Ben; editors Own; \
     in anthology; authors Max; editors Eve, Eli; \
     in periodical; editors Sam";
 
-/// The same chapter, with a list of editors that is empty.
+/// A chapter in an anthology, with a list of editors that is empty.
 const CHAPTER_OF_NO_EDITORS: &str = "chapter; authors Ann, Ben; editors; \
     in anthology; authors Max; editors Eve, Eli; \
     in periodical; editors Sam";

@@ -67,7 +67,7 @@ const POST: &str = "post; title She swoons to conquer; language en-AU; \
 const TRANSLATION: &str = "book; title The Metamorphosis; publisher Vanguard|New York; \
     in original; title Die Verwandlung; publisher Kurt Wolff|Leipzig";
 
-/// The same without one.
+/// A translation without a publisher.
 const UNPUBLISHED_TRANSLATION: &str = "book; title The Metamorphosis; \
     in original; title Die Verwandlung; publisher Kurt Wolff|Leipzig";
 
@@ -77,7 +77,7 @@ const FILM: &str = "video; title Tour of a Ray Tracer; archive-location Shelf 4;
     in repository; title Ray Tracer; abstract Rays in one week.; note Needs a large screen; \
     archive Vault 2; organization Rendering Group; call-number RT";
 
-/// That repository.
+/// A software repository with texts of its own.
 const REPOSITORY: &str = "repository; title Ray Tracer; abstract Rays in one week.; \
     note Needs a large screen; archive Vault 2; organization Rendering Group; call-number RT";
 
@@ -86,7 +86,7 @@ const NUMBERED: &str = "book; title Crazy Rich Asians; serial doi 10.1007/BF0273
     serial isbn 978-0-385-53697-4; serial issn 0029-6341; serial pmcid PMC2717145; \
     serial pmid 19255231";
 
-/// A chapter of such a book.
+/// A chapter of a book with one number under each scheme.
 const CHAPTER_OF_NUMBERED: &str = "chapter; title Prologue; \
     in book; title Crazy Rich Asians; serial doi 10.1007/BF02731494; \
     serial isbn 978-0-385-53697-4; serial issn 0029-6341; serial pmcid PMC2717145; \

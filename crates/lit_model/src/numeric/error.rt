@@ -12,7 +12,7 @@ use std::fmt;
 /// Why a text was not read as a number or as pages.
 #[derive(Clone, Copy, Debug, PartialEq, Eq, Hash)]
 pub enum NumericError {
-    /// There was no memory.
+    /// Out of memory.
     Memory,
     /// The text is not in the grammar.
     NotNumeric,

@@ -175,8 +175,8 @@ impl Numeric {
         number_in(alloc, text)
     }
 
-    /// Whether the text stands for a number, as [`Numeric::parse`] reads it: where this is true,
-    /// `parse` fails for want of memory alone, and where it is false, with `NotNumeric`.
+    /// Whether the text spells a number, as [`Numeric::parse`] reads it: where this is true,
+    /// `parse` fails only if memory runs out, and where it is false, with `NotNumeric`.
     pub fn is_spelled_by(text: &str) -> bool
         ensures { IsTrue result ↔ IsSpelled (chars text.now) }
     {

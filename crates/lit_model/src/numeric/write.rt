@@ -73,9 +73,6 @@ fn text_or_empty(text: &Option<String>) -> &str
 
 impl NumericValue {
     /// Writes the number or the numbers to a sink, for sorting or to be read.
-    ///
-    /// # Errors
-    /// [`fmt::Error`]: the sink refused a text; what it holds then is left open.
     fn write_into<S: Sink>(&self, sink: &mut S, machine_readable: bool) -> fmt::Result
         ensures ok { OnOk result (WritesInCalls S.write_str_gives sink.old
             (value_text (integer_text machine_readable) (value_view self.now)) sink.new) }
