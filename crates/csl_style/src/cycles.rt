@@ -6,9 +6,6 @@ ghost use Rattle.csl_style.specs.Reaches.{InRange, IsReach, IsFirstCyclicPlace, 
 use std::alloc::{AllocError, Global};
 
 /// Which places the place leads to, by one edge or more.
-///
-/// # Errors
-/// [`AllocError`]: there was no memory left.
 fn reach(alloc: Global, graph: &[Vec<usize>], from: usize) -> Result<Vec<bool>, AllocError>
     requires graph { InRange graph.now (length graph.now) }
     requires from { from < length graph.now }
@@ -32,9 +29,6 @@ fn reach(alloc: Global, graph: &[Vec<usize>], from: usize) -> Result<Vec<bool>, 
 
 /// The first place that leads back to itself, or `None` where there is none. Row i of the graph
 /// lists the places that an edge from place i leads to.
-///
-/// # Errors
-/// [`AllocError`]: there was no memory left.
 pub(crate) fn first_cyclic(alloc: Global, graph: &[Vec<usize>]) -> Result<Option<usize>, AllocError>
     requires { InRange graph.now (length graph.now) }
     ensures cyclic { IfOk result (λ found. IfSome found (IsFirstCyclicPlace graph.now)) }

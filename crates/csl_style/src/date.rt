@@ -60,7 +60,7 @@ pub struct Date {
     pub variable: Option<DateVariable>,
     /// Where it is set, the locale's date of this form is written.
     pub form: Option<DateForm>,
-    /// Which parts are written.
+    /// Which parts of the date are written.
     pub parts: Option<DateParts>,
     /// The parts in order.
     pub date_part: Vec<DatePart>,

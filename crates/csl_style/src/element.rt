@@ -108,7 +108,7 @@ pub struct Names {
 pub enum NamesChild {
     Name(Name),
     EtAl(EtAl),
-    /// It stands behind the names where a `Name` comes before it, else before them.
+    /// A label after the names if a `Name` comes before it, else before them.
     Label(VariablelessLabel),
     Substitute(Substitute),
 }

@@ -41,7 +41,7 @@ impl TermEntry {
 /// Which numbers an ordinal is for (CSL 1.0.2, Ordinals).
 #[derive(Clone, Copy, Debug, PartialEq, Eq, PartialOrd, Ord, Hash)]
 pub enum OrdinalSlot {
-    /// Those that no other slot is for.
+    /// The numbers that no other slot is for.
     Default,
     /// A number from 0 to 99: one digit or two.
     Two(u8),

@@ -33,7 +33,7 @@ pub struct Named {
     pub kinds: BTreeSet<Kind>,
 }
 
-/// Nothing.
+/// A set of nothing: six empty sets.
 #[tactic(auto, using(crate::proofs::Noted::has_nothing))]
 fn nothing(alloc: Global) -> Named
     ensures { has result ≡ nothing_named }
@@ -49,9 +49,6 @@ fn nothing(alloc: Global) -> Named
 }
 
 /// Adds a variable, unless the citation answers it.
-///
-/// # Errors
-/// [`Memory`]: there was no memory left, and nothing was added.
 #[tactic(auto, using(crate::proofs::Noted::not_noted, crate::proofs::Noted::number_noted, crate::proofs::Noted::page_noted, crate::proofs::Noted::standard_noted, crate::proofs::Noted::name_noted, crate::proofs::Noted::date_noted))]
 fn note_variable(named: &mut Named, variable: Variable) -> Result<(), Memory>
     ensures ok { OnOk result (has named.new ≡ joined (has named.old) (the_variable variable)) }
@@ -81,9 +78,6 @@ fn note_variable(named: &mut Named, variable: Variable) -> Result<(), Memory>
 }
 
 /// Adds a kind.
-///
-/// # Errors
-/// [`Memory`]: there was no memory left, and nothing was added.
 #[tactic(auto, using(crate::proofs::Noted::kind_noted))]
 fn note_kind(named: &mut Named, kind: Kind) -> Result<(), Memory>
     ensures ok { OnOk result (has named.new ≡ joined (has named.old) (the_kind kind)) }
@@ -119,7 +113,7 @@ impl<'s> Model for Walk<'s> {
 }
 
 impl<'s> Walk<'s> {
-    /// Nothing is named yet.
+    /// A walk over a style that has named nothing yet.
     fn new(alloc: Global, style: &'s Style) -> Walk<'s>
         ensures style { result ≡ record { style = style.now; named = result.named } }
         ensures none { has result.named ≡ nothing_named }
@@ -138,7 +132,7 @@ impl<'s> Walk<'s> {
         self.style
     }
 
-    /// What was named.
+    /// Ends the walk, with what was named.
     fn into_named(self) -> Named
         ensures { result ≡ self.entry.named }
     {
@@ -146,9 +140,6 @@ impl<'s> Walk<'s> {
     }
 
     /// Adds a variable, unless the citation answers it.
-    ///
-    /// # Errors
-    /// [`Memory`]: there was no memory left.
     fn note(&mut self, variable: Variable) -> Result<(), Memory>
         ensures { OnOk result (Adds (the_variable variable) self.old self.new) }
     {
@@ -156,9 +147,6 @@ impl<'s> Walk<'s> {
     }
 
     /// Adds a kind.
-    ///
-    /// # Errors
-    /// [`Memory`]: there was no memory left.
     fn note_kind(&mut self, kind: Kind) -> Result<(), Memory>
         ensures { OnOk result (Adds (the_kind kind) self.old self.new) }
     {
@@ -175,9 +163,6 @@ impl<'s> Walk<'s> {
     }
 
     /// Keeps in mind that a macro was seen: all that it names is named.
-    ///
-    /// # Errors
-    /// [`Memory`]: there was no memory left.
     fn learn(&mut self, name: &'s str) -> Result<(), Memory>
         requires { joined (has self.old.named) (of_meaning (env self.old.style name.now))
             ≡ has self.old.named }
@@ -188,7 +173,7 @@ impl<'s> Walk<'s> {
     }
 }
 
-/// Adds nothing.
+/// Adds nothing to what a walk named.
 #[tactic(auto, using(crate::proofs::Walks::adds_nothing))]
 fn none<'s>(walk: &mut Walk<'s>) -> Result<(), Memory>
     ensures { OnOk result (Adds nothing_named walk.old walk.new) }
@@ -198,9 +183,6 @@ fn none<'s>(walk: &mut Walk<'s>) -> Result<(), Memory>
 }
 
 /// Adds the variables of a test.
-///
-/// # Errors
-/// [`Memory`]: there was no memory left.
 fn note_variables<'s>(walk: &mut Walk<'s>, tested: &Option<Vec<Variable>>) -> Result<(), Memory>
     ensures { OnOk result (Adds
         (each_if the_variable (option_map (λ vs. vs.items) tested.now)) walk.old walk.new) }
@@ -217,9 +199,6 @@ fn note_variables<'s>(walk: &mut Walk<'s>, tested: &Option<Vec<Variable>>) -> Re
 }
 
 /// Adds the dates of a test.
-///
-/// # Errors
-/// [`Memory`]: there was no memory left.
 fn note_dates<'s>(walk: &mut Walk<'s>, tested: &Option<Vec<DateVariable>>) -> Result<(), Memory>
     ensures { OnOk result (Adds
         (each_if the_date (option_map (λ vs. vs.items) tested.now)) walk.old walk.new) }
@@ -236,9 +215,6 @@ fn note_dates<'s>(walk: &mut Walk<'s>, tested: &Option<Vec<DateVariable>>) -> Re
 }
 
 /// Adds the kinds of a test.
-///
-/// # Errors
-/// [`Memory`]: there was no memory left.
 fn note_kinds<'s>(walk: &mut Walk<'s>, tested: &Option<Vec<Kind>>) -> Result<(), Memory>
     ensures { OnOk result (Adds
         (each_if the_kind (option_map (λ vs. vs.items) tested.now)) walk.old walk.new) }
@@ -255,9 +231,6 @@ fn note_kinds<'s>(walk: &mut Walk<'s>, tested: &Option<Vec<Kind>>) -> Result<(),
 }
 
 /// Adds the variable of a number or a label.
-///
-/// # Errors
-/// [`Memory`]: there was no memory left.
 fn note_number_or_page<'s>(
     walk: &mut Walk<'s>,
     variable: NumberOrPageVariable,
@@ -271,9 +244,6 @@ fn note_number_or_page<'s>(
 }
 
 /// Adds the variables of names.
-///
-/// # Errors
-/// [`Memory`]: there was no memory left.
 fn note_names<'s>(walk: &mut Walk<'s>, names: &[NameVariable]) -> Result<(), Memory>
     ensures { OnOk result (Adds (each_of the_name names.now) walk.old walk.new) }
 {
@@ -284,9 +254,6 @@ fn note_names<'s>(walk: &mut Walk<'s>, names: &[NameVariable]) -> Result<(), Mem
 }
 
 /// Adds what the tests of a branch ask the entry.
-///
-/// # Errors
-/// [`Memory`]: there was no memory left.
 fn note_tests<'s>(walk: &mut Walk<'s>, branch: &'s ChooseBranch) -> Result<(), Memory>
     ensures { OnOk result (Adds (of_tests (view_branch branch.now).tests) walk.old walk.new) }
 {
@@ -312,9 +279,6 @@ fn unseen<'s>(walk: &Walk<'s>, name: &str) -> Option<&'s CslMacro>
 }
 
 /// Adds what an element names.
-///
-/// # Errors
-/// [`Memory`]: there was no memory left.
 #[cycle(named)]
 fn name_element<'s>(walk: &mut Walk<'s>, element: &'s LayoutRenderingElement) -> Result<(), Memory>
     ensures { OnOk result (Adds
@@ -345,9 +309,6 @@ fn name_element<'s>(walk: &mut Walk<'s>, element: &'s LayoutRenderingElement) ->
 }
 
 /// Adds what any of the elements names.
-///
-/// # Errors
-/// [`Memory`]: there was no memory left.
 #[cycle(named)]
 fn name_all<'s>(walk: &mut Walk<'s>, elements: &'s [LayoutRenderingElement]) -> Result<(), Memory>
     ensures { OnOk result (Adds
@@ -360,9 +321,6 @@ fn name_all<'s>(walk: &mut Walk<'s>, elements: &'s [LayoutRenderingElement]) -> 
 }
 
 /// Adds what names and their substitutes name.
-///
-/// # Errors
-/// [`Memory`]: there was no memory left.
 #[cycle(named)]
 fn name_names<'s>(walk: &mut Walk<'s>, names: &'s Names) -> Result<(), Memory>
     ensures { OnOk result (Adds
@@ -376,9 +334,6 @@ fn name_names<'s>(walk: &mut Walk<'s>, names: &'s Names) -> Result<(), Memory>
 }
 
 /// Adds what a child of names names: a substitute.
-///
-/// # Errors
-/// [`Memory`]: there was no memory left.
 #[cycle(named)]
 fn name_child<'s>(walk: &mut Walk<'s>, child: &'s NamesChild) -> Result<(), Memory>
     ensures { OnOk result (Adds
@@ -391,9 +346,6 @@ fn name_child<'s>(walk: &mut Walk<'s>, child: &'s NamesChild) -> Result<(), Memo
 }
 
 /// Adds what a branch names, with its tests.
-///
-/// # Errors
-/// [`Memory`]: there was no memory left.
 #[cycle(named)]
 fn name_branch<'s>(walk: &mut Walk<'s>, branch: &'s ChooseBranch) -> Result<(), Memory>
     ensures { OnOk result (Adds
@@ -405,9 +357,6 @@ fn name_branch<'s>(walk: &mut Walk<'s>, branch: &'s ChooseBranch) -> Result<(), 
 }
 
 /// Adds what the branches of a choice name, and what is printed where none is chosen.
-///
-/// # Errors
-/// [`Memory`]: there was no memory left.
 #[cycle(named)]
 fn name_choose<'s>(walk: &mut Walk<'s>, choose: &'s Choose) -> Result<(), Memory>
     ensures { OnOk result (Adds

@@ -40,7 +40,7 @@ pub enum NameAsSortOrder {
 /// delimiter-precedes-et-al and delimiter-precedes-last).
 #[derive(Clone, Copy, Debug, Default, PartialEq, Eq, PartialOrd, Ord, Hash)]
 pub enum DelimiterBehavior {
-    /// Behind two names or more.
+    /// After two names or more.
     #[default]
     Contextual,
     /// Behind a name that begins with the family name.

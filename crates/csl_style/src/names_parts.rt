@@ -42,7 +42,7 @@ pub struct PlacedLabel<'s> {
 }
 
 impl Names {
-    /// Its parts.
+    /// The parts of the names node.
     pub fn parts(&self) -> NamesParts<'_>
         ensures value { parts_node result ≡ names_node self.now }
         ensures view { view_names self.now ≡ names (names_node self.now)
@@ -68,8 +68,9 @@ impl Names {
         self.children.is_empty()
     }
 
-    /// Its parts where it stands in for another node: that node's children, its own variables and
-    /// place on the page, and all else from itself where it is set, else from that node.
+    /// The parts of the node where it stands in for another node: that node's children, its own
+    /// variables and place on the page, and all else from itself where it is set, else from that
+    /// node.
     pub fn parts_in_place_of<'s>(&'s self, original: NamesParts<'s>) -> NamesParts<'s>
         ensures { parts_node result ≡ in_place_of (parts_node original.entry)
             (names_node self.now) }

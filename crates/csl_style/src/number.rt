@@ -19,7 +19,7 @@ pub struct Number {
 /// When a label is in the plural (CSL 1.0.2, Label: plural).
 #[derive(Clone, Copy, Debug, Default, PartialEq, Eq, PartialOrd, Ord, Hash)]
 pub enum LabelPluralize {
-    /// Where what it stands beside is.
+    /// If the number or the pages beside the label are in the plural.
     #[default]
     Contextual,
     Always,

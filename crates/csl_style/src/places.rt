@@ -122,9 +122,6 @@ fn add_child_calls(
 }
 
 /// What each macro calls: row i lists the places that the macro at place i calls.
-///
-/// # Errors
-/// [`AllocError`]: there was no memory left.
 pub(crate) fn call_graph(alloc: Global, macros: &[CslMacro]) -> Result<Vec<Vec<usize>>, AllocError>
     ensures calls { IfOk result (λ graph. IsCallGraph (definitions macros.now) graph.items) }
     ensures range { IfOk result (λ graph. InRange graph.items (length graph.items)) }

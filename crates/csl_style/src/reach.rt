@@ -41,7 +41,7 @@ fn has_year_suffix(style: &Style, element: &LayoutRenderingElement) -> bool
     }
 }
 
-/// Whether one stands in any of the elements.
+/// Whether a text of the year suffix is in any of the elements.
 #[cycle(reach)]
 fn any_has_year_suffix(style: &Style, elements: &[LayoutRenderingElement]) -> bool
     ensures { result ≡ any_has_year_suffix (fills (env style.now) (views elements.now)) }
@@ -54,7 +54,7 @@ fn any_has_year_suffix(style: &Style, elements: &[LayoutRenderingElement]) -> bo
     false
 }
 
-/// Whether one stands in a substitute of the names.
+/// Whether a text of the year suffix is in a substitute of the names.
 #[cycle(reach)]
 fn names_have_year_suffix(style: &Style, names: &Names) -> bool
     ensures { result ≡ has_year_suffix (fill (env style.now) (view_names names.now)) }
@@ -67,7 +67,7 @@ fn names_have_year_suffix(style: &Style, names: &Names) -> bool
     false
 }
 
-/// Whether one stands in a child of names: in a substitute.
+/// Whether a text of the year suffix is in a child of names, which is a substitute.
 #[cycle(reach)]
 fn child_has_year_suffix(style: &Style, child: &NamesChild) -> bool
     ensures { result ≡ child_has_year_suffix (env style.now) (view_child child.now) }
@@ -78,7 +78,8 @@ fn child_has_year_suffix(style: &Style, child: &NamesChild) -> bool
     }
 }
 
-/// Whether one stands in a branch of the choice, chosen or not, or where none is chosen.
+/// Whether a text of the year suffix is in a branch of the choice, chosen or not, or where none is
+/// chosen.
 #[cycle(reach)]
 fn choose_has_year_suffix(style: &Style, choose: &Choose) -> bool
     ensures { result ≡ has_year_suffix (fill (env style.now) (view_choose choose.now)) }

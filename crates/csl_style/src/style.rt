@@ -76,9 +76,6 @@ fn is_chicago(format: Option<PageRangeFormat>) -> bool
 }
 
 /// Nothing where a style of these may stand, else why it is refused.
-///
-/// # Errors
-/// As [`Style::new`].
 fn find_refusal(
     alloc: Global,
     format: Option<PageRangeFormat>,

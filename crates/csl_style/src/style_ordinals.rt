@@ -9,7 +9,7 @@ use crate::style::Style;
 use csl_common::GrammarGender;
 
 impl Style {
-    /// Its ordinals.
+    /// The ordinals of the style.
     pub fn ordinals(&self) -> LocaleOrdinals<'_>
         ensures { result.locales.now ≡ self.now.locales }
     {

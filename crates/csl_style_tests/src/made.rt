@@ -27,7 +27,7 @@ pub(crate) type OrdinalRow<'s> = (
     &'s str,
 );
 
-/// What a locale says.
+/// The rows that describe a locale.
 #[derive(Clone, Copy)]
 pub(crate) struct LocaleRows<'s> {
     pub(crate) terms: &'s [TermRow<'s>],
@@ -37,7 +37,7 @@ pub(crate) struct LocaleRows<'s> {
     pub(crate) limit_day_ordinals_to_day_1: bool,
 }
 
-/// A locale that says nothing.
+/// A locale without terms and ordinals.
 pub(crate) const SILENT: LocaleRows<'static> = LocaleRows {
     terms: &[],
     ordinals: &[],
@@ -229,7 +229,7 @@ pub(crate) fn names(
     }))
 }
 
-/// A group of these.
+/// A group of some nodes.
 pub(crate) fn group(children: Vec<LayoutRenderingElement>) -> LayoutRenderingElement {
     LayoutRenderingElement::Group(Group {
         children,
@@ -240,7 +240,7 @@ pub(crate) fn group(children: Vec<LayoutRenderingElement>) -> LayoutRenderingEle
     })
 }
 
-/// The node that holds these.
+/// The node around some nodes.
 fn node_around(
     alloc: Global,
     around: Around,
@@ -305,7 +305,7 @@ pub(crate) fn text(target: TextTarget) -> LayoutRenderingElement {
     })
 }
 
-/// The texts among the words.
+/// The text nodes of words.
 fn texts(alloc: Global, words: &[&str]) -> Result<Vec<LayoutRenderingElement>, AllocError> {
     let mut texts = Vec::new(alloc);
     for word in words {
@@ -364,7 +364,7 @@ fn layout(alloc: Global, line: &str) -> Result<Layout, AllocError> {
     Ok(layout_of(elements))
 }
 
-/// A layout of these.
+/// A layout of some elements.
 pub(crate) fn layout_of(elements: Vec<LayoutRenderingElement>) -> Layout {
     Layout {
         elements,
@@ -383,7 +383,7 @@ pub(crate) struct StyleRows<'s> {
     pub(crate) locales: &'s [LocaleRows<'s>],
 }
 
-/// A style that says nothing.
+/// A style that sets nothing.
 pub(crate) const EMPTY: StyleRows<'static> = StyleRows {
     format: None,
     macros: &[],
@@ -392,7 +392,7 @@ pub(crate) const EMPTY: StyleRows<'static> = StyleRows {
     locales: &[],
 };
 
-/// The style of these rows.
+/// The style that rows describe.
 pub(crate) fn style(alloc: Global, rows: &StyleRows<'_>) -> Result<Style, StyleError> {
     let macros = macros(alloc, rows.macros)?;
     let locales = locales(alloc, rows.locales)?;

@@ -14,7 +14,7 @@ use std::alloc::{AllocError, Global};
 use std::process::Abort;
 use std::test::Fail;
 
-/// What is in each set.
+/// The content of the six sets, in words.
 fn said(alloc: Global, named: &Named) -> Result<String, Fail> {
     Ok(format!(in alloc;
         "numbers {:?} pages {:?} standards {:?} names {:?} dates {:?} kinds {:?}",
@@ -128,7 +128,7 @@ fn make_leaf(alloc: Global, leaf: &Leaf) -> LayoutRenderingElement {
     }
 }
 
-/// Appends these.
+/// Appends the nodes of some leaves.
 fn push_leaves(
     alloc: Global,
     nodes: &mut Vec<LayoutRenderingElement>,
@@ -146,7 +146,7 @@ fn leaves(alloc: Global, rows: &[Leaf]) -> Result<Vec<LayoutRenderingElement>, A
     Ok(nodes)
 }
 
-/// Appends a group of these.
+/// Appends a group of the nodes of some leaves.
 fn push_group(
     alloc: Global,
     nodes: &mut Vec<LayoutRenderingElement>,

@@ -36,7 +36,7 @@ const FORM_ALONE: Level = Level {
 /// What is set for all of a style, for its citation and for its bibliography.
 type Levels = (Level, Level, Level);
 
-/// Sets what a level sets.
+/// Sets the options of one level.
 fn set(
     alloc: Global,
     options: &mut InheritableNameOptions,

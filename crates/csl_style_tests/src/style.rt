@@ -11,7 +11,7 @@ use std::alloc::Global;
 use std::process::Abort;
 use std::test::Fail;
 
-/// What the refusal of a style prints, if it is refused. Want of memory is no refusal.
+/// The text of the refusal of a style, if it is refused. Running out of memory is no refusal.
 fn refusal(
     alloc: Global,
     format: Option<PageRangeFormat>,

@@ -18,7 +18,7 @@ fn same_variable(a: &Variable, b: &Variable) -> bool
     *a == *b
 }
 
-/// The same for kinds.
+/// `==` of kinds is equality.
 fn same_kind(a: &Kind, b: &Kind) -> bool
     ensures { IsTrue result ↔ (a.now ≡ b.now) }
 {

@@ -20,7 +20,7 @@ fn same_term(a: &Term, b: &Term) -> bool
     *a == *b
 }
 
-/// The same for terms that name no variable.
+/// `==` of terms that name no variable is equality.
 fn same_other_term(a: &OtherTerm, b: &OtherTerm) -> bool
     ensures { IsTrue result ↔ (a.now ≡ b.now) }
 {

@@ -19,12 +19,12 @@ fn digits_for(matching: Option<OrdinalMatch>, slot: u8, number: u32) -> u32
     }
 }
 
-/// Which ordinals are meant.
+/// A group of ordinals.
 #[derive(Clone, Copy)]
 pub(crate) enum OrdinalGroup {
-    /// Those for a number, by a slot from `low` to `high`.
+    /// The ordinals for a number, by a slot from `low` to `high`.
     Between { low: u8, high: u8, number: u32 },
-    /// Those of this slot.
+    /// The ordinals of one slot.
     Slot(OrdinalSlot),
 }
 

@@ -51,7 +51,7 @@ impl InheritableNameOptions {
         }
     }
 
-    /// These options over others: each one that is set here, else that of `base`.
+    /// The options over others: each one that is set here, else that of `base`.
     pub fn apply<'s>(&'s self, base: InheritedNameOptions<'s>) -> InheritedNameOptions<'s>
         ensures { inherited_options result
             ≡ options_over (own_options self.now) (inherited_options base.entry) }

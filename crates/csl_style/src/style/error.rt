@@ -11,7 +11,7 @@ use std::fmt;
 /// Why a style is refused.
 #[derive(Debug, Drop)]
 pub enum StyleError {
-    /// There was no memory left.
+    /// Out of memory.
     Memory,
     /// The macro of this name leads back to itself. It is the first of the list that does.
     CyclicMacro(String),

@@ -24,7 +24,7 @@ pub enum DemoteNonDroppingParticle {
     /// Where a name begins with the family name, and in sorting.
     #[default]
     DisplayAndSort,
-    /// In sorting alone.
+    /// Only in sorting.
     SortOnly,
     Never,
 }
@@ -43,11 +43,11 @@ pub struct StyleSettings {
     pub demote_non_dropping_particle: DemoteNonDroppingParticle,
     /// Whether the initials of a given name with a hyphen keep it: by default they do.
     pub initialize_with_hyphen: bool,
-    /// The options of names everywhere.
+    /// The options of names in the whole style.
     pub names: InheritableNameOptions,
-    /// Those of the citation, which come before the others.
+    /// The options of names in the citation, over those of the whole style.
     pub citation_names: InheritableNameOptions,
-    /// Those of the bibliography, which come before the others.
+    /// The options of names in the bibliography, over those of the whole style.
     pub bibliography_names: InheritableNameOptions,
 }
 
