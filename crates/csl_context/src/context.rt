@@ -96,7 +96,7 @@ pub struct LeftState {
     pub first_names: Option<NameDisambiguationProperties>,
 }
 
-/// What a rendering made.
+/// The content that a rendering made, and the state that it left.
 #[derive(Drop)]
 pub struct Rendered {
     pub content: ElemChildren,

@@ -143,8 +143,8 @@ impl<'s, T> Context<'s, T> {
         }
     }
 
-    /// Has texts lose their periods from now on, where `strip` is true (CSL 1.0.2, Strip-periods).
-    /// It answers whether they did before.
+    /// Has texts lose their periods from now on, if `strip` is true (CSL 1.0.2, Strip-periods).
+    /// Returns whether they did before.
     pub fn may_strip_periods(&mut self, strip: bool) -> bool
         ensures value { result ≡ self.old.inherited.stripping }
         ensures after { self.new ≡ with_stripping (strip || self.old.inherited.stripping) self.old }

@@ -218,7 +218,8 @@ impl<'s, T> Context<'s, T> {
         Ok(affix)
     }
 
-    /// The two.
+    /// The opening quote, and what follows a content in quotes: the character that moves from the
+    /// suffix, and the closing quote.
     fn quotes_around(
         &self,
         suffix: Option<&str>,

@@ -67,7 +67,7 @@ impl Pen {
         }
     }
 
-    /// A text, if there is one.
+    /// The text of a prefix or a suffix as it is written, if there is one.
     pub(crate) fn affix(self, text: Option<&str>) -> Result<Option<Formatted>, Memory>
         ensures { IfOk result (λ t. affix_content t
             ≡ text_of_if self.stripping self.formatting (option_map (λ t. t.now) text.entry)) }

@@ -48,7 +48,7 @@ impl<'s, T> Context<'s, T> {
         Ok(())
     }
 
-    /// How texts are written here.
+    /// The formatting and the stripping that a text inherits here.
     pub(crate) fn pen(&self) -> Pen
         ensures formatting { result.formatting ≡ self.now.inherited.formatting }
         ensures stripping { result.stripping ≡ self.now.inherited.stripping }

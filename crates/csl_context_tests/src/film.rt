@@ -107,7 +107,7 @@ impl EntryLike for Film {
     }
 }
 
-/// A person of that name.
+/// A person with a family name alone.
 fn person(alloc: Global, name: &str) -> Result<Person, Memory> {
     Ok(Person {
         name: String::from_str(alloc, name)?,

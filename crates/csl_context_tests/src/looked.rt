@@ -71,7 +71,7 @@ pub(crate) fn look(ctx: &mut Context<'_, Film>) -> Result<(), RenderError>
     Ok(())
 }
 
-/// The same while looks for printing suppress their variable.
+/// Looks up each variable while looks for printing suppress their variable.
 pub(crate) fn look_and_suppress(ctx: &mut Context<'_, Film>) -> Result<(), RenderError>
     ensures { OnOk result (ctx.new.outer ≡ ctx.old.outer) }
 {

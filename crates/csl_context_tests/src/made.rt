@@ -31,7 +31,7 @@ pub(crate) fn pieces(alloc: Global, text: &str) -> Result<ChunkedString, AllocEr
     Ok(ChunkedString(chunks))
 }
 
-/// A list of one.
+/// A list of one item.
 pub(crate) fn alone<T: Drop>(alloc: Global, item: T) -> Result<Vec<T>, AllocError> {
     let mut items = Vec::new(alloc);
     put(&mut items, item)?;
@@ -71,7 +71,7 @@ static TERMS: [TermRow; 6] = [
     (Term::Page(PageVariable::Page), TermForm::Short, "p.", "pp."),
 ];
 
-/// The terms of these rows.
+/// The terms that rows describe.
 fn terms(alloc: Global, rows: &[TermRow]) -> Result<Vec<TermEntry>, AllocError> {
     let mut terms = Vec::new(alloc);
     for (term, form, single, multiple) in rows {

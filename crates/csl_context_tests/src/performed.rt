@@ -20,7 +20,7 @@ use std::alloc::Global;
 use std::process::Abort;
 use std::test::Fail;
 
-/// What is done in a context.
+/// What a test does in a context.
 #[derive(Clone, Copy, Debug)]
 enum Act {
     Join,
@@ -201,7 +201,8 @@ fn said_behind<'s>(world: World<'s>, before: &Rendered, act: Act) -> Result<Stri
     said
 }
 
-/// The same in a world that is made for it.
+/// Performs an act and perhaps a next one, in a world that is made for them, and describes what was
+/// made.
 fn said(alloc: Global, act: Act, next: Option<Act>) -> Result<String, Fail> {
     let things = new_things(alloc)?;
     let said = said_in(alloc, &things, act, next);
@@ -235,7 +236,7 @@ fn refused_look(ctx: &Context<'_, Film>) -> Option<RenderError> {
         .err()
 }
 
-/// The same in a world that is made for it.
+/// The results of calls that are refused memory, in a world that is made for them.
 fn refusals(alloc: Global) -> Result<Refusals, Fail> {
     let things = new_things(alloc)?;
     let refusals = refusals_in(alloc, &things);

@@ -21,7 +21,7 @@ use lit_model::Memory;
 use std::alloc::Global;
 use std::test::Fail;
 
-/// Says a text in a word.
+/// Appends a text as one word.
 fn say_text(text: &str, said: &mut String) -> Result<(), Memory> {
     for c in text.chars() {
         said.push(if c == ' ' { '~' } else { c })?;
@@ -29,7 +29,7 @@ fn say_text(text: &str, said: &mut String) -> Result<(), Memory> {
     Ok(())
 }
 
-/// The marks of a formatting.
+/// The marks that describe a formatting.
 fn marks(formatting: Formatting) -> &'static str {
     match (formatting.font_style, formatting.font_weight) {
         (FontStyle::Italic, FontWeight::Bold) => "/*",
@@ -45,7 +45,7 @@ fn say_formatted(text: &Formatted, said: &mut String) -> Result<(), Memory> {
     say_text(text.text.as_str(), said)
 }
 
-/// The end of an element.
+/// The word that closes an element, by its display.
 fn end_of(display: Option<Display>) -> &'static str {
     match display {
         Some(Display::Block) => " ]block",
@@ -54,7 +54,7 @@ fn end_of(display: Option<Display>) -> &'static str {
     }
 }
 
-/// What made an element.
+/// The word for the node that made an element.
 fn meta_of(meta: &Option<ElemMeta>) -> &'static str {
     match meta {
         None => "",
@@ -65,7 +65,7 @@ fn meta_of(meta: &Option<ElemMeta>) -> &'static str {
     }
 }
 
-/// Says a child behind a blank.
+/// Appends a blank and the description of a child.
 #[cycle(say)]
 fn say_child(child: &ElemChild, said: &mut String) -> Result<(), Memory> {
     match child {
@@ -104,7 +104,7 @@ fn say_children(children: &ElemChildren, said: &mut String) -> Result<(), Memory
     Ok(())
 }
 
-/// Says what was left.
+/// Appends the description of a state.
 fn say_state(state: &LeftState, said: &mut String) -> Result<(), Fail> {
     if !state.suppressed.is_empty() {
         write!(said, " suppressed {:?}", state.suppressed)?;

@@ -168,7 +168,7 @@ pub(crate) fn write_pieces(ctx: &mut Context<'_, Film>) -> Result<(), RenderErro
     Ok(())
 }
 
-/// The title in its pieces.
+/// Writes the title, chunk by chunk.
 fn write_title(ctx: &mut Context<'_, Film>) -> Result<(), RenderError>
     ensures { OnOk result (ctx.new.outer ≡ ctx.old.outer) }
 {

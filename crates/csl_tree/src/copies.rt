@@ -75,9 +75,6 @@ impl ElemMeta {
 }
 
 /// An equal meta, where there is one.
-///
-/// # Errors
-/// [`Memory`]: there was no memory left.
 pub(crate) fn clone_meta(meta: &Option<ElemMeta>, alloc: Global) -> Result<Option<ElemMeta>, Memory>
     ensures { IfOk result (λ copy. optional_meta copy ≡ optional_meta meta.now) }
 {

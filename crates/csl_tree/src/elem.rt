@@ -18,9 +18,9 @@ pub struct ElemChildren(pub Vec<ElemChild>);
 #[cycle(tree)]
 #[derive(PartialEq, Eq, Hash, Drop)]
 pub struct Elem {
-    /// What stands inside.
+    /// The children of the element.
     pub children: ElemChildren,
-    /// Where it stands on the page, if the style says so (CSL 1.0.2, Display).
+    /// The place of the element on the page, if the style sets one (CSL 1.0.2, Display).
     pub display: Option<Display>,
     /// Which node of the style made it, where that matters to a reader of the tree.
     pub meta: Option<ElemMeta>,
@@ -38,16 +38,16 @@ pub enum ElemChild {
     Markup(String),
     /// A link.
     Link {
-        /// The text that shows.
+        /// The text of the link.
         text: Formatted,
-        /// Where it leads.
+        /// The address that the link leads to.
         url: String,
     },
     /// A place that the reader of the tree fills with the text of a citation.
     Transparent {
         /// The index of the citation's item as it was handed in.
         cite_idx: usize,
-        /// The formatting of that text.
+        /// The formatting of the place.
         format: Formatting,
     },
 }
@@ -78,7 +78,7 @@ pub enum ElemMeta {
 /// What a tree is written as.
 #[derive(Clone, Copy, Debug, Default, PartialEq, Eq)]
 pub enum BufWriteFormat {
-    /// Its text, with line breaks around blocks.
+    /// The text of the tree, with line breaks around blocks.
     #[default]
     Plain,
     /// HTML. Texts, markup and addresses are escaped, so none of them opens or closes a tag. The

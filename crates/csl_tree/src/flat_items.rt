@@ -26,7 +26,7 @@ pub(crate) enum Item {
     Mark,
 }
 
-/// Puts an item behind the others. The only error is want of memory, and leaves them.
+/// Appends an item. If memory runs out, the items stay as they were.
 pub(crate) fn push_item(items: &mut Vec<Item>, item: Item) -> Result<(), Memory>
     ensures ok { OnOk result (parts items.new.items ≡ step (parts items.old.items) item) }
     ensures err { OnErr result (items.new.items ≡ items.old.items) }
@@ -72,7 +72,7 @@ fn join_end(items: &mut Vec<Item>, more: &str, formatting: Formatting) -> Result
     }
 }
 
-/// Appends a text that is not empty. The only error is want of memory, and leaves the rest.
+/// Appends a text that is not empty. If memory runs out, the contents stay as they were.
 fn push_text_item(items: &mut Vec<Item>, text: Formatted) -> Result<(), Memory>
     ensures ok { OnOk result (parts items.new.items ≡ with_tokens (text_tokens text) (parts
         items.old.items)) }
@@ -85,7 +85,7 @@ fn push_text_item(items: &mut Vec<Item>, text: Formatted) -> Result<(), Memory>
     Ok(())
 }
 
-/// Appends a text that is not empty. The only error is want of memory, and leaves the rest.
+/// Appends a text that is not empty. If memory runs out, the contents stay as they were.
 pub(crate) fn push_str_item(
     items: &mut Vec<Item>,
     alloc: Global,
@@ -328,8 +328,8 @@ fn put_text(items: &mut Vec<Item>, text: Option<Formatted>)
     }
 }
 
-/// Closes the innermost part between two texts, unless nothing stands in it. The only error is
-/// want of memory, and leaves all.
+/// Closes the innermost part between two texts, unless it is empty. If memory runs out, the
+/// contents stay as they were.
 pub(crate) fn splice_items(
     items: &mut Vec<Item>,
     before: Option<Formatted>,
@@ -352,7 +352,7 @@ pub(crate) fn splice_items(
     Ok(())
 }
 
-/// Appends a child that shows something. The only error is want of memory, and leaves all.
+/// Appends a child that shows something. If memory runs out, the contents stay as they were.
 pub(crate) fn push_child_item(items: &mut Vec<Item>, child: ElemChild) -> Result<(), Memory>
     ensures ok { OnOk result
         (parts items.new.items ≡ with_tokens (child_tokens child) (parts items.old.items)) }

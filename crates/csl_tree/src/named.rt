@@ -90,7 +90,7 @@ impl ElemChildren {
         }
     }
 
-    /// That child, as a mutable reference.
+    /// The child that holds the first element of names, as a mutable reference.
     fn names_child_mut(&mut self) -> &mut ElemChild
         requires { IsTrue (names_below self.old) }
         ensures* writes_back { sem 𝓛 (lends_names_child self.entry result) }
@@ -116,7 +116,7 @@ impl ElemChildren {
         }
     }
 
-    /// That element, as a mutable reference, where there is one.
+    /// The first element of names, as a mutable reference; there has to be one.
     fn that_names_mut(&mut self) -> &mut Elem
         requires { IsTrue (is_some (names_find self.old)) }
         ensures* writes_back { sem 𝓛 (lends_that_names self.entry result) }

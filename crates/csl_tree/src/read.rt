@@ -18,7 +18,7 @@ use std::alloc::{AllocError, Global};
 struct Reading {
     /// The elements that have started and not ended, outermost first.
     within: Vec<Element>,
-    /// The texts.
+    /// The texts so far, joined.
     leaves: String,
 }
 

@@ -36,7 +36,7 @@ fn push_nothing(alloc: Global, all: &mut ElemChildren) -> Result<(), Memory> {
     )
 }
 
-/// What stands there after so many of these steps: texts, nothing, a box.
+/// The contents after some of three steps: texts, nothing, a box.
 fn contents(alloc: Global, steps: usize) -> Result<ElemChildren, Memory> {
     let mut all = ElemChildren::new(alloc);
     push_texts(alloc, &mut all)?;

@@ -64,7 +64,7 @@ fn equals_copy(alloc: Global, meta: &ElemMeta) -> Result<bool, Memory> {
     Ok(is_equal)
 }
 
-/// The same of the meta at a place in the table.
+/// Whether the meta at a place in the table equals its copy.
 fn is_copied(alloc: Global, row: usize) -> Result<bool, Memory> {
     let meta = meta(alloc, row)?;
     let is_copied = equals_copy(alloc, &meta);

@@ -120,7 +120,7 @@ fn answers_of(alloc: Global, tree: &ElemChildren) -> Result<Vec<Asked>, Fail> {
     Ok(all)
 }
 
-/// The same of the tree of a description.
+/// The answers of the tree that a text describes.
 fn answers(alloc: Global, source: &str) -> Result<Vec<Asked>, Fail> {
     let tree = read(alloc, source)?;
     let answers = answers_of(alloc, &tree);

@@ -22,7 +22,7 @@ fn same_tree(a: &ElemChildren, b: &ElemChildren) -> bool
     *a == *b
 }
 
-/// The same for elements.
+/// Elements are equal exactly if their tokens are, and equal ones have the same hash.
 fn same_elem(a: &Elem, b: &Elem) -> bool
     ensures equal { IsTrue result ↔ (elem_tokens a.now ≡ elem_tokens b.now) }
     ensures hashed { elem_tokens a.now ≡ elem_tokens b.now
@@ -31,7 +31,7 @@ fn same_elem(a: &Elem, b: &Elem) -> bool
     *a == *b
 }
 
-/// The same for children.
+/// Children are equal exactly if their tokens are, and equal ones have the same hash.
 fn same_child(a: &ElemChild, b: &ElemChild) -> bool
     ensures equal { IsTrue result ↔ (child_tokens a.now ≡ child_tokens b.now) }
     ensures hashed { child_tokens a.now ≡ child_tokens b.now

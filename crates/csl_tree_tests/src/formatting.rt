@@ -17,7 +17,7 @@ fn same_text(a: &Formatted, b: &Formatted) -> bool
     *a == *b
 }
 
-/// The same for formattings.
+/// `==` of formattings is equality.
 fn same_formatting(a: Formatting, b: Formatting) -> bool
     ensures { IsTrue result ↔ (a ≡ b) }
 {

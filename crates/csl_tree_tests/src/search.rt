@@ -9,7 +9,7 @@ use std::test::Fail;
 /// An element without meta around names of `x`, then names of `y`.
 const TWO_NAMES: &str = "( ( x ):x ) ( y ):y";
 
-/// What is asked of a tree.
+/// A question about a tree.
 #[derive(Clone, Copy)]
 enum Asked {
     /// The first element of names.
@@ -34,7 +34,7 @@ fn found(alloc: Global, elem: Option<&Elem>) -> Result<ElemChildren, Fail> {
     }
 }
 
-/// What a tree answers.
+/// The answer of a tree, as children.
 fn answer(alloc: Global, tree: &ElemChildren, asked: Asked) -> Result<ElemChildren, Fail> {
     match asked {
         Asked::Names => found(alloc, tree.find_names()),

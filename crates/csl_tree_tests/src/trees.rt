@@ -37,7 +37,7 @@ pub fn one<T: Drop>(alloc: Global, item: T) -> Result<Vec<T>, Memory> {
     Ok(items)
 }
 
-/// A text as a word says it.
+/// The text that a word describes.
 fn read_text(alloc: Global, word: &str) -> Result<String, Memory> {
     let mut text = String::new(alloc);
     for c in word.chars() {
@@ -97,7 +97,7 @@ pub fn names(alloc: Global, name: &str, variable: NameVariable) -> Result<ElemMe
     Ok(ElemMeta::Names(one(alloc, (persons, variable))?))
 }
 
-/// The meta that a word says.
+/// The meta that a word names.
 pub fn read_meta(alloc: Global, word: &str) -> Result<ElemMeta, Memory> {
     match word {
         "date" => Ok(ElemMeta::Date),
@@ -169,7 +169,7 @@ pub fn read(alloc: Global, description: &str) -> Result<ElemChildren, Fail> {
     Ok(ElemChildren(children))
 }
 
-/// Says a text in a word.
+/// Appends a text as one word.
 fn say_text(text: &str, said: &mut String) -> Result<(), Memory> {
     if text.is_empty() {
         said.push('_')?;
@@ -222,7 +222,7 @@ fn say_names(names: &[(Vec<Person>, NameVariable)], said: &mut String) -> Result
     Ok(())
 }
 
-/// Says a child behind a blank.
+/// Appends a blank and the description of a child.
 #[cycle(say)]
 fn say_child(child: &ElemChild, said: &mut String) -> Result<(), Memory> {
     match child {

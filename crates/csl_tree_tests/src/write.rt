@@ -32,7 +32,7 @@ fn assert_tree_written(
     Ok(())
 }
 
-/// The same of the tree of a description.
+/// Asserts what is written of the tree that a text describes.
 fn assert_written(
     rt: &impl Abort,
     alloc: Global,
@@ -84,7 +84,7 @@ fn assert_tree_displayed(
     Ok(())
 }
 
-/// The same of the tree of a description.
+/// Asserts what the tree that a text describes displays.
 fn assert_displayed(
     rt: &impl Abort,
     alloc: Global,
