@@ -25,10 +25,6 @@ pub(crate) enum Shown {
 }
 
 /// A silent look, after whose failure the context has failed.
-///
-/// # Errors
-/// [`RenderError::Memory`]: there was no memory left, or the entry said so. The context has failed.
-/// [`RenderError::Failed`]: the context had failed before.
 pub(crate) fn peek_number_or_page<'s, T: EntryLike>(
     ctx: &mut Context<'s, T>,
     variable: NumberOrPageVariable,
@@ -59,9 +55,6 @@ pub(crate) fn peek_number_or_page<'s, T: EntryLike>(
 }
 
 /// A look for printing.
-///
-/// # Errors
-/// As [`peek_number_or_page`].
 pub(crate) fn resolve_number_or_page<'s, T: EntryLike>(
     ctx: &mut Context<'s, T>,
     variable: NumberOrPageVariable,
@@ -124,9 +117,6 @@ fn number_shown<T>(
 }
 
 /// What a number prints of an answer: pages in the format of the style, a text as it stands.
-///
-/// # Errors
-/// [`Memory`]: there was no memory left.
 pub(crate) fn shown_by_number<T>(
     ctx: &Context<'_, T>,
     form: NumberForm,
@@ -151,9 +141,6 @@ pub(crate) fn shown_by_number<T>(
 
 /// What a text prints of an answer: numbers plainly, pages in the format of the style, a text in
 /// the place of pages with an en dash for each hyphen.
-///
-/// # Errors
-/// [`Memory`]: there was no memory left.
 pub(crate) fn shown_by_text<T>(
     ctx: &Context<'_, T>,
     found: &NumberOrPageVariableResult<'_>,

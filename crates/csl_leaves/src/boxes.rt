@@ -24,10 +24,6 @@ pub(crate) struct Around<'b> {
 }
 
 /// Appends the box of a node without quotes around a body.
-///
-/// # Errors
-/// [`RenderError::Memory`]: there was no memory left. The context has failed.
-/// [`RenderError::Failed`]: the context had failed before.
 pub(crate) fn render_plain<'s, T: EntryLike>(
     around: Around<'_>,
     ctx: &mut Context<'s, T>,

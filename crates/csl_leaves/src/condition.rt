@@ -14,10 +14,7 @@ use lit_model::{ChunkedString, LongShortForm, MaybeTyped, Memory, Numeric};
 use std::alloc::Global;
 use std::borrow::Cow;
 
-/// That the context has not failed.
-///
-/// # Errors
-/// [`RenderError::Failed`]: the context had failed.
+/// Returns an error if the context has failed.
 fn sound<'s, T: EntryLike>(ctx: &Context<'s, T>) -> Result<(), RenderError>
     ensures sound { OnOk result (ctx.now.failed ≡ false) }
     ensures err { IfErr result (λ e. FailsSilently e ctx.now) }
@@ -29,9 +26,6 @@ fn sound<'s, T: EntryLike>(ctx: &Context<'s, T>) -> Result<(), RenderError>
 }
 
 /// Whether a text stands for a number.
-///
-/// # Errors
-/// [`Memory`]: there was no memory left.
 fn is_number(alloc: Global, text: &ChunkedString) -> Result<bool, Memory>
     ensures { IfOk result (λ holds. holds ≡ is_number (chunks text.now)) }
 {
@@ -50,10 +44,6 @@ pub(crate) fn lent<'a, T: Drop>(found: &'a Option<Cow<'_, T>>) -> Option<&'a T>
 }
 
 /// Whether what the cite answers to the variable is a number. No name and no date is.
-///
-/// # Errors
-/// [`RenderError::Memory`]: there was no memory left, or the entry said so.
-/// [`RenderError::Failed`]: the context had failed.
 pub(crate) fn is_numeric<'s, T: EntryLike>(
     ctx: &Context<'s, T>,
     variable: Variable,
@@ -92,9 +82,6 @@ pub(crate) fn is_numeric<'s, T: EntryLike>(
 }
 
 /// Whether the cite answers a date that is approximate.
-///
-/// # Errors
-/// As [`is_numeric`].
 pub(crate) fn is_uncertain<'s, T: EntryLike>(
     ctx: &Context<'s, T>,
     variable: DateVariable,
@@ -112,9 +99,6 @@ pub(crate) fn is_uncertain<'s, T: EntryLike>(
 }
 
 /// Whether the cite points to a part of that kind.
-///
-/// # Errors
-/// [`RenderError::Failed`]: the context had failed.
 pub(crate) fn is_located<'s, T: EntryLike>(
     ctx: &Context<'s, T>,
     kind: Locator,
@@ -153,9 +137,6 @@ fn is_ibid_with_locator(state: IbidState) -> bool
 }
 
 /// Whether the cite is in that position. In a bibliography it is in none.
-///
-/// # Errors
-/// As [`is_located`].
 pub(crate) fn is_positioned<'s, T: EntryLike>(
     ctx: &Context<'s, T>,
     position: TestPosition,
@@ -182,9 +163,6 @@ pub(crate) fn is_positioned<'s, T: EntryLike>(
 }
 
 /// Whether the entry is of that kind.
-///
-/// # Errors
-/// As [`is_located`].
 pub(crate) fn is_of_kind<'s, T: EntryLike>(
     ctx: &Context<'s, T>,
     kind: Kind,
@@ -199,9 +177,6 @@ pub(crate) fn is_of_kind<'s, T: EntryLike>(
 
 /// Whether the cite answers the variable: by more than white space, where it is a text, and by
 /// somebody, where it is names.
-///
-/// # Errors
-/// As [`is_numeric`].
 pub(crate) fn is_present<'s, T: EntryLike>(
     ctx: &Context<'s, T>,
     variable: Variable,
@@ -229,9 +204,6 @@ pub(crate) fn is_present<'s, T: EntryLike>(
 }
 
 /// Whether the cite is to be told from others by the style, or is not, as is wanted.
-///
-/// # Errors
-/// As [`is_located`].
 pub(crate) fn is_disambiguated<'s, T: EntryLike>(
     ctx: &Context<'s, T>,
     wanted: bool,

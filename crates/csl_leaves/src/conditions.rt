@@ -28,7 +28,7 @@ pub enum BranchConditionPos {
 }
 
 impl BranchConditionPos {
-    /// The sort behind this one.
+    /// The sort of tests after this one.
     fn behind(self) -> Option<BranchConditionPos>
         ensures { result ≡ arm_behind self }
     {

@@ -97,9 +97,6 @@ fn place_key_if(alloc: Global, has: bool, place: Option<u8>) -> Result<String, M
 }
 
 /// The sort key of a date, with the suffix behind its year.
-///
-/// # Errors
-/// [`Memory`]: there was no memory left.
 #[tactic(auto, unfolding(crate::specs::DateKey::sort_key))]
 pub(crate) fn sort_key(
     alloc: Global,

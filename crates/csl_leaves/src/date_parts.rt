@@ -36,7 +36,7 @@ pub(crate) struct Found<'d> {
     pub(crate) suffix: &'d str,
 }
 
-/// The first part of that name.
+/// The first of the parts with this name.
 fn part_named(parts: &[DatePart], name: DatePartName) -> Option<&DatePart>
     ensures { option_map (λ part. view_date_part part.now) result
         ≡ own_part (map view_date_part parts.now) name }
@@ -50,7 +50,7 @@ fn part_named(parts: &[DatePart], name: DatePartName) -> Option<&DatePart>
 }
 
 impl<'d> Written<'d> {
-    /// Which parts are written.
+    /// Which parts of a date are written: year, month and day, or fewer.
     fn parts(self) -> DateParts
         ensures { result ≡ unwrap_or (written_node self.entry).parts YearMonthDay }
     {
@@ -255,10 +255,6 @@ fn render_behind<'s, T: EntryLike>(
 }
 
 /// Appends the parts that print something, with the delimiter between them.
-///
-/// # Errors
-/// [`RenderError::Memory`]: there was no memory left. The context has failed.
-/// [`RenderError::Failed`]: the context had failed before.
 pub(crate) fn render_parts<'s, T: EntryLike>(
     written: Written<'_>,
     ctx: &mut Context<'s, T>,

@@ -26,10 +26,6 @@ pub(crate) fn is_suffix_alone(form: Option<SpecialForm>) -> bool
 
 /// The suffix that stands behind the first year: an empty text where the cite has none, and where
 /// the layout has a place of its own for it. The look is silent.
-///
-/// # Errors
-/// [`RenderError::Memory`]: there was no memory left, or the entry said so. The context has failed.
-/// [`RenderError::Failed`]: the context had failed before.
 pub(crate) fn implicit_suffix<'s, T: EntryLike>(
     ctx: &mut Context<'s, T>,
 ) -> Result<String, RenderError>
@@ -57,9 +53,6 @@ pub(crate) fn implicit_suffix<'s, T: EntryLike>(
 
 /// The suffix of a date that is printed now: that behind the first year where no date was printed
 /// before, else an empty text. From now on one was.
-///
-/// # Errors
-/// As [`implicit_suffix`].
 pub(crate) fn first_suffix<'s, T: EntryLike>(
     ctx: &mut Context<'s, T>,
 ) -> Result<String, RenderError>

@@ -247,9 +247,6 @@ fn day_if<T>(ctx: &Context<'_, T>, form: Option<DateAnyForm>, date: &Date) -> Re
 
 /// What the value of a date's part prints in a form, before any affix: nothing where the date lacks
 /// what the part shows. A form that the part does not know counts as none.
-///
-/// # Errors
-/// [`Memory`]: there was no memory left.
 #[tactic(auto, unfolding(crate::specs::DateText::part_text))]
 pub(crate) fn part_text<T>(
     ctx: &Context<'_, T>,

@@ -73,9 +73,6 @@ pub fn close_quotes<'s, T: EntryLike>(
 }
 
 /// Appends a body.
-///
-/// # Errors
-/// As [`open_quotes`].
 pub(crate) fn write_body<'s, T: EntryLike>(
     ctx: &mut Context<'s, T>,
     body: Body<'_>,
@@ -94,9 +91,6 @@ pub(crate) fn write_body<'s, T: EntryLike>(
 }
 
 /// Appends a text's box around a body.
-///
-/// # Errors
-/// As [`open_quotes`].
 pub(crate) fn render_body<'s, T: EntryLike>(
     text: &Text,
     ctx: &mut Context<'s, T>,

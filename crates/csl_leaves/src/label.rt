@@ -185,10 +185,6 @@ fn is_plural(label: &Label, found: &NumberOrPageVariableResult<'_>) -> bool
 }
 
 /// The text of a label, where its variable and its term are found. The look is silent.
-///
-/// # Errors
-/// [`RenderError::Memory`]: there was no memory left, or the entry said so. The context has failed.
-/// [`RenderError::Failed`]: the context had failed before.
 fn label_text<'s, T: EntryLike>(
     ctx: &mut Context<'s, T>,
     label: &Label,

@@ -25,7 +25,8 @@ pub(crate) fn url_prefix(variable: StandardVariable) -> Option<&'static str>
     }
 }
 
-/// The same, where the answer may itself be the address.
+/// The text before the answer in the address that it links to; for a URL it is empty, because the
+/// answer is the address.
 pub(crate) fn address_prefix(variable: StandardVariable) -> Option<&'static str>
     ensures { option_map (λ prefix. prefix.now) result ≡ address_prefix variable }
 {
@@ -47,9 +48,6 @@ pub(crate) fn begins_link(text: &Text, variable: StandardVariable) -> bool
 }
 
 /// An address: a prefix, and the answer behind it.
-///
-/// # Errors
-/// [`Memory`]: there was no memory left.
 pub(crate) fn address(alloc: Global, prefix: &str, answer: &ChunkedString) -> Result<String, Memory>
     ensures { IfOk result (λ url. string_bytes url ≡ prefix.now ++ text_of (chunks answer.now)) }
 {

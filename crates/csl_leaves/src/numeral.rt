@@ -21,10 +21,6 @@ use csl_style::{NumberOrPageVariable, NumberVariable, Text, Variable};
 use csl_tree::ElemMeta;
 
 /// What a text of the variable says.
-///
-/// # Errors
-/// [`RenderError::Memory`]: there was no memory left, or the entry said so. The context has failed.
-/// [`RenderError::Failed`]: the context had failed before.
 pub(crate) fn numeral_info<'s, T: EntryLike>(
     ctx: &mut Context<'s, T>,
     variable: NumberOrPageVariable,
@@ -45,9 +41,6 @@ pub(crate) fn numeral_info<'s, T: EntryLike>(
 }
 
 /// Whether a text of the variable shows the variable that is asked for.
-///
-/// # Errors
-/// As [`numeral_info`].
 pub(crate) fn numeral_shown<'s, T: EntryLike>(
     ctx: &mut Context<'s, T>,
     variable: NumberOrPageVariable,
@@ -109,9 +102,6 @@ fn render_answer<'s, T: EntryLike>(
 }
 
 /// Appends a text of the variable, which is looked up for printing.
-///
-/// # Errors
-/// As [`numeral_info`].
 pub(crate) fn render_numeral<'s, T: EntryLike>(
     text: &Text,
     ctx: &mut Context<'s, T>,

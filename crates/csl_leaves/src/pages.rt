@@ -160,9 +160,6 @@ fn pages_in_format(
 }
 
 /// Pages as the style of the context writes them.
-///
-/// # Errors
-/// [`Memory`]: there was no memory left.
 #[tactic(auto, unfolding(crate::specs::Pages::pages_in_style))]
 pub(crate) fn pages_in_style<T>(ctx: &Context<'_, T>, pages: &PageRanges) -> Result<String, Memory>
     ensures { IfOk result (λ s. string_bytes s
@@ -175,9 +172,6 @@ pub(crate) fn pages_in_style<T>(ctx: &Context<'_, T>, pages: &PageRanges) -> Res
 }
 
 /// The text with an en dash for each hyphen.
-///
-/// # Errors
-/// [`Memory`]: there was no memory left.
 pub(crate) fn with_dashes(alloc: Global, text: &str) -> Result<String, Memory>
     ensures { IfOk result (λ s. string_bytes s ≡ with_dashes text.now) }
 {

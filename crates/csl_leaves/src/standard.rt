@@ -27,10 +27,6 @@ use std::alloc::Global;
 use std::borrow::Cow;
 
 /// A silent look, after whose failure the context has failed.
-///
-/// # Errors
-/// [`RenderError::Memory`]: there was no memory left, or the entry said so. The context has failed.
-/// [`RenderError::Failed`]: the context had failed before.
 pub(crate) fn peek_standard<'s, T: EntryLike>(
     ctx: &mut Context<'s, T>,
     form: LongShortForm,
@@ -51,9 +47,6 @@ pub(crate) fn peek_standard<'s, T: EntryLike>(
 }
 
 /// What a text says of a variable that it calls and finds nothing of.
-///
-/// # Errors
-/// [`RenderError::Failed`]: the context had failed before.
 pub(crate) fn called_in_vain<'s, T: EntryLike>(
     ctx: &mut Context<'s, T>,
 ) -> Result<(bool, UsageInfo), RenderError>
@@ -67,10 +60,6 @@ pub(crate) fn called_in_vain<'s, T: EntryLike>(
 }
 
 /// What a text of a standard variable says. The year suffix is called only where it is found.
-///
-/// # Errors
-/// [`RenderError::Memory`]: there was no memory left, or the entry said so. The context has failed.
-/// [`RenderError::Failed`]: the context had failed before.
 pub(crate) fn standard_info<'s, T: EntryLike>(
     ctx: &mut Context<'s, T>,
     form: LongShortForm,
@@ -96,9 +85,6 @@ pub(crate) fn standard_info<'s, T: EntryLike>(
 }
 
 /// Whether a text of a standard variable shows the variable that is asked for.
-///
-/// # Errors
-/// As [`standard_info`].
 pub(crate) fn standard_shown<'s, T: EntryLike>(
     ctx: &mut Context<'s, T>,
     form: LongShortForm,
@@ -131,9 +117,6 @@ fn standard_meta(variable: StandardVariable) -> ElemMeta
 }
 
 /// The address and the text of a link to an answer behind a prefix.
-///
-/// # Errors
-/// [`Memory`]: there was no memory left.
 fn linked(
     alloc: Global,
     prefix: &str,
@@ -156,9 +139,6 @@ fn linked(
 
 /// Appends a text of a standard variable that has this answer: as a link, where the variable names
 /// an address, else as it stands.
-///
-/// # Errors
-/// As [`render_standard`].
 fn render_answer<'s, T: EntryLike>(
     text: &Text,
     ctx: &mut Context<'s, T>,
@@ -196,10 +176,6 @@ fn render_answer<'s, T: EntryLike>(
 }
 
 /// Appends a text of a standard variable, which is looked up for printing.
-///
-/// # Errors
-/// [`RenderError::Memory`]: there was no memory left, or the entry said so. The context has failed.
-/// [`RenderError::Failed`]: the context had failed before.
 pub(crate) fn render_standard<'s, T: EntryLike>(
     text: &Text,
     ctx: &mut Context<'s, T>,

@@ -119,10 +119,6 @@ impl NameStyle<'_> {
 
     /// Writes the given name and what stands before the family name, in the given part's
     /// formatting.
-    ///
-    /// # Errors
-    /// [`RenderError::Memory`]: there was no memory left. The context has failed.
-    /// [`RenderError::Failed`]: the context had failed before.
     pub(crate) fn put_given_block<T>(
         self,
         ctx: &mut Context<'_, T>,

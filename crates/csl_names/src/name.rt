@@ -25,7 +25,7 @@ pub(crate) struct NameStyle<'s> {
     pub(crate) hyphen: bool,
     /// Whether a particle goes behind a family name that comes first.
     pub(crate) demotes: bool,
-    /// Whether a sort key is made.
+    /// Whether the name is part of a sort key.
     pub(crate) sorting: bool,
 }
 
@@ -197,10 +197,6 @@ impl NameStyle<'_> {
     }
 
     /// Writes one name. Its gaps see all of what the innermost open part holds.
-    ///
-    /// # Errors
-    /// [`RenderError::Memory`]: there was no memory left. The context has failed.
-    /// [`RenderError::Failed`]: the context had failed before.
     pub(crate) fn put_name<T>(
         self,
         ctx: &mut Context<'_, T>,

@@ -19,10 +19,6 @@ pub(crate) struct PartStyle<'s> {
 
 impl PartStyle<'_> {
     /// Writes a text as this part of a name: the suffix stands outside the part's formatting.
-    ///
-    /// # Errors
-    /// [`RenderError::Memory`]: there was no memory left. The context has failed.
-    /// [`RenderError::Failed`]: the context had failed before.
     pub(crate) fn put<T>(self, ctx: &mut Context<'_, T>, text: &str) -> Result<(), RenderError>
         ensures ok { OnOk result (Leaves (with_pieces (part_text (part_how self.entry) text.now))
             ctx.old ctx.new) }
@@ -36,9 +32,6 @@ impl PartStyle<'_> {
 }
 
 /// Writes a text behind the separator, if there is one.
-///
-/// # Errors
-/// As [`PartStyle::put`].
 pub(crate) fn put_separated<T>(
     ctx: &mut Context<'_, T>,
     separator: &str,

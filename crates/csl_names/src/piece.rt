@@ -16,10 +16,6 @@ pub(crate) fn plain() -> Formatting
 }
 
 /// Writes a text in a formatting over that of the place.
-///
-/// # Errors
-/// [`RenderError::Memory`]: there was no memory left. The context has failed.
-/// [`RenderError::Failed`]: the context had failed before.
 pub(crate) fn put<T>(
     ctx: &mut Context<'_, T>,
     text: &str,
@@ -35,9 +31,6 @@ pub(crate) fn put<T>(
 }
 
 /// Writes a text as [`put`] does, if there is one.
-///
-/// # Errors
-/// As [`put`].
 pub(crate) fn put_optional<T>(
     ctx: &mut Context<'_, T>,
     text: Option<&str>,
@@ -55,9 +48,6 @@ pub(crate) fn put_optional<T>(
 }
 
 /// Writes a space, unless there is no text yet or white space ends it.
-///
-/// # Errors
-/// As [`put`].
 pub(crate) fn put_gap<T>(ctx: &mut Context<'_, T>, format: Formatting) -> Result<(), RenderError>
     ensures ok { OnOk result (Leaves (with_pieces (gap format ∷ [])) ctx.old ctx.new) }
     ensures err { IfErr result (λ e. FailsAs e ctx.old ctx.new) }
@@ -69,9 +59,6 @@ pub(crate) fn put_gap<T>(ctx: &mut Context<'_, T>, format: Formatting) -> Result
 }
 
 /// Writes a text behind a gap, if there is one.
-///
-/// # Errors
-/// As [`put`].
 pub(crate) fn put_spaced<T>(
     ctx: &mut Context<'_, T>,
     text: Option<&str>,

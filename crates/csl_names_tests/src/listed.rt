@@ -26,7 +26,7 @@ use std::alloc::Global;
 use std::borrow::Cow;
 use std::test::Fail;
 
-/// When a delimiter stands there: by the first of these words that is said.
+/// When a delimiter precedes, by the first of three words that the row has.
 fn behavior(words: &str, always: &str, never: &str, inverted: &str) -> DelimiterBehavior {
     if says(words, always) {
         DelimiterBehavior::Always
@@ -59,7 +59,7 @@ fn and(words: &str) -> Option<NameAnd> {
     }
 }
 
-/// The options of these words.
+/// The options that words describe.
 pub(crate) fn options(words: &str) -> NameOptions<'static> {
     let before_et_al = behavior(words, "others-always", "others-never", "others-inverted");
     NameOptions {
@@ -129,7 +129,7 @@ pub(crate) fn style_with_terms(alloc: Global, words: &str) -> Result<Style, Fail
     made_style(alloc, StyleSettings::default(), locales)
 }
 
-/// The persons of these words.
+/// The persons that words describe.
 pub(crate) fn persons(alloc: Global, words: &str) -> Result<Vec<Cow<'static, Person>>, Fail> {
     let mut persons = Vec::new(alloc);
     for words in words.split("; ") {

@@ -31,7 +31,7 @@ pub(crate) fn put<T: Drop>(items: &mut Vec<T>, item: T) -> Result<(), Memory> {
     Ok(items.push(item)?)
 }
 
-/// The text of a word.
+/// The text of a word, with a blank for each `~`.
 fn unblank(alloc: Global, word: &str) -> Result<String, Memory> {
     let mut text = String::new(alloc);
     for c in word.chars() {
@@ -50,7 +50,7 @@ fn text_of(alloc: Global, words: &str, mark: &str) -> Result<Option<String>, Mem
     Ok(None)
 }
 
-/// Whether a word is said.
+/// Whether a word is among the words.
 pub(crate) fn says(words: &str, said: &str) -> bool {
     for word in words.split(' ') {
         if word == said {
@@ -60,7 +60,7 @@ pub(crate) fn says(words: &str, said: &str) -> bool {
     false
 }
 
-/// The person of these words.
+/// The person that words describe.
 pub(crate) fn person(alloc: Global, words: &str) -> Result<Person, Fail> {
     let mut person = Person {
         name: text_of(alloc, words, "f=")?.ok_or("a name")?,
@@ -81,7 +81,7 @@ fn state_rest(alloc: Global, person: &mut Person, words: &str) -> Result<(), Mem
     Ok(())
 }
 
-/// A part, by its marks.
+/// The part of a name, by its marks.
 fn part(
     alloc: Global,
     words: &str,
@@ -128,7 +128,7 @@ fn name_options(alloc: Global, words: &str) -> Result<InheritableNameOptions, Me
     Ok(options)
 }
 
-/// The Name of these words.
+/// The Name that words describe.
 pub(crate) fn name(alloc: Global, words: &str) -> Result<Name, Memory> {
     let parts = parts(alloc, words)?;
     Ok(Name {
@@ -138,7 +138,7 @@ pub(crate) fn name(alloc: Global, words: &str) -> Result<Name, Memory> {
     })
 }
 
-/// The form of these words.
+/// The form that words describe.
 pub(crate) fn form(words: &str) -> DisambiguatedNameForm {
     if says(words, "short") {
         DisambiguatedNameForm::ShortFull

@@ -6,7 +6,7 @@ use csl_tree::{Elem, ElemChild, ElemChildren, ElemMeta, Formatted};
 use lit_model::Memory;
 use std::alloc::Global;
 
-/// Says a text in a word.
+/// Appends a text as one word.
 fn say_text(text: &Formatted, said: &mut String) -> Result<(), Memory> {
     if text.formatting.font_style == FontStyle::Italic {
         said.push('/')?;

@@ -20,17 +20,17 @@ use std::test::Fail;
 /// A name or a list that is to be written, in words.
 #[derive(Clone, Copy)]
 pub(crate) struct Asked<'r> {
-    /// What stands before it.
+    /// The text that is written before the names.
     pub before: &'r str,
-    /// How it is written.
+    /// The words for the style and the form of the names.
     pub words: &'r str,
-    /// The person, or the persons.
+    /// The person or the persons that are written.
     pub who: &'r str,
-    /// Of a list, the form of each person.
+    /// For a list, the form of each person.
     pub forms: Option<&'r str>,
 }
 
-/// Who is written.
+/// The person or the list that is written.
 #[derive(Clone, Copy)]
 enum Who<'n> {
     One(&'n Person),
@@ -76,7 +76,7 @@ fn write_behind(
     }
 }
 
-/// What is written of them.
+/// Renders a person or a list of persons at a place.
 fn rendered(
     alloc: Global,
     place: Place<'_>,
@@ -105,7 +105,7 @@ fn rendered(
     }
 }
 
-/// What is written of them, in words.
+/// Describes what is written of a person or a list of persons at a place.
 fn said(
     alloc: Global,
     place: Place<'_>,
@@ -119,7 +119,7 @@ fn said(
     Ok(said?)
 }
 
-/// What is written of persons in these forms.
+/// Describes what is written of persons in the forms of a row.
 fn in_forms(
     alloc: Global,
     place: Place<'_>,
@@ -132,7 +132,7 @@ fn in_forms(
     said(alloc, place, asked, name, Who::List(persons, &forms))
 }
 
-/// What is written of the one or the list.
+/// Describes what is written of the person or the list of a row.
 fn of_persons(
     alloc: Global,
     place: Place<'_>,
@@ -149,7 +149,7 @@ fn of_persons(
     said
 }
 
-/// What is written at that place.
+/// Describes what is written of a row at a place.
 fn at_place(alloc: Global, place: Place<'_>, asked: &Asked<'_>) -> Result<String, Fail> {
     let name = name(alloc, asked.words)?;
     let said = of_persons(alloc, place, asked, &name);
@@ -157,7 +157,7 @@ fn at_place(alloc: Global, place: Place<'_>, asked: &Asked<'_>) -> Result<String
     said
 }
 
-/// What is written in that style.
+/// Describes what is written of a row in a style, for a first cite.
 fn written(alloc: Global, style: &Style, asked: &Asked<'_>) -> Result<String, Fail> {
     let cite_props = CiteProperties::first(DisambiguateState::None);
     let place = Place {

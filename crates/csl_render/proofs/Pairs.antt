@@ -17,7 +17,7 @@ use Rattle.csl_context.specs.World.{World, env}
 use Rattle.csl_render.specs.Printed.{answered_by, printed_from, Prints, PrintsSame}
 use Rattle.csl_render.proofs.AlikeNodes.{layout_alike}
 
--- a context that has not failed fails for want of memory alone
+-- a context that has not failed fails only if memory runs out
 pub rendering_wants_memory : {T : Type 0} (e : RenderError) (old new : Now T) → FailsAs e old new → old.failed ≡ false → e ≡ Memory
 rendering_wants_memory Memory old new h sound = refl
 rendering_wants_memory Failed old new h sound = let had : old.failed ≡ true = h.0 in cc

@@ -95,7 +95,7 @@ fn holds<'s, T: EntryLike>(branch: &ChooseBranch, ctx: &Context<'s, T>) -> Resul
     satisfied(branch.match_, &mut conditions)
 }
 
-/// The same, where a failure fails the context.
+/// Whether a branch is taken; a failure fails the context.
 fn is_taken<'s, T: EntryLike>(
     branch: &ChooseBranch,
     ctx: &mut Context<'s, T>,

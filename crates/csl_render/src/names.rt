@@ -67,17 +67,13 @@ impl RenderCsl for Names {
 /// What the lists of a names node are in a dry run.
 #[derive(Clone, Copy)]
 struct Judged {
-    /// No list has a person.
+    /// Whether no list has a person.
     is_empty: bool,
-    /// No name of them is written.
+    /// Whether the node is void: no name of its lists is written.
     is_void: bool,
 }
 
 /// Judges the lists of a names node. The looks are silent.
-///
-/// # Errors
-/// [`RenderError::Memory`]: there was no memory left, or the entry said so. The context has failed.
-/// [`RenderError::Failed`]: the context had failed before.
 fn judge<'s, T: EntryLike>(
     ctx: &mut Context<'s, T>,
     parts: NamesParts<'_>,
@@ -122,7 +118,7 @@ fn is_of_names(variable: Variable, variables: &[NameVariable]) -> bool
     }
 }
 
-/// What names say that are left, by what their substitute says.
+/// The dry run of names that are not refused, from the dry run of their substitute.
 fn names_said(is_void: bool, said: (bool, UsageInfo)) -> (bool, UsageInfo)
     ensures { told result ≡ names_said is_void (told said) }
 {
@@ -200,7 +196,7 @@ fn are_of<'s, T: EntryLike>(variable: NameVariable, names: &Names, ctx: &Context
     has_variable(variable, names.parts().variables)
 }
 
-/// Whether one of the nodes is.
+/// Whether any of the nodes is a `cs:names` of this variable.
 fn any_names_it<'s, T: EntryLike>(
     variable: NameVariable,
     nodes: &[LayoutRenderingElement],
@@ -322,7 +318,7 @@ fn refuses<'s, T: EntryLike>(
     }
 }
 
-/// What the substitute says.
+/// The dry run of the first substitute, which counts no group.
 #[cycle(info)]
 fn substitute_info<'s, T: EntryLike>(
     names: &'s Names,

@@ -24,22 +24,19 @@ use std::alloc::Global;
 /// What a layout makes of two entries.
 #[derive(Drop)]
 pub struct Pair {
-    /// What it makes of the one.
+    /// The rendering of the first entry.
     pub left: Rendered,
-    /// What it makes of the other.
+    /// The rendering of the second entry.
     pub right: Rendered,
-    /// The HTML of the one.
+    /// The HTML of the first entry's rendering.
     pub left_html: String,
-    /// The HTML of the other.
+    /// The HTML of the second entry's rendering.
     pub right_html: String,
     /// Whether both answer alike all that the layout names.
     pub alike: bool,
 }
 
 /// The HTML of a content.
-///
-/// # Errors
-/// [`RenderError::Memory`]: there was no memory left.
 fn html(alloc: Global, content: &ElemChildren) -> Result<String, RenderError>
     ensures ok { IfOk result (λ text. string_bytes text ≡ written Html (tokens content.now)) }
     ensures err { IfErr result (λ e. e ≡ RenderError.Memory) }
@@ -52,9 +49,6 @@ fn html(alloc: Global, content: &ElemChildren) -> Result<String, RenderError>
 }
 
 /// What the layout makes of a cite that begins with what another rendering left, and its HTML.
-///
-/// # Errors
-/// [`RenderError::Memory`]: there was no memory left, or the entry said so.
 #[tactic(auto, using(crate::proofs::Pairs::rendering_wants_memory, crate::proofs::Pairs::end_wants_memory))]
 fn print_from<'s, T: EntryLike>(
     alloc: Global,
@@ -80,9 +74,6 @@ fn print_from<'s, T: EntryLike>(
 }
 
 /// Whether both answer alike all that the layout names.
-///
-/// # Errors
-/// [`RenderError::Memory`]: there was no memory left, or an entry said so.
 fn are_alike<T: EntryLike, U: EntryLike>(
     alloc: Global,
     style: &Style,

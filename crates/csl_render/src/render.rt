@@ -13,7 +13,7 @@ use csl_style::Variable;
 
 /// A node of a style, or a whole layout.
 pub trait RenderCsl {
-    /// What it stands for in a style, with no name of a macro left.
+    /// What is rendered in a style, with no macro name left.
     ghost rendering: { StyleParts → Self → Rendering };
 
     /// Whether it would print something, and what it notes of its variables, macros and groups

@@ -16,28 +16,28 @@ use csl_tree::BufWriteFormat;
 use lit_model::Memory;
 use std::test::Fail;
 
-/// What is asked of a scene.
+/// A question about a scene, answered in words.
 pub(crate) trait Asked {
-    /// Says the answer.
+    /// Appends the answer.
     fn say<'s, T: EntryLike>(&self, scene: &Scene<'s, T>, said: &mut String) -> Result<(), Fail>;
 }
 
-/// What is asked of some nodes.
+/// A question about some nodes.
 #[derive(Clone, Copy)]
 pub(crate) enum Sought {
-    /// What they make and leave.
+    /// The content that the nodes make, and the state that they leave.
     Tree,
-    /// The same of a cite that the forms of names which are left tell apart.
+    /// The content and the state, once more of a cite with the forms of names that the nodes left.
     Again,
-    /// The same, and then once more from what they left.
+    /// The content and the state, and both once more from the state that the nodes left.
     Twice,
-    /// The plain text of what they make.
+    /// The plain text of the content that the nodes make.
     Plain,
-    /// Its HTML.
+    /// The HTML of the content that the nodes make.
     Html,
-    /// What they say in a dry run, and whether they would show the volume.
+    /// The dry run of the nodes, and whether they would show the volume.
     Dry,
-    /// What they leave in a dry run, what they say in it, and whether they would show the title.
+    /// The state after a dry run of the nodes, the dry run, and whether they would show the title.
     Left,
     /// The error of rendering, that of a dry run behind it, and whether the context failed then;
     /// and the same where the dry run comes first.

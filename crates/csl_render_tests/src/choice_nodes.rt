@@ -107,7 +107,7 @@ fn bare(match_: ChooseMatch, children: Vec<LayoutRenderingElement>) -> ChooseBra
     }
 }
 
-/// Adds the tests of a sort.
+/// Adds the tests of one sort to a branch.
 fn add(alloc: Global, branch: &mut ChooseBranch, sort: &str, names: &str) -> Result<(), Fail> {
     match sort {
         "disambiguate" => branch.disambiguate = Some(names == "true"),
@@ -122,7 +122,7 @@ fn add(alloc: Global, branch: &mut ChooseBranch, sort: &str, names: &str) -> Res
     Ok(())
 }
 
-/// Adds these tests.
+/// Adds the tests that words describe to a branch.
 fn add_all(alloc: Global, branch: &mut ChooseBranch, tests: &str) -> Result<(), Fail> {
     for test in tests.split(':') {
         if !test.is_empty() {

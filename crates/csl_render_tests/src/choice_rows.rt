@@ -6,7 +6,7 @@ use csl_render::BranchConditionPos;
 use std::process::Abort;
 use std::test::Fail;
 
-/// Plain texts.
+/// Rows of choices, with the plain text of each.
 static PLAIN: [Row; 35] = [
     // A branch without tests.
     ("( ( 'A ) ( 'B ) )?all", "book", "A"),
@@ -165,7 +165,7 @@ static CHOSEN: [Row; 4] = [
     ("( ( 'A 'B ) ( 'C ) )?any?any", "book", "none"),
 ];
 
-/// What is said in dry runs.
+/// Rows of choices, with the dry run of each.
 static DRY: [Row; 4] = [
     (
         "( ( #volume ) )?all",

@@ -100,7 +100,7 @@ fn say_for_work<A: Asked>(
     say_for(question, asked, &work, said)
 }
 
-/// What words describe.
+/// The entry that words describe.
 #[derive(Clone, Copy)]
 pub(crate) enum Source {
     /// A built-in entry.

@@ -68,7 +68,7 @@ fn part_form_named(name: &str) -> Result<Option<DateAnyForm>, Fail> {
     }
 }
 
-/// The part of these words.
+/// The date part that words describe.
 fn part(alloc: Global, words: &str) -> Result<DatePart, Fail> {
     let (names, options) = split(words, "|");
     let (name, form) = split(names, ":");
@@ -83,7 +83,7 @@ fn part(alloc: Global, words: &str) -> Result<DatePart, Fail> {
     })
 }
 
-/// The parts of these words.
+/// The date parts that words describe.
 fn parts(alloc: Global, words: &str) -> Result<Vec<DatePart>, Fail> {
     let mut parts = Vec::new(alloc);
     for words in words.split('+') {

@@ -382,7 +382,7 @@ static TREES: [Row; 38] = [
     ),
 ];
 
-/// What is said in dry runs.
+/// Rows of dates, with the dry run of each.
 static DRY: [Row; 12] = [
     (YEAR, "date 2014", " prints called non-empty"),
     ("@issued+day", "date 2014", " prints called non-empty"),

@@ -145,7 +145,7 @@ fn translators(alloc: Global, words: &str) -> Result<Vec<PersonsWithRoles>, Fail
     Ok(alone(alloc, PersonsWithRoles { names, role })?)
 }
 
-/// Says one thing of the work.
+/// Sets the field of a work that a word names.
 fn state(alloc: Global, work: &mut Entry, word: &str, value: &str) -> Result<(), Fail> {
     match word {
         "book" => work.entry_type = EntryType::Book,
@@ -183,9 +183,9 @@ pub(crate) struct Setting {
     pub(crate) sorting: Option<Sorting>,
     /// The part of the cite that is shown.
     pub(crate) form: Option<SpecialForm>,
-    /// What was written before.
+    /// The text that is written before the nodes.
     pub(crate) before: &'static str,
-    /// A date was written before.
+    /// Whether a date is written before the nodes.
     pub(crate) is_dated: bool,
     /// Looks for printing suppress their variable.
     pub(crate) is_suppressing: bool,
@@ -201,7 +201,7 @@ pub(crate) struct Setting {
     forms: Option<&'static str>,
 }
 
-/// Sets what the word says.
+/// Changes a setting as a word says.
 fn set(setting: &mut Setting, word: &'static str) -> Result<(), Fail> {
     match word {
         "expanded" => setting.manner.format = Some(PageRangeFormat::Expanded),
@@ -278,7 +278,7 @@ pub(crate) const SILENT: Setting = Setting {
     forms: None,
 };
 
-/// Sets what these words say.
+/// Changes a setting as words say.
 pub(crate) fn set_all(setting: &mut Setting, words: &'static str) -> Result<(), Fail> {
     for word in words.split(' ') {
         if !word.is_empty() {

@@ -4,7 +4,7 @@ use crate::answered::Sought;
 use crate::cited::{Row, assert_cited};
 use std::test::Fail;
 
-/// Plain texts.
+/// Rows of names and forms, with the plain text of each.
 static PLAIN: [Row; 19] = [
     // The forms are of the author.
     (
@@ -112,7 +112,7 @@ static PLAIN: [Row; 19] = [
     ),
 ];
 
-/// What is made, and left.
+/// Rows of names and forms, with the content and the state of each.
 static TREES: [Row; 16] = [
     (
         "+author:name=short",

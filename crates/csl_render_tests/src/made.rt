@@ -25,7 +25,7 @@ static MACROS: [&str; 10] = [
     "y 'y",
 ];
 
-/// The macro of a line.
+/// The macro that a line describes.
 fn macro_of(alloc: Global, line: &str) -> Result<CslMacro, Fail> {
     let (name, words) = line.split_once(' ').ok_or("nodes")?;
     let name = String::from_str(alloc, name)?;
@@ -184,7 +184,7 @@ fn ordinals(alloc: Global, rows: &[OrdinalRow]) -> Result<Vec<OrdinalTerm>, Memo
 /// What a style says beside its macros, its terms and its ordinals.
 #[derive(Clone, Copy)]
 pub(crate) struct Manner {
-    /// How it writes pages.
+    /// The page format of the style.
     pub(crate) format: Option<PageRangeFormat>,
     /// The words of its localized date, if it has one.
     pub(crate) date: Option<&'static str>,
@@ -192,11 +192,11 @@ pub(crate) struct Manner {
     pub(crate) layout: &'static str,
     /// Only the first day of a month is an ordinal.
     pub(crate) is_limited: bool,
-    /// It has words for the eras.
+    /// Whether the style has terms for AD and BC.
     pub(crate) has_eras: bool,
-    /// It has a word for who is both editor and translator.
+    /// Whether the style has a term for who is both editor and translator.
     pub(crate) is_merging: bool,
-    /// Its options of names.
+    /// The style's options of names.
     pub(crate) names: &'static str,
 }
 

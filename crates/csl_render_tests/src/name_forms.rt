@@ -10,7 +10,7 @@ use lit_model::Memory;
 use std::alloc::Global;
 use std::test::Fail;
 
-/// The form that a letter says.
+/// The form that a letter stands for.
 fn form(letter: char) -> Option<DisambiguatedNameForm> {
     match letter {
         '1' => Some(DisambiguatedNameForm::Count),
@@ -30,7 +30,7 @@ fn first_form(letters: &str) -> Result<DisambiguatedNameForm, Fail> {
     }
 }
 
-/// The letter that says a form.
+/// The letter that stands for a form.
 fn letter(form: Option<DisambiguatedNameForm>) -> char {
     match form {
         None => '.',
@@ -51,7 +51,7 @@ fn list(alloc: Global, letters: &str) -> Result<Vec<Option<DisambiguatedNameForm
     Ok(forms)
 }
 
-/// The forms of each list.
+/// The forms of each list, from words.
 fn lists(alloc: Global, words: &str) -> Result<Vec<Vec<Option<DisambiguatedNameForm>>>, Memory> {
     let mut lists = Vec::new(alloc);
     for letters in words.split(',') {
@@ -60,7 +60,7 @@ fn lists(alloc: Global, words: &str) -> Result<Vec<Vec<Option<DisambiguatedNameF
     Ok(lists)
 }
 
-/// The forms of these words.
+/// The forms of names that words describe.
 pub(crate) fn forms_of(alloc: Global, words: &str) -> Result<NameDisambiguationProperties, Fail> {
     let (default, behind) = words.split_once('/').ok_or("variables")?;
     let (variable, letters) = behind.split_once('/').ok_or("forms")?;
@@ -70,7 +70,7 @@ pub(crate) fn forms_of(alloc: Global, words: &str) -> Result<NameDisambiguationP
     Ok(NameDisambiguationProperties::new(default, variables, forms))
 }
 
-/// Says forms in words.
+/// Appends forms of names in words.
 pub(crate) fn say_forms(
     forms: &NameDisambiguationProperties,
     said: &mut String,

@@ -45,7 +45,7 @@ fn set_valued(alloc: Global, options: &mut InheritableNameOptions, word: &str) -
     Ok(())
 }
 
-/// Sets what a word says.
+/// Sets the option that a word describes.
 fn set(alloc: Global, options: &mut InheritableNameOptions, word: &str) -> Result<(), Fail> {
     match word {
         "short" => options.form = Some(NameForm::Short),
@@ -90,7 +90,7 @@ fn label(alloc: Global, words: &str) -> Result<VariablelessLabel, Fail> {
     Ok(label)
 }
 
-/// The affixes of a label.
+/// The affixes of a label that words describe.
 fn label_affixes(alloc: Global, words: &str) -> Result<Affixes, Fail> {
     let Some(affixes) = words.strip_prefix('<') else {
         return Ok(Affixes::default());
@@ -138,7 +138,7 @@ pub(crate) fn variables(alloc: Global, words: &str) -> Result<Vec<NameVariable>,
     Ok(variables)
 }
 
-/// The names of a word.
+/// The names node that a word describes.
 fn names_of(alloc: Global, words: &str) -> Result<Names, Fail> {
     let (word, options) = words.split_once('|').unwrap_or((words, ""));
     let (of, inside) = word.split_once(':').unwrap_or((word, ""));

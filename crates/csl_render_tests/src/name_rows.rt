@@ -11,7 +11,7 @@ const BOTH: &str = "editor Weintraub/Stanley; translator Weintraub/Stanley";
 
 const TWO: &str = "editor Ottenstein/Peter; translator Warren/Rosanna";
 
-/// Plain texts.
+/// Rows of names, with the plain text of each.
 static PLAIN: [Row; 47] = [
     ("+author:name", "author Ferrante/Elena", "Elena Ferrante"),
     ("+author", "author Ferrante/Elena", "Elena Ferrante"),
@@ -212,7 +212,7 @@ static PLAIN: [Row; 47] = [
     ("+author:name", "author Ferrante/Elena @ first-date", ""),
 ];
 
-/// What is made, and left.
+/// Rows of names, with the content and the state of each.
 static TREES: [Row; 7] = [
     (
         "+author:name=short|<(|>)|b",
@@ -247,7 +247,7 @@ static TREES: [Row; 7] = [
     ("+author:name", "book", ""),
 ];
 
-/// What dry runs say.
+/// Rows of names, with the dry run of each.
 static DRY: [Row; 8] = [
     (
         "+author:name",
@@ -404,7 +404,7 @@ static LABELS: [Row; 8] = [
     ("+author:name", "author The~Group @ sorted", "Group"),
 ];
 
-/// Substitutes.
+/// Rows of names with substitutes, with the plain text of each.
 static SUBSTITUTES: [Row; 6] = [
     // Names that leave out every name by their own options print where their substitute does, and
     // it is they that are written.

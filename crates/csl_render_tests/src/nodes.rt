@@ -76,7 +76,7 @@ pub(crate) fn form_named(name: &str) -> Result<(TermForm, bool), Fail> {
     }
 }
 
-/// The text of a word.
+/// The text that a word describes.
 pub(crate) fn read(alloc: Global, word: &str) -> Result<String, AllocError> {
     let mut text = String::new(alloc);
     for c in word.chars() {
@@ -85,7 +85,7 @@ pub(crate) fn read(alloc: Global, word: &str) -> Result<String, AllocError> {
     Ok(text)
 }
 
-/// A value alone in a list.
+/// A list of one value.
 pub(crate) fn alone<T: Drop>(alloc: Global, value: T) -> Result<Vec<T>, Memory> {
     let mut values = Vec::new(alloc);
     put(&mut values, value)?;
@@ -218,7 +218,7 @@ fn text(alloc: Global, word: &str, options: &str) -> Result<LayoutRenderingEleme
     }))
 }
 
-/// The node of a word.
+/// The node that a word describes.
 fn node(alloc: Global, word: &str) -> Result<LayoutRenderingElement, Fail> {
     if let Some(word) = word.strip_prefix('@') {
         return Ok(LayoutRenderingElement::Date(date(alloc, word)?));
@@ -266,7 +266,7 @@ fn group(
     }))
 }
 
-/// The nodes of some words.
+/// The nodes that words describe.
 pub(crate) fn nodes(alloc: Global, words: &str) -> Result<Vec<LayoutRenderingElement>, Fail> {
     let mut around: Vec<Vec<LayoutRenderingElement>> = Vec::new(alloc);
     let mut nodes = Vec::new(alloc);

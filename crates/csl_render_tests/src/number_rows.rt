@@ -10,7 +10,7 @@ const PAGES: &str = "( &page:short page )|,~";
 /// A label and the number of where the cite points.
 const PLACE: &str = "( &locator #locator )|,~";
 
-/// Plain texts.
+/// Rows of numbers and labels, with the plain text of each.
 static PLAIN: [Row; 50] = [
     // A minimal format keeps of the end of a range what differs from its start, and one digit.
     ("page", "pages 321-328 @ minimal", "321–8"),
@@ -80,7 +80,7 @@ static PLAIN: [Row; 50] = [
     ("( &volume:short #volume )|,~", "volume 20", "vol. 20"),
 ];
 
-/// Trees.
+/// Rows of numbers and labels, with the tree of each.
 static TREES: [Row; 10] = [
     // The first citation number is 1.
     ("citation-number", "book", "[ 1 ]:citation-number"),
@@ -147,7 +147,7 @@ static FORMS: [Row; 8] = [
     ),
 ];
 
-/// What is said in dry runs.
+/// Rows of numbers and labels, with the dry run of each.
 static DRY: [Row; 9] = [
     ("volume", "volume 20", " prints called non-empty shows"),
     ("volume", "book", " called"),

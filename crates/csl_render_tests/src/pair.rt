@@ -176,14 +176,14 @@ static WORKS: [Row; 7] = [
 const ITALIC: &str = "alike: <span style=\"font-style: italic;\">T</span>, \
                       <span style=\"font-style: italic;\">T</span>";
 
-/// The same behind a state in which looks for printing suppress their variable.
+/// Pairs that begin with a state in which looks for printing suppress their variable.
 static SUPPRESSING: [Row; 2] = [
     // The second one begins where the first one did, and not where it ended.
     ("title title", "title T", "title T", "alike: T, T"),
     ("title title", "title T", "title U", "not alike: T, U"),
 ];
 
-/// The same behind a state in which the title answers nothing any more.
+/// Pairs that begin with a state in which the title is suppressed.
 static SUPPRESSED: [Row; 2] = [
     ("title", "title T", "title T", "alike: , "),
     ("title", "title T", "title U", "not alike: , "),
@@ -226,7 +226,7 @@ impl<'q, U: EntryLike> Asked for Beside<'q, U> {
     }
 }
 
-/// What the layout makes of the two.
+/// Renders the entry of a scene and another one by a layout.
 fn paired<T: EntryLike, U: EntryLike>(
     scene: &Scene<'_, T>,
     layout: &Layout,

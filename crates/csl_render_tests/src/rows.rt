@@ -11,10 +11,10 @@ use std::test::Fail;
 /// The title of its entry is `T`.
 const TITLED: &str = "title T";
 
-/// The same with the year suffix `a`.
+/// A titled work, cited with the year suffix `a`.
 const SUFFIXED: &str = "title T @ letter:0";
 
-/// The same in a special form.
+/// A titled work, cited with the year suffix `a`, of which only the title is shown.
 const TITLE_ALONE: &str = "title T @ letter:0 only:title";
 
 const GENRE_ALONE: &str = "title T @ letter:0 only:genre";
@@ -106,7 +106,7 @@ static FORMS: [Row; 7] = [
     ("suffix =suffix|<{|>}", TITLED, ""),
 ];
 
-/// Plain texts.
+/// Rows of texts and groups, with the plain text of each.
 static PLAIN: [Row; 15] = [
     (TITLE, TITLED, "(Title: T)"),
     (TITLE, TITLE_ALONE, "(T)"),
@@ -239,7 +239,7 @@ const NO_MEMORY: &str = "(Some(Memory), Some(Failed), true) (Some(Memory), Some(
 
 const NO_ERROR: &str = "(None, None, false) (None, None, false)";
 
-/// Errors.
+/// Rows of nodes, with the errors of each.
 static ERRORS: [Row; 4] = [
     ("( 'v title genre )", TITLED, NO_ERROR),
     ("'v unanswered", TITLED, NO_MEMORY),
@@ -281,7 +281,7 @@ fn deep(alloc: Global) -> Result<String, Memory> {
     Ok(words)
 }
 
-/// Its plain text.
+/// The plain text of the deepest nodes of these tests.
 fn plain_deep(alloc: Global) -> Result<String, Fail> {
     let words = deep(alloc)?;
     answered(

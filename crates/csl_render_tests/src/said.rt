@@ -21,7 +21,7 @@ use csl_tree::{ElemChild, ElemChildren, ElemMeta, Formatted, Formatting};
 use lit_model::Memory;
 use std::test::Fail;
 
-/// Says a text in a word.
+/// Appends a text as one word.
 fn say_text(text: &str, said: &mut String) -> Result<(), Memory> {
     for c in text.chars() {
         said.push(if c == ' ' { '~' } else { c })?;
@@ -29,7 +29,7 @@ fn say_text(text: &str, said: &mut String) -> Result<(), Memory> {
     Ok(())
 }
 
-/// The marks of a formatting.
+/// The marks that describe a formatting.
 fn marks(formatting: Formatting) -> &'static str {
     match (formatting.font_style, formatting.font_weight) {
         (FontStyle::Italic, FontWeight::Bold) => "/*",
@@ -45,7 +45,7 @@ fn say_formatted(text: &Formatted, said: &mut String) -> Result<(), Memory> {
     say_text(text.text.as_str(), said)
 }
 
-/// The end of an element.
+/// The word that closes an element, by its display.
 fn end_of(display: Option<Display>) -> &'static str {
     match display {
         Some(Display::Block) => " ]block",
@@ -54,7 +54,7 @@ fn end_of(display: Option<Display>) -> &'static str {
     }
 }
 
-/// What made an element.
+/// The word for the node that made an element.
 fn meta_of(meta: &Option<ElemMeta>) -> &'static str {
     match meta {
         None => "",
@@ -78,7 +78,7 @@ fn begin_word(said: &mut String) -> Result<(), Memory> {
     Ok(())
 }
 
-/// Says a child in a word.
+/// Appends the description of a child.
 #[cycle(say)]
 fn say_child(child: &ElemChild, said: &mut String) -> Result<(), Memory> {
     begin_word(said)?;
@@ -116,7 +116,7 @@ fn say_children(children: &ElemChildren, said: &mut String) -> Result<(), Memory
     Ok(())
 }
 
-/// Says what was left.
+/// Appends the description of a state.
 fn say_state(state: &LeftState, said: &mut String) -> Result<(), Fail> {
     if !state.suppressed.is_empty() {
         begin_word(said)?;

@@ -40,7 +40,7 @@ pub(crate) fn context<'s, T: EntryLike>(
     }
 }
 
-/// What was written before.
+/// Writes the text that a setting has before the nodes.
 fn begin<T: EntryLike>(ctx: &mut Context<'_, T>, setting: &Setting) -> Result<(), RenderError>
     ensures { OnOk result (ctx.new.outer ≡ ctx.old.outer) }
 {
@@ -68,7 +68,7 @@ fn write<'s, T: EntryLike>(
     scene.element.render(ctx)
 }
 
-/// What a context makes.
+/// The content and the state that a context makes.
 fn made<'s, T: EntryLike>(
     scene: &Scene<'s, T>,
     left: Option<&LeftState>,
@@ -143,8 +143,8 @@ fn told<'s, T: EntryLike>(
     }
 }
 
-/// What they say, of this variable too, and leave. Where a context is refused memory, another one
-/// says it.
+/// The dry run of nodes, whether they would show a variable, and the state after it. If a context
+/// is refused memory, another one is asked.
 ///
 /// # Errors
 /// As [`render`].

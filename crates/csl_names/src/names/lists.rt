@@ -120,7 +120,7 @@ fn peek<'s, T: EntryLike>(
     }
 }
 
-/// One list behind others.
+/// Appends a list to others.
 fn pushed<'a, 's, T>(
     ctx: &mut Context<'s, T>,
     lists: &mut Vec<PersonList<'a>>,
