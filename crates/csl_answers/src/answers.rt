@@ -18,7 +18,7 @@ pub enum Answer {
     Content(ElemChildren, BufWriteFormat),
     /// A text.
     Text(String),
-    /// A truth value.
+    /// A boolean, written as `true` or `false`.
     Truth(bool),
 }
 

@@ -15,9 +15,6 @@ use lit_model::Memory;
 use std::alloc::Global;
 
 /// What a style makes of the first cite of an entry.
-///
-/// # Errors
-/// [`RenderError::Memory`]: there was no memory left, or the entry said so.
 fn cite<T: EntryLike>(alloc: Global, style: &Style, entry: &T) -> Result<Rendered, RenderError>
     ensures { IfOk result (λ made. tokens made.content ≡ cited style.now (T.answers entry.now)) }
 {

@@ -127,7 +127,7 @@ pub(crate) fn cited(
     made
 }
 
-/// The same of a cite with these properties.
+/// Renders a cite of a built-in entry with these properties in the style of authors and dates.
 fn cited_with(
     alloc: Global,
     entry: BuiltIn,

@@ -12,7 +12,7 @@ use std::fmt::Write;
 use std::process::Abort;
 use std::test::Fail;
 
-/// What an entry is asked for.
+/// What a row asks of an entry.
 #[derive(Clone, Copy)]
 enum Question {
     Number(NumberVariable),

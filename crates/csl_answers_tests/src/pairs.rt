@@ -34,7 +34,7 @@ static REFERENCES: [Row; 4] = [
     ("quantized-vortex", VORTEX_HTML),
 ];
 
-/// What a layout makes of the two in a first cite.
+/// Renders two entries by a layout, each in a first cite.
 fn paired<T: EntryLike, U: EntryLike>(
     alloc: Global,
     style: &Style,
@@ -168,7 +168,7 @@ fn titles_in(alloc: Global, style: &Style, book: &Entry, title: &TitleOnly) -> R
     Ok(paired(alloc, style, &layout, book, title)?)
 }
 
-/// The same in the style of a title.
+/// Renders a book and an entry that has a title alone in the style of a title.
 fn titles(alloc: Global, book: &Entry, title: &TitleOnly) -> Result<Pair, Fail> {
     let style = title_style(alloc)?;
     let pair = titles_in(alloc, &style, book, title);
@@ -184,7 +184,7 @@ fn titles_of(alloc: Global, title: &str) -> Result<Pair, Fail> {
     titles_with(alloc, &title)
 }
 
-/// The same of such an entry.
+/// Renders the built-in book and an entry that has a title alone in the style of a title.
 fn titles_with(alloc: Global, title: &TitleOnly) -> Result<Pair, Fail> {
     let book = BuiltIn::of_key("crazy-rich").ok_or("a book")?;
     let books = entries(alloc, &[book])?;

@@ -13,7 +13,7 @@ use std::fmt::Debug;
 use std::process::Abort;
 use std::test::Fail;
 
-/// Says a set behind its name.
+/// Appends the name of a set and its items.
 fn say_set<T: Debug + Ord>(
     said: &mut String,
     name: &str,
@@ -32,7 +32,7 @@ fn say_named(said: &mut String, named: &Named) -> Result<(), AllocError> {
     say_set(said, " kinds", &named.kinds)
 }
 
-/// What a style names.
+/// The variables and kinds that a built-in style names.
 fn named(alloc: Global, style: BuiltInStyle) -> Result<Named, Memory> {
     let style = style.style(alloc)?;
     let named = named_by(alloc, &style, style.citation());

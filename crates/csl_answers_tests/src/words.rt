@@ -96,14 +96,14 @@ fn assert_run(rt: &impl Abort, alloc: Global, words: &[String], row: &Row) {
     assert_text(rt, said.as_str(), *fault, *of);
 }
 
-/// Asserts a row.
+/// Asserts what the program writes for the words of a row.
 fn assert_row(rt: &impl Abort, alloc: Global, row: &Row) -> Result<(), Fail> {
     let words = owned(alloc, row.0)?;
     assert_run(rt, alloc, words.as_slice(), row);
     Ok(())
 }
 
-/// Asserts each row.
+/// Asserts what the program writes for the words of each row.
 pub fn assert_all(rt: &impl Abort, alloc: Global, rows: &[Row]) -> Result<(), Fail> {
     for row in rows {
         assert_row(rt, alloc, row)?;

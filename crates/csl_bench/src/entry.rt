@@ -129,7 +129,7 @@ fn text(alloc: Global, text: &str) -> Result<FormatString, Memory> {
     })
 }
 
-/// So many persons of one name.
+/// As many persons of one name as `size`.
 fn persons(alloc: Global, size: usize) -> Result<Vec<Person>, Memory> {
     let mut persons = Vec::new(alloc);
     for _ in 0..size {
@@ -157,7 +157,7 @@ fn journals(alloc: Global) -> Result<Vec<Entry>, Memory> {
     Ok(journals)
 }
 
-/// So many translators.
+/// A group of as many translators as `size`.
 fn translators(alloc: Global, size: usize) -> Result<Vec<PersonsWithRoles>, Memory> {
     let names = persons(alloc, size)?;
     let role = PersonRole::Translator;

@@ -1,4 +1,4 @@
-//! Why a work is not done.
+//! Why a measured work failed.
 
 use csl_context::RenderError;
 use csl_style::StyleError;
@@ -7,10 +7,10 @@ use lit_model::{Memory, NumericError};
 use std::alloc::AllocError;
 use std::fmt;
 
-/// Why a work is not done.
+/// Why a measured work failed.
 #[derive(Clone, Copy)]
 pub enum WorkError {
-    /// There was no memory left.
+    /// Out of memory.
     Memory,
     /// Something else than the work needs was asked or answered.
     Unexpected(&'static str),
@@ -38,7 +38,7 @@ impl From<AllocError> for WorkError {
     }
 }
 
-/// A text refuses what is written to it for want of memory alone.
+/// A text refuses a write only if memory runs out.
 impl From<fmt::Error> for WorkError {
     fn from(_error: fmt::Error) -> WorkError {
         WorkError::Memory
@@ -73,7 +73,7 @@ impl From<StyleError> for WorkError {
     }
 }
 
-/// A context fails for want of memory alone.
+/// A context fails only if memory runs out.
 impl From<RenderError> for WorkError {
     fn from(_error: RenderError) -> WorkError {
         WorkError::Memory

@@ -74,7 +74,7 @@ fn author(alloc: Global) -> Result<Person, Memory> {
     Ok(person(name, given_name))
 }
 
-/// So many authors of one name.
+/// As many authors of one name as `size`.
 pub fn authors(alloc: Global, size: usize) -> Result<Vec<Person>, Memory> {
     let mut authors = Vec::new(alloc);
     for _ in 0..size {

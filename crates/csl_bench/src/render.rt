@@ -104,7 +104,7 @@ fn child_count(alloc: Global, style: &Style, article: &Entry) -> Result<usize, W
     Ok(count)
 }
 
-/// The same for an article of one author.
+/// The number of children that the style makes of an article of one author.
 fn child_count_for_one(alloc: Global, style: &Style) -> Result<usize, WorkError> {
     let article = article(alloc, 1)?;
     let count = child_count(alloc, style, &article);

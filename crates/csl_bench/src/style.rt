@@ -50,7 +50,7 @@ fn calls(alloc: Global, number: usize, first: usize, end: usize) -> Result<CslMa
     })
 }
 
-/// A list of one.
+/// A list of one item.
 pub fn alone<T: Drop>(alloc: Global, item: T) -> Result<Vec<T>, Memory> {
     let mut items = Vec::new(alloc);
     put(&mut items, item)?;

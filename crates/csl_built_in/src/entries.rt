@@ -111,20 +111,16 @@ fn doi(alloc: Global, number: &str) -> Result<SerialNumber, Memory>
     Ok(SerialNumber(numbers))
 }
 
-/// Why a text gave no address.
+/// Why a text was not parsed to an address.
 #[derive(Clone, Copy)]
 enum AddressError {
-    /// There was no memory left.
+    /// Out of memory.
     Memory,
-    /// The text is no address.
+    /// The text is not a URL.
     NotAddress,
 }
 
 /// The address that a text gives.
-///
-/// # Errors
-/// [`AddressError::Memory`]: there was no memory left.
-/// [`AddressError::NotAddress`]: the text is no address.
 #[tactic(auto, unfolding(crate::specs::Entries::address_from))]
 fn address(alloc: Global, text: &str) -> Result<QualifiedUrl, AddressError>
     ensures ok { IfOk result (λ url. Some (address_of url) ≡ address_from text.now) }
@@ -250,9 +246,6 @@ fn essay_text() -> &'static str
 }
 
 /// The address of the essay, which the parser takes.
-///
-/// # Errors
-/// [`Memory`]: there was no memory left.
 #[tactic(auto, using(crate::proofs::Essay::essay_is_address))]
 fn essay_address(alloc: Global) -> Result<QualifiedUrl, Memory>
     ensures { IfOk result (λ url. Some (address_of url) ≡ essay_address) }

@@ -144,7 +144,7 @@ fn title_text() -> LayoutRenderingElement
     LayoutRenderingElement::Text(bare_text(TextTarget::Variable { var, form }, italic()))
 }
 
-/// These two.
+/// The word `Title` and the title in italics, in order.
 fn label_and_title(alloc: Global) -> Result<Vec<LayoutRenderingElement>, Memory>
     ensures { IfOk result (λ children. views children.items ≡ label_and_title) }
 {

@@ -69,7 +69,7 @@ impl From<StyleError> for UseError {
 impl From<RenderError> for UseError {
     fn from(error: RenderError) -> UseError {
         match error {
-            // A context fails for want of memory alone.
+            // A context fails only if memory runs out.
             RenderError::Memory | RenderError::Failed => UseError::Memory,
         }
     }
