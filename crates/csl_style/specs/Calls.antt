@@ -1,7 +1,9 @@
 -- The calls between the macros of a style, as a graph: the places of the macros, with an edge for
 -- each call, as often as it occurs. Cycles are searched in this graph (CSL 1.0.2, Macro).
-use Rattle.std.specs.Prelude.{◌≡◌, ℕ, zero, suc, ◌<◌, List, [], ◌∷◌, ◌++◌, length}
+use Rattle.std.specs.Prelude.{◌≡◌, ℕ, zero, suc, ◌<◌, List, [], ◌∷◌, ◌++◌, length, String}
 use Rattle.std.specs.Option.{option_to_list}
+use Rattle.std.specs.HashMap.{HashMap, get_by_text}
+use Rattle.std.specs.declared.alloc.Global.{Global}
 use Rattle.csl_style.specs.Reaches.{Graph, row_at}
 use Rattle.csl_style.specs.Node.{Node, text, call, number, label, date, names, choose, group, Nodes, no_nodes, node, Branches, no_branches, otherwise, branch, Substitutes, no_substitutes, substitute}
 use Rattle.csl_style.specs.View.{Definition}
@@ -45,3 +47,7 @@ children_at (d ∷ ds) (suc i) = children_at ds i
 pub record IsCallGraph (ds : List Definition) (g : Graph) : Type 0 where
   pub each : length g ≡ length ds
   pub rows : (i : ℕ) → i < length ds → row_at g i ≡ calls_in_all ds (children_at ds i)
+
+-- At each name the place of its first macro, and nothing at a name without one.
+abbrev pub ArePlacesByName : {S : Type 0} → HashMap (String Global) ℕ S → List Definition → Type 0
+ArePlacesByName places ds = (name : List ℕ) → get_by_text places name ≡ place name ds

@@ -5,11 +5,12 @@ ghost use Rattle.std.specs.Option.{option_to_list};
 ghost use Rattle.csl_style.specs.Reaches.{InRange};
 ghost use Rattle.csl_style.specs.View.{definitions, view, view_choose, view_child, views, substitutes};
 ghost use Rattle.csl_style.specs.Meaning.{place};
-ghost use Rattle.csl_style.specs.Calls.{calls_in, calls_in_all, calls_in_substitutes, IsCallGraph};
+ghost use Rattle.csl_style.specs.Calls.{calls_in, calls_in_all, calls_in_substitutes, IsCallGraph, ArePlacesByName};
 
 use crate::element::{Choose, CslMacro, LayoutRenderingElement, NamesChild};
 use crate::text::TextTarget;
 use std::alloc::{AllocError, Global};
+use std::collections::HashMap;
 
 /// The place of the first macro of a name.
 fn place(name: &str, macros: &[CslMacro]) -> Option<usize>
@@ -133,4 +134,20 @@ pub(crate) fn call_graph(alloc: Global, macros: &[CslMacro]) -> Result<Vec<Vec<u
         graph.push(row)?;
     }
     Ok(graph)
+}
+
+/// The place of the first macro of each name.
+pub(crate) fn places_by_name(
+    alloc: Global,
+    macros: &[CslMacro],
+) -> Result<HashMap<String, usize>, AllocError>
+    ensures { IfOk result (λ places. ArePlacesByName places (definitions macros.now)) }
+{
+    let mut places = HashMap::new(alloc);
+    for (i, m) in macros.iter().enumerate() {
+        if !places.contains_key(m.name.as_str()) {
+            places.insert(m.name.clone()?, i)?;
+        }
+    }
+    Ok(places)
 }

@@ -5,6 +5,7 @@ ghost use Rattle.std.specs.Prelude.{◌≡◌, false, None, IfOk, OnOk, IfErr, m
 ghost use Rattle.csl_style.specs.Node.{fills};
 ghost use Rattle.csl_style.specs.View.{definitions, views};
 ghost use Rattle.csl_style.specs.Meaning.{body, meaning, IsAcyclic};
+ghost use Rattle.csl_style.specs.Calls.{ArePlacesByName};
 ghost use Rattle.csl_style.specs.Cyclic.{NoneReturns};
 ghost use Rattle.csl_style.specs.Locale.{terms_of, ordinals_of};
 ghost use Rattle.csl_style.specs.Term.{term_text, term_gender};
@@ -16,10 +17,11 @@ use crate::cycles::first_cyclic;
 use crate::date::{Date, DateForm};
 use crate::element::{CslMacro, Layout};
 use crate::locale::{Locale, lookup, ordinals};
-use crate::places::call_graph;
+use crate::places::{call_graph, places_by_name};
 use crate::term::{Term, TermForm};
 use csl_common::GrammarGender;
 use std::alloc::Global;
+use std::collections::HashMap;
 use std::marker::Model;
 
 mod error;
@@ -36,6 +38,8 @@ pub struct Style {
     citation: Layout,
     bibliography: Option<Layout>,
     locales: Vec<Locale>,
+    /// The place in the list of the first macro of each name.
+    places: HashMap<String, usize>,
 }
 
 impl Model for Style {
@@ -52,6 +56,7 @@ impl Model for Style {
     ghost use Rattle.csl_style.specs.View.{definitions};
     ghost use Rattle.csl_style.specs.Meaning.{IsAcyclic};
     ghost use Rattle.csl_style.specs.Style.{is_chicago};
+    ghost use Rattle.csl_style.specs.Calls.{ArePlacesByName};
 
     ghost view = { λ s. record {
       settings = s.settings;
@@ -62,7 +67,8 @@ impl Model for Style {
     } };
 
     ghost invariant = { λ s. IsAcyclic (definitions s.macros.items)
-        × (is_chicago s.settings.page_range_format ≡ false) };
+        × (is_chicago s.settings.page_range_format ≡ false)
+        × ArePlacesByName s.places (definitions s.macros.items) };
 }
 
 /// Whether the page format is one of the two that no style may have.
@@ -75,16 +81,18 @@ fn is_chicago(format: Option<PageRangeFormat>) -> bool
     )
 }
 
-/// Nothing where a style of these may stand, else why it is refused.
-fn find_refusal(
+/// The place of the first macro of each name, or why a style of these parts is refused.
+fn checked_places(
     alloc: Global,
     format: Option<PageRangeFormat>,
     macros: &[CslMacro],
-) -> Result<(), StyleError>
+) -> Result<HashMap<String, usize>, StyleError>
+    ensures places { IfOk result (λ places. ArePlacesByName places (definitions macros.now)) }
     ensures ranks { OnOk result (IsAcyclic (definitions macros.now)) }
     ensures format { OnOk result (is_chicago format ≡ false) }
     ensures refused { IfErr result (IsRefusal format (definitions macros.now)) }
 {
+    let places = places_by_name(alloc, macros)?;
     let graph = call_graph(alloc, macros)?;
     if let Some(i) = first_cyclic(alloc, &graph)? {
         return Err(StyleError::CyclicMacro(macros[i].name.clone()?));
@@ -92,20 +100,21 @@ fn find_refusal(
     if is_chicago(format) {
         return Err(StyleError::ChicagoPageFormat);
     }
-    Ok(())
+    Ok(places)
 }
 
-/// The first macro of a name.
-fn first_macro<'s>(macros: &'s [CslMacro], name: &str) -> Option<&'s CslMacro>
+/// The first macro of a name, found by its place.
+fn first_macro<'s>(
+    macros: &'s [CslMacro],
+    places: &HashMap<String, usize>,
+    name: &str,
+) -> Option<&'s CslMacro>
+    requires { ArePlacesByName places.now (definitions macros.now) }
     ensures { option_map (λ m. views m.now.children.items) result
         ≡ body name.now (definitions macros.now) }
 {
-    for m in macros {
-        if m.name.as_str() == name {
-            return Some(m);
-        }
-    }
-    None
+    let i = *places.get(name)?;
+    Some(&macros[i])
 }
 
 impl Style {
@@ -132,13 +141,14 @@ impl Style {
         ensures refused { IfErr result (IsRefusal settings.page_range_format
             (definitions macros.items)) }
     {
-        find_refusal(alloc, settings.page_range_format, &macros)?;
+        let places = checked_places(alloc, settings.page_range_format, &macros)?;
         Ok(Style {
             settings,
             macros,
             citation,
             bibliography,
             locales,
+            places,
         })
     }
 
@@ -204,7 +214,7 @@ impl Style {
         ensures meaning { option_map (λ m. fills (meaning (definitions self.now.macros))
             (views m.now.children.items)) result ≡ meaning (definitions self.now.macros) name.now }
     {
-        first_macro(&self.macros, name)
+        first_macro(&self.macros, &self.places, name)
     }
 
     /// The text of a term, in the form that is asked for or one that stands in for it (CSL 1.0.2,

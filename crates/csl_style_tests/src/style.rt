@@ -82,7 +82,7 @@ fn cycles_of_macros_and_chicago_pages_are_refused(rt: HostRuntime) -> Result<(),
 /// A style whose parts can be told from one another.
 const PARTS: StyleRows<'static> = StyleRows {
     format: Some(PageRangeFormat::MinimalTwo),
-    macros: &["a 'first", "a 'second", "b 'other"],
+    macros: &["a 'first", "a 'second", "b 'other", "b 'hidden"],
     citation: "'cite",
     bibliography: Some("'entry"),
     locales: &[LocaleRows {
@@ -141,7 +141,7 @@ fn text_in_part<'s>(style: &'s Style, part: Part<'_>) -> Option<&'s str> {
 }
 
 /// The texts in the parts of the style of parts.
-static TEXTS: [(Part<'static>, Option<&str>); 7] = [
+static TEXTS: [(Part<'static>, Option<&str>); 8] = [
     (Part::Citation, Some("cite")),
     (Part::Bibliography, Some("entry")),
     (Part::Layout(Scope::Citation), Some("cite")),
@@ -150,6 +150,7 @@ static TEXTS: [(Part<'static>, Option<&str>); 7] = [
     (Part::Macro("a"), Some("first")),
     (Part::Macro("b"), Some("other")),
     (Part::Macro("c"), None),
+    (Part::Macro(""), None),
 ];
 
 fn assert_texts(rt: &impl Abort, style: &Style, rows: &[(Part<'static>, Option<&'static str>)]) {
@@ -165,7 +166,7 @@ fn assert_parts(rt: &impl Abort, style: &Style) {
     let format = style.settings().page_range_format;
     assert_same(rt, &format, &Some(PageRangeFormat::MinimalTwo));
     assert_same(rt, &style.settings().initialize_with_hyphen, &true);
-    assert_same(rt, &style.macros().len(), &3);
+    assert_same(rt, &style.macros().len(), &4);
     assert_same(rt, &style.locales().len(), &1);
     let quotes = match style.locales().first() {
         Some(locale) => Some(locale.punctuation_in_quote),

@@ -7,7 +7,7 @@ use Rattle.csl_style.specs.Cyclic.{IsFirstCyclic}
 use Rattle.csl_style.proofs.Called.{name-read, length-definitions}
 use Rattle.csl_style.proofs.CallGraph.{first-cyclic, acyclic}
 use Rattle.csl_style.proofs.Returns.{none-returns}
-use Rattle.csl_style.proofs.style.find_refusal.Goals as goal
+use Rattle.csl_style.proofs.style.checked_places.Goals as goal
 
 pub returns-in-Some-clause-refused : goal.returns-in-Some-clause-refused
 returns-in-Some-clause-refused c =

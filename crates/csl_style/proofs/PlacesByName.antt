@@ -1,0 +1,60 @@
+-- The places of macros by name, with one more macro.
+use Rattle.std.proofs.Common.{◌≡◌, ℕ, ◌+◌, ◌<◌, suc, List, ◌∷◌, length, drop, get_or, Bool, true, false, Option, Some, None, option_map, is_some, if◌then◌else◌, cond, String, Global, string_bytes, refl, sym, ap, ◌∙◌, arith}
+use Rattle.std.specs.Option.{option_or}
+use Rattle.std.specs.HashMap.{HashMap, get_by_text}
+use Rattle.std.specs.Map.{update}
+use Rattle.std.specs.Str.{bytes_eq}
+use Rattle.std.proofs.lemmas.Slice.Eq.{bytes_eq-Decides}
+use Rattle.std.proofs.lemmas.List.{at_drop_more}
+use Rattle.csl_style.specs.declared.element.CslMacro.{CslMacro}
+use Rattle.csl_style.specs.View.{definitions, views}
+use Rattle.csl_style.specs.Meaning.{place, body}
+use Rattle.csl_style.proofs.Meanings.{body-none}
+use Rattle.csl_style.proofs.Called.{place-is, children-read, length-definitions}
+
+-- the places so far, and then those of the rest
+abbrev pub found : {S : Type 0} → HashMap (String Global) ℕ S → ℕ → List CslMacro → List ℕ → Option ℕ
+found places i rest q = option_or (get_by_text places q) (option_map (λ k. i + k) (place q (definitions rest)))
+
+module _ (i : ℕ) where
+  seen_cases : (b : Bool) (o p : Option ℕ) → (b ≡ true → o ≡ None → ⊥)
+      → option_or o (option_map (λ k. (i + 1) + k) p) ≡ option_or o (option_map (λ k. i + k) (if b then Some 0 else option_map suc p))
+  seen_cases b (Some x) p h = refl
+  seen_cases true None p h = absurd (h refl refl)
+  seen_cases false None None h = refl
+  seen_cases false None (Some k) h = ap Some (omega arith)
+
+  new_cases : (b : Bool) (o p : Option ℕ) → (b ≡ true → o ≡ None)
+      → option_or (cond b (Some i) o) (option_map (λ k. (i + 1) + k) p) ≡ option_or o (option_map (λ k. i + k) (if b then Some 0 else option_map suc p))
+  new_cases true None p h = ap Some (omega arith)
+  new_cases true (Some x) p h = let e = h refl in grind arith
+  new_cases false (Some x) p h = refl
+  new_cases false None None h = refl
+  new_cases false None (Some k) h = ap Some (omega arith)
+
+  module _ (ms : List CslMacro) (m : CslMacro) (within : i < length ms) (is : m ≡ get_or ms i m) {S : Type 0} (places : HashMap (String Global) ℕ S) (q : List ℕ) where
+    -- an earlier macro has the name of this one
+    pub with_seen_name : is_some (get_by_text places (string_bytes m.name)) ≡ true → found places (i + 1) (drop (i + 1) ms) q ≡ found places i (drop i ms) q
+    with_seen_name h = seen_cases (bytes_eq (string_bytes m.name) q) (get_by_text places q) (place q (definitions (drop (i + 1) ms)))
+        (λ same none. let e = (bytes_eq-Decides (string_bytes m.name) q).0 same in let o : get_by_text places (string_bytes m.name) ≡ None = ap (get_by_text places) e ∙ none in grind arith)
+        ∙ ap (λ x. option_or (get_by_text places q) (option_map (λ k. i + k) (place q (definitions (x ∷ drop (i + 1) ms))))) is
+        ∙ sym (at_drop_more (λ rest. found places i rest q) ms i m within)
+
+    -- this one is the first of its name, and its place is added
+    pub with_new_name : (new : HashMap (String Global) ℕ S) → get_by_text places (string_bytes m.name) ≡ None → get_by_text new q ≡ update bytes_eq (get_by_text places) (string_bytes m.name) (Some i) q
+        → found new (i + 1) (drop (i + 1) ms) q ≡ found places i (drop i ms) q
+    with_new_name new none put = ap (λ o. option_or o (option_map (λ k. (i + 1) + k) (place q (definitions (drop (i + 1) ms))))) put
+        ∙ new_cases (bytes_eq (string_bytes m.name) q) (get_by_text places q) (place q (definitions (drop (i + 1) ms)))
+        (λ same. ap (get_by_text places) (sym ((bytes_eq-Decides (string_bytes m.name) q).0 same)) ∙ none)
+        ∙ ap (λ x. option_or (get_by_text places q) (option_map (λ k. i + k) (place q (definitions (x ∷ drop (i + 1) ms))))) is
+        ∙ sym (at_drop_more (λ rest. found places i rest q) ms i m within)
+
+-- what a name stands for, by the place of its first macro
+pub unplaced : (ms : List CslMacro) (name : List ℕ) → place name (definitions ms) ≡ None → body name (definitions ms) ≡ None
+unplaced ms name h = body-none name (definitions ms) h
+
+pub placed : (ms : List CslMacro) (name : List ℕ) (i : ℕ) → place name (definitions ms) ≡ Some i → i < length ms
+placed ms name i h = let here = place-is name (definitions ms) i h in let len = length-definitions ms in omega (arith, here.within, len)
+
+pub read : (ms : List CslMacro) (name : List ℕ) (i : ℕ) (m : CslMacro) → place name (definitions ms) ≡ Some i → m ≡ get_or ms i m → body name (definitions ms) ≡ Some (views m.children.items)
+read ms name i m h is = (place-is name (definitions ms) i h).holds ∙ ap Some (children-read ms i m (placed ms name i h) is)
