@@ -1,13 +1,14 @@
 -- A names node and a choose, one level out: what of a year suffix stands in them, and their sizes.
-use Rattle.std.proofs.Common.{◌≡◌, ℕ, ◌+◌, suc, Bool, true, false, ◌||◌, List, [], ◌∷◌, map, Option, Some, None, option_map, refl, sym, ap, ap₂, ◌∙◌, arith, if◌then◌else◌}
+use Rattle.std.proofs.Common.{◌≡◌, ℕ, ◌+◌, suc, Bool, true, false, ◌||◌, List, ◌∷◌, map, Option, option_map, refl, ap, ap₂, ◌∙◌, arith, if◌then◌else◌}
 use Rattle.std.proofs.lemmas.Grind.{common_steps}
 use Rattle.csl_style.specs.Names.{NamesNode, in_place_of}
-use Rattle.csl_style.specs.Node.{Node, text, call, number, label, date, names, choose, group, Nodes, no_nodes, node, Substitutes, no_substitutes, substitute, Branches, branch, Full, Fulls, named, shorthand, fill, fills, fill_branches, fill_substitutes, fill_within, within, is_childless, size, sizes, cases_size, insteads_size}
+use Rattle.csl_style.specs.Node.{Node, names, choose, Nodes, no_nodes, node, Substitutes, no_substitutes, substitute, Branches, branch, Full, Fulls, named, shorthand, fill, fills, fill_branches, fill_substitutes, fill_within, within, is_childless, size, sizes, cases_size, insteads_size}
 use Rattle.csl_style.specs.declared.element.Names.{Names as NamesElement, out-Names}
 use Rattle.csl_style.specs.declared.element.Choose.{Choose, out-Choose}
 use Rattle.csl_style.specs.declared.element.ChooseBranch.{ChooseBranch, out-ChooseBranch}
 use Rattle.csl_style.specs.declared.element.LayoutRenderingElement.TheFolds.{fold_out-Names, fold_out-Choose, fold_out-ChooseBranch}
-use Rattle.csl_style.specs.View.{views, view_choose, view_branch, branches_of, view_names, view_child, substitutes, Child, a_name, an_et_al, a_label, a_substitute, Part, element_step, child_step, choose_step, branch_step, group_step, names_step, substitute_step}
+use Rattle.csl_style.specs.View.{views, view_choose, view_branch, branches_of, view_names, view_child, substitutes, Child, a_substitute, Part, element_step, child_step, choose_step, branch_step, group_step, names_step, substitute_step}
+use Rattle.csl_style.specs.Filled.{child_size}
 use Rattle.csl_style.specs.Reached.{has_year_suffix, any_has_year_suffix, case_has_year_suffix, instead_has_year_suffix, child_has_year_suffix}
 
 -- as it is written: the substitutes of a names node
@@ -18,12 +19,6 @@ substitute_has_year_suffix env (substitute ns ss) = any_has_year_suffix (fills e
 abbrev pub substitutes_size : (List ℕ → Option Fulls) → Substitutes → ℕ
 substitutes_size env no_substitutes = 0
 substitutes_size env (substitute ns ss) = suc (sizes (fills env ns) + substitutes_size env ss)
-
-abbrev pub child_size : (List ℕ → Option Fulls) → Child → ℕ
-child_size env (a_name n) = 0
-child_size env (an_et_al e) = 0
-child_size env (a_label l) = 0
-child_size env (a_substitute ns) = suc (sizes (fills env ns))
 
 module _ (env : List ℕ → Option Fulls) where
   -- ---- a names node without children is the same in a substitute and elsewhere

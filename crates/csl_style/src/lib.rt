@@ -15,6 +15,7 @@ mod of_citation;
 mod places;
 mod reach;
 mod scopes;
+mod size;
 pub mod style;
 mod style_ordinals;
 pub mod taxonomy;

@@ -27,6 +27,8 @@ mod options_of_scopes;
 #[cfg(test)]
 mod reach;
 #[cfg(test)]
+mod size;
+#[cfg(test)]
 mod style;
 #[cfg(test)]
 mod style_ordinals;

@@ -165,7 +165,7 @@ fn author_or_editor(alloc: Global) -> Result<LayoutRenderingElement, AllocError>
 }
 
 /// The author, and the year of issue.
-fn author_date(alloc: Global) -> Result<Layout, AllocError> {
+pub(crate) fn author_date(alloc: Global) -> Result<Layout, AllocError> {
     let author = names(alloc, NameVariable::Author, Vec::new(alloc))?;
     let mut parts = one(alloc, author)?;
     push_leaves(alloc, &mut parts, &[Leaf::Issued])?;
@@ -202,7 +202,7 @@ fn parts_of_reference(alloc: Global) -> Result<Vec<LayoutRenderingElement>, Allo
 }
 
 /// The parts of a reference, and the DOI.
-fn reference(alloc: Global) -> Result<Layout, AllocError> {
+pub(crate) fn reference(alloc: Global) -> Result<Layout, AllocError> {
     let mut elements = one(alloc, group(parts_of_reference(alloc)?))?;
     push_group(alloc, &mut elements, &OF_DOI)?;
     Ok(layout_of(elements))

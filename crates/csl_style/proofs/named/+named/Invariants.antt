@@ -6,7 +6,8 @@ use Rattle.csl_style.specs.Node.{size, sizes, cases_size, fill, fills, fill_bran
 use Rattle.csl_style.specs.Reached.{env}
 use Rattle.csl_style.specs.View.{view, views, view_names, view_child, view_choose, view_branch, substitutes, branches_of}
 use Rattle.csl_style.proofs.Walks.{of_substitutes}
-use Rattle.csl_style.proofs.YearSuffixes.{substitutes_size, child_size}
+use Rattle.csl_style.specs.Filled.{child_size}
+use Rattle.csl_style.proofs.YearSuffixes.{substitutes_size}
 use Rattle.csl_style.proofs.named.+named.Given as goal
 
 abbrev pub decreases-name_element : goal.decreases-name_element

@@ -3,7 +3,8 @@ use Rattle.csl_style.specs.declared.element.Choose.{out-Choose}
 use Rattle.csl_style.specs.Node.{size, sizes, cases_size, fill, fills, fill_branches}
 use Rattle.csl_style.specs.View.{view, views, view_names, view_child, view_choose, view_branch, substitutes, branches_of}
 use Rattle.csl_style.specs.Reached.{env, has_year_suffix, any_has_year_suffix, case_has_year_suffix}
-use Rattle.csl_style.proofs.YearSuffixes.{substitute_has_year_suffix, substitutes_size, child_size}
+use Rattle.csl_style.specs.Filled.{child_size}
+use Rattle.csl_style.proofs.YearSuffixes.{substitute_has_year_suffix, substitutes_size}
 use Rattle.csl_style.proofs.reach.+reach.Given as goal
 
 abbrev pub decreases-has_year_suffix : goal.decreases-has_year_suffix

@@ -1,0 +1,121 @@
+//! How large a layout is with each macro expanded in the place of its name (CSL 1.0.2, Macro).
+
+ghost use Rattle.std.specs.Prelude.{◌≡◌, ◌+◌, ◌<◌, ◌≤◌, IfSome, IfNone};
+ghost use Rattle.csl_style.specs.Node.{fill, fills, size, sizes, fill_layout};
+ghost use Rattle.csl_style.specs.View.{view, views, view_names, view_child, view_choose, view_layout};
+ghost use Rattle.csl_style.specs.Reached.{env};
+ghost use Rattle.csl_style.specs.Filled.{child_size, layout_size};
+
+use crate::element::{Choose, Layout, LayoutRenderingElement, Names, NamesChild};
+use crate::style::Style;
+use crate::text::TextTarget;
+
+/// The room that is left after an element, or `None` where the element is larger than the room.
+#[cycle(size)]
+fn room_after(style: &Style, element: &LayoutRenderingElement, room: u64) -> Option<u64>
+    ensures some { IfSome result (λ left. left + size (fill (env style.now) (view element.now))
+        ≡ room) }
+    ensures none { IfNone result (room < size (fill (env style.now) (view element.now))) }
+{
+    match element {
+        LayoutRenderingElement::Text(text) => match &text.target {
+            TextTarget::Macro { name } => match style.get_macro(name.as_str()) {
+                Some(found) => room_after_all(style, &found.children, room.checked_sub(1)?),
+                None => Some(room),
+            },
+            TextTarget::Variable { .. } | TextTarget::Term { .. } | TextTarget::Value { .. } => {
+                Some(room)
+            }
+        },
+        LayoutRenderingElement::Number(_)
+        | LayoutRenderingElement::Label(_)
+        | LayoutRenderingElement::Date(_) => Some(room),
+        LayoutRenderingElement::Names(names) => room_after_names(style, names, room),
+        LayoutRenderingElement::Choose(choose) => room_after_choose(style, choose, room),
+        LayoutRenderingElement::Group(group) => {
+            room_after_all(style, &group.children, room.checked_sub(1)?)
+        }
+    }
+}
+
+/// The room that is left after a list of elements, each of which counts one more.
+#[cycle(size)]
+fn room_after_all(style: &Style, elements: &[LayoutRenderingElement], room: u64) -> Option<u64>
+    ensures some { IfSome result (λ left. left
+        + sizes (fills (env style.now) (views elements.now)) ≡ room) }
+    ensures none { IfNone result (room < sizes (fills (env style.now) (views elements.now))) }
+{
+    let mut left = room;
+    for element in elements {
+        left = room_after(style, element, left.checked_sub(1)?)?;
+    }
+    Some(left)
+}
+
+/// The room that is left after a names node: only its substitutes add to its size.
+#[cycle(size)]
+fn room_after_names(style: &Style, names: &Names, room: u64) -> Option<u64>
+    ensures some { IfSome result (λ left. left
+        + size (fill (env style.now) (view_names names.now)) ≡ room) }
+    ensures none { IfNone result (room < size (fill (env style.now) (view_names names.now))) }
+{
+    let mut left = room.checked_sub(1)?;
+    for child in &names.children {
+        left = room_after_child(style, child, left)?;
+    }
+    Some(left)
+}
+
+/// The room that is left after a child of a names node. A substitute counts one more than the
+/// elements in it.
+#[cycle(size)]
+fn room_after_child(style: &Style, child: &NamesChild, room: u64) -> Option<u64>
+    ensures some { IfSome result (λ left. left + child_size (env style.now) (view_child child.now)
+        ≡ room) }
+    ensures none { IfNone result (room < child_size (env style.now) (view_child child.now)) }
+{
+    match child {
+        NamesChild::Name(_) | NamesChild::EtAl(_) | NamesChild::Label(_) => Some(room),
+        NamesChild::Substitute(substitute) => {
+            room_after_all(style, &substitute.children, room.checked_sub(1)?)
+        }
+    }
+}
+
+/// The room that is left after a choose, which counts one, and one more for each branch.
+#[cycle(size)]
+fn room_after_choose(style: &Style, choose: &Choose, room: u64) -> Option<u64>
+    ensures some { IfSome result (λ left. left
+        + size (fill (env style.now) (view_choose choose.now)) ≡ room) }
+    ensures none { IfNone result (room < size (fill (env style.now) (view_choose choose.now))) }
+{
+    let mut left = room_after_all(style, &choose.if_.children, room.checked_sub(2)?)?;
+    for branch in &choose.else_if {
+        left = room_after_all(style, &branch.children, left.checked_sub(1)?)?;
+    }
+    match &choose.otherwise {
+        Some(otherwise) => room_after_all(style, otherwise, left.checked_sub(1)?),
+        None => Some(left),
+    }
+}
+
+impl Style {
+    /// The size of a layout with each macro expanded in the place of its name (CSL 1.0.2, Macro),
+    /// or `None` where the size is above `most`.
+    ///
+    /// The layout counts one, and so does each node of a list. A call of a macro, a group, a
+    /// names node and a choose count one more, and so do each branch and each substitute.
+    ///
+    /// Ask this before you render a style from a stranger: rendering costs time and stack by this
+    /// size, and forty macros that each call the next twice have a size above 2^40. The call takes
+    /// no memory, and a number of steps that grows with the smaller of the size and `most`.
+    pub fn expanded_size(&self, layout: &Layout, most: u64) -> Option<u64>
+        ensures some { IfSome result (λ size. (size
+            ≡ layout_size (fill_layout (env self.now) (view_layout layout.now))) × (size ≤ most)) }
+        ensures none { IfNone result (most
+            < layout_size (fill_layout (env self.now) (view_layout layout.now))) }
+    {
+        let left = room_after_all(self, &layout.elements, most.checked_sub(1)?)?;
+        Some(most - left)
+    }
+}
