@@ -25,7 +25,7 @@ use std::rt::Env;
 const SMALL: usize = 10;
 
 /// As many parents one above the other as any chain may be expected to have.
-const MANY_PARENTS: usize = 2000;
+const MANY_PARENTS: usize = 500;
 
 /// The works, by name, and the size in which each is done without words.
 static WORKS: [(&'static str, usize); 24] = [
