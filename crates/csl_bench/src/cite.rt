@@ -17,7 +17,7 @@ fn article_by(alloc: Global, size: usize) -> Result<Entry, WorkError> {
 }
 
 /// Cites it, and counts the bytes of the plain text.
-fn article_size(alloc: Global, style: &Style, size: usize) -> Result<usize, WorkError> {
+pub fn article_size(alloc: Global, style: &Style, size: usize) -> Result<usize, WorkError> {
     let article = article_by(alloc, size)?;
     let bytes = text_size(alloc, style, &article);
     drop(article);

@@ -5,11 +5,15 @@
 //! the chain of parents, which is deep.
 #![tactic(auto)]
 
+mod author_date;
+mod bibliography;
 mod cite;
 mod entry;
 mod error;
 mod html;
 mod literature;
+mod nested;
+mod nodes;
 mod pair;
 mod render;
 mod style;
@@ -28,7 +32,7 @@ const SMALL: usize = 10;
 const MANY_PARENTS: usize = 500;
 
 /// The works, by name, and the size in which each is done without words.
-static WORKS: [(&'static str, usize); 24] = [
+static WORKS: [(&'static str, usize); 29] = [
     ("numeric", SMALL),
     ("pages", SMALL),
     ("initials", SMALL),
@@ -53,6 +57,11 @@ static WORKS: [(&'static str, usize); 24] = [
     ("pair", SMALL),
     ("cite", SMALL),
     ("reference", SMALL),
+    ("terms", SMALL),
+    ("groups", SMALL),
+    ("macros", SMALL),
+    ("substitutes", SMALL),
+    ("bibliography", SMALL),
 ];
 
 /// Does a work, and answers its checksum.
@@ -82,6 +91,11 @@ fn checksum(alloc: Global, work: &str, size: usize) -> Result<usize, WorkError> 
         "pair" => pair::pair(alloc, size),
         "cite" => cite::cite(alloc, size),
         "reference" => cite::reference(alloc, size),
+        "terms" => author_date::terms(alloc, size),
+        "groups" => nested::groups(alloc, size),
+        "macros" => nested::macros(alloc, size),
+        "substitutes" => nested::substitutes(alloc, size),
+        "bibliography" => bibliography::bibliography(alloc, size),
         _ => Err(WorkError::Unexpected("no such work")),
     }
 }

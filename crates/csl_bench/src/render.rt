@@ -3,13 +3,14 @@
 use crate::entry::article;
 use crate::error::WorkError;
 use crate::literature::page_ranges;
-use crate::style::{alone, layout, macro_text, put, variable_text, with_layout};
+use crate::nodes::{bare_group, macro_text, title, variable_text};
+use crate::style::{alone, layout, put, with_layout};
 use csl_context::{Context, Rendered};
 use csl_entry::{CiteProperties, DisambiguateState, EntryLike, InstanceContext};
 use csl_render::RenderCsl;
 use csl_style::{
-    Affixes, CslMacro, Formatting, Group, LayoutRenderingElement, PageRangeFormat, PageVariable,
-    Scope, StandardVariable, Style, StyleSettings, Variable,
+    CslMacro, LayoutRenderingElement, PageRangeFormat, PageVariable, Scope, Style, StyleSettings,
+    Variable,
 };
 use csl_tree::BufWriteFormat;
 use lit_model::{Entry, MaybeTyped, Memory};
@@ -18,32 +19,16 @@ use std::alloc::Global;
 /// The name of the one macro.
 const MACRO: &str = "title";
 
-/// A text of the title.
-fn title() -> LayoutRenderingElement {
-    variable_text(Variable::Standard(StandardVariable::Title))
-}
-
 /// A text of the macro.
 fn call(alloc: Global) -> Result<LayoutRenderingElement, Memory> {
     Ok(macro_text(String::from_str(alloc, MACRO)?))
-}
-
-/// A group of a title.
-fn group(alloc: Global) -> Result<LayoutRenderingElement, Memory> {
-    Ok(LayoutRenderingElement::Group(Group {
-        children: alone(alloc, title())?,
-        delimiter: None,
-        formatting: Formatting::default(),
-        affixes: Affixes::default(),
-        display: None,
-    }))
 }
 
 /// So many groups, with a text of the macro behind each.
 fn nodes(alloc: Global, size: usize) -> Result<Vec<LayoutRenderingElement>, Memory> {
     let mut nodes = Vec::new(alloc);
     for _ in 0..size {
-        put(&mut nodes, group(alloc)?)?;
+        put(&mut nodes, bare_group(alone(alloc, title())?))?;
         put(&mut nodes, call(alloc)?)?;
     }
     Ok(nodes)

@@ -1,41 +1,16 @@
 //! Works over the macros of a style.
 
 use crate::error::WorkError;
-use csl_style::formatting::Formatting;
+use crate::nodes::{macro_text, variable_text};
 use csl_style::{
-    Affixes, CslMacro, Layout, LayoutRenderingElement, Style, StyleSettings, Text, TextTarget,
-    Variable,
+    CslMacro, Formatting, Layout, LayoutRenderingElement, Style, StyleSettings, Variable,
 };
-use lit_model::{LongShortForm, Memory};
+use lit_model::Memory;
 use std::alloc::Global;
 
-fn name(alloc: Global, number: usize) -> Result<String, Memory> {
+/// The name of the macro of a number.
+pub fn name(alloc: Global, number: usize) -> Result<String, Memory> {
     Ok(format!(in alloc; "macro {number}")?)
-}
-
-/// A text of a variable in its long form, with nothing around it.
-pub fn variable_text(var: Variable) -> LayoutRenderingElement {
-    let form = LongShortForm::Long;
-    LayoutRenderingElement::Text(Text {
-        target: TextTarget::Variable { var, form },
-        formatting: Formatting::default(),
-        affixes: Affixes::default(),
-        display: None,
-        quotes: false,
-        strip_periods: false,
-    })
-}
-
-/// A text of the macro of this name, with nothing around it.
-pub fn macro_text(name: String) -> LayoutRenderingElement {
-    LayoutRenderingElement::Text(Text {
-        target: TextTarget::Macro { name },
-        formatting: Formatting::default(),
-        affixes: Affixes::default(),
-        display: None,
-        quotes: false,
-        strip_periods: false,
-    })
 }
 
 /// The macro of a number, which calls those from a first number up to an end.
@@ -97,6 +72,45 @@ fn macros(alloc: Global, size: usize, reach: usize) -> Result<Vec<CslMacro>, Mem
     for number in 0..size {
         let end = size.min(number.saturating_add(reach).saturating_add(1));
         put(&mut macros, calls(alloc, number, number + 1, end)?)?;
+    }
+    Ok(macros)
+}
+
+/// The macro of a number below `size`, which holds a text of the next macro as many times as
+/// `times`; the last one holds a text of a variable so.
+fn link(
+    alloc: Global,
+    number: usize,
+    size: usize,
+    times: usize,
+    end: Variable,
+) -> Result<CslMacro, Memory> {
+    let next = number.saturating_add(1);
+    let mut children = Vec::new(alloc);
+    for _ in 0..times {
+        if next < size {
+            put(&mut children, macro_text(name(alloc, next)?))?;
+        } else {
+            put(&mut children, variable_text(end))?;
+        }
+    }
+    Ok(CslMacro {
+        name: name(alloc, number)?,
+        children,
+    })
+}
+
+/// As many macros as `size`, each of which holds a text of the next as many times as `times`; the
+/// last one holds a text of a variable so.
+pub fn linked(
+    alloc: Global,
+    size: usize,
+    times: usize,
+    end: Variable,
+) -> Result<Vec<CslMacro>, Memory> {
+    let mut macros = Vec::new(alloc);
+    for number in 0..size {
+        put(&mut macros, link(alloc, number, size, times, end)?)?;
     }
     Ok(macros)
 }

@@ -1,0 +1,125 @@
+//! Works over author-date styles that the program makes itself, with their locale.
+
+use crate::cite::article_size;
+use crate::error::WorkError;
+use crate::nodes::{group, name, names, year};
+use crate::style::{alone, layout, put};
+use csl_built_in::BuiltInStyle;
+use csl_style::{
+    Affixes, CslMacro, DateVariable, LayoutRenderingElement, Locale, NameForm, NameVariable,
+    OtherTerm, Style, StyleSettings, Term, TermEntry, TermForm,
+};
+use lit_model::Memory;
+use std::alloc::Global;
+
+/// A term that no layout here writes.
+fn unused_term(alloc: Global) -> Result<TermEntry, Memory> {
+    Ok(TermEntry {
+        term: Term::Other(OtherTerm::Accessed),
+        form: TermForm::Long,
+        single: String::from_str(alloc, "accessed")?,
+        multiple: None,
+        gender: None,
+    })
+}
+
+/// The text for several of a term, copied.
+fn copied_multiple(entry: &TermEntry) -> Result<Option<String>, Memory> {
+    match &entry.multiple {
+        Some(several) => Ok(Some(several.clone()?)),
+        None => Ok(None),
+    }
+}
+
+/// A term, copied.
+fn copied_term(entry: &TermEntry) -> Result<TermEntry, Memory> {
+    let multiple = copied_multiple(entry)?;
+    Ok(TermEntry {
+        term: entry.term,
+        form: entry.form,
+        single: entry.single.clone()?,
+        multiple,
+        gender: entry.gender,
+    })
+}
+
+/// The terms of the locales, behind as many others as `size`.
+fn terms_behind(alloc: Global, size: usize, locales: &[Locale]) -> Result<Vec<TermEntry>, Memory> {
+    let mut terms = Vec::new(alloc);
+    for _ in 0..size {
+        put(&mut terms, unused_term(alloc)?)?;
+    }
+    for locale in locales {
+        for entry in &locale.terms {
+            put(&mut terms, copied_term(entry)?)?;
+        }
+    }
+    Ok(terms)
+}
+
+/// One locale without ordinals, with the terms of the locales behind as many others as `size`.
+fn locale_behind(alloc: Global, size: usize, locales: &[Locale]) -> Result<Vec<Locale>, Memory> {
+    let terms = terms_behind(alloc, size, locales)?;
+    let locale = Locale {
+        terms,
+        ordinals: Vec::new(alloc),
+        dates: Vec::new(alloc),
+        punctuation_in_quote: true,
+        limit_day_ordinals_to_day_1: false,
+    };
+    alone(alloc, locale)
+}
+
+/// A style of these macros and of a layout of one node, with the terms of another style behind as
+/// many others as `size`.
+pub fn with_terms(
+    alloc: Global,
+    macros: Vec<CslMacro>,
+    node: LayoutRenderingElement,
+    other: &Style,
+    size: usize,
+) -> Result<Style, WorkError> {
+    let citation = layout(alone(alloc, node)?);
+    let locales = locale_behind(alloc, size, other.locales())?;
+    let settings = StyleSettings::default();
+    Ok(Style::new(alloc, settings, macros, citation, None, locales)?)
+}
+
+/// Parentheses.
+fn parentheses(alloc: Global) -> Result<Affixes, Memory> {
+    let prefix = String::from_str(alloc, "(")?;
+    let suffix = String::from_str(alloc, ")")?;
+    Ok(Affixes {
+        prefix: Some(prefix),
+        suffix: Some(suffix),
+    })
+}
+
+/// The authors' family names and the year, as `author-date` has them.
+fn author_date(alloc: Global) -> Result<LayoutRenderingElement, Memory> {
+    let written = alone(alloc, name(alloc, Some(NameForm::Short), None))?;
+    let mut children = alone(alloc, names(alloc, NameVariable::Author, written)?)?;
+    put(&mut children, year(alloc, DateVariable::Issued)?)?;
+    let affixes = parentheses(alloc)?;
+    let comma = String::from_str(alloc, ", ")?;
+    Ok(group(children, Some(comma), affixes))
+}
+
+/// Cites an article of one author by the family name and the year, with the terms of a style behind
+/// as many others as `size`, and counts the bytes of the plain text.
+fn cited_size(alloc: Global, english: &Style, size: usize) -> Result<usize, WorkError> {
+    let macros = Vec::new(alloc);
+    let style = with_terms(alloc, macros, author_date(alloc)?, english, size)?;
+    let bytes = article_size(alloc, &style, 1);
+    drop(style);
+    bytes
+}
+
+/// Cites an article of one author by the family name and the year, in English with as many more
+/// terms as `size`, and counts the bytes of the plain text.
+pub fn terms(alloc: Global, size: usize) -> Result<usize, WorkError> {
+    let english = BuiltInStyle::AuthorDate.style(alloc)?;
+    let bytes = cited_size(alloc, &english, size);
+    drop(english);
+    bytes
+}
