@@ -12,6 +12,9 @@ use csl_style::{
 use lit_model::Memory;
 use std::alloc::Global;
 
+/// The largest size of a layout that is asked for: above that of each published style.
+const MOST: u64 = 16_384;
+
 /// Renders the citation layout of a style for an article of one author, and counts the bytes of
 /// the plain text.
 fn size_for_one(alloc: Global, style: &Style) -> Result<usize, WorkError> {
@@ -72,4 +75,22 @@ fn nested_names(alloc: Global, size: usize) -> Result<Vec<LayoutRenderingElement
 /// and counts the bytes of the plain text.
 pub fn substitutes(alloc: Global, size: usize) -> Result<usize, WorkError> {
     nested_size(alloc, Vec::new(alloc), nested_names(alloc, size)?)
+}
+
+/// How large the citation layout of a style is with each macro in the place of its name, or 0
+/// where it is larger than [`MOST`].
+fn expanded_size(style: &Style) -> u64 {
+    style.expanded_size(style.citation(), MOST).unwrap_or(0)
+}
+
+/// Asks how large a layout of as many macros as `size` is, each of which holds the next twice, the
+/// last twice a genre, which no entry here has. Nothing is rendered.
+pub fn doubling_size(alloc: Global, size: usize) -> Result<usize, WorkError> {
+    let genre = Variable::Standard(StandardVariable::Genre);
+    let macros = linked(alloc, size, 2, genre)?;
+    let first = alone(alloc, macro_text(name(alloc, 0)?))?;
+    let style = with_layout(alloc, StyleSettings::default(), macros, layout(first))?;
+    let expanded = expanded_size(&style);
+    drop(style);
+    Ok(expanded as usize)
 }
