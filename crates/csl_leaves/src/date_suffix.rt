@@ -36,18 +36,20 @@ pub(crate) fn implicit_suffix<'s, T: EntryLike>(
 {
     nothing(ctx)?;
     let alloc = ctx.alloc();
+    let found = match peek_standard(ctx, LongShortForm::Long, StandardVariable::YearSuffix)? {
+        Some(found) => found,
+        None => return Ok(String::new(alloc)),
+    };
+    // The layout is walked only where there is a suffix.
     if !ctx.style().renders_year_suffix_implicitly(ctx.scope()) {
         return Ok(String::new(alloc));
     }
-    match peek_standard(ctx, LongShortForm::Long, StandardVariable::YearSuffix)? {
-        Some(found) => match found.as_ref().to_text(alloc) {
-            Ok(suffix) => Ok(suffix),
-            Err(_) => {
-                ctx.fail();
-                Err(RenderError::Memory)
-            }
-        },
-        None => Ok(String::new(alloc)),
+    match found.as_ref().to_text(alloc) {
+        Ok(suffix) => Ok(suffix),
+        Err(_) => {
+            ctx.fail();
+            Err(RenderError::Memory)
+        }
     }
 }
 
