@@ -1,9 +1,9 @@
 //! The texts of the parts of a date (CSL 1.0.2, Date; Date-part; Localized Date Formats; Ordinals;
 //! AD and BC; Seasons), before any affix.
 
-ghost use Rattle.std.specs.Prelude.{◌≡◌, ◌+◌, ◌≤◌, IfOk, string_bytes, option_map, decimal};
+ghost use Rattle.std.specs.Prelude.{◌≡◌, ◌+◌, ◌++◌, ◌≤◌, IfOk, string_bytes, option_map, decimal};
 ghost use Rattle.lit_model.specs.Date.{date_parts};
-ghost use Rattle.csl_leaves.specs.DateText.{names_part, is_written, word, two_digits, is_short, common_year, year_in_eras, year_text, month_named, month_text, season_text, month_or_season, month_gender, ordinal_suffix, ordinal_day, day_text, day_if, part_text};
+ghost use Rattle.csl_leaves.specs.DateText.{names_part, is_written, word, two_digits, is_short, ad_text, bc_text, common_year, year_text, month_named, month_text, season_text, month_or_season, month_gender, ordinal_suffix, ordinal_day, day_text, day_if, part_text};
 
 use csl_context::Context;
 use csl_style::{DateAnyForm, DatePartName, DateParts, OtherTerm, Term, TermForm};
@@ -70,35 +70,29 @@ fn is_short(form: Option<DateAnyForm>) -> bool
     }
 }
 
-/// A year from year 1 on.
-fn common_year(alloc: Global, short: bool, ad: &str, year: u32) -> Result<String, Memory>
-    ensures { IfOk result (λ s. string_bytes s ≡ common_year short ad.now year) }
+/// A year from year 1 on, with its era where it needs one.
+fn common_year<T>(ctx: &Context<'_, T>, short: bool, year: u32) -> Result<String, Memory>
+    ensures { IfOk result (λ s. string_bytes s ≡ common_year short (ad_text ctx.now.style) year) }
 {
     if year < 1000 {
-        let text = format!(in alloc; "{year}{ad}")?;
+        let ad = word(ctx, OtherTerm::Ad, TermForm::Long).unwrap_or(" AD");
+        let text = format!(in ctx.alloc(); "{year}{ad}")?;
         Ok(text)
     } else if short {
-        two_digits(alloc, year % 100)
+        two_digits(ctx.alloc(), year % 100)
     } else {
-        let text = format!(in alloc; "{year}")?;
+        let text = format!(in ctx.alloc(); "{year}")?;
         Ok(text)
     }
 }
 
-/// A year, with its era where it needs one.
-fn year_in_eras(alloc: Global, short: bool, ad: &str, bc: &str, year: i32) -> Result<String, Memory>
-    ensures { IfOk result (λ s. string_bytes s ≡ year_in_eras short ad.now bc.now year) }
+/// The year so many before year 1, with its era.
+fn year_before<T>(ctx: &Context<'_, T>, count: u32) -> Result<String, Memory>
+    ensures { IfOk result (λ s. string_bytes s ≡ decimal count ++ bc_text ctx.now.style) }
 {
-    let distance = year.unsigned_abs();
-    if year > 0 {
-        let text = common_year(alloc, short, ad, distance)?;
-        Ok(text)
-    } else {
-        // Year 0 is the first before year 1.
-        let count = distance + 1;
-        let text = format!(in alloc; "{count}{bc}")?;
-        Ok(text)
-    }
+    let bc = word(ctx, OtherTerm::Bc, TermForm::Long).unwrap_or(" BC");
+    let text = format!(in ctx.alloc(); "{count}{bc}")?;
+    Ok(text)
 }
 
 /// A year in a form.
@@ -109,9 +103,15 @@ fn year_text<T>(
 ) -> Result<String, Memory>
     ensures { IfOk result (λ s. string_bytes s ≡ year_text ctx.now.style form year) }
 {
-    let ad = word(ctx, OtherTerm::Ad, TermForm::Long).unwrap_or(" AD");
-    let bc = word(ctx, OtherTerm::Bc, TermForm::Long).unwrap_or(" BC");
-    year_in_eras(ctx.alloc(), is_short(form), ad, bc, year)
+    let distance = year.unsigned_abs();
+    if year > 0 {
+        let text = common_year(ctx, is_short(form), distance)?;
+        Ok(text)
+    } else {
+        // Year 0 is the first before year 1.
+        let text = year_before(ctx, distance + 1)?;
+        Ok(text)
+    }
 }
 
 /// A month by its term, else by its number.
