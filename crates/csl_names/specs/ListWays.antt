@@ -15,6 +15,8 @@ use Rattle.csl_style.specs.Names.{NameNode, EtAlNode}
 use Rattle.csl_style.specs.Style.{StyleParts}
 use Rattle.csl_context.specs.Now.{Now}
 use Rattle.csl_context.specs.World.{term_in}
+use Rattle.csl_names.specs.declared.list.ListStyle.{ListStyle}
+use Rattle.csl_names.specs.OneName.{name_how}
 use Rattle.csl_names.specs.NameList.{ListHow, Forms, with_names}
 use Rattle.csl_names.specs.Ways.{name_way}
 
@@ -24,6 +26,22 @@ abbrev pub and_word : StyleParts → Option NameAnd → Option (List ℕ)
 and_word style None = None
 and_word style (Some Symbol) = Some (codes "&")
 and_word style (Some Text) = Some (unwrap_or (term_in style (Other And) Long false) [])
+
+-- as code holds it: the style, which is asked for a term where it is written, and what is borrowed
+-- from it
+abbrev pub list_how : ListStyle → ListHow
+list_how s = record {
+  variable = s.variable;
+  name = name_how s.name;
+  delimiter = s.delimiter.now;
+  and_word = and_word s.style.now s.and;
+  before_last = s.before_last;
+  before_et_al = s.before_et_al;
+  use_last = s.use_last;
+  order = s.order;
+  et_al = term_in s.style.now (Other s.et_al) Long false;
+  et_al_formatting = s.et_al_formatting;
+}
 
 -- how a list of names is written, where a sort key is made or not
 abbrev pub list_way : StyleParts → Bool → NameNode → UsedOptions → EtAlNode → NameVariable → ListHow

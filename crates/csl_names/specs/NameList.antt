@@ -3,7 +3,7 @@
 -- or none for each place (`Forms`). It is a list of pieces too (`name_list`): the names, and what
 -- replaces those that are left out. A gap of the list sees all of the innermost open part, also
 -- what is before the list.
-use Rattle.std.specs.Prelude.{ℕ, ◌+◌, ◌-◌, Bool, true, false, ◌&&◌, ◌==◌, nat_lt, nat_le, min, List, [], ◌∷◌, ◌++◌, length, Option, Some, None, option_map, is_none, slice_get, codes, if◌then◌else◌}
+use Rattle.std.specs.Prelude.{ℕ, ◌+◌, ◌-◌, Bool, true, false, ◌&&◌, ◌==◌, nat_lt, nat_le, min, List, [], ◌∷◌, ◌++◌, length, Option, Some, None, is_none, slice_get, codes, if◌then◌else◌}
 use Rattle.std.specs.List.{position}
 use Rattle.lit_model.specs.Person.{Named}
 use Rattle.csl_style.specs.declared.formatting.Formatting as partial
@@ -18,9 +18,8 @@ use Rattle.csl_tree.specs.Content.{boxed}
 use Rattle.csl_entry.specs.declared.name_form.DisambiguatedNameForm.{DisambiguatedNameForm}
 use Rattle.csl_context.specs.State.{Inherited}
 use Rattle.csl_context.specs.Now.{Now}
-use Rattle.csl_names.specs.declared.list.ListStyle.{ListStyle}
 use Rattle.csl_names.specs.Piece.{Piece, word, gap, whole, with_pieces}
-use Rattle.csl_names.specs.OneName.{NameHow, name_how, name_content}
+use Rattle.csl_names.specs.OneName.{NameHow, name_content}
 
 -- The variable; how each name is written; what stands between two names; the word before the last
 -- one, where there is to be one; when a delimiter stands before that word and before `et al.`;
@@ -37,20 +36,6 @@ pub record ListHow : Type 0 where
   pub order : Option NameAsSortOrder
   pub et_al : Option (List ℕ)
   pub et_al_formatting : partial.Formatting
-
-abbrev pub list_how : ListStyle → ListHow
-list_how s = record {
-  variable = s.variable;
-  name = name_how s.name;
-  delimiter = s.delimiter.now;
-  and_word = option_map (λ t. t.now) s.and_word;
-  before_last = s.before_last;
-  before_et_al = s.before_et_al;
-  use_last = s.use_last;
-  order = s.order;
-  et_al = option_map (λ t. t.now) s.et_al;
-  et_al_formatting = s.et_al_formatting;
-}
 
 -- ---- who is shown
 -- The names up to the first place without a form (`names_from`). There may be fewer forms than

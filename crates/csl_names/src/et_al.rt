@@ -6,14 +6,15 @@ ghost use Rattle.std.specs.Cow.{cow_value};
 ghost use Rattle.lit_model.specs.Person.{named};
 ghost use Rattle.csl_context.specs.Now.{FailsAs, Leaves};
 ghost use Rattle.csl_names.specs.Piece.{with_pieces};
-ghost use Rattle.csl_names.specs.NameList.{list_how, is_all, others, last_form, kept_last, cut_end};
+ghost use Rattle.csl_names.specs.NameList.{is_all, others, last_form, kept_last, cut_end};
+ghost use Rattle.csl_names.specs.ListWays.{list_how};
 
 use crate::join::precedes;
 use crate::list::{ListStyle, form_at};
 use crate::piece::{plain, put, put_gap};
 use csl_context::{Context, RenderError};
 use csl_entry::DisambiguatedNameForm;
-use csl_style::NameAsSortOrder;
+use csl_style::{NameAsSortOrder, Term, TermForm};
 use lit_model::Person;
 use std::borrow::Cow;
 
@@ -42,7 +43,10 @@ impl ListStyle<'_> {
         ensures err { IfErr result (λ e. FailsAs e ctx.old ctx.new) }
     {
         ctx.nothing()?;
-        match self.et_al {
+        match self
+            .style
+            .term(Term::Other(self.et_al), TermForm::Long, false)
+        {
             None => Ok(()),
             Some(term) => {
                 if precedes(self.before_et_al, self.order, names, shown) {

@@ -1,15 +1,16 @@
 //! What stands before a name of a list (CSL 1.0.2, Name: and, delimiter,
 //! delimiter-precedes-last).
 
-ghost use Rattle.std.specs.Prelude.{◌≡◌, ◌<◌, OnOk, IfErr};
+ghost use Rattle.std.specs.Prelude.{◌≡◌, ◌<◌, option_map, OnOk, IfErr};
 ghost use Rattle.csl_context.specs.Now.{FailsAs, Leaves};
 ghost use Rattle.csl_names.specs.Piece.{with_pieces};
-ghost use Rattle.csl_names.specs.NameList.{list_how, precedes, last_join, join};
+ghost use Rattle.csl_names.specs.NameList.{precedes, last_join, join};
+ghost use Rattle.csl_names.specs.ListWays.{and_word, list_how};
 
 use crate::list::{ListStyle, is_reversed};
 use crate::piece::{plain, put, put_gap};
 use csl_context::{Context, RenderError};
-use csl_style::{DelimiterBehavior, NameAsSortOrder};
+use csl_style::{DelimiterBehavior, NameAnd, NameAsSortOrder, OtherTerm, Style, Term, TermForm};
 
 /// Whether a delimiter stands behind so many names, of which so many are shown.
 pub(crate) fn precedes(
@@ -28,6 +29,22 @@ pub(crate) fn precedes(
     }
 }
 
+/// The word before the last name, where there is to be one.
+fn and_word(style: &Style, and: Option<NameAnd>) -> Option<&str>
+    ensures { option_map (λ t. t.now) result ≡ and_word style.now and }
+{
+    match and {
+        None => None,
+        Some(NameAnd::Symbol) => Some("&"),
+        Some(NameAnd::Text) => {
+            match style.term(Term::Other(OtherTerm::And), TermForm::Long, false) {
+                Some(word) => Some(word),
+                None => Some(""),
+            }
+        }
+    }
+}
+
 impl ListStyle<'_> {
     /// Writes what stands before the last name at a place: the word behind a delimiter or a
     /// space, or the delimiter alone.
@@ -36,7 +53,7 @@ impl ListStyle<'_> {
             (list_how self.entry).and_word)) ctx.old ctx.new) }
         ensures err { IfErr result (λ e. FailsAs e ctx.old ctx.new) }
     {
-        match self.and_word {
+        match and_word(self.style, self.and) {
             None => {
                 put(ctx, self.delimiter, plain())?;
                 Ok(())

@@ -6,25 +6,30 @@ ghost use Rattle.std.specs.Cow.{cow_value};
 ghost use Rattle.lit_model.specs.Person.{named};
 ghost use Rattle.csl_context.specs.Now.{FailsAs, Leaves};
 ghost use Rattle.csl_names.specs.Piece.{with_pieces};
-ghost use Rattle.csl_names.specs.NameList.{list_how, form_at, first_absent, is_reversed, names_from, with_whole, with_names};
+ghost use Rattle.csl_names.specs.NameList.{form_at, first_absent, is_reversed, names_from, with_whole, with_names};
+ghost use Rattle.csl_names.specs.ListWays.{list_how};
 
 use crate::name::NameStyle;
 use csl_context::{Context, RenderError};
 use csl_entry::DisambiguatedNameForm;
-use csl_style::{DelimiterBehavior, Formatting, NameAsSortOrder, NameVariable};
+use csl_style::{
+    DelimiterBehavior, Formatting, NameAnd, NameAsSortOrder, NameVariable, OtherTerm, Style,
+};
 use csl_tree::ElemMeta;
 use lit_model::Person;
 use std::borrow::Cow;
 
-/// How a list of names is written, with the style, its terms and the options weighed.
+/// How a list of names is written, with the options weighed. The style is asked for a term only
+/// where that is written.
 #[derive(Clone, Copy)]
 pub(crate) struct ListStyle<'n> {
+    pub(crate) style: &'n Style,
     pub(crate) variable: NameVariable,
     pub(crate) name: NameStyle<'n>,
     /// What stands between two names.
     pub(crate) delimiter: &'n str,
-    /// The word before the last name, where there is to be one.
-    pub(crate) and_word: Option<&'n str>,
+    /// Which word stands before the last name, where there is to be one.
+    pub(crate) and: Option<NameAnd>,
     /// When a delimiter stands before that word.
     pub(crate) before_last: DelimiterBehavior,
     /// When a delimiter stands before `et al.`.
@@ -33,8 +38,8 @@ pub(crate) struct ListStyle<'n> {
     pub(crate) use_last: bool,
     /// Which names begin with the family name.
     pub(crate) order: Option<NameAsSortOrder>,
-    /// The text of `et al.`, where the style has one.
-    pub(crate) et_al: Option<&'n str>,
+    /// The term that stands for the names that are left out, as `et al.`.
+    pub(crate) et_al: OtherTerm,
     pub(crate) et_al_formatting: Formatting,
 }
 

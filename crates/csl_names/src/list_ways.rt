@@ -1,37 +1,20 @@
 //! A list of names by a style (CSL 1.0.2, Name, Et-al).
 
-ghost use Rattle.std.specs.Prelude.{◌≡◌, map, option_map, OnOk, IfErr};
+ghost use Rattle.std.specs.Prelude.{◌≡◌, map, OnOk, IfErr};
 ghost use Rattle.std.specs.Cow.{cow_value};
 ghost use Rattle.lit_model.specs.Person.{named};
 ghost use Rattle.csl_style.specs.Names.{view_name, view_et_al};
 ghost use Rattle.csl_style.specs.NameOptions.{used_options};
 ghost use Rattle.csl_context.specs.Now.{FailsAs, Leaves};
-ghost use Rattle.csl_names.specs.NameList.{list_how};
-ghost use Rattle.csl_names.specs.ListWays.{and_word, list_in, with_name_list};
+ghost use Rattle.csl_names.specs.ListWays.{list_how, list_in, with_name_list};
 
 use crate::list::ListStyle;
 use crate::ways::name_way;
 use csl_context::{Context, RenderError};
 use csl_entry::DisambiguatedNameForm;
-use csl_style::{EtAl, Name, NameAnd, NameOptions, NameVariable, OtherTerm, Term, TermForm};
+use csl_style::{EtAl, Name, NameOptions, NameVariable};
 use lit_model::Person;
 use std::borrow::Cow;
-
-/// The word before the last name, where there is to be one.
-fn and_word<'s, T>(ctx: &Context<'s, T>, and: Option<NameAnd>) -> Option<&'s str>
-    ensures { option_map (λ t. t.now) result ≡ and_word ctx.now.style and }
-{
-    match and {
-        None => None,
-        Some(NameAnd::Symbol) => Some("&"),
-        Some(NameAnd::Text) => {
-            match ctx.term(Term::Other(OtherTerm::And), TermForm::Long, false) {
-                Some(word) => Some(word),
-                None => Some(""),
-            }
-        }
-    }
-}
 
 /// How a list of names is written here.
 fn list_way<'n, 's: 'n, T>(
@@ -45,15 +28,16 @@ fn list_way<'n, 's: 'n, T>(
         (view_et_al et_al.now) variable }
 {
     ListStyle {
+        style: ctx.style(),
         variable,
         name: name_way(ctx, name, options),
         delimiter: options.delimiter,
-        and_word: and_word(ctx, options.and),
+        and: options.and,
         before_last: options.delimiter_precedes_last,
         before_et_al: options.delimiter_precedes_et_al,
         use_last: options.et_al_use_last,
         order: options.name_as_sort_order,
-        et_al: ctx.term(Term::Other(et_al.term), TermForm::Long, false),
+        et_al: et_al.term,
         et_al_formatting: et_al.formatting,
     }
 }

@@ -2,7 +2,8 @@ use Rattle.std.proofs.Common.{◌≡◌, drop, map, false}
 use Rattle.std.specs.Cow.{cow_value}
 use Rattle.lit_model.specs.Person.{named}
 use Rattle.csl_names.specs.Piece.{with_pieces}
-use Rattle.csl_names.specs.NameList.{list_how, names_from}
+use Rattle.csl_names.specs.NameList.{names_from}
+use Rattle.csl_names.specs.ListWays.{list_how}
 use Rattle.csl_names.proofs.list.ListStyle.put_names.Given as goal
 
 -- what the names from here on append to what is written is what all append
