@@ -41,8 +41,11 @@ impl RenderCsl for Names {
         if refuses(self, ctx, judged.is_empty)? {
             return nothing_said(ctx);
         }
+        if !judged.is_void {
+            return Ok(names_said(false, (false, UsageInfo::default())));
+        }
         let said = substitute_info(self, ctx)?;
-        Ok(names_said(judged.is_void, said))
+        Ok(names_said(true, said))
     }
 
     #[cycle(shows)]

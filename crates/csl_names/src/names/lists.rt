@@ -45,7 +45,7 @@ fn merges<T>(ctx: &Context<'_, T>, variables: &[NameVariable]) -> bool
     ensures { result ≡ merges ctx.now.style variables.now }
 {
     let both = Term::Name(NameVariable::EditorTranslator);
-    ctx.term(both, TermForm::Long, false).is_some() && is_pair(variables)
+    is_pair(variables) && ctx.term(both, TermForm::Long, false).is_some()
 }
 
 /// The lists of editors and translators: an empty one is dropped, and two of the same persons are
