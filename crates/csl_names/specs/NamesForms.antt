@@ -9,8 +9,8 @@
 -- - A node is *void* (`is_void`) if it has no persons. It is also void if each of its name
 --   children, or the default one where it has none, leaves out all names of all lists: by its
 --   options over those of the node alone, et-al-min and et-al-use-first are set, the latter is 0,
---   and each list has at least et-al-min persons. In a dry run these are the lists of silent looks,
---   editors and translators merged.
+--   and each list has at least et-al-min persons. In a dry run these are the lists as they are
+--   looked up.
 use Rattle.std.specs.Prelude.{ℕ, ◌+◌, Bool, false, not, ◌&&◌, ◌||◌, ◌==◌, nat_le, min, List, [], ◌∷◌, map, length, count_by, Option, Some, None, is_some, if◌then◌else◌}
 use Rattle.std.specs.List.{list_all, range_with_len}
 use Rattle.csl_style.specs.declared.names.NameForm.{NameForm}

@@ -1,10 +1,11 @@
 -- The lists of a names node (CSL 1.0.2, Names; Name Variables, `editortranslator`): persons for
--- each of its variables, in their order. If the variables are the editors and the translators
--- alone, in either order, and the style has the long term for who is both (`merges`), the lists are
--- the editors and then the translators. Of these an empty list is dropped, and two that show the
--- same persons are one list of the variable of both (`merged`).
--- A dry run looks for the lists silently (`found_lists`). For printing each look counts for the
--- next ones (`printed_lists`), and `lists_state` is the state after all of them.
+-- each of its variables, in their order. A dry run looks for them silently and merges none
+-- (`found_lists`).
+-- For printing each look counts for the next ones (`printed_lists`), and `lists_state` is the state
+-- after all of them. If the variables are the editors and the translators alone, in either order,
+-- and the style has the long term for who is both (`merges`), the lists that print are the editors
+-- and then the translators. Of these an empty list is dropped, and two that show the same persons
+-- are one list of the variable of both (`merged`).
 use Rattle.std.specs.Prelude.{Bool, true, false, ◌&&◌, ◌||◌, List, [], ◌∷◌, is_some, if◌then◌else◌}
 use Rattle.std.specs.List.{list_all}
 use Rattle.std.specs.Cmp.Lexicographic.{pointwise}
@@ -57,13 +58,10 @@ merged (e ∷ es) (t ∷ ts) =
 -- ---- the lists of a node
 
 module _ (w : World) where
-  -- the list of each variable, by silent looks
-  abbrev pub each_found : State → List NameVariable → Lists
-  each_found s [] = []
-  each_found s (v ∷ vs) = (name_look w s v, v) ∷ each_found s vs
-
+  -- the list of each variable in a dry run, by silent looks: none are merged
   abbrev pub found_lists : State → List NameVariable → Lists
-  found_lists s vs = if merges w.style vs then merged (name_look w s Editor) (name_look w s Translator) else each_found s vs
+  found_lists s [] = []
+  found_lists s (v ∷ vs) = (name_look w s v, v) ∷ found_lists s vs
 
   -- the list of each variable, by looks for printing, each of which may suppress its variable for
   -- the next ones

@@ -32,7 +32,7 @@ use Rattle.csl_entry.specs.declared.cite.Sorting.{Sorting}
 use Rattle.csl_entry.specs.NumberResult.{NumberOrPageView}
 use Rattle.csl_context.specs.State.{State, Inherited, looked}
 use Rattle.csl_context.specs.World.{World, name_look, date_look, term_in}
-use Rattle.csl_names.specs.NamesLists.{Lists, same_variables, merges, merged, all_empty, each_found, each_printed, all_looked, found_lists, printed_lists, lists_state, is_pair}
+use Rattle.csl_names.specs.NamesLists.{Lists, same_variables, merges, merged, all_empty, each_printed, all_looked, found_lists, printed_lists, lists_state, is_pair}
 use Rattle.csl_leaves.specs.Answered.{number_or_page_look}
 use Rattle.csl_leaves.specs.Conditions.{is_some_and, is_number, is_typed, is_typed_result, is_numeric, is_uncertain, is_disambiguated, is_of_kind, is_present, one_if, all_if, holds}
 use Rattle.csl_leaves.specs.Dates.{shows_date, variable_info, written_as, printed_date, date_or_key, found_date, variable_tree}
@@ -159,9 +159,9 @@ module _ (a b : Answers) where
 
     -- ---- lists of names
 
-    each_found_alike : (s : State) (vs : List NameVariable) → Alike (each_of the_name vs) a b → each_found v s vs ≡ each_found u s vs
-    each_found_alike s [] h = refl
-    each_found_alike s (x ∷ vs) h = ap₂ (λ (l : List Named) (ls : Lists). (l, x) ∷ ls) (name_look_alike a b w s x (on_left _ _ h)) (each_found_alike s vs (on_right _ _ h))
+    found_lists_alike : (s : State) (vs : List NameVariable) → Alike (each_of the_name vs) a b → found_lists v s vs ≡ found_lists u s vs
+    found_lists_alike s [] h = refl
+    found_lists_alike s (x ∷ vs) h = ap₂ (λ (l : List Named) (ls : Lists). (l, x) ∷ ls) (name_look_alike a b w s x (on_left _ _ h)) (found_lists_alike s vs (on_right _ _ h))
 
     each_printed_alike : (s : State) (vs : List NameVariable) → Alike (each_of the_name vs) a b → each_printed v s vs ≡ each_printed u s vs
     each_printed_alike s [] h = refl
@@ -205,9 +205,6 @@ module _ (a b : Answers) where
       merged_alike true false vs xs ys e f h = f
       merged_alike false true vs xs ys e f h = f
       merged_alike false false vs xs ys e f h = f
-
-    found_lists_alike : (s : State) (vs : List NameVariable) → Alike (each_of the_name vs) a b → found_lists v s vs ≡ found_lists u s vs
-    found_lists_alike s vs h = merged_alike s s (is_some (term_in w.style (terms.Name EditorTranslator) term_forms.Long false)) (is_pair vs) vs _ _ refl (each_found_alike s vs h) h
 
     printed_lists_alike : (s : State) (vs : List NameVariable) → Alike (each_of the_name vs) a b → printed_lists v s vs ≡ printed_lists u s vs
     printed_lists_alike s vs h = merged_alike s (looked (variable.Name Editor) s) (is_some (term_in w.style (terms.Name EditorTranslator) term_forms.Long false)) (is_pair vs) vs _ _ refl (each_printed_alike s vs h) h

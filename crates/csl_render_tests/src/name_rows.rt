@@ -12,7 +12,7 @@ const BOTH: &str = "editor Weintraub/Stanley; translator Weintraub/Stanley";
 const TWO: &str = "editor Ottenstein/Peter; translator Warren/Rosanna";
 
 /// Rows of names, with the plain text of each.
-static PLAIN: [Row; 47] = [
+static PLAIN: [Row; 49] = [
     ("+author:name", "author Ferrante/Elena", "Elena Ferrante"),
     ("+author", "author Ferrante/Elena", "Elena Ferrante"),
     ("+author:name", "book", ""),
@@ -160,6 +160,17 @@ static PLAIN: [Row; 47] = [
         "( +author:name=min-1;first-0:name title )|,,~",
         "author Ferrante/Elena; title T",
         "et al., T",
+    ),
+    // A list without persons leaves out no name, whether or not the style has a term for who is both.
+    (
+        "( +editor,translator:name=min-1;first-0 )",
+        "translator Warren/Rosanna @ merging",
+        "et al.",
+    ),
+    (
+        "( +editor,translator:name=min-1;first-0 )",
+        "translator Warren/Rosanna",
+        "et al.",
     ),
     // A cite without its authors.
     (

@@ -6,7 +6,7 @@ ghost use Rattle.lit_model.specs.Person.{Named, named};
 ghost use Rattle.csl_entry.specs.Answers.{behind};
 ghost use Rattle.csl_context.specs.World.{name_look};
 ghost use Rattle.csl_context.specs.Now.{FailsAs, Leaves, same, world};
-ghost use Rattle.csl_names.specs.NamesLists.{has_none, all_empty, is_pair, merges, merged, each_found, found_lists, each_printed, all_looked, printed_lists, lists_state};
+ghost use Rattle.csl_names.specs.NamesLists.{has_none, all_empty, is_pair, merges, merged, found_lists, each_printed, all_looked, printed_lists, lists_state};
 ghost use Rattle.csl_names.specs.PersonLists.{list_of};
 
 use csl_context::{Context, RenderError};
@@ -142,25 +142,6 @@ fn pushed<'a, 's, T>(
     }
 }
 
-/// The list of each variable, by silent looks.
-fn each_found<'s, T: EntryLike>(
-    ctx: &mut Context<'s, T>,
-    variables: &[NameVariable],
-) -> Result<Vec<PersonList<'s>>, RenderError>
-    ensures value { IfOk result (λ lists. map list_of lists.items
-        ≡ each_found (world T.answers ctx.old) ctx.old.state variables.now) }
-    ensures ok { OnOk result (Leaves same ctx.old ctx.new) }
-    ensures err { IfErr result (λ e. FailsAs e ctx.old ctx.new) }
-{
-    ctx.nothing()?;
-    let mut lists = Vec::new(ctx.alloc());
-    for variable in variables {
-        let persons = peek(ctx, *variable)?;
-        pushed(ctx, &mut lists, persons, *variable)?;
-    }
-    Ok(lists)
-}
-
 /// The list of each variable, by looks for printing.
 fn each_printed<'s, T: EntryLike>(
     ctx: &mut Context<'s, T>,
@@ -182,7 +163,8 @@ fn each_printed<'s, T: EntryLike>(
     Ok(lists)
 }
 
-/// The lists that a names node of these variables has in a dry run. The looks are silent.
+/// The lists that a names node of these variables has in a dry run, that of each variable as it is
+/// looked up: editors and translators are not merged. The looks are silent.
 ///
 /// # Errors
 /// [`RenderError::Memory`]: there was no memory left, or the entry said so. The context has failed.
@@ -197,12 +179,12 @@ pub fn found_lists<'s, T: EntryLike>(
     ensures err { IfErr result (λ e. FailsAs e ctx.old ctx.new) }
 {
     ctx.nothing()?;
-    if merges(ctx, variables) {
-        let editors = peek(ctx, NameVariable::Editor)?;
-        let translators = peek(ctx, NameVariable::Translator)?;
-        return merged_in(ctx, editors, translators);
+    let mut lists = Vec::new(ctx.alloc());
+    for variable in variables {
+        let persons = peek(ctx, *variable)?;
+        pushed(ctx, &mut lists, persons, *variable)?;
     }
-    each_found(ctx, variables)
+    Ok(lists)
 }
 
 /// The lists that a names node of these variables prints. Each look may suppress its variable.

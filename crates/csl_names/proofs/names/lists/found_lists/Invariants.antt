@@ -1,8 +1,8 @@
 use Rattle.std.proofs.Common.{◌≡◌, false, drop, map, ◌++◌}
 use Rattle.csl_context.specs.Now.{world}
-use Rattle.csl_names.specs.NamesLists.{each_found}
+use Rattle.csl_names.specs.NamesLists.{found_lists}
 use Rattle.csl_names.specs.PersonLists.{list_of}
-use Rattle.csl_names.proofs.names.lists.each_found.Given as goal
+use Rattle.csl_names.proofs.names.lists.found_lists.Given as goal
 
 -- the lists so far and those of the variables from here on are all lists
 abbrev pub invariant-loop-variable : goal.invariant-loop-variable
@@ -11,5 +11,5 @@ invariant-loop-variable g l =
     record {
       sound : l.initial.ctx.failed ≡ false;
       unchanged : l.ctx ≡ l.initial.ctx;
-      left : map list_of l.lists.items ++ each_found w l.initial.ctx.state (drop l.variable-index l.variables) ≡ each_found w l.initial.ctx.state l.variables;
+      left : map list_of l.lists.items ++ found_lists w l.initial.ctx.state (drop l.variable-index l.variables) ≡ found_lists w l.initial.ctx.state l.variables;
     }
