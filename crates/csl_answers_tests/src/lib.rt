@@ -1,9 +1,12 @@
 //! What the program answers to its words, what its built-in entries answer, and what its built-in
-//! styles name and make of them.
+//! styles name and make of them; what becomes of entries that answer oddly, of entries that have no
+//! memory, and of writers that refuse; and calls of the crates below that have no test elsewhere.
 #![tactic(auto)]
 
 #[cfg(test)]
 mod asserted;
+#[cfg(test)]
+mod blank;
 #[cfg(test)]
 mod cited;
 #[cfg(test)]
@@ -20,5 +23,9 @@ mod pairs;
 mod refused;
 #[cfg(test)]
 mod styles;
+#[cfg(test)]
+mod table;
+#[cfg(test)]
+mod without_memory;
 #[cfg(test)]
 mod words;

@@ -1,0 +1,117 @@
+//! An entry type of these tests' own: another entry, which has no memory for one of its answers.
+
+use csl_entry::EntryLike;
+use csl_style::{DateVariable, Kind, NameVariable, NumberVariable, PageVariable, StandardVariable};
+use lit_model::{
+    ChunkedString, Date, LongShortForm, MaybeTyped, Memory, Numeric, PageRanges, Person,
+};
+use std::alloc::Global;
+use std::borrow::{Cow, CowStr};
+use std::cell::Cell;
+
+/// An entry that answers what another one does, but for one call, for which it has no memory.
+#[derive(Drop)]
+pub(crate) struct WithoutMemory<'e, T> {
+    entry: &'e T,
+    /// How many calls are still answered before the one that is refused; none once it was.
+    answers_left: Cell<Option<u32>>,
+}
+
+impl<'e, T> WithoutMemory<'e, T> {
+    /// The entry that refuses the call behind so many.
+    pub(crate) fn behind(entry: &'e T, answered: u32) -> WithoutMemory<'e, T> {
+        WithoutMemory {
+            entry,
+            answers_left: Cell::new(Some(answered)),
+        }
+    }
+
+    /// Whether a call was refused.
+    pub(crate) fn has_refused(&self) -> bool {
+        self.answers_left.get().is_none()
+    }
+
+    /// Counts a call.
+    ///
+    /// # Errors
+    /// [`Memory`]: it is the one that is refused.
+    fn count(&self) -> Result<(), Memory> {
+        match self.answers_left.get() {
+            None => Ok(()),
+            Some(0) => {
+                self.answers_left.set(None);
+                Err(Memory)
+            }
+            Some(left) => {
+                self.answers_left.set(Some(left - 1));
+                Ok(())
+            }
+        }
+    }
+}
+
+impl<T: EntryLike> EntryLike for WithoutMemory<'_, T> {
+    ghost answers = { λ this. T.answers this.entry.now };
+
+    ghost key_text = { λ this. T.key_text this.entry.now };
+
+    ghost english = { λ this. T.english this.entry.now };
+
+    fn resolve_number_variable(
+        &self,
+        alloc: Global,
+        variable: NumberVariable,
+    ) -> Result<Option<MaybeTyped<Cow<'_, Numeric>>>, Memory> {
+        self.count()?;
+        self.entry.resolve_number_variable(alloc, variable)
+    }
+
+    fn resolve_page_variable(
+        &self,
+        alloc: Global,
+        variable: PageVariable,
+    ) -> Result<Option<MaybeTyped<PageRanges>>, Memory> {
+        self.count()?;
+        self.entry.resolve_page_variable(alloc, variable)
+    }
+
+    fn resolve_standard_variable(
+        &self,
+        alloc: Global,
+        form: LongShortForm,
+        variable: StandardVariable,
+    ) -> Result<Option<Cow<'_, ChunkedString>>, Memory> {
+        self.count()?;
+        self.entry.resolve_standard_variable(alloc, form, variable)
+    }
+
+    fn resolve_name_variable(
+        &self,
+        alloc: Global,
+        variable: NameVariable,
+    ) -> Result<Vec<Cow<'_, Person>>, Memory> {
+        self.count()?;
+        self.entry.resolve_name_variable(alloc, variable)
+    }
+
+    fn resolve_date_variable(
+        &self,
+        alloc: Global,
+        variable: DateVariable,
+    ) -> Result<Option<Cow<'_, Date>>, Memory> {
+        self.count()?;
+        self.entry.resolve_date_variable(alloc, variable)
+    }
+
+    fn matches_entry_type(&self, kind: Kind) -> bool {
+        self.entry.matches_entry_type(kind)
+    }
+
+    fn is_english(&self) -> Option<bool> {
+        self.entry.is_english()
+    }
+
+    fn key(&self) -> CowStr<'_, Global> {
+        self.entry.key()
+    }
+}
