@@ -26,7 +26,7 @@ pub(crate) fn entries(alloc: Global, which: &[BuiltIn]) -> Result<Vec<Entry>, Me
 }
 
 /// Puts an item behind the others.
-fn put<T: Drop>(items: &mut Vec<T>, item: T) -> Result<(), Memory> {
+pub(crate) fn put<T: Drop>(items: &mut Vec<T>, item: T) -> Result<(), Memory> {
     Ok(items.push(item)?)
 }
 
@@ -70,10 +70,11 @@ pub(crate) fn state(alloc: Global, told: Told) -> Result<DisambiguateState, Memo
     }
 }
 
-/// What a style makes of a cite of an entry.
-fn rendered<T: EntryLike>(
+/// What a layout or a node makes of a cite of an entry, in a style.
+pub(crate) fn rendered<E: RenderCsl, T: EntryLike>(
     alloc: Global,
     style: &Style,
+    element: &E,
     cite_props: &CiteProperties<'_>,
     kind: Option<SpecialForm>,
     entry: &T,
@@ -87,7 +88,7 @@ fn rendered<T: EntryLike>(
     let Ok(mut ctx) = Context::new(alloc, style, instance, Scope::Citation) else {
         return Err(RenderError::Memory);
     };
-    match style.citation().render(&mut ctx) {
+    match element.render(&mut ctx) {
         Ok(()) => ctx.finish(),
         Err(error) => {
             drop(ctx);
@@ -97,7 +98,7 @@ fn rendered<T: EntryLike>(
 }
 
 /// What the style of authors and dates makes of a cite of an entry.
-fn rendered_by_author_and_date(
+pub(crate) fn rendered_by_author_and_date(
     alloc: Global,
     cite: &CiteProperties<'_>,
     form: Option<SpecialForm>,
@@ -105,7 +106,7 @@ fn rendered_by_author_and_date(
 ) -> Result<Rendered, RenderError> {
     match BuiltInStyle::AuthorDate.style(alloc) {
         Ok(style) => {
-            let made = rendered(alloc, &style, cite, form, entry);
+            let made = rendered(alloc, &style, style.citation(), cite, form, entry);
             drop(style);
             made
         }

@@ -12,11 +12,15 @@ mod cited;
 #[cfg(test)]
 mod cites;
 #[cfg(test)]
+mod each_node;
+#[cfg(test)]
 mod entries;
 #[cfg(test)]
 mod forms;
 #[cfg(test)]
 mod leaf;
+#[cfg(test)]
+mod nodes;
 #[cfg(test)]
 mod pairs;
 #[cfg(test)]
@@ -25,6 +29,8 @@ mod refused;
 mod styles;
 #[cfg(test)]
 mod table;
+#[cfg(test)]
+mod tables;
 #[cfg(test)]
 mod without_memory;
 #[cfg(test)]

@@ -2,25 +2,23 @@
 //! makes of both. What is expected stands here as written out by hand.
 
 use crate::asserted::assert_text;
-use crate::cited::{alone, entries};
+use crate::cited::entries;
 use crate::cites::{BOOK, DEPENDENCE_HTML, ESSAY_HTML, THREE, VORTEX_HTML};
+use crate::nodes::{layout, text_of};
 use csl_built_in::{BuiltIn, BuiltInStyle, TitleOnly, one_piece, title_style};
 use csl_context::{LeftState, RenderError};
 use csl_entry::{CiteProperties, DisambiguateState, EntryLike};
 use csl_render::{Pair, render_pair};
-use csl_style::{
-    Affixes, Formatting, Layout, LayoutRenderingElement, Scope, StandardVariable, Style, Text,
-    TextTarget, Variable,
-};
-use lit_model::{Entry, LongShortForm, Memory};
+use csl_style::{Layout, Scope, StandardVariable, Style};
+use lit_model::Entry;
 use std::alloc::Global;
 use std::process::Abort;
 use std::test::Fail;
 
 /// The key of an entry, and the line that a style makes of it.
-type Row = (&'static str, &'static str);
+pub(crate) type Row = (&'static str, &'static str);
 
-static AUTHORS_AND_DATES: [Row; 4] = [
+pub(crate) static AUTHORS_AND_DATES: [Row; 4] = [
     ("crazy-rich", "(Kwan, 2014)\n"),
     ("dependence", THREE),
     ("feminism", "(Ungard-Sargon, 2015)\n"),
@@ -92,7 +90,7 @@ fn pair_of_keys(alloc: Global, style: BuiltInStyle, left: &str, right: &str) -> 
 }
 
 /// A line without its end.
-fn line(text: &'static str) -> &'static str {
+pub(crate) fn line(text: &'static str) -> &'static str {
     text.strip_suffix('\n').unwrap_or(text)
 }
 
@@ -142,29 +140,9 @@ fn built_in_entries_in_full(rt: HostRuntime) -> Result<(), Fail> {
     assert_pairs(&rt, rt.alloc(), BuiltInStyle::Reference, &REFERENCES)
 }
 
-/// The title and nothing else.
-fn title_layout(alloc: Global) -> Result<Layout, Memory> {
-    let title = LayoutRenderingElement::Text(Text {
-        target: TextTarget::Variable {
-            var: Variable::Standard(StandardVariable::Title),
-            form: LongShortForm::Long,
-        },
-        formatting: Formatting::default(),
-        affixes: Affixes::default(),
-        display: None,
-        quotes: false,
-        strip_periods: false,
-    });
-    Ok(Layout {
-        elements: alone(alloc, title)?,
-        delimiter: None,
-        formatting: Formatting::default(),
-    })
-}
-
 /// What a style and the layout of a title make of a book and of an entry that has a title alone.
 fn titles_in(alloc: Global, style: &Style, book: &Entry, title: &TitleOnly) -> Result<Pair, Fail> {
-    let layout = title_layout(alloc)?;
+    let layout = layout(alloc, text_of(StandardVariable::Title))?;
     Ok(paired(alloc, style, &layout, book, title)?)
 }
 

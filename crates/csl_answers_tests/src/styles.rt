@@ -14,7 +14,7 @@ use std::process::Abort;
 use std::test::Fail;
 
 /// Appends the name of a set and its items.
-fn say_set<T: Debug + Ord>(
+pub(crate) fn say_set<T: Debug + Ord>(
     said: &mut String,
     name: &str,
     set: &BTreeSet<T>,
