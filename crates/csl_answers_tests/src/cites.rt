@@ -4,7 +4,7 @@
 use crate::words::{Row, assert_all};
 use std::test::Fail;
 
-const VORTEX: &str = "Gross, E. P., “Structure of a Quantized Vortex in Boson Systems”, \
+pub(crate) const VORTEX: &str = "Gross, E. P., “Structure of a Quantized Vortex in Boson Systems”, \
     Il Nuovo Cimento, vol. 20, pp. 454–477, May 1961. https://doi.org/10.1007/BF02731494\n";
 
 pub(crate) const VORTEX_HTML: &str =
@@ -12,7 +12,7 @@ pub(crate) const VORTEX_HTML: &str =
     <span style=\"font-style: italic;\">Il Nuovo Cimento</span>, vol. 20, pp. 454–477, May 1961. \
     <a href=\"https://doi.org/10.1007/BF02731494\">https://doi.org/10.1007/BF02731494</a>\n";
 
-const DEPENDENCE: &str = "Ferrante, Jeanne, Karl J. Ottenstein, and Joe D. Warren, \
+pub(crate) const DEPENDENCE: &str = "Ferrante, Jeanne, Karl J. Ottenstein, and Joe D. Warren, \
     “The program dependence graph and its use in optimization”, \
     ACM Transactions on Programming Languages and Systems, vol. 9, July 1987. \
     https://doi.org/10.1145/24039.24041\n";
@@ -25,7 +25,8 @@ pub(crate) const DEPENDENCE_HTML: &str = "Ferrante, Jeanne, Karl J. Ottenstein, 
 
 pub(crate) const BOOK: &str = "Kwan, Kevin, “Crazy Rich Asians”, 2014.\n";
 
-const ESSAY: &str = "Ungard-Sargon, Batya, “She swoons to conquer”, Aeon, September 2015.\n";
+pub(crate) const ESSAY: &str =
+    "Ungard-Sargon, Batya, “She swoons to conquer”, Aeon, September 2015.\n";
 
 pub(crate) const ESSAY_HTML: &str = "Ungard-Sargon, Batya, “She swoons to conquer”, \
     <span style=\"font-style: italic;\">Aeon</span>, September 2015.\n";

@@ -26,6 +26,8 @@ mod pairs;
 #[cfg(test)]
 mod refused;
 #[cfg(test)]
+mod refusing_entries;
+#[cfg(test)]
 mod styles;
 #[cfg(test)]
 mod table;
