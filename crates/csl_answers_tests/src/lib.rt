@@ -24,9 +24,9 @@ mod nodes;
 #[cfg(test)]
 mod pairs;
 #[cfg(test)]
-mod refused;
-#[cfg(test)]
 mod refusing_entries;
+#[cfg(test)]
+mod refusing_writers;
 #[cfg(test)]
 mod styles;
 #[cfg(test)]

@@ -10,7 +10,7 @@ use std::test::Fail;
 /// The words, and the status, the answer and the fault that they give.
 pub type Row = (&'static [&'static str], u8, &'static str, &'static str);
 
-const NATURE: &str = "(Title: <span style=\"font-style: italic;\">Nature</span>)\n";
+pub(crate) const NATURE: &str = "(Title: <span style=\"font-style: italic;\">Nature</span>)\n";
 
 const ESCAPED: &str =
     "(Title: <span style=\"font-style: italic;\">é 📚 &lt;b&gt; &amp; \n&quot;</span>)\n";
