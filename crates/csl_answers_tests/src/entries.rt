@@ -5,19 +5,22 @@ use crate::asserted::assert_text;
 use crate::cited::entries;
 use csl_built_in::BuiltIn;
 use csl_entry::EntryLike;
-use csl_style::{NameVariable, NumberVariable, StandardVariable};
+use csl_style::{DateVariable, NameVariable, NumberVariable, PageVariable, StandardVariable};
 use lit_model::{LongShortForm, MaybeTyped};
 use std::alloc::Global;
+use std::borrow::Cow;
 use std::fmt::Write;
 use std::process::Abort;
 use std::test::Fail;
 
-/// What a row asks of an entry.
+/// What an entry is asked for.
 #[derive(Clone, Copy)]
 enum Question {
     Number(NumberVariable),
     Text(StandardVariable),
     Names(NameVariable),
+    Pages,
+    Year(DateVariable),
 }
 
 /// Says the number that an entry answers, if any, in brackets.
@@ -63,6 +66,38 @@ fn say_names<T: EntryLike>(
     Ok(())
 }
 
+/// Says the pages that an entry answers, if any, in brackets.
+fn say_pages<T: EntryLike>(alloc: Global, entry: &T, said: &mut String) -> Result<(), Fail> {
+    match entry.resolve_page_variable(alloc, PageVariable::Page)? {
+        Some(MaybeTyped::Typed(pages)) => write!(said, "[{pages}]")?,
+        Some(MaybeTyped::String(text)) => write!(said, "no pages: {text}")?,
+        None => {}
+    }
+    Ok(())
+}
+
+/// A value that may be borrowed, if there is one.
+fn borrowed<'a, T: Drop>(found: &'a Option<Cow<'_, T>>) -> Option<&'a T> {
+    match found {
+        Some(value) => Some(value.as_ref()),
+        None => None,
+    }
+}
+
+/// Says the year that an entry answers, if any, in brackets.
+fn say_year<T: EntryLike>(
+    alloc: Global,
+    entry: &T,
+    variable: DateVariable,
+    said: &mut String,
+) -> Result<(), Fail> {
+    let date = entry.resolve_date_variable(alloc, variable)?;
+    if let Some(date) = borrowed(&date) {
+        write!(said, "[{}]", date.year())?;
+    }
+    Ok(())
+}
+
 /// Says what an entry of any type answers, and nothing where there is no answer.
 fn say_answer<T: EntryLike>(
     alloc: Global,
@@ -74,6 +109,8 @@ fn say_answer<T: EntryLike>(
         Question::Number(variable) => say_number(alloc, entry, variable, said),
         Question::Text(variable) => say_text(alloc, entry, variable, said),
         Question::Names(variable) => say_names(alloc, entry, variable, said),
+        Question::Pages => say_pages(alloc, entry, said),
+        Question::Year(variable) => say_year(alloc, entry, variable, said),
     }
 }
 
@@ -98,7 +135,9 @@ const BLOG_POST: BuiltIn = BuiltIn::Feminism;
 /// An entry, what it is asked for, and what it answers.
 type Row = (BuiltIn, Question, &'static str);
 
-static ANSWERS: [Row; 7] = [
+static ANSWERS: [Row; 9] = [
+    (ARTICLE, Question::Pages, "[454-477]"),
+    (ARTICLE, Question::Year(DateVariable::Issued), "[1961]"),
     (ARTICLE, Question::Number(NumberVariable::Volume), "[20]"),
     (ARTICLE, Question::Number(NumberVariable::Issue), "[3]"),
     (

@@ -12,6 +12,8 @@ mod cited;
 #[cfg(test)]
 mod cites;
 #[cfg(test)]
+mod copies;
+#[cfg(test)]
 mod each_node;
 #[cfg(test)]
 mod entries;
@@ -19,6 +21,8 @@ mod entries;
 mod forms;
 #[cfg(test)]
 mod leaf;
+#[cfg(test)]
+mod leaf_calls;
 #[cfg(test)]
 mod nodes;
 #[cfg(test)]
