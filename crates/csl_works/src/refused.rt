@@ -1,0 +1,131 @@
+//! What a context answers that was refused memory: each later call that answers a `Result` says
+//! that it has failed.
+
+use crate::error::WorkError;
+use csl_context::{Context, Mark, RenderError};
+use csl_entry::EntryLike;
+use csl_render::RenderCsl;
+use csl_style::{
+    Affixes, DateVariable, Formatting, LongShortForm, NameVariable, NumberVariable, PageVariable,
+    StandardVariable, Variable,
+};
+use lit_model::ChunkedString;
+
+/// Whether a call answered that the context had failed.
+fn says_failed<A: Drop>(answer: Result<A, RenderError>) -> bool {
+    let said = matches!(&answer, Err(RenderError::Failed));
+    drop(answer);
+    said
+}
+
+/// Whether each call that writes says that the context has failed.
+fn writing_fails<T>(ctx: &mut Context<'_, T>) -> bool {
+    let no_chunks = ChunkedString(Vec::new(ctx.alloc()));
+    says_failed(ctx.nothing())
+        && says_failed(ctx.push_str(""))
+        && says_failed(ctx.push_chunked(&no_chunks))
+        && says_failed(ctx.push_link("", ""))
+        && says_failed(ctx.push_transparent(0))
+        && says_failed(ctx.ensure_space())
+}
+
+/// Whether each call that opens something says so.
+fn opening_fails<'s, T>(ctx: &mut Context<'s, T>) -> bool {
+    let style = ctx.style();
+    says_failed(ctx.push_elem())
+        && says_failed(ctx.apply_prefix())
+        && says_failed(ctx.push_quotes())
+        && says_failed(ctx.push_format(Formatting::default()))
+        && says_failed(ctx.push_delimiter(None))
+        && says_failed(ctx.push_name_options(&style.settings().names))
+}
+
+/// Whether one that closes affixes says so.
+fn affixing_fails<T>(ctx: &mut Context<'_, T>, mark: Mark) -> bool {
+    if !ctx.has_failed() {
+        return false;
+    }
+    let affixes = Affixes::default();
+    let answer = ctx.apply_suffix(&affixes, mark, false);
+    drop(affixes);
+    says_failed(answer)
+}
+
+/// Whether each call that closes a part says so. Of a context that has failed any mark will do.
+fn closing_fails<T>(ctx: &mut Context<'_, T>, mark: Mark) -> bool {
+    if !ctx.has_failed() || !says_failed(ctx.commit_elem(mark, None, None)) {
+        return false;
+    }
+    if !ctx.has_failed() || !says_failed(ctx.splice(mark)) {
+        return false;
+    }
+    if !ctx.has_failed() || !says_failed(ctx.splice_affixed(mark, None, None)) {
+        return false;
+    }
+    if !affixing_fails(ctx, mark) || !ctx.has_failed() {
+        return false;
+    }
+    says_failed(ctx.pop_quotes(mark, None))
+}
+
+/// Whether each silent look says so.
+fn peeking_fails<T: EntryLike>(ctx: &Context<'_, T>) -> bool {
+    says_failed(ctx.peek_number_variable(NumberVariable::Volume))
+        && says_failed(ctx.peek_page_variable(PageVariable::Page))
+        && says_failed(ctx.peek_standard_variable(LongShortForm::Long, StandardVariable::Title))
+        && says_failed(ctx.peek_name_variable(NameVariable::Author))
+        && says_failed(ctx.peek_date_variable(DateVariable::Issued))
+}
+
+/// Whether each look for printing says so.
+fn looking_fails<T: EntryLike>(ctx: &mut Context<'_, T>) -> bool {
+    says_failed(ctx.resolve_number_variable(NumberVariable::Volume))
+        && says_failed(ctx.resolve_page_variable(PageVariable::Page))
+        && says_failed(ctx.resolve_standard_variable(LongShortForm::Long, StandardVariable::Title))
+        && says_failed(ctx.resolve_name_variable(NameVariable::Author))
+        && says_failed(ctx.resolve_date_variable(DateVariable::Issued))
+}
+
+/// Whether each call of a layout says so.
+fn rendering_fails<'s, T: EntryLike>(ctx: &mut Context<'s, T>) -> bool {
+    let layout = ctx.style().citation();
+    says_failed(layout.render(ctx))
+        && says_failed(layout.will_have_info(ctx))
+        && says_failed(layout.will_render(ctx, Variable::Date(DateVariable::Issued)))
+}
+
+/// Whether each call of a context but the last says that it has failed. A mark is had from a context
+/// of the same cite, unless that is refused memory too.
+fn all_fail<'s, T: EntryLike>(ctx: &mut Context<'s, T>) -> bool {
+    let failed = ctx.has_failed()
+        && writing_fails(ctx)
+        && opening_fails(ctx)
+        && peeking_fails(ctx)
+        && looking_fails(ctx)
+        && rendering_fails(ctx);
+    let Ok(mut other) = Context::new(ctx.alloc(), ctx.style(), ctx.instance(), ctx.scope()) else {
+        return failed;
+    };
+    let mark = other.push_elem();
+    drop(other);
+    match mark {
+        Ok(mark) => failed && closing_fails(ctx, mark),
+        Err(_) => failed,
+    }
+}
+
+/// Why nothing was made in a context: for want of memory, unless a later call of the context does
+/// not say that it has failed.
+pub fn refusal<'s, T: EntryLike>(mut ctx: Context<'s, T>) -> WorkError {
+    let unexpected = WorkError::Unexpected("a call went on after a refusal");
+    let failed = all_fail(&mut ctx);
+    if !ctx.has_failed() {
+        drop(ctx);
+        return unexpected;
+    }
+    if says_failed(ctx.finish()) && failed {
+        WorkError::Memory
+    } else {
+        unexpected
+    }
+}
