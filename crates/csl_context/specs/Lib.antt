@@ -1,5 +1,6 @@
 -- The definitions that the contracts of `csl_context` cite: what a rendering reads, and what it
 -- writes.
+pub mod Errors
 pub mod State
 pub mod World
 pub mod Texts

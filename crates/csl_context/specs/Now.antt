@@ -9,11 +9,13 @@
 --   else as it was (`with_part`, `closed_by`). No contract mentions how a part is stored.
 -- - `ensure_space` writes a space unless the leaf text of the innermost part is empty or ends in
 --   white space (`with_space`).
--- - On `Ok` the context had not failed and is as its clause states (`Leaves`). `Memory`: it had not
---   failed and has now. `Failed`: it had failed, and nothing changes (`FailsAs`). A shared look
---   that returns `Memory` leaves the context as it was. Pops and `discard_elem` return nothing, and
---   do not change a failed context.
-use Rattle.std.specs.Prelude.{◌≡◌, ℕ, ◌+◌, Bool, true, false, not, List, [], ◌∷◌, length, Option, Some, None}
+-- - A call ends as its clause states, or it fails, and one clause says both (`Runs`; `Reads` where a
+--   value is read and nothing changes; `Looks` for such a look into a shared context). On `Ok` the
+--   context had not failed and is as stated (`Leaves`). `Memory`: it had not failed and has now.
+--   `Failed`: it had failed, and nothing changes (`FailsAs`). A shared look that returns `Memory`
+--   leaves the context as it was. Pops and `discard_elem` return nothing, and do not change a failed
+--   context.
+use Rattle.std.specs.Prelude.{◌≡◌, ℕ, ◌+◌, Bool, true, false, not, List, [], ◌∷◌, length, Option, Some, None, Result, IfOk, MatchResult}
 use Rattle.std.specs.Bool.{OnFalse}
 use Rattle.std.specs.Option.{option_or}
 use Rattle.csl_style.specs.declared.formatting.Formatting as partial
@@ -115,6 +117,36 @@ FailsAs Failed old new = (old.failed ≡ true) × (new ≡ old)
 pub record Leaves {T : Type 0} (wanted : Now T → Now T) (old new : Now T) : Type 0 where
   pub sound : old.failed ≡ false
   pub left : new ≡ wanted old
+
+-- A call changes a context as `f` says, or it fails.
+abbrev pub Runs : {T R : Type 0} → (Now T → Now T) → Result R RenderError → Now T → Now T → Type 0
+Runs f result old new = MatchResult result (λ _. Leaves f old new) (λ e. FailsAs e old new)
+
+-- The value of a call, seen by `view`, is the wanted one.
+abbrev pub GivesBy : {R E V : Type 0} → (R → V) → Result R E → V → Type 0
+GivesBy view result wanted = IfOk result (λ value. view value ≡ wanted)
+
+-- A call on a context that had not failed read the wanted value and left the context as it was.
+pub record ReadsAs {R V T : Type 0} (view : R → V) (answer : R) (wanted : V) (old new : Now T) : Type 0 where
+  pub value : view answer ≡ wanted
+  pub sound : old.failed ≡ false
+  pub kept : new ≡ old
+
+-- A call reads the wanted value and leaves the context as it was, or it fails.
+abbrev pub Reads : {R V T : Type 0} → (R → V) → Result R RenderError → V → Now T → Now T → Type 0
+Reads view result wanted old new = MatchResult result (λ answer. ReadsAs view answer wanted old new) (λ e. FailsAs e old new)
+
+-- A look into a shared context failed: the context stays as it is, and its caller is to fail it.
+abbrev pub FailsSilently : {T : Type 0} → RenderError → Now T → Type 0
+FailsSilently e now = FailsAs e now (record now { failed = true })
+
+-- A look into a shared context reads the wanted value, or fails.
+abbrev pub Looks : {R V T : Type 0} → (R → V) → Result R RenderError → V → Now T → Type 0
+Looks view result wanted now = MatchResult result (λ answer. ReadsAs view answer wanted now now) (λ e. FailsSilently e now)
+
+-- The outcome of such a look, whatever its value.
+abbrev pub IsSilent : {R T : Type 0} → Result R RenderError → Now T → Type 0
+IsSilent outcome now = MatchResult outcome (λ _. now.failed ≡ false) (λ e. FailsSilently e now)
 
 -- The mark is that of the innermost open part, or the context has failed.
 abbrev pub IsInnermost : {T : Type 0} → Mark → Now T → Type 0

@@ -234,17 +234,13 @@ impl<'s, T> Context<'s, T> {
         ensures state { IfOk result (λ r. state_left r.state ≡ self.entry.state) }
         ensures err { IfErr result (λ e. (e ≡ RenderError.Failed) ↔ (self.entry.failed ≡ true)) }
     {
-        if self.writing.failed {
-            return Err(RenderError::Failed);
-        }
+        self.ensure_live()?;
         let writing = self.writing;
-        match writing.content.finish() {
-            Ok(content) => Ok(Rendered {
-                content,
-                state: writing.state,
-            }),
-            Err(_) => Err(RenderError::Memory),
-        }
+        let content = writing.content.finish()?;
+        Ok(Rendered {
+            content,
+            state: writing.state,
+        })
     }
 
     /// Marks the context as failed.

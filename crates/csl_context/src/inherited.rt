@@ -1,9 +1,9 @@
 //! What the nodes of a context inherit.
 
-ghost use Rattle.std.specs.Prelude.{◌≡◌, ◌<◌, ◌||◌, length, false, true, option_map, OnOk, IfErr};
+ghost use Rattle.std.specs.Prelude.{◌≡◌, ◌<◌, ◌||◌, length, false, true, option_map};
 ghost use Rattle.std.specs.Bool.{OnFalse};
 ghost use Rattle.csl_style.specs.NameOptions.{own_options};
-ghost use Rattle.csl_context.specs.Now.{FailsAs, Leaves, with_format, without_format, with_delimiter, without_delimiter, with_options, without_options, with_stripping};
+ghost use Rattle.csl_context.specs.Now.{Runs, with_format, without_format, with_delimiter, without_delimiter, with_options, without_options, with_stripping};
 
 use crate::context::Context;
 use crate::error::RenderError;
@@ -17,23 +17,14 @@ impl<'s, T> Context<'s, T> {
     /// [`RenderError::Memory`]: there was no memory left. The context has failed.
     /// [`RenderError::Failed`]: the context had failed.
     pub fn push_format(&mut self, format: formatting::Formatting) -> Result<(), RenderError>
-        ensures ok { OnOk result (Leaves (with_format format) self.old self.new) }
-        ensures err { IfErr result (λ e. FailsAs e self.old self.new) }
+        ensures { Runs (with_format format) result self.old self.new }
     {
-        if self.writing.failed {
-            return Err(RenderError::Failed);
-        }
+        self.ensure_live()?;
         let under = self.writing.formatting;
-        match self.writing.formats.push(under) {
-            Ok(()) => {
-                self.writing.formatting = under.apply(format);
-                Ok(())
-            }
-            Err(_) => {
-                self.writing.failed = true;
-                Err(RenderError::Memory)
-            }
-        }
+        let pushed = self.writing.formats.push(under);
+        self.or_fail(pushed)?;
+        self.writing.formatting = under.apply(format);
+        Ok(())
     }
 
     /// Takes the last formatting off. A context that has failed stays as it is.
@@ -59,24 +50,15 @@ impl<'s, T> Context<'s, T> {
     /// [`RenderError::Memory`]: there was no memory left. The context has failed.
     /// [`RenderError::Failed`]: the context had failed.
     pub fn push_delimiter(&mut self, delimiter: Option<&'s str>) -> Result<(), RenderError>
-        ensures ok { OnOk result
-            (Leaves (with_delimiter (option_map (λ t. t.now) delimiter.entry)) self.old self.new) }
-        ensures err { IfErr result (λ e. FailsAs e self.old self.new) }
+        ensures { Runs (with_delimiter (option_map (λ t. t.now) delimiter.entry))
+            result self.old self.new }
     {
-        if self.writing.failed {
-            return Err(RenderError::Failed);
-        }
+        self.ensure_live()?;
         let under = self.writing.delimiter;
-        match self.writing.delimiters.push(under) {
-            Ok(()) => {
-                self.writing.delimiter = delimiter;
-                Ok(())
-            }
-            Err(_) => {
-                self.writing.failed = true;
-                Err(RenderError::Memory)
-            }
-        }
+        let pushed = self.writing.delimiters.push(under);
+        self.or_fail(pushed)?;
+        self.writing.delimiter = delimiter;
+        Ok(())
     }
 
     /// Takes the last delimiter off. A context that has failed stays as it is.
@@ -106,24 +88,14 @@ impl<'s, T> Context<'s, T> {
         &mut self,
         options: &'s InheritableNameOptions,
     ) -> Result<(), RenderError>
-        ensures ok { OnOk result
-            (Leaves (with_options (own_options options.now)) self.old self.new) }
-        ensures err { IfErr result (λ e. FailsAs e self.old self.new) }
+        ensures { Runs (with_options (own_options options.now)) result self.old self.new }
     {
-        if self.writing.failed {
-            return Err(RenderError::Failed);
-        }
+        self.ensure_live()?;
         let under = self.writing.options;
-        match self.writing.outer_options.push(under) {
-            Ok(()) => {
-                self.writing.options = options.apply(under);
-                Ok(())
-            }
-            Err(_) => {
-                self.writing.failed = true;
-                Err(RenderError::Memory)
-            }
-        }
+        let pushed = self.writing.outer_options.push(under);
+        self.or_fail(pushed)?;
+        self.writing.options = options.apply(under);
+        Ok(())
     }
 
     /// Takes the last options of names off. A context that has failed stays as it is.

@@ -1,12 +1,12 @@
 //! Affixes and quotes around what is written (CSL 1.0.2, Affixes, Quotes).
 
-ghost use Rattle.std.specs.Prelude.{◌≡◌, ◌+◌, length, false, true, option_map, IfOk, OnOk, IfErr};
+ghost use Rattle.std.specs.Prelude.{◌≡◌, ◌+◌, length, false, option_map, IfOk};
 ghost use Rattle.csl_style.specs.Dressing.{affix_texts};
 ghost use Rattle.csl_tree.specs.Content.{◌++>◌, affixed};
 ghost use Rattle.csl_tree.specs.Flat.{affix_content};
 ghost use Rattle.csl_context.specs.Texts.{text_in_if, between_in};
 ghost use Rattle.csl_context.specs.Quotes.{opening, closing, quote, front, behind_front, moved_front, has_moved, affixed_after};
-ghost use Rattle.csl_context.specs.Now.{FailsAs, Leaves, IsInnermost, with_part, closed_by, turned, with_quotes};
+ghost use Rattle.csl_context.specs.Now.{Runs, IsInnermost, with_part, closed_by, turned, with_quotes};
 
 use crate::context::Context;
 use crate::error::RenderError;
@@ -70,9 +70,8 @@ impl<'s, T> Context<'s, T> {
     /// [`RenderError::Memory`]: there was no memory left. The context has failed.
     /// [`RenderError::Failed`]: the context had failed.
     pub fn apply_prefix(&mut self) -> Result<Mark, RenderError>
-        ensures ok { OnOk result (Leaves with_part self.old self.new) }
+        ensures after { Runs with_part result self.old self.new }
         ensures mark { IfOk result (λ mark. length self.new.outer ≡ mark.depth + 1) }
-        ensures err { IfErr result (λ e. FailsAs e self.old self.new) }
     {
         self.push_elem()
     }
@@ -90,10 +89,8 @@ impl<'s, T> Context<'s, T> {
         moved: bool,
     ) -> Result<(), RenderError>
         requires innermost { IsInnermost mark self.old }
-        ensures ok { OnOk result (Leaves
-            (closed_by (λ inh c. affixed_after moved inh (affix_texts affixes.now) c))
-            self.old self.new) }
-        ensures err { IfErr result (λ e. FailsAs e self.old self.new) }
+        ensures { Runs (closed_by (λ inh c. affixed_after moved inh (affix_texts affixes.now) c))
+            result self.old self.new }
     {
         let suffix = if moved {
             affixes.suffix.as_deref().map(behind_front)
@@ -115,21 +112,11 @@ impl<'s, T> Context<'s, T> {
         suffix: Option<&str>,
     ) -> Result<(), RenderError>
         requires innermost { IsInnermost mark self.old }
-        ensures ok { OnOk result (Leaves
-            (closed_by (λ inh c. between_in inh (option_map (λ t. t.now) prefix.entry)
-            (option_map (λ t. t.now) suffix.entry) c)) self.old self.new) }
-        ensures err { IfErr result (λ e. FailsAs e self.old self.new) }
+        ensures { Runs (closed_by (λ inh c. between_in inh (option_map (λ t. t.now) prefix.entry)
+            (option_map (λ t. t.now) suffix.entry) c)) result self.old self.new }
     {
-        if self.writing.failed {
-            return Err(RenderError::Failed);
-        }
-        match self.pen().affixes(prefix, suffix) {
-            Ok((before, after)) => self.splice_between(mark, before, after),
-            Err(_) => {
-                self.writing.failed = true;
-                Err(RenderError::Memory)
-            }
-        }
+        let (before, after) = self.attempt(self.pen().affixes(prefix, suffix))?;
+        self.splice_between(mark, before, after)
     }
 
     /// Closes a part, and writes it between two texts as they stand, unless it is empty.
@@ -140,21 +127,13 @@ impl<'s, T> Context<'s, T> {
         after: Option<Formatted>,
     ) -> Result<(), RenderError>
         requires innermost { IsInnermost mark self.old }
-        ensures ok { OnOk result (Leaves
-            (closed_by (λ _ c. affixed (affix_content before) (affix_content after) c))
-            self.old self.new) }
-        ensures err { IfErr result (λ e. FailsAs e self.old self.new) }
+        ensures { Runs (closed_by (λ _ c. affixed (affix_content before) (affix_content after) c))
+            result self.old self.new }
     {
-        if self.writing.failed {
-            return Err(RenderError::Failed);
-        }
-        match self.writing.content.close_spliced(before, after) {
-            Ok(()) => Ok(()),
-            Err(_) => {
-                self.writing.failed = true;
-                Err(RenderError::Memory)
-            }
-        }
+        self.ensure_live()?;
+        let written = self.writing.content.close_spliced(before, after);
+        self.or_fail(written)?;
+        Ok(())
     }
 
     /// Whether an odd number of quotes stands around.
@@ -201,8 +180,7 @@ impl<'s, T> Context<'s, T> {
             (quote self.now.style (opening self.now.inherited.in_quotes))) }
     {
         let open = self.quote(opening(self.in_quotes()));
-        let affix = self.pen().affix(open)?;
-        Ok(affix)
+        self.pen().affix(open)
     }
 
     /// The closing quote behind what is moved before it.
@@ -248,20 +226,11 @@ impl<'s, T> Context<'s, T> {
     #[tactic(auto, unfolding(crate::specs::Now::with_quotes))]
     fn close_quotes(&mut self, mark: Mark, suffix: Option<&str>) -> Result<(), RenderError>
         requires innermost { IsInnermost mark self.old }
-        ensures ok { OnOk result (Leaves
-            (with_quotes (option_map (λ t. t.now) suffix.entry)) self.old self.new) }
-        ensures err { IfErr result (λ e. FailsAs e self.old self.new) }
+        ensures { Runs (with_quotes (option_map (λ t. t.now) suffix.entry))
+            result self.old self.new }
     {
-        if self.writing.failed {
-            return Err(RenderError::Failed);
-        }
-        match self.quotes_around(suffix) {
-            Ok((before, after)) => self.splice_between(mark, before, after),
-            Err(_) => {
-                self.writing.failed = true;
-                Err(RenderError::Memory)
-            }
-        }
+        let (before, after) = self.attempt(self.quotes_around(suffix))?;
+        self.splice_between(mark, before, after)
     }
 
     /// Opens the inside of quotes. They are written once it is closed, unless it is empty.
@@ -270,9 +239,8 @@ impl<'s, T> Context<'s, T> {
     /// [`RenderError::Memory`]: there was no memory left. The context has failed.
     /// [`RenderError::Failed`]: the context had failed.
     pub fn push_quotes(&mut self) -> Result<Mark, RenderError>
-        ensures ok { OnOk result (Leaves (λ now. with_part (turned now)) self.old self.new) }
+        ensures after { Runs (λ now. with_part (turned now)) result self.old self.new }
         ensures mark { IfOk result (λ mark. length self.new.outer ≡ mark.depth + 1) }
-        ensures err { IfErr result (λ e. FailsAs e self.old self.new) }
     {
         let mark = self.push_elem()?;
         self.writing.in_quotes = !self.writing.in_quotes;
@@ -289,15 +257,13 @@ impl<'s, T> Context<'s, T> {
     /// [`RenderError::Failed`]: the context had failed.
     pub fn pop_quotes(&mut self, mark: Mark, suffix: Option<&str>) -> Result<bool, RenderError>
         requires innermost { IsInnermost mark self.old }
-        ensures ok { OnOk result (Leaves (λ now.
-            with_quotes (option_map (λ t. t.now) suffix.entry) (turned now)) self.old self.new) }
+        ensures after { Runs (λ now.
+            with_quotes (option_map (λ t. t.now) suffix.entry) (turned now))
+            result self.old self.new }
         ensures moved { IfOk result (λ moved. moved
             ≡ has_moved self.old.style (option_map (λ t. t.now) suffix.entry) self.old.inner) }
-        ensures err { IfErr result (λ e. FailsAs e self.old self.new) }
     {
-        if self.has_failed() {
-            return Err(RenderError::Failed);
-        }
+        self.ensure_live()?;
         let moved = self.has_moved(suffix);
         self.turn();
         self.close_quotes(mark, suffix)?;

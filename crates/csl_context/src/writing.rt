@@ -1,12 +1,12 @@
 //! What is written into the open parts of a context.
 
-ghost use Rattle.std.specs.Prelude.{◌≡◌, ◌+◌, ◌<◌, not, [], length, false, true, IfOk, OnOk, IfErr};
+ghost use Rattle.std.specs.Prelude.{◌≡◌, ◌+◌, ◌<◌, not, [], length, false, true, IfOk, OnOk, IfErr, IsOk};
 ghost use Rattle.lit_model.specs.Text.{chunk_of, chunks};
 ghost use Rattle.csl_tree.specs.Content.{boxed, text_content, markup_content};
 ghost use Rattle.csl_tree.specs.Flat.{closed_as};
 ghost use Rattle.csl_tree.specs.Tokens.{optional_meta, has_text, has_children};
 ghost use Rattle.csl_context.specs.Texts.{text_in, gap_after, chunk_in, chunks_in, link_in, transparent_in};
-ghost use Rattle.csl_context.specs.Now.{FailsAs, Leaves, IsInnermost, same, with_content, with_space, with_part, closed_by, dropped};
+ghost use Rattle.csl_context.specs.Now.{Runs, IsSilent, IsInnermost, same, with_content, with_space, with_part, closed_by, dropped};
 
 use crate::context::Context;
 use crate::error::RenderError;
@@ -34,18 +34,72 @@ fn drop_part(parts: &mut FlatTree)
 }
 
 impl<'s, T> Context<'s, T> {
-    /// Writes nothing. It tells a context that has failed.
+    /// An error where the context has failed.
     ///
     /// # Errors
     /// [`RenderError::Failed`]: the context had failed.
-    pub fn nothing(&mut self) -> Result<(), RenderError>
-        ensures ok { OnOk result (Leaves same self.old self.new) }
-        ensures err { IfErr result (λ e. FailsAs e self.old self.new) }
+    pub fn ensure_live(&self) -> Result<(), RenderError>
+        ensures { Runs same result self.now self.now }
     {
         if self.has_failed() {
             return Err(RenderError::Failed);
         }
         Ok(())
+    }
+
+    /// The value of a call that allocates. Where it ran out of memory, the context fails.
+    ///
+    /// # Errors
+    /// [`RenderError::Memory`]: the outcome is an error. The context has failed.
+    /// [`RenderError::Failed`]: the context had failed.
+    pub fn attempt<R: Drop, E: Drop>(&mut self, outcome: Result<R, E>) -> Result<R, RenderError>
+    where
+        Memory: From<E>,
+        ensures value { IfOk result (λ value. outcome ≡ Ok value) }
+        ensures after { Runs same result self.old self.new }
+        ensures live { OnOk outcome (IfErr result (λ e. e ≡ RenderError.Failed)) }
+    {
+        self.ensure_live()?;
+        self.or_fail(outcome)
+    }
+
+    /// The same in a context that has not failed.
+    pub(crate) fn or_fail<R: Drop, E: Drop>(
+        &mut self,
+        outcome: Result<R, E>,
+    ) -> Result<R, RenderError>
+    where
+        Memory: From<E>,
+        requires live { self.old.failed ≡ false }
+        ensures value { IfOk result (λ value. outcome ≡ Ok value) }
+        ensures after { Runs same result self.old self.new }
+        ensures ok { OnOk outcome (IsOk result) }
+    {
+        match outcome {
+            Ok(value) => Ok(value),
+            Err(_) => {
+                self.writing.failed = true;
+                Err(RenderError::Memory)
+            }
+        }
+    }
+
+    /// The outcome of a look into the shared context. Its failure fails the context.
+    ///
+    /// # Errors
+    /// That of the outcome.
+    pub fn settle<R: Drop>(&mut self, outcome: Result<R, RenderError>) -> Result<R, RenderError>
+        requires silent { IsSilent outcome self.old }
+        ensures value { result ≡ outcome }
+        ensures after { Runs same result self.old self.new }
+    {
+        match outcome {
+            Ok(value) => Ok(value),
+            Err(error) => {
+                self.fail();
+                Err(error)
+            }
+        }
     }
 
     /// The formatting and the stripping that a text inherits here.
@@ -66,67 +120,39 @@ impl<'s, T> Context<'s, T> {
     /// [`RenderError::Memory`]: there was no memory left. The context has failed.
     /// [`RenderError::Failed`]: the context had failed.
     pub fn push_str(&mut self, text: &str) -> Result<(), RenderError>
-        ensures ok { OnOk result
-            (Leaves (with_content (λ inh. text_in inh text.now)) self.old self.new) }
-        ensures err { IfErr result (λ e. FailsAs e self.old self.new) }
+        ensures { Runs (with_content (λ inh. text_in inh text.now)) result self.old self.new }
     {
-        if self.writing.failed {
-            return Err(RenderError::Failed);
-        }
+        self.ensure_live()?;
         let pen = self.pen();
-        match pen.write(&mut self.writing.content, text) {
-            Ok(()) => Ok(()),
-            Err(_) => {
-                self.writing.failed = true;
-                Err(RenderError::Memory)
-            }
-        }
+        let written = pen.write(&mut self.writing.content, text);
+        self.or_fail(written)
     }
 
     /// Writes a text in the inherited formatting, which keeps its periods.
     fn push_verbatim(&mut self, text: &str) -> Result<(), RenderError>
-        ensures ok { OnOk result
-            (Leaves (with_content (λ inh. text_content text.now inh.formatting))
-            self.old self.new) }
-        ensures err { IfErr result (λ e. FailsAs e self.old self.new) }
+        ensures { Runs (with_content (λ inh. text_content text.now inh.formatting))
+            result self.old self.new }
     {
-        if self.writing.failed {
-            return Err(RenderError::Failed);
-        }
+        self.ensure_live()?;
         let pen = self.pen();
-        match self.writing.content.push_text(text, pen.formatting) {
-            Ok(()) => Ok(()),
-            Err(_) => {
-                self.writing.failed = true;
-                Err(RenderError::Memory)
-            }
-        }
+        let written = self.writing.content.push_text(text, pen.formatting);
+        self.or_fail(written)
     }
 
     /// Writes a markup, unless it is empty.
     fn push_markup(&mut self, text: &str) -> Result<(), RenderError>
-        ensures ok { OnOk result
-            (Leaves (with_content (λ _. markup_content text.now)) self.old self.new) }
-        ensures err { IfErr result (λ e. FailsAs e self.old self.new) }
+        ensures { Runs (with_content (λ _. markup_content text.now)) result self.old self.new }
     {
-        if self.writing.failed {
-            return Err(RenderError::Failed);
-        }
+        self.ensure_live()?;
         let pen = self.pen();
-        match pen.write_markup(&mut self.writing.content, text) {
-            Ok(()) => Ok(()),
-            Err(_) => {
-                self.writing.failed = true;
-                Err(RenderError::Memory)
-            }
-        }
+        let written = pen.write_markup(&mut self.writing.content, text);
+        self.or_fail(written)
     }
 
     /// Writes a piece of a text. Mathematics becomes markup.
     fn push_chunk(&mut self, chunk: &StringChunk) -> Result<(), RenderError>
-        ensures ok { OnOk result
-            (Leaves (with_content (λ inh. chunk_in inh (chunk_of chunk.now))) self.old self.new) }
-        ensures err { IfErr result (λ e. FailsAs e self.old self.new) }
+        ensures { Runs (with_content (λ inh. chunk_in inh (chunk_of chunk.now)))
+            result self.old self.new }
     {
         match chunk.kind {
             ChunkKind::Normal => self.push_str(chunk.value.as_str()),
@@ -142,13 +168,10 @@ impl<'s, T> Context<'s, T> {
     /// [`RenderError::Memory`]: there was no memory left. The context has failed.
     /// [`RenderError::Failed`]: the context had failed.
     pub fn push_chunked(&mut self, text: &ChunkedString) -> Result<(), RenderError>
-        ensures ok { OnOk result
-            (Leaves (with_content (λ inh. chunks_in inh (chunks text.now))) self.old self.new) }
-        ensures err { IfErr result (λ e. FailsAs e self.old self.new) }
+        ensures { Runs (with_content (λ inh. chunks_in inh (chunks text.now)))
+            result self.old self.new }
     {
-        if self.writing.failed {
-            return Err(RenderError::Failed);
-        }
+        self.ensure_live()?;
         for chunk in &text.0 {
             self.push_chunk(chunk)?;
         }
@@ -162,21 +185,13 @@ impl<'s, T> Context<'s, T> {
     /// [`RenderError::Memory`]: there was no memory left. The context has failed.
     /// [`RenderError::Failed`]: the context had failed.
     pub fn push_link(&mut self, text: &str, url: &str) -> Result<(), RenderError>
-        ensures ok { OnOk result
-            (Leaves (with_content (λ inh. link_in inh text.now url.now)) self.old self.new) }
-        ensures err { IfErr result (λ e. FailsAs e self.old self.new) }
+        ensures { Runs (with_content (λ inh. link_in inh text.now url.now))
+            result self.old self.new }
     {
-        if self.writing.failed {
-            return Err(RenderError::Failed);
-        }
+        self.ensure_live()?;
         let pen = self.pen();
-        match pen.write_link(&mut self.writing.content, text, url) {
-            Ok(()) => Ok(()),
-            Err(_) => {
-                self.writing.failed = true;
-                Err(RenderError::Memory)
-            }
-        }
+        let written = pen.write_link(&mut self.writing.content, text, url);
+        self.or_fail(written)
     }
 
     /// Writes a place that the caller fills, for the cite of that index, in the inherited
@@ -186,21 +201,13 @@ impl<'s, T> Context<'s, T> {
     /// [`RenderError::Memory`]: there was no memory left. The context has failed.
     /// [`RenderError::Failed`]: the context had failed.
     pub fn push_transparent(&mut self, cite_idx: usize) -> Result<(), RenderError>
-        ensures ok { OnOk result
-            (Leaves (with_content (λ inh. transparent_in inh cite_idx)) self.old self.new) }
-        ensures err { IfErr result (λ e. FailsAs e self.old self.new) }
+        ensures { Runs (with_content (λ inh. transparent_in inh cite_idx))
+            result self.old self.new }
     {
-        if self.writing.failed {
-            return Err(RenderError::Failed);
-        }
+        self.ensure_live()?;
         let pen = self.pen();
-        match pen.write_transparent(&mut self.writing.content, cite_idx) {
-            Ok(()) => Ok(()),
-            Err(_) => {
-                self.writing.failed = true;
-                Err(RenderError::Memory)
-            }
-        }
+        let written = pen.write_transparent(&mut self.writing.content, cite_idx);
+        self.or_fail(written)
     }
 
     /// Writes a space, unless the text of the innermost open part is empty or ends in white space.
@@ -209,8 +216,7 @@ impl<'s, T> Context<'s, T> {
     /// [`RenderError::Memory`]: there was no memory left. The context has failed.
     /// [`RenderError::Failed`]: the context had failed.
     pub fn ensure_space(&mut self) -> Result<(), RenderError>
-        ensures ok { OnOk result (Leaves with_space self.old self.new) }
-        ensures err { IfErr result (λ e. FailsAs e self.old self.new) }
+        ensures { Runs with_space result self.old self.new }
     {
         let gap = self.gap();
         self.push_str(gap)
@@ -247,21 +253,14 @@ impl<'s, T> Context<'s, T> {
     /// [`RenderError::Memory`]: there was no memory left. The context has failed.
     /// [`RenderError::Failed`]: the context had failed.
     pub fn push_elem(&mut self) -> Result<Mark, RenderError>
-        ensures ok { OnOk result (Leaves with_part self.old self.new) }
+        ensures after { Runs with_part result self.old self.new }
         ensures mark { IfOk result (λ mark. length self.new.outer ≡ mark.depth + 1) }
-        ensures err { IfErr result (λ e. FailsAs e self.old self.new) }
     {
-        if self.writing.failed {
-            return Err(RenderError::Failed);
-        }
+        self.ensure_live()?;
         let depth = self.writing.content.depth() - 1;
-        match self.writing.content.open() {
-            Ok(()) => Ok(Mark { depth }),
-            Err(_) => {
-                self.writing.failed = true;
-                Err(RenderError::Memory)
-            }
-        }
+        let opened = self.writing.content.open();
+        self.or_fail(opened)?;
+        Ok(Mark { depth })
     }
 
     /// Closes an element (CSL 1.0.2, Display). It is dropped where nothing was written in it.
@@ -276,20 +275,13 @@ impl<'s, T> Context<'s, T> {
         meta: Option<ElemMeta>,
     ) -> Result<(), RenderError>
         requires innermost { IsInnermost mark self.old }
-        ensures ok { OnOk result (Leaves
-            (closed_by (λ _ c. boxed display (optional_meta meta) c)) self.old self.new) }
-        ensures err { IfErr result (λ e. FailsAs e self.old self.new) }
+        ensures { Runs (closed_by (λ _ c. boxed display (optional_meta meta) c))
+            result self.old self.new }
     {
-        if self.writing.failed {
-            return Err(RenderError::Failed);
-        }
-        match self.writing.content.close_elem(display, meta) {
-            Ok(()) => Ok(()),
-            Err(_) => {
-                self.writing.failed = true;
-                Err(RenderError::Memory)
-            }
-        }
+        self.ensure_live()?;
+        let written = self.writing.content.close_elem(display, meta);
+        self.or_fail(written)?;
+        Ok(())
     }
 
     /// Closes a part and drops what was written in it.
@@ -311,18 +303,11 @@ impl<'s, T> Context<'s, T> {
     /// [`RenderError::Failed`]: the context had failed.
     pub fn splice(&mut self, mark: Mark) -> Result<(), RenderError>
         requires innermost { IsInnermost mark self.old }
-        ensures ok { OnOk result (Leaves (closed_by (λ _ c. c)) self.old self.new) }
-        ensures err { IfErr result (λ e. FailsAs e self.old self.new) }
+        ensures { Runs (closed_by (λ _ c. c)) result self.old self.new }
     {
-        if self.writing.failed {
-            return Err(RenderError::Failed);
-        }
-        match splice_part(&mut self.writing.content) {
-            Ok(()) => Ok(()),
-            Err(_) => {
-                self.writing.failed = true;
-                Err(RenderError::Memory)
-            }
-        }
+        self.ensure_live()?;
+        let written = splice_part(&mut self.writing.content);
+        self.or_fail(written)?;
+        Ok(())
     }
 }

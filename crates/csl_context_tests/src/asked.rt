@@ -7,8 +7,8 @@ use crate::film::Film;
 use crate::written::yes;
 use csl_context::{Context, RenderError};
 use csl_entry::{DisambiguatedNameForm, NameDisambiguationProperties, Sorting, SpecialForm};
-use csl_style::{DateForm, Kind, OtherTerm, PageVariable, Scope, Term, TermForm};
-use lit_model::{GrammarGender, Ordinals};
+use csl_style::{DateForm, Kind, OtherTerm, PageVariable, Scope, StandardVariable, Term, TermForm};
+use lit_model::{GrammarGender, LongShortForm, Ordinals};
 
 /// Writes an answer, or that there is none, before a bar.
 pub(crate) fn put(ctx: &mut Context<'_, Film>, answer: Option<&str>) -> Result<(), RenderError>
@@ -17,6 +17,17 @@ pub(crate) fn put(ctx: &mut Context<'_, Film>, answer: Option<&str>) -> Result<(
     ctx.push_str(answer.unwrap_or("none"))?;
     ctx.push_str("|")?;
     Ok(())
+}
+
+/// A text that was allocated for the context, and whether a silent look finds the title.
+pub(crate) fn attempt(ctx: &mut Context<'_, Film>) -> Result<(), RenderError>
+    ensures { OnOk result (ctx.new.outer ≡ ctx.old.outer) }
+{
+    let text = ctx.attempt(format!(in ctx.alloc(); "{}", 7))?;
+    put(ctx, Some(text.as_str()))?;
+    let title = StandardVariable::Title;
+    let found = ctx.settle(ctx.peek_standard_variable(LongShortForm::Long, title))?;
+    put(ctx, yes(found.is_some()))
 }
 
 /// The delimiter before, within and behind one and none.

@@ -3,7 +3,7 @@
 ghost use Rattle.std.specs.Prelude.{◌≡◌, [], OnOk, IfOk};
 
 use crate::asked::{
-    ask_cite, ask_locale, ask_terms, delimit, inherit_options, keep_names, mark_dates,
+    ask_cite, ask_locale, ask_terms, attempt, delimit, inherit_options, keep_names, mark_dates,
 };
 use crate::film::{Film, UNANSWERED, metropolis};
 use crate::looked::{look, look_and_suppress, suppress_genre};
@@ -44,6 +44,7 @@ enum Act {
     Look,
     LookAndSuppress,
     SuppressGenre,
+    Attempt,
 }
 
 fn perform(ctx: &mut Context<'_, Film>, affixes: &Affixes, act: Act) -> Result<(), RenderError>
@@ -71,6 +72,7 @@ fn perform(ctx: &mut Context<'_, Film>, affixes: &Affixes, act: Act) -> Result<(
         Act::Look => look(ctx),
         Act::LookAndSuppress => look_and_suppress(ctx),
         Act::SuppressGenre => suppress_genre(ctx),
+        Act::Attempt => attempt(ctx),
     }
 }
 
@@ -132,9 +134,9 @@ fn instance<'s>(world: World<'s>) -> InstanceContext<'s, Film> {
 /// Where it does not, the answer is that it had failed before.
 fn refused(ctx: &mut Context<'_, Film>, error: RenderError) -> RenderError {
     let written = ctx.push_str("a").err();
-    let nothing = ctx.nothing().err();
+    let guard = ctx.ensure_live().err();
     let failed = Some(RenderError::Failed);
-    if ctx.has_failed() && written == failed && nothing == failed {
+    if ctx.has_failed() && written == failed && guard == failed {
         return error;
     }
     RenderError::Failed
@@ -244,12 +246,39 @@ fn refusals(alloc: Global) -> Result<Refusals, Fail> {
     refusals
 }
 
+/// What a context answers to a call that ran out of memory, and behind it to one that did not. Then
+/// whether it has failed.
+fn attempts_in(alloc: Global, things: &Things) -> Result<([Option<RenderError>; 2], bool), Fail> {
+    let world = world_of(alloc, things)?;
+    let mut ctx = Context::new(world.alloc, world.style, instance(world), Scope::Citation)?;
+    let refused: Result<u8, Memory> = Err(Memory);
+    let first = ctx.attempt(refused).err();
+    let given: Result<u8, Memory> = Ok(7);
+    let second = ctx.attempt(given).err();
+    let has_failed = ctx.has_failed();
+    drop(ctx);
+    Ok(([first, second], has_failed))
+}
+
+/// The same in a world that is made for it.
+fn attempts(alloc: Global) -> Result<([Option<RenderError>; 2], bool), Fail> {
+    let things = new_things(alloc)?;
+    let attempts = attempts_in(alloc, &things);
+    drop(things);
+    attempts
+}
+
+/// An error in words.
+fn words_of(alloc: Global, error: RenderError) -> Result<String, Fail> {
+    Ok(format!(in alloc; "{error}")?)
+}
+
 fn assert_said(rt: &impl Abort, said: &str, wanted: &str, act: Act) {
     assert_eq!(rt; said, wanted, "{act:?}");
 }
 
 /// An act, and what it makes and leaves.
-static ACTS: [(Act, &str); 26] = [
+static ACTS: [(Act, &str); 27] = [
     (Act::Join, "ab"),
     // An element without content is dropped, whatever its display and its meta are.
     (Act::Nest("b"), "[ a [ b ]block:date ]"),
@@ -297,6 +326,7 @@ static ACTS: [(Act, &str); 26] = [
         "no|no| suppressed {Standard(Genre)} suppressing",
     ),
     (Act::Nest("b c"), "[ a [ b~c ]block:date ]"),
+    (Act::Attempt, "7|yes|"),
 ];
 
 /// Two acts, of which the second begins with what the first left, and what that one makes and
@@ -354,5 +384,15 @@ fn a_resumed_context_begins_with_what_was_left_and_a_failed_one_answers_so(
     let (memory, failed) = (Some(RenderError::Memory), Some(RenderError::Failed));
     let wanted = ([memory, memory, failed, failed], [false, true]);
     assert_eq!(rt; refusals(rt.alloc())?, wanted);
+    assert_eq!(rt; attempts(rt.alloc())?, ([memory, failed], true));
+    Ok(())
+}
+
+#[test]
+fn an_error_is_written_out(rt: HostRuntime) -> Result<(), Fail> {
+    let memory = words_of(rt.alloc(), RenderError::from(Memory))?;
+    assert_eq!(rt; memory.as_str(), "out of memory");
+    let failed = words_of(rt.alloc(), RenderError::Failed)?;
+    assert_eq!(rt; failed.as_str(), "the context had failed before");
     Ok(())
 }

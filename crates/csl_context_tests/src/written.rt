@@ -13,7 +13,7 @@ use lit_model::LongShortForm;
 pub(crate) fn join(ctx: &mut Context<'_, Film>) -> Result<(), RenderError>
     ensures { OnOk result (ctx.new.outer ≡ ctx.old.outer) }
 {
-    ctx.nothing()?;
+    ctx.ensure_live()?;
     ctx.push_str("a")?;
     ctx.push_str("")?;
     ctx.push_str("b")?;
@@ -174,7 +174,7 @@ fn write_title(ctx: &mut Context<'_, Film>) -> Result<(), RenderError>
 {
     match ctx.resolve_standard_variable(LongShortForm::Long, StandardVariable::Title)? {
         Some(title) => ctx.push_chunked(title.as_ref()),
-        None => ctx.nothing(),
+        None => ctx.ensure_live(),
     }
 }
 

@@ -8,7 +8,7 @@ use Rattle.csl_style.specs.declared.element.ChooseBranch.{ChooseBranch, out-Choo
 use Rattle.csl_entry.specs.Answers.{Answers}
 use Rattle.csl_context.specs.State.{State}
 use Rattle.csl_context.specs.World.{World}
-use Rattle.csl_context.specs.Now.{Now, FailsAs, world}
+use Rattle.csl_context.specs.Now.{Now, FailsSilently, world}
 use Rattle.csl_context.specs.declared.error.RenderError.{RenderError}
 use Rattle.csl_leaves.specs.Conditions.{conditions_at, of_numbers, of_dates, of_locators, of_positions, of_kinds}
 use Rattle.csl_leaves.specs.declared.conditions.BranchConditionPos.{BranchConditionPos}
@@ -95,10 +95,6 @@ behind_deciding matched.All bs = behind_first not bs
 behind_deciding matched.Any bs = behind_first (λ b. b) bs
 behind_deciding matched.None bs = behind_first (λ b. b) bs
 
--- a look failed: the context stays as it is
-abbrev pub FailsSilently : {T : Type 0} → RenderError → Now T → Type 0
-FailsSilently e now = FailsAs e now (record now { failed = true })
-
 -- a test was read, where there is one at the place
 abbrev pub ReadsAt : {T : Type 0} → Now T → Option Bool → Option (Result Bool RenderError) → Type 0
 ReadsAt now None r = r ≡ None
@@ -106,8 +102,8 @@ ReadsAt now (Some b) r = MatchOption r ⊥ (λ x. MatchResult x (λ c. (now.fail
 
 -- One reading returns the first condition that is left, or an error, after which nothing is left.
 -- Where nothing is left, it returns None, now and later.
-abbrev pub Reads : {T : Type 0} → (T → Answers) → BranchConditionIter T → Option (Result Bool RenderError) → BranchConditionIter T → Type 0
-Reads answers s r t =
+abbrev pub ReadsNext : {T : Type 0} → (T → Answers) → BranchConditionIter T → Option (Result Bool RenderError) → BranchConditionIter T → Type 0
+ReadsNext answers s r t =
     (context_of t ≡ context_of s) × MatchOption r ((conditions_left answers s ≡ []) × (conditions_left answers t ≡ []))
     (λ x. MatchResult x
     (λ b. ((context_of s).failed ≡ false) × (conditions_left answers s ≡ b ∷ conditions_left answers t))

@@ -1,7 +1,7 @@
 -- Texts that call no macro (CSL 1.0.2, Text; Affixes; Quotes; Strip-periods; Appendix VI, Links):
 -- what they find, their dry run, the variables that they show, their content and the state that
 -- they leave.
-use Rattle.std.specs.Prelude.{ℕ, Bool, true, false, not, ◌&&◌, ◌||◌, ◌==◌, List, [], ◌++◌, length, Option, Some, None, option_map, is_some, codes, bytes_eq, if◌then◌else◌}
+use Rattle.std.specs.Prelude.{ℕ, Bool, true, false, not, ◌&&◌, ◌||◌, ◌==◌, List, [], ◌++◌, length, Option, Some, None, option_map, is_some, Result, codes, bytes_eq, if◌then◌else◌}
 use denote.Enum.Bare.{sameb}
 use Rattle.lit_model.specs.Text.{Chunk}
 use Rattle.lit_model.specs.Chunks.{text_of, is_empty}
@@ -27,11 +27,13 @@ use Rattle.csl_tree.specs.Tokens.{Token, Meta, of_text, of_citation_label, of_ci
 use Rattle.csl_tree.specs.Content.{◌++>◌, boxed}
 use Rattle.csl_entry.specs.declared.cite.SpecialForm.{SpecialForm}
 use Rattle.csl_entry.specs.declared.cite.SpecialForm.TheVariants.{VarOnly, OnlyFirstDate, OnlyYearSuffix, SuppressAuthor}
+use Rattle.csl_entry.specs.Answers.{Answers}
 use Rattle.csl_entry.specs.NumberResult.{NumberOrPageView}
 use Rattle.csl_context.specs.State.{State, Inherited, looked}
 use Rattle.csl_context.specs.World.{World, standard_look, term_in}
 use Rattle.csl_context.specs.Texts.{text_in, chunks_in, link_in}
-use Rattle.csl_context.specs.Now.{Now}
+use Rattle.csl_context.specs.Now.{Now, Runs, world}
+use Rattle.csl_context.specs.declared.error.RenderError.{RenderError}
 use Rattle.csl_context.specs.Quotes.{quoted_in, has_moved, affixed_after}
 use Rattle.csl_leaves.specs.Answered.{number_or_page_look, shown_in, shown_by_text}
 use Rattle.csl_leaves.specs.Flags.{flags, no_flags, Info, info_of}
@@ -51,6 +53,10 @@ then_made c m = made (c ++> m.content) m.state
 -- a context after a rendering is appended to it
 abbrev pub with_made : {T : Type 0} → Made → Now T → Now T
 with_made m now = record now { inner = now.inner ++> m.content; state = m.state }
+
+-- A call appends what is made of the world, of what is inherited and of the state, or it fails.
+abbrev pub Appends : {R T : Type 0} → (T → Answers) → (World → Inherited → State → Made) → Result R RenderError → Now T → Now T → Type 0
+Appends answers m result old new = Runs (λ now. with_made (m (world answers now) now.inherited now.state) now) result old new
 
 abbrev pub same_variable : Variable → Variable → Bool
 same_variable = eq-value.it

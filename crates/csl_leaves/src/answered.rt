@@ -1,12 +1,12 @@
 //! Answers to variables that hold numbers or pages, and what a text or a number prints of them
 //! (CSL 1.0.2, Number Variables; Text: variable; Number).
 
-ghost use Rattle.std.specs.Prelude.{◌≡◌, IfOk, OnOk, IfErr, option_map, string_bytes};
+ghost use Rattle.std.specs.Prelude.{◌≡◌, IfOk, option_map, string_bytes};
 ghost use Rattle.lit_model.specs.Numeric.{numeric_view};
 ghost use Rattle.csl_style.specs.Taxonomy.{variable_of};
 ghost use Rattle.csl_entry.specs.NumberResult.{result_view, number_or_page_view};
 ghost use Rattle.csl_context.specs.World.{number_text};
-ghost use Rattle.csl_context.specs.Now.{FailsAs, Leaves, same, world, after_look};
+ghost use Rattle.csl_context.specs.Now.{Runs, Reads, world, after_look};
 ghost use Rattle.csl_leaves.specs.Answered.{number_or_page_look, shown_view, number_shown, shown_by_number, shown_by_text};
 
 use crate::pages::{pages_in_style, with_dashes};
@@ -29,28 +29,22 @@ pub(crate) fn peek_number_or_page<'s, T: EntryLike>(
     ctx: &mut Context<'s, T>,
     variable: NumberOrPageVariable,
 ) -> Result<Option<NumberOrPageVariableResult<'s>>, RenderError>
-    ensures value { IfOk result (λ found. option_map number_or_page_view found
-        ≡ number_or_page_look (world T.answers ctx.old) ctx.old.state variable) }
-    ensures ok { OnOk result (Leaves same ctx.old ctx.new) }
-    ensures err { IfErr result (λ e. FailsAs e ctx.old ctx.new) }
+    ensures { Reads (option_map number_or_page_view) result
+        (number_or_page_look (world T.answers ctx.old) ctx.old.state variable) ctx.old ctx.new }
 {
     match variable {
-        NumberOrPageVariable::Number(variable) => match ctx.peek_number_variable(variable) {
-            Ok(Some(number)) => Ok(Some(NumberOrPageVariableResult::Number(number))),
-            Ok(None) => Ok(None),
-            Err(error) => {
-                ctx.fail();
-                Err(error)
+        NumberOrPageVariable::Number(variable) => {
+            match ctx.settle(ctx.peek_number_variable(variable))? {
+                Some(number) => Ok(Some(NumberOrPageVariableResult::Number(number))),
+                None => Ok(None),
             }
-        },
-        NumberOrPageVariable::Page(variable) => match ctx.peek_page_variable(variable) {
-            Ok(Some(pages)) => Ok(Some(NumberOrPageVariableResult::Page(pages))),
-            Ok(None) => Ok(None),
-            Err(error) => {
-                ctx.fail();
-                Err(error)
+        }
+        NumberOrPageVariable::Page(variable) => {
+            match ctx.settle(ctx.peek_page_variable(variable))? {
+                Some(pages) => Ok(Some(NumberOrPageVariableResult::Page(pages))),
+                None => Ok(None),
             }
-        },
+        }
     }
 }
 
@@ -61,8 +55,7 @@ pub(crate) fn resolve_number_or_page<'s, T: EntryLike>(
 ) -> Result<Option<NumberOrPageVariableResult<'s>>, RenderError>
     ensures value { IfOk result (λ found. option_map number_or_page_view found
         ≡ number_or_page_look (world T.answers ctx.old) ctx.old.state variable) }
-    ensures ok { OnOk result (Leaves (after_look (variable_of variable)) ctx.old ctx.new) }
-    ensures err { IfErr result (λ e. FailsAs e ctx.old ctx.new) }
+    ensures after { Runs (after_look (variable_of variable)) result ctx.old ctx.new }
 {
     match variable {
         NumberOrPageVariable::Number(variable) => match ctx.resolve_number_variable(variable)? {

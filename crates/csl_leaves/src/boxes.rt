@@ -1,10 +1,9 @@
 //! What stands around the body of a node that has no quotes (CSL 1.0.2, Formatting, Affixes,
 //! Display, Strip-periods).
 
-ghost use Rattle.std.specs.Prelude.{◌≡◌, OnOk, IfErr};
 ghost use Rattle.csl_style.specs.Dressing.{dressing_of};
 ghost use Rattle.csl_tree.specs.Tokens.{meta_of};
-ghost use Rattle.csl_context.specs.Now.{FailsAs, Leaves, with_content};
+ghost use Rattle.csl_context.specs.Now.{Runs, with_content};
 ghost use Rattle.csl_leaves.specs.Bodies.{body_in};
 ghost use Rattle.csl_leaves.specs.Boxes.{in_plain, plain_box};
 
@@ -30,11 +29,10 @@ pub(crate) fn render_plain<'s, T: EntryLike>(
     meta: ElemMeta,
     body: Body<'_>,
 ) -> Result<(), RenderError>
-    ensures ok { OnOk result (Leaves (with_content (λ inh. plain_box (dressing_of
-        around.entry.formatting around.entry.affixes.now around.entry.display) (meta_of meta) inh
+    ensures { Runs (with_content (λ inh. plain_box (dressing_of around.entry.formatting
+        around.entry.affixes.now around.entry.display) (meta_of meta) inh
         (body_in (in_plain (dressing_of around.entry.formatting around.entry.affixes.now
-        around.entry.display) around.entry.strip_periods inh) body.entry))) ctx.old ctx.new) }
-    ensures err { IfErr result (λ e. FailsAs e ctx.old ctx.new) }
+        around.entry.display) around.entry.strip_periods inh) body.entry))) result ctx.old ctx.new }
 {
     ctx.push_format(around.formatting)?;
     let element = ctx.push_elem()?;

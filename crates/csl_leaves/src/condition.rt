@@ -1,11 +1,10 @@
 //! What one test of a branch answers (CSL 1.0.2, Choose), by silent looks.
 
-ghost use Rattle.std.specs.Prelude.{◌≡◌, false, true, IfOk, OnOk, IfErr, option_copied, option_map};
+ghost use Rattle.std.specs.Prelude.{◌≡◌, false, IfOk, OnOk, IfErr, option_copied, option_map};
 ghost use Rattle.std.specs.Cow.{cow_value};
 ghost use Rattle.lit_model.specs.Text.{chunks};
-ghost use Rattle.csl_context.specs.Now.{world};
+ghost use Rattle.csl_context.specs.Now.{FailsSilently, world};
 ghost use Rattle.csl_leaves.specs.Conditions.{is_number, is_numeric, is_uncertain, is_located, is_ibid, is_ibid_with_locator, is_positioned, is_of_kind, is_present, is_disambiguated};
-ghost use Rattle.csl_leaves.specs.ConditionsLeft.{FailsSilently};
 
 use csl_context::{Context, RenderError};
 use csl_entry::{EntryLike, IbidState, NumberVariableResult};
@@ -13,17 +12,6 @@ use csl_style::{DateVariable, Kind, Locator, Scope, TestPosition, Variable};
 use lit_model::{ChunkedString, LongShortForm, MaybeTyped, Memory, Numeric};
 use std::alloc::Global;
 use std::borrow::Cow;
-
-/// Returns an error if the context has failed.
-fn sound<'s, T: EntryLike>(ctx: &Context<'s, T>) -> Result<(), RenderError>
-    ensures sound { OnOk result (ctx.now.failed ≡ false) }
-    ensures err { IfErr result (λ e. FailsSilently e ctx.now) }
-{
-    if ctx.has_failed() {
-        return Err(RenderError::Failed);
-    }
-    Ok(())
-}
 
 /// Whether a text stands for a number.
 fn is_number(alloc: Global, text: &ChunkedString) -> Result<bool, Memory>
@@ -56,10 +44,7 @@ pub(crate) fn is_numeric<'s, T: EntryLike>(
     match variable {
         Variable::Standard(variable) => {
             match ctx.peek_standard_variable(LongShortForm::Long, variable)? {
-                Some(text) => match is_number(ctx.alloc(), text.as_ref()) {
-                    Ok(holds) => Ok(holds),
-                    Err(_) => Err(RenderError::Memory),
-                },
+                Some(text) => Ok(is_number(ctx.alloc(), text.as_ref())?),
                 None => Ok(false),
             }
         }
@@ -75,7 +60,7 @@ pub(crate) fn is_numeric<'s, T: EntryLike>(
             None => Ok(false),
         },
         Variable::Name(_) | Variable::Date(_) => {
-            sound(ctx)?;
+            ctx.ensure_live()?;
             Ok(false)
         }
     }
@@ -107,7 +92,7 @@ pub(crate) fn is_located<'s, T: EntryLike>(
     ensures sound { OnOk result (ctx.now.failed ≡ false) }
     ensures err { IfErr result (λ e. FailsSilently e ctx.now) }
 {
-    sound(ctx)?;
+    ctx.ensure_live()?;
     match ctx.instance().cite_props.speculative.locator {
         Some(locator) => Ok(locator.0 == kind),
         None => Ok(false),
@@ -146,7 +131,7 @@ pub(crate) fn is_positioned<'s, T: EntryLike>(
     ensures sound { OnOk result (ctx.now.failed ≡ false) }
     ensures err { IfErr result (λ e. FailsSilently e ctx.now) }
 {
-    sound(ctx)?;
+    ctx.ensure_live()?;
     match ctx.scope() {
         Scope::Bibliography => Ok(false),
         Scope::Citation => {
@@ -171,7 +156,7 @@ pub(crate) fn is_of_kind<'s, T: EntryLike>(
     ensures sound { OnOk result (ctx.now.failed ≡ false) }
     ensures err { IfErr result (λ e. FailsSilently e ctx.now) }
 {
-    sound(ctx)?;
+    ctx.ensure_live()?;
     Ok(ctx.matches_entry_type(kind))
 }
 
@@ -213,7 +198,7 @@ pub(crate) fn is_disambiguated<'s, T: EntryLike>(
     ensures sound { OnOk result (ctx.now.failed ≡ false) }
     ensures err { IfErr result (λ e. FailsSilently e ctx.now) }
 {
-    sound(ctx)?;
+    ctx.ensure_live()?;
     if wanted {
         Ok(ctx.should_disambiguate())
     } else {

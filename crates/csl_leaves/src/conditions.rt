@@ -5,7 +5,7 @@ ghost use Rattle.std.specs.Iterator.{YieldsFirst, item_count};
 ghost use Rattle.csl_style.specs.View.{view_branch};
 ghost use Rattle.csl_context.specs.Now.{world};
 ghost use Rattle.csl_leaves.specs.Conditions.{all_if, conditions_at, conditions};
-ghost use Rattle.csl_leaves.specs.ConditionsLeft.{arm_behind, arms_from, conditions_left, context_of, tests_of, ReadsAt, Reads};
+ghost use Rattle.csl_leaves.specs.ConditionsLeft.{arm_behind, arms_from, conditions_left, context_of, tests_of, ReadsAt, ReadsNext};
 
 use crate::condition::{
     is_disambiguated, is_located, is_numeric, is_of_kind, is_positioned, is_present, is_uncertain,
@@ -150,7 +150,7 @@ impl<'a, 's, T: EntryLike> BranchConditionIter<'a, 's, T> {
 impl<'a, 's, T: EntryLike> Iterator for BranchConditionIter<'a, 's, T> {
     type Item = Result<bool, RenderError>;
 
-    ghost next_gives = { Reads T.answers };
+    ghost next_gives = { ReadsNext T.answers };
 
     ghost remaining = { item_count (conditions_left T.answers) };
 

@@ -1,13 +1,13 @@
 //! Dates (CSL 1.0.2, Date; Localized Date Formats; Sorting).
 
-ghost use Rattle.std.specs.Prelude.{◌≡◌, Some, IfOk, OnOk, IfErr, option_map};
+ghost use Rattle.std.specs.Prelude.{◌≡◌, Some, option_map};
 ghost use Rattle.lit_model.specs.Date.{date_parts};
 ghost use Rattle.csl_style.specs.View.{view_date};
 ghost use Rattle.csl_entry.specs.Answers.{behind};
 ghost use Rattle.csl_context.specs.World.{date_look};
-ghost use Rattle.csl_context.specs.Now.{FailsAs, Leaves, same, world};
+ghost use Rattle.csl_context.specs.Now.{Reads, world};
 ghost use Rattle.csl_leaves.specs.Dates.{date_info, date_shows, date_tree, is_own, date_shown, is_first, shows_date, printed_date, date_or_key, found_date};
-ghost use Rattle.csl_leaves.specs.Text.{with_made};
+ghost use Rattle.csl_leaves.specs.Text.{Appends};
 ghost use Rattle.csl_leaves.specs.Usages.{told};
 ghost use Rattle.csl_leaves.specs.WrittenDates.{written_node};
 
@@ -15,7 +15,7 @@ use crate::condition::lent;
 use crate::date_key::sort_key;
 use crate::date_parts::{Found, Written, render_parts};
 use crate::date_suffix::{first_suffix, implicit_suffix};
-use crate::empty::{nothing, nothing_said, out_of_memory};
+use crate::empty::{nothing, nothing_said};
 use crate::number::number_said;
 use crate::usage::UsageInfo;
 use csl_context::{Context, RenderError};
@@ -34,12 +34,10 @@ pub fn date_info<'s, T: EntryLike>(
     ctx: &mut Context<'s, T>,
     node: &Date,
 ) -> Result<(bool, UsageInfo), RenderError>
-    ensures value { IfOk result (λ answer. told answer ≡ date_info (world T.answers ctx.old)
-        ctx.old.state (view_date node.now)) }
-    ensures ok { OnOk result (Leaves same ctx.old ctx.new) }
-    ensures err { IfErr result (λ e. FailsAs e ctx.old ctx.new) }
+    ensures { Reads told result
+        (date_info (world T.answers ctx.old) ctx.old.state (view_date node.now)) ctx.old ctx.new }
 {
-    nothing(ctx)?;
+    ctx.ensure_live()?;
     let Some(own) = node.variable else {
         return Ok(number_said(false));
     };
@@ -59,12 +57,10 @@ pub fn date_shown<'s, T: EntryLike>(
     node: &Date,
     asked: Variable,
 ) -> Result<bool, RenderError>
-    ensures value { IfOk result (λ answer. answer ≡ date_shows (world T.answers ctx.old)
-        ctx.old.state asked (view_date node.now)) }
-    ensures ok { OnOk result (Leaves same ctx.old ctx.new) }
-    ensures err { IfErr result (λ e. FailsAs e ctx.old ctx.new) }
+    ensures { Reads (λ answer. answer) result (date_shows (world T.answers ctx.old)
+        ctx.old.state asked (view_date node.now)) ctx.old ctx.new }
 {
-    nothing(ctx)?;
+    ctx.ensure_live()?;
     let first = ctx.peek_is_first_date();
     Ok(is_shown(ctx.special_form(), first, node.variable, asked))
 }
@@ -77,9 +73,7 @@ pub fn render_date<'s, T: EntryLike>(
     node: &Date,
     ctx: &mut Context<'s, T>,
 ) -> Result<(), RenderError>
-    ensures ok { OnOk result (Leaves (λ now. with_made (date_tree (world T.answers now)
-        (view_date node.now) now.inherited now.state) now) ctx.old ctx.new) }
-    ensures err { IfErr result (λ e. FailsAs e ctx.old ctx.new) }
+    ensures { Appends T.answers (λ w. date_tree w (view_date node.now)) result ctx.old ctx.new }
 {
     let Some(own) = node.variable else {
         return nothing(ctx);
@@ -136,18 +130,10 @@ fn peek_date<'s, T: EntryLike>(
     ctx: &mut Context<'s, T>,
     variable: DateVariable,
 ) -> Result<Option<Cow<'s, Given>>, RenderError>
-    ensures value { IfOk result (λ found. option_map (behind date_parts) found
-        ≡ date_look (world T.answers ctx.old) ctx.old.state variable) }
-    ensures ok { OnOk result (Leaves same ctx.old ctx.new) }
-    ensures err { IfErr result (λ e. FailsAs e ctx.old ctx.new) }
+    ensures { Reads (option_map (behind date_parts)) result
+        (date_look (world T.answers ctx.old) ctx.old.state variable) ctx.old ctx.new }
 {
-    match ctx.peek_date_variable(variable) {
-        Ok(found) => Ok(found),
-        Err(error) => {
-            ctx.fail();
-            Err(error)
-        }
-    }
+    ctx.settle(ctx.peek_date_variable(variable))
 }
 
 /// Appends the sort key of a date.
@@ -157,16 +143,12 @@ fn render_key<'s, T: EntryLike>(
     sorting: Sorting,
     date: &Given,
 ) -> Result<(), RenderError>
-    ensures ok { OnOk result (Leaves (λ now. with_made (date_or_key (world T.answers now)
-        (view_date node.now) (Some sorting) (date_parts date.now) now.inherited now.state) now)
-        ctx.old ctx.new) }
-    ensures err { IfErr result (λ e. FailsAs e ctx.old ctx.new) }
+    ensures { Appends T.answers (λ w. date_or_key w
+        (view_date node.now) (Some sorting) (date_parts date.now)) result ctx.old ctx.new }
 {
     let suffix = implicit_suffix(ctx)?;
-    match sort_key(ctx.alloc(), node, sorting, suffix.as_str(), date) {
-        Ok(key) => ctx.push_str(key.as_str()),
-        Err(_) => Err(out_of_memory(ctx)),
-    }
+    let key = ctx.attempt(sort_key(ctx.alloc(), node, sorting, suffix.as_str(), date))?;
+    ctx.push_str(key.as_str())
 }
 
 /// Appends the box of a date.
@@ -175,10 +157,8 @@ fn render_box<'s, T: EntryLike>(
     ctx: &mut Context<'s, T>,
     date: &Given,
 ) -> Result<(), RenderError>
-    ensures ok { OnOk result (Leaves (λ now. with_made (printed_date (world T.answers now)
-        (Some (written_node written.entry)) (date_parts date.now) now.inherited now.state) now)
-        ctx.old ctx.new) }
-    ensures err { IfErr result (λ e. FailsAs e ctx.old ctx.new) }
+    ensures { Appends T.answers (λ w. printed_date w
+        (Some (written_node written.entry)) (date_parts date.now)) result ctx.old ctx.new }
 {
     let suffix = first_suffix(ctx)?;
     let found = Found {
@@ -202,10 +182,8 @@ fn render_found<'s, T: EntryLike>(
     ctx: &mut Context<'s, T>,
     date: &Given,
 ) -> Result<(), RenderError>
-    ensures ok { OnOk result (Leaves (λ now. with_made (found_date (world T.answers now)
-        (view_date node.now) (Some (date_parts date.now)) now.inherited now.state) now)
-        ctx.old ctx.new) }
-    ensures err { IfErr result (λ e. FailsAs e ctx.old ctx.new) }
+    ensures { Appends T.answers (λ w. found_date w
+        (view_date node.now) (Some (date_parts date.now))) result ctx.old ctx.new }
 {
     if let Some(sorting) = ctx.sorting() {
         return render_key(node, ctx, sorting, date);

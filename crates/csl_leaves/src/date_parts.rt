@@ -1,12 +1,12 @@
 //! The parts of a date (CSL 1.0.2, Date-part; Localized Date Formats; Affixes, Delimiter).
 
-ghost use Rattle.std.specs.Prelude.{◌≡◌, ◌&&◌, not, true, map, unwrap_or, option_map, IfOk, OnOk, IfErr, string_bytes};
+ghost use Rattle.std.specs.Prelude.{◌≡◌, ◌&&◌, not, map, unwrap_or, option_map, IfOk, string_bytes};
 ghost use Rattle.lit_model.specs.Date.{date_parts};
 ghost use Rattle.csl_style.specs.declared.date.DateParts.TheVariants.{YearMonthDay};
 ghost use Rattle.csl_style.specs.Dressing.{dressing_of};
 ghost use Rattle.csl_style.specs.View.{view_date_part};
 ghost use Rattle.csl_tree.specs.Tokens.{has_children};
-ghost use Rattle.csl_context.specs.Now.{FailsAs, Leaves, world, with_content};
+ghost use Rattle.csl_context.specs.Now.{Runs, world, with_content};
 ghost use Rattle.csl_context.specs.Texts.{text_in};
 ghost use Rattle.csl_leaves.specs.Boxes.{in_plain, plain_between};
 ghost use Rattle.csl_leaves.specs.Dates.{is_suffix_alone, own_part, form_over, formatting_over, part_over, suffix_with, part_value, is_stripped, part_content, behind_delimiter, date_body};
@@ -15,7 +15,6 @@ ghost use Rattle.csl_leaves.specs.WrittenDates.{written_node, own_parts};
 use crate::boxes::Around;
 use crate::date_suffix::is_suffix_alone;
 use crate::date_text::{is_written, part_text};
-use crate::empty::{nothing, out_of_memory};
 use csl_context::{Context, RenderError};
 use csl_entry::EntryLike;
 use csl_style::{Affixes, Date, DateAnyForm, DatePart, DatePartName, DateParts, Formatting};
@@ -178,11 +177,10 @@ fn write_part<'s, T: EntryLike>(
     ctx: &mut Context<'s, T>,
     text: &str,
 ) -> Result<(), RenderError>
-    ensures ok { OnOk result (Leaves (with_content (λ inh. plain_between (dressing_of
-        around.entry.formatting around.entry.affixes.now around.entry.display) inh
+    ensures { Runs (with_content (λ inh. plain_between (dressing_of around.entry.formatting
+        around.entry.affixes.now around.entry.display) inh
         (text_in (in_plain (dressing_of around.entry.formatting around.entry.affixes.now
-        around.entry.display) around.entry.strip_periods inh) text.now))) ctx.old ctx.new) }
-    ensures err { IfErr result (λ e. FailsAs e ctx.old ctx.new) }
+        around.entry.display) around.entry.strip_periods inh) text.now))) result ctx.old ctx.new }
 {
     ctx.push_format(around.formatting)?;
     let middle = ctx.apply_prefix()?;
@@ -201,11 +199,10 @@ fn render_part<'s, T: EntryLike>(
     found: Found<'_>,
     part: &DatePart,
 ) -> Result<(), RenderError>
-    ensures ok { OnOk result (Leaves (λ now. with_content (λ inh. part_content (world T.answers now)
+    ensures { Runs (λ now. with_content (λ inh. part_content (world T.answers now)
         (unwrap_or (written_node written.entry).parts YearMonthDay) found.entry.suffix.now
         (date_parts found.entry.date.now) inh (part_over (own_parts written.entry)
-        (view_date_part part.now))) now) ctx.old ctx.new) }
-    ensures err { IfErr result (λ e. FailsAs e ctx.old ctx.new) }
+        (view_date_part part.now))) now) result ctx.old ctx.new }
 {
     let bare = Affixes::default();
     let own = written.own_part(part.name);
@@ -217,10 +214,8 @@ fn render_part<'s, T: EntryLike>(
         strip_periods: is_stripped(part.name, part.strip_periods),
     };
     let form = form_over(own, part.form);
-    match part_value(ctx, found, written.parts(), part.name, form) {
-        Ok(text) => write_part(around, ctx, text.as_str()),
-        Err(_) => Err(out_of_memory(ctx)),
-    }
+    let text = ctx.attempt(part_value(ctx, found, written.parts(), part.name, form))?;
+    write_part(around, ctx, text.as_str())
 }
 
 /// Appends a part, behind the delimiter unless no part of the date was printed yet. It answers
@@ -236,12 +231,11 @@ fn render_behind<'s, T: EntryLike>(
         (world T.answers ctx.old) (unwrap_or (written_node written.entry).parts YearMonthDay)
         found.entry.suffix.now (date_parts found.entry.date.now) ctx.old.inherited (part_over
         (own_parts written.entry) (view_date_part part.now)))))) }
-    ensures ok { OnOk result (Leaves (λ now. with_content (λ inh. behind_delimiter inh
+    ensures after { Runs (λ now. with_content (λ inh. behind_delimiter inh
         (written_node written.entry).delimiter first (part_content (world T.answers now)
         (unwrap_or (written_node written.entry).parts YearMonthDay) found.entry.suffix.now
         (date_parts found.entry.date.now) inh (part_over (own_parts written.entry)
-        (view_date_part part.now)))) now) ctx.old ctx.new) }
-    ensures err { IfErr result (λ e. FailsAs e ctx.old ctx.new) }
+        (view_date_part part.now)))) now) result ctx.old ctx.new }
 {
     let mark = ctx.push_elem()?;
     render_part(written, ctx, found, part)?;
@@ -260,12 +254,11 @@ pub(crate) fn render_parts<'s, T: EntryLike>(
     ctx: &mut Context<'s, T>,
     found: Found<'_>,
 ) -> Result<(), RenderError>
-    ensures ok { OnOk result (Leaves (λ now. with_content (date_body (world T.answers now)
+    ensures { Runs (λ now. with_content (date_body (world T.answers now)
         (written_node written.entry) found.entry.suffix.now (date_parts found.entry.date.now)) now)
-        ctx.old ctx.new) }
-    ensures err { IfErr result (λ e. FailsAs e ctx.old ctx.new) }
+        result ctx.old ctx.new }
 {
-    nothing(ctx)?;
+    ctx.ensure_live()?;
     let mut first = true;
     let parts = written.date_part();
     for part in parts {

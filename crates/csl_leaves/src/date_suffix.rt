@@ -1,10 +1,9 @@
 //! The year suffix behind the first year (CSL 1.0.2, Disambiguation: disambiguate-add-year-suffix).
 
-ghost use Rattle.std.specs.Prelude.{◌≡◌, IfOk, OnOk, IfErr, string_bytes};
-ghost use Rattle.csl_context.specs.Now.{FailsAs, Leaves, same, world, with_first_date};
+ghost use Rattle.std.specs.Prelude.{◌≡◌, IfOk, string_bytes};
+ghost use Rattle.csl_context.specs.Now.{Runs, Reads, world, with_first_date};
 ghost use Rattle.csl_leaves.specs.Dates.{suffix_text, implicit_suffix, first_suffix, is_suffix_alone};
 
-use crate::empty::nothing;
 use crate::standard::peek_standard;
 use csl_context::{Context, RenderError};
 use csl_entry::{EntryLike, SpecialForm};
@@ -29,12 +28,9 @@ pub(crate) fn is_suffix_alone(form: Option<SpecialForm>) -> bool
 pub(crate) fn implicit_suffix<'s, T: EntryLike>(
     ctx: &mut Context<'s, T>,
 ) -> Result<String, RenderError>
-    ensures value { IfOk result (λ suffix. string_bytes suffix
-        ≡ implicit_suffix (world T.answers ctx.old) ctx.old.state) }
-    ensures ok { OnOk result (Leaves same ctx.old ctx.new) }
-    ensures err { IfErr result (λ e. FailsAs e ctx.old ctx.new) }
+    ensures { Reads string_bytes result
+        (implicit_suffix (world T.answers ctx.old) ctx.old.state) ctx.old ctx.new }
 {
-    nothing(ctx)?;
     let alloc = ctx.alloc();
     let found = match peek_standard(ctx, LongShortForm::Long, StandardVariable::YearSuffix)? {
         Some(found) => found,
@@ -44,13 +40,7 @@ pub(crate) fn implicit_suffix<'s, T: EntryLike>(
     if !ctx.style().renders_year_suffix_implicitly(ctx.scope()) {
         return Ok(String::new(alloc));
     }
-    match found.as_ref().to_text(alloc) {
-        Ok(suffix) => Ok(suffix),
-        Err(_) => {
-            ctx.fail();
-            Err(RenderError::Memory)
-        }
-    }
+    ctx.attempt(found.as_ref().to_text(alloc))
 }
 
 /// The suffix of a date that is printed now: that behind the first year where no date was printed
@@ -60,10 +50,9 @@ pub(crate) fn first_suffix<'s, T: EntryLike>(
 ) -> Result<String, RenderError>
     ensures value { IfOk result (λ suffix. string_bytes suffix
         ≡ first_suffix (world T.answers ctx.old) ctx.old.state) }
-    ensures ok { OnOk result (Leaves with_first_date ctx.old ctx.new) }
-    ensures err { IfErr result (λ e. FailsAs e ctx.old ctx.new) }
+    ensures after { Runs with_first_date result ctx.old ctx.new }
 {
-    nothing(ctx)?;
+    ctx.ensure_live()?;
     if ctx.is_first_date() {
         implicit_suffix(ctx)
     } else {

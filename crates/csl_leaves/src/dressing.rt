@@ -1,11 +1,11 @@
 //! What stands around the body of a text (CSL 1.0.2, Formatting, Affixes, Display, Quotes,
 //! Strip-periods).
 
-ghost use Rattle.std.specs.Prelude.{◌≡◌, ◌+◌, length, IfOk, OnOk, IfErr};
+ghost use Rattle.std.specs.Prelude.{◌≡◌, ◌+◌, length, IfOk};
 ghost use Rattle.csl_style.specs.Dressing.{affix_texts};
 ghost use Rattle.csl_style.specs.View.{text_dressing};
 ghost use Rattle.csl_tree.specs.Tokens.{optional_meta};
-ghost use Rattle.csl_context.specs.Now.{FailsAs, Leaves, IsInnermost, with_part, closed_by, with_content};
+ghost use Rattle.csl_context.specs.Now.{Runs, IsInnermost, with_part, closed_by, with_content};
 ghost use Rattle.csl_leaves.specs.Text.{made, in_body, in_quotes_if, moved_if, turned_if, text_box, with_made};
 ghost use Rattle.csl_leaves.specs.Bodies.{body_in};
 
@@ -34,9 +34,8 @@ pub fn open_quotes<'s, T: EntryLike>(
     ctx: &mut Context<'s, T>,
     quotes: bool,
 ) -> Result<Mark, RenderError>
-    ensures ok { OnOk result (Leaves (λ now. with_part (turned_if quotes now)) ctx.old ctx.new) }
+    ensures after { Runs (λ now. with_part (turned_if quotes now)) result ctx.old ctx.new }
     ensures mark { IfOk result (λ mark. length ctx.new.outer ≡ mark.depth + 1) }
-    ensures err { IfErr result (λ e. FailsAs e ctx.old ctx.new) }
 {
     if quotes {
         ctx.push_quotes()
@@ -57,11 +56,10 @@ pub fn close_quotes<'s, T: EntryLike>(
     affixes: &Affixes,
 ) -> Result<bool, RenderError>
     requires innermost { IsInnermost mark ctx.old }
-    ensures ok { OnOk result (Leaves (λ now. closed_by (λ inh c. in_quotes_if quotes now.style inh
-        (affix_texts affixes.now).suffix c) (turned_if quotes now)) ctx.old ctx.new) }
+    ensures after { Runs (λ now. closed_by (λ inh c. in_quotes_if quotes now.style inh
+        (affix_texts affixes.now).suffix c) (turned_if quotes now)) result ctx.old ctx.new }
     ensures moved { IfOk result (λ moved. moved ≡ moved_if quotes ctx.old.style
         (affix_texts affixes.now).suffix ctx.old.inner) }
-    ensures err { IfErr result (λ e. FailsAs e ctx.old ctx.new) }
 {
     if quotes {
         let moved = ctx.pop_quotes(mark, affixes.suffix.as_deref())?;
@@ -77,9 +75,7 @@ pub(crate) fn write_body<'s, T: EntryLike>(
     ctx: &mut Context<'s, T>,
     body: Body<'_>,
 ) -> Result<(), RenderError>
-    ensures ok { OnOk result (Leaves (with_content (λ inh. body_in inh body.entry))
-        ctx.old ctx.new) }
-    ensures err { IfErr result (λ e. FailsAs e ctx.old ctx.new) }
+    ensures { Runs (with_content (λ inh. body_in inh body.entry)) result ctx.old ctx.new }
 {
     match body {
         Body::Words(words) => ctx.push_str(words),
@@ -98,11 +94,10 @@ pub(crate) fn render_body<'s, T: EntryLike>(
     meta: Option<ElemMeta>,
     body: Body<'_>,
 ) -> Result<(), RenderError>
-    ensures ok { OnOk result (Leaves (λ now. with_made (made (text_box now.style
+    ensures { Runs (λ now. with_made (made (text_box now.style
         (affix_texts affixes.now) (text_dressing text.now) (optional_meta meta) now.inherited
         (body_in (in_body (text_dressing text.now) now.inherited) body.entry)) now.state) now)
-        ctx.old ctx.new) }
-    ensures err { IfErr result (λ e. FailsAs e ctx.old ctx.new) }
+        result ctx.old ctx.new }
 {
     ctx.push_format(text.formatting)?;
     let element = ctx.push_elem()?;

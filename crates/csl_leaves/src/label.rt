@@ -1,11 +1,11 @@
 //! Labels (CSL 1.0.2, Label; Locators).
 
-ghost use Rattle.std.specs.Prelude.{◌≡◌, IfOk, OnOk, IfErr, option_map};
+ghost use Rattle.std.specs.Prelude.{◌≡◌, option_map};
 ghost use Rattle.csl_style.specs.Names.{view_label};
 ghost use Rattle.csl_entry.specs.NumberResult.{result_view, number_or_page_view};
-ghost use Rattle.csl_context.specs.Now.{FailsAs, Leaves, same, world};
+ghost use Rattle.csl_context.specs.Now.{Reads, world};
 ghost use Rattle.csl_leaves.specs.Labels.{label_info, label_tree, label_term, is_count, plural_number, is_plural, label_text, is_locator, is_other_number, unless_locator, said_by_form};
-ghost use Rattle.csl_leaves.specs.Text.{with_made};
+ghost use Rattle.csl_leaves.specs.Text.{Appends};
 ghost use Rattle.csl_leaves.specs.Usages.{told};
 
 use crate::answered::peek_number_or_page;
@@ -30,12 +30,10 @@ pub fn label_info<'s, T: EntryLike>(
     ctx: &mut Context<'s, T>,
     label: &Label,
 ) -> Result<(bool, UsageInfo), RenderError>
-    ensures value { IfOk result (λ answer. told answer ≡ label_info (world T.answers ctx.old)
-        ctx.old.state label.now.variable (view_label label.now.label)) }
-    ensures ok { OnOk result (Leaves same ctx.old ctx.new) }
-    ensures err { IfErr result (λ e. FailsAs e ctx.old ctx.new) }
+    ensures { Reads told result (label_info (world T.answers ctx.old)
+        ctx.old.state label.now.variable (view_label label.now.label)) ctx.old ctx.new }
 {
-    nothing(ctx)?;
+    ctx.ensure_live()?;
     match said_by_form(ctx.special_form(), label.variable) {
         Some(prints) => Ok((prints, UsageInfo::default())),
         None => {
@@ -53,10 +51,8 @@ pub fn render_label<'s, T: EntryLike>(
     label: &Label,
     ctx: &mut Context<'s, T>,
 ) -> Result<(), RenderError>
-    ensures ok { OnOk result (Leaves (λ now. with_made (label_tree (world T.answers now)
-        label.now.variable (view_label label.now.label) now.inherited now.state) now)
-        ctx.old ctx.new) }
-    ensures err { IfErr result (λ e. FailsAs e ctx.old ctx.new) }
+    ensures { Appends T.answers (λ w. label_tree w label.now.variable (view_label label.now.label))
+        result ctx.old ctx.new }
 {
     if let Some(false) = said_by_form(ctx.special_form(), label.variable) {
         return nothing(ctx);
@@ -189,11 +185,8 @@ fn label_text<'s, T: EntryLike>(
     ctx: &mut Context<'s, T>,
     label: &Label,
 ) -> Result<Option<&'s str>, RenderError>
-    ensures value { IfOk result (λ text. option_map (λ t. t.now) text
-        ≡ label_text (world T.answers ctx.old) ctx.old.state label.now.variable
-        (view_label label.now.label)) }
-    ensures ok { OnOk result (Leaves same ctx.old ctx.new) }
-    ensures err { IfErr result (λ e. FailsAs e ctx.old ctx.new) }
+    ensures { Reads (option_map (λ t. t.now)) result (label_text (world T.answers ctx.old)
+        ctx.old.state label.now.variable (view_label label.now.label)) ctx.old ctx.new }
 {
     match peek_number_or_page(ctx, label.variable)? {
         Some(found) => match label_term(ctx, label.variable) {

@@ -1,14 +1,14 @@
 //! Numbers (CSL 1.0.2, Number; Sorting).
 
-ghost use Rattle.std.specs.Prelude.{◌≡◌, true, Some, None, IfOk, OnOk, IfErr, option_map, string_bytes};
+ghost use Rattle.std.specs.Prelude.{◌≡◌, true, Some, None, IfOk, option_map, string_bytes};
 ghost use Rattle.lit_model.specs.Numeric.{value_view};
 ghost use Rattle.lit_model.specs.NumericText.{integer_text, value_text};
 ghost use Rattle.csl_style.specs.View.{view_number};
 ghost use Rattle.csl_tree.specs.Tokens.{meta_of};
 ghost use Rattle.csl_entry.specs.NumberResult.{number_or_page_view};
-ghost use Rattle.csl_context.specs.Now.{FailsAs, Leaves, same, world, with_content};
+ghost use Rattle.csl_context.specs.Now.{Runs, Reads, world, with_content};
 ghost use Rattle.csl_leaves.specs.Numbers.{is_shown, number_said, number_info, number_shows, number_tree, sort_text_if, number_meta, number_content, found_content};
-ghost use Rattle.csl_leaves.specs.Text.{with_made};
+ghost use Rattle.csl_leaves.specs.Text.{Appends};
 ghost use Rattle.csl_leaves.specs.Usages.{told};
 
 use crate::answered::{peek_number_or_page, resolve_number_or_page, shown_by_number};
@@ -33,12 +33,10 @@ pub fn number_info<'s, T: EntryLike>(
     ctx: &mut Context<'s, T>,
     number: &Number,
 ) -> Result<(bool, UsageInfo), RenderError>
-    ensures value { IfOk result (λ answer. told answer ≡ number_info (world T.answers ctx.old)
-        ctx.old.state (view_number number.now)) }
-    ensures ok { OnOk result (Leaves same ctx.old ctx.new) }
-    ensures err { IfErr result (λ e. FailsAs e ctx.old ctx.new) }
+    ensures { Reads told result (number_info (world T.answers ctx.old) ctx.old.state
+        (view_number number.now)) ctx.old ctx.new }
 {
-    nothing(ctx)?;
+    ctx.ensure_live()?;
     let own = Variable::from(number.variable);
     if !is_shown(ctx.special_form(), own, own) {
         return Ok(number_said(false));
@@ -56,12 +54,10 @@ pub fn number_shown<'s, T: EntryLike>(
     number: &Number,
     asked: Variable,
 ) -> Result<bool, RenderError>
-    ensures value { IfOk result (λ answer. answer ≡ number_shows (world T.answers ctx.old) asked
-        (view_number number.now)) }
-    ensures ok { OnOk result (Leaves same ctx.old ctx.new) }
-    ensures err { IfErr result (λ e. FailsAs e ctx.old ctx.new) }
+    ensures { Reads (λ answer. answer) result
+        (number_shows (world T.answers ctx.old) asked (view_number number.now)) ctx.old ctx.new }
 {
-    nothing(ctx)?;
+    ctx.ensure_live()?;
     Ok(is_shown(ctx.special_form(), Variable::from(number.variable), asked))
 }
 
@@ -73,9 +69,8 @@ pub fn render_number<'s, T: EntryLike>(
     number: &Number,
     ctx: &mut Context<'s, T>,
 ) -> Result<(), RenderError>
-    ensures ok { OnOk result (Leaves (λ now. with_made (number_tree (world T.answers now)
-        (view_number number.now) now.inherited now.state) now) ctx.old ctx.new) }
-    ensures err { IfErr result (λ e. FailsAs e ctx.old ctx.new) }
+    ensures { Appends T.answers (λ w. number_tree w (view_number number.now))
+        result ctx.old ctx.new }
 {
     let own = Variable::from(number.variable);
     if !is_shown(ctx.special_form(), own, own) {
@@ -171,11 +166,9 @@ fn render_box<'s, T: EntryLike>(
     ctx: &mut Context<'s, T>,
     found: &NumberOrPageVariableResult<'_>,
 ) -> Result<(), RenderError>
-    ensures ok { OnOk result (Leaves (λ now. with_content (number_content (world T.answers now)
-        (view_number number.now) (number_or_page_view found.now) None) now) ctx.old ctx.new) }
-    ensures err { IfErr result (λ e. FailsAs e ctx.old ctx.new) }
+    ensures { Runs (λ now. with_content (number_content (world T.answers now)
+        (view_number number.now) (number_or_page_view found.now) None) now) result ctx.old ctx.new }
 {
-    nothing(ctx)?;
     let gender = ctx.gender(Term::from(number.variable));
     let around = Around {
         formatting: number.formatting,
@@ -183,16 +176,13 @@ fn render_box<'s, T: EntryLike>(
         display: number.display,
         strip_periods: false,
     };
-    match shown_by_number(ctx, number.form, gender, found) {
-        Ok(shown) => {
-            let meta = number_meta(number.variable);
-            render_plain(around, ctx, meta, Body::Answered(&shown))
-        }
-        Err(_) => {
-            ctx.fail();
-            Err(RenderError::Memory)
-        }
-    }
+    let shown = ctx.attempt(shown_by_number(ctx, number.form, gender, found))?;
+    render_plain(
+        around,
+        ctx,
+        number_meta(number.variable),
+        Body::Answered(&shown),
+    )
 }
 
 /// Appends a number that has this answer: its sort text as it is, or its box.
@@ -201,17 +191,11 @@ fn render_found<'s, T: EntryLike>(
     ctx: &mut Context<'s, T>,
     found: &NumberOrPageVariableResult<'_>,
 ) -> Result<(), RenderError>
-    ensures ok { OnOk result (Leaves (λ now. with_content (found_content (world T.answers now)
-        (view_number number.now) (Some (number_or_page_view found.now))) now) ctx.old ctx.new) }
-    ensures err { IfErr result (λ e. FailsAs e ctx.old ctx.new) }
+    ensures { Runs (λ now. with_content (found_content (world T.answers now) (view_number
+        number.now) (Some (number_or_page_view found.now))) now) result ctx.old ctx.new }
 {
-    nothing(ctx)?;
-    match sort_text_if(ctx, found) {
-        Ok(Some(key)) => ctx.push_str(key.as_str()),
-        Ok(None) => render_box(number, ctx, found),
-        Err(_) => {
-            ctx.fail();
-            Err(RenderError::Memory)
-        }
+    match ctx.attempt(sort_text_if(ctx, found))? {
+        Some(key) => ctx.push_str(key.as_str()),
+        None => render_box(number, ctx, found),
     }
 }

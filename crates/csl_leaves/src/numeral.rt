@@ -1,11 +1,11 @@
 //! Texts of a variable that holds a number or pages (CSL 1.0.2, Text: variable).
 
-ghost use Rattle.std.specs.Prelude.{◌≡◌, ◌&&◌, Some, None, true, is_some, if◌then◌else◌, IfOk, OnOk, IfErr};
+ghost use Rattle.std.specs.Prelude.{◌≡◌, ◌&&◌, Some, None, true, is_some, if◌then◌else◌};
 ghost use Rattle.csl_style.specs.Taxonomy.{variable_of};
 ghost use Rattle.csl_style.specs.View.{text_dressing};
 ghost use Rattle.csl_tree.specs.Tokens.{meta_of};
 ghost use Rattle.csl_entry.specs.NumberResult.{number_or_page_view};
-ghost use Rattle.csl_context.specs.Now.{FailsAs, Leaves, same, world};
+ghost use Rattle.csl_context.specs.Now.{Runs, Reads, world};
 ghost use Rattle.csl_leaves.specs.Text.{made, numeral, same_variable, shows_variable, numeral_found, found_info, numeral_meta, found_tree, state_after_look, with_made};
 ghost use Rattle.csl_leaves.specs.Usages.{told};
 
@@ -25,11 +25,9 @@ pub(crate) fn numeral_info<'s, T: EntryLike>(
     ctx: &mut Context<'s, T>,
     variable: NumberOrPageVariable,
 ) -> Result<(bool, UsageInfo), RenderError>
-    ensures value { IfOk result (λ answer. told answer ≡ found_info true
-        (if shows_variable ctx.old.special (variable_of variable)
-        then numeral_found (world T.answers ctx.old) ctx.old.state variable else None)) }
-    ensures ok { OnOk result (Leaves same ctx.old ctx.new) }
-    ensures err { IfErr result (λ e. FailsAs e ctx.old ctx.new) }
+    ensures { Reads told result
+        (found_info true (if shows_variable ctx.old.special (variable_of variable) then
+        numeral_found (world T.answers ctx.old) ctx.old.state variable else None)) ctx.old ctx.new }
 {
     if !shows_variable(ctx.special_form(), Variable::from(variable)) {
         return called_in_vain(ctx);
@@ -46,12 +44,9 @@ pub(crate) fn numeral_shown<'s, T: EntryLike>(
     variable: NumberOrPageVariable,
     asked: Variable,
 ) -> Result<bool, RenderError>
-    ensures value { IfOk result (λ answer. answer ≡ (is_some
-        (if shows_variable ctx.old.special (variable_of variable)
-        then numeral_found (world T.answers ctx.old) ctx.old.state variable else None)
-        && same_variable (variable_of variable) asked)) }
-    ensures ok { OnOk result (Leaves same ctx.old ctx.new) }
-    ensures err { IfErr result (λ e. FailsAs e ctx.old ctx.new) }
+    ensures { Reads (λ answer. answer) result ((is_some (if shows_variable ctx.old.special
+        (variable_of variable) then numeral_found (world T.answers ctx.old) ctx.old.state
+        variable else None) && same_variable (variable_of variable) asked)) ctx.old ctx.new }
 {
     if !shows_variable(ctx.special_form(), Variable::from(variable)) {
         return nothing_shown(ctx);
@@ -85,20 +80,13 @@ fn render_answer<'s, T: EntryLike>(
     variable: NumberOrPageVariable,
     found: &NumberOrPageVariableResult<'_>,
 ) -> Result<(), RenderError>
-    ensures ok { OnOk result (Leaves (λ now. with_made (made (found_tree (world T.answers now)
+    ensures { Runs (λ now. with_made (made (found_tree (world T.answers now)
         (text_dressing text.now) now.inherited (Some (numeral variable
-        (number_or_page_view found.now)))) now.state) now) ctx.old ctx.new) }
-    ensures err { IfErr result (λ e. FailsAs e ctx.old ctx.new) }
+        (number_or_page_view found.now)))) now.state) now) result ctx.old ctx.new }
 {
-    nothing(ctx)?;
     let meta = Some(numeral_meta(variable));
-    match shown_by_text(ctx, found) {
-        Ok(shown) => render_body(text, ctx, &text.affixes, meta, Body::Answered(&shown)),
-        Err(_) => {
-            ctx.fail();
-            Err(RenderError::Memory)
-        }
-    }
+    let shown = ctx.attempt(shown_by_text(ctx, found))?;
+    render_body(text, ctx, &text.affixes, meta, Body::Answered(&shown))
 }
 
 /// Appends a text of the variable, which is looked up for printing.
@@ -107,13 +95,10 @@ pub(crate) fn render_numeral<'s, T: EntryLike>(
     ctx: &mut Context<'s, T>,
     variable: NumberOrPageVariable,
 ) -> Result<(), RenderError>
-    ensures ok { OnOk result (Leaves (λ now. with_made (made
-        (found_tree (world T.answers now) (text_dressing text.now) now.inherited
-        (if shows_variable now.special (variable_of variable)
-        then numeral_found (world T.answers now) now.state variable else None))
-        (state_after_look (world T.answers now) (variable_of variable) now.state)) now)
-        ctx.old ctx.new) }
-    ensures err { IfErr result (λ e. FailsAs e ctx.old ctx.new) }
+    ensures { Runs (λ now. with_made (made (found_tree (world T.answers now)
+        (text_dressing text.now) now.inherited (if shows_variable now.special (variable_of variable)
+        then numeral_found (world T.answers now) now.state variable else None)) (state_after_look
+        (world T.answers now) (variable_of variable) now.state)) now) result ctx.old ctx.new }
 {
     if !shows_variable(ctx.special_form(), Variable::from(variable)) {
         return nothing(ctx);

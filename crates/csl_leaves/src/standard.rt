@@ -1,6 +1,6 @@
 //! Texts of a standard variable (CSL 1.0.2, Text: variable; Appendix VI: Links).
 
-ghost use Rattle.std.specs.Prelude.{◌≡◌, ◌++◌, if◌then◌else◌, Some, None, true, false, option_map, string_bytes, IfOk, OnOk, IfErr};
+ghost use Rattle.std.specs.Prelude.{◌≡◌, ◌++◌, if◌then◌else◌, true, false, option_map, string_bytes, IfOk};
 ghost use Rattle.lit_model.specs.Text.{chunks};
 ghost use Rattle.lit_model.specs.Chunks.{text_of};
 ghost use Rattle.csl_entry.specs.Answers.{behind};
@@ -8,9 +8,9 @@ ghost use Rattle.csl_style.specs.Node.{of_variable};
 ghost use Rattle.csl_style.specs.View.{text_dressing};
 ghost use Rattle.csl_tree.specs.Tokens.{meta_of};
 ghost use Rattle.csl_context.specs.World.{standard_look};
-ghost use Rattle.csl_context.specs.Now.{FailsAs, Leaves, same, world};
+ghost use Rattle.csl_context.specs.Now.{Runs, Reads, world};
 ghost use Rattle.csl_leaves.specs.Flags.{info_of, flags};
-ghost use Rattle.csl_leaves.specs.Text.{answer, made, in_body, text_box, found_affixes, standard_meta, found_meta, found_body, target_info, target_shows, target_tree, with_made};
+ghost use Rattle.csl_leaves.specs.Text.{Appends, answer, made, in_body, text_box, found_affixes, standard_meta, found_meta, found_body, target_info, target_shows, target_tree, with_made};
 ghost use Rattle.csl_leaves.specs.Usages.{told};
 
 use crate::dressing::{Body, render_body};
@@ -32,30 +32,19 @@ pub(crate) fn peek_standard<'s, T: EntryLike>(
     form: LongShortForm,
     variable: StandardVariable,
 ) -> Result<Option<Cow<'s, ChunkedString>>, RenderError>
-    ensures value { IfOk result (λ found. option_map (behind chunks) found
-        ≡ standard_look (world T.answers ctx.old) ctx.old.state form variable) }
-    ensures ok { OnOk result (Leaves same ctx.old ctx.new) }
-    ensures err { IfErr result (λ e. FailsAs e ctx.old ctx.new) }
+    ensures { Reads (option_map (behind chunks)) result
+        (standard_look (world T.answers ctx.old) ctx.old.state form variable) ctx.old ctx.new }
 {
-    match ctx.peek_standard_variable(form, variable) {
-        Ok(found) => Ok(found),
-        Err(error) => {
-            ctx.fail();
-            Err(error)
-        }
-    }
+    ctx.settle(ctx.peek_standard_variable(form, variable))
 }
 
 /// What a text says of a variable that it calls and finds nothing of.
 pub(crate) fn called_in_vain<'s, T: EntryLike>(
     ctx: &mut Context<'s, T>,
 ) -> Result<(bool, UsageInfo), RenderError>
-    ensures value { IfOk result (λ answer. told answer
-        ≡ info_of false (flags true false false false)) }
-    ensures ok { OnOk result (Leaves same ctx.old ctx.new) }
-    ensures err { IfErr result (λ e. FailsAs e ctx.old ctx.new) }
+    ensures { Reads told result (info_of false (flags true false false false)) ctx.old ctx.new }
 {
-    nothing(ctx)?;
+    ctx.ensure_live()?;
     Ok((false, UsageInfo::of_variable(true, false)))
 }
 
@@ -65,12 +54,10 @@ pub(crate) fn standard_info<'s, T: EntryLike>(
     form: LongShortForm,
     variable: StandardVariable,
 ) -> Result<(bool, UsageInfo), RenderError>
-    ensures value { IfOk result (λ answer. told answer ≡ target_info (world T.answers ctx.old)
-        ctx.old.state (of_variable (Variable.Standard variable) form)) }
-    ensures ok { OnOk result (Leaves same ctx.old ctx.new) }
-    ensures err { IfErr result (λ e. FailsAs e ctx.old ctx.new) }
+    ensures { Reads told result (target_info (world T.answers ctx.old) ctx.old.state
+        (of_variable (Variable.Standard variable) form)) ctx.old ctx.new }
 {
-    nothing(ctx)?;
+    ctx.ensure_live()?;
     let called = variable != StandardVariable::YearSuffix;
     if !shows_variable(ctx.special_form(), Variable::Standard(variable)) {
         return Ok((false, UsageInfo::of_variable(called, false)));
@@ -91,10 +78,8 @@ pub(crate) fn standard_shown<'s, T: EntryLike>(
     variable: StandardVariable,
     asked: Variable,
 ) -> Result<bool, RenderError>
-    ensures value { IfOk result (λ answer. answer ≡ target_shows (world T.answers ctx.old)
-        ctx.old.state asked (of_variable (Variable.Standard variable) form)) }
-    ensures ok { OnOk result (Leaves same ctx.old ctx.new) }
-    ensures err { IfErr result (λ e. FailsAs e ctx.old ctx.new) }
+    ensures { Reads (λ answer. answer) result (target_shows (world T.answers ctx.old)
+        ctx.old.state asked (of_variable (Variable.Standard variable) form)) ctx.old ctx.new }
 {
     if !shows_variable(ctx.special_form(), Variable::Standard(variable)) {
         return nothing_shown(ctx);
@@ -145,14 +130,12 @@ fn render_answer<'s, T: EntryLike>(
     variable: StandardVariable,
     found: &ChunkedString,
 ) -> Result<(), RenderError>
-    ensures ok { OnOk result (Leaves (λ now. with_made (made (text_box now.style
-        (found_affixes (text_dressing text.now) (answer variable (chunks found.now)))
-        (text_dressing text.now) (found_meta (answer variable (chunks found.now))) now.inherited
-        (found_body now.style (text_dressing text.now) (in_body (text_dressing text.now)
-        now.inherited) (answer variable (chunks found.now)))) now.state) now) ctx.old ctx.new) }
-    ensures err { IfErr result (λ e. FailsAs e ctx.old ctx.new) }
+    ensures { Runs (λ now. with_made (made (text_box now.style (found_affixes
+        (text_dressing text.now) (answer variable (chunks found.now))) (text_dressing text.now)
+        (found_meta (answer variable (chunks found.now))) now.inherited (found_body now.style
+        (text_dressing text.now) (in_body (text_dressing text.now) now.inherited)
+        (answer variable (chunks found.now)))) now.state) now) result ctx.old ctx.new }
 {
-    nothing(ctx)?;
     let bare = Affixes::default();
     let begins = begins_link(text, variable);
     let affixes = if begins { &bare } else { &text.affixes };
@@ -160,19 +143,12 @@ fn render_answer<'s, T: EntryLike>(
     let Some(prefix) = address_prefix(variable) else {
         return render_body(text, ctx, affixes, meta, Body::Pieces(found));
     };
-    match linked(ctx.alloc(), prefix, found, begins) {
-        Ok((url, shown)) => {
-            let body = Body::Link {
-                text: shown.as_str(),
-                url: url.as_str(),
-            };
-            render_body(text, ctx, affixes, meta, body)
-        }
-        Err(_) => {
-            ctx.fail();
-            Err(RenderError::Memory)
-        }
-    }
+    let (url, shown) = ctx.attempt(linked(ctx.alloc(), prefix, found, begins))?;
+    let body = Body::Link {
+        text: shown.as_str(),
+        url: url.as_str(),
+    };
+    render_body(text, ctx, affixes, meta, body)
 }
 
 /// Appends a text of a standard variable, which is looked up for printing.
@@ -182,10 +158,8 @@ pub(crate) fn render_standard<'s, T: EntryLike>(
     form: LongShortForm,
     variable: StandardVariable,
 ) -> Result<(), RenderError>
-    ensures ok { OnOk result (Leaves (λ now. with_made (target_tree (world T.answers now)
-        (of_variable (Variable.Standard variable) form) (text_dressing text.now) now.inherited
-        now.state) now) ctx.old ctx.new) }
-    ensures err { IfErr result (λ e. FailsAs e ctx.old ctx.new) }
+    ensures { Appends T.answers (λ w. target_tree w (of_variable (Variable.Standard variable) form)
+        (text_dressing text.now)) result ctx.old ctx.new }
 {
     if !shows_variable(ctx.special_form(), Variable::Standard(variable)) {
         return nothing(ctx);

@@ -1,10 +1,9 @@
 //! Texts of a variable (CSL 1.0.2, Text: variable). No name and no date is found.
 
-ghost use Rattle.std.specs.Prelude.{◌≡◌, IfOk, OnOk, IfErr};
 ghost use Rattle.csl_style.specs.Node.{of_variable};
 ghost use Rattle.csl_style.specs.View.{text_dressing};
-ghost use Rattle.csl_context.specs.Now.{FailsAs, Leaves, same, world};
-ghost use Rattle.csl_leaves.specs.Text.{target_info, target_shows, target_tree, with_made};
+ghost use Rattle.csl_context.specs.Now.{Reads, world};
+ghost use Rattle.csl_leaves.specs.Text.{Appends, target_info, target_shows, target_tree};
 ghost use Rattle.csl_leaves.specs.Usages.{told};
 
 use crate::empty::{nothing, nothing_shown};
@@ -26,10 +25,8 @@ pub fn variable_info<'s, T: EntryLike>(
     form: LongShortForm,
     variable: Variable,
 ) -> Result<(bool, UsageInfo), RenderError>
-    ensures value { IfOk result (λ answer. told answer ≡ target_info (world T.answers ctx.old)
-        ctx.old.state (of_variable variable form)) }
-    ensures ok { OnOk result (Leaves same ctx.old ctx.new) }
-    ensures err { IfErr result (λ e. FailsAs e ctx.old ctx.new) }
+    ensures { Reads told result (target_info (world T.answers ctx.old) ctx.old.state
+        (of_variable variable form)) ctx.old ctx.new }
 {
     match variable {
         Variable::Standard(variable) => standard_info(ctx, form, variable),
@@ -50,10 +47,8 @@ pub fn variable_shown<'s, T: EntryLike>(
     variable: Variable,
     asked: Variable,
 ) -> Result<bool, RenderError>
-    ensures value { IfOk result (λ answer. answer ≡ target_shows (world T.answers ctx.old)
-        ctx.old.state asked (of_variable variable form)) }
-    ensures ok { OnOk result (Leaves same ctx.old ctx.new) }
-    ensures err { IfErr result (λ e. FailsAs e ctx.old ctx.new) }
+    ensures { Reads (λ answer. answer) result (target_shows (world T.answers ctx.old)
+        ctx.old.state asked (of_variable variable form)) ctx.old ctx.new }
 {
     match variable {
         Variable::Standard(variable) => standard_shown(ctx, form, variable, asked),
@@ -78,10 +73,8 @@ pub fn render_variable<'s, T: EntryLike>(
     form: LongShortForm,
     variable: Variable,
 ) -> Result<(), RenderError>
-    ensures ok { OnOk result (Leaves (λ now. with_made (target_tree (world T.answers now)
-        (of_variable variable form) (text_dressing text.now) now.inherited now.state) now)
-        ctx.old ctx.new) }
-    ensures err { IfErr result (λ e. FailsAs e ctx.old ctx.new) }
+    ensures { Appends T.answers (λ w. target_tree w
+        (of_variable variable form) (text_dressing text.now)) result ctx.old ctx.new }
 {
     match variable {
         Variable::Standard(variable) => render_standard(text, ctx, form, variable),

@@ -1,10 +1,9 @@
 //! Texts of a term and of a value (CSL 1.0.2, Text: term, value; Terms).
 
-ghost use Rattle.std.specs.Prelude.{◌≡◌, IfOk, OnOk, IfErr};
 ghost use Rattle.csl_style.specs.Node.{of_term, of_value};
 ghost use Rattle.csl_style.specs.View.{text_dressing};
-ghost use Rattle.csl_context.specs.Now.{FailsAs, Leaves, same, world};
-ghost use Rattle.csl_leaves.specs.Text.{target_info, target_tree, with_made};
+ghost use Rattle.csl_context.specs.Now.{Reads, world};
+ghost use Rattle.csl_leaves.specs.Text.{Appends, target_info, target_tree};
 ghost use Rattle.csl_leaves.specs.Usages.{told};
 
 use crate::dressing::{Body, render_body};
@@ -25,19 +24,15 @@ pub fn term_info<'s, T: EntryLike>(
     form: TermForm,
     plural: bool,
 ) -> Result<(bool, UsageInfo), RenderError>
-    ensures value { IfOk result (λ answer. told answer ≡ target_info (world T.answers ctx.old)
-        ctx.old.state (of_term term form plural)) }
-    ensures ok { OnOk result (Leaves same ctx.old ctx.new) }
-    ensures err { IfErr result (λ e. FailsAs e ctx.old ctx.new) }
+    ensures { Reads told result (target_info (world T.answers ctx.old) ctx.old.state
+        (of_term term form plural)) ctx.old ctx.new }
 {
-    nothing(ctx)?;
+    ctx.ensure_live()?;
     if !shows_words(ctx.special_form()) {
-        return nothing_said(ctx);
+        return Ok((false, UsageInfo::default()));
     }
-    match ctx.style().term(term, form, plural) {
-        Some(_) => Ok((true, UsageInfo::default())),
-        None => nothing_said(ctx),
-    }
+    let prints = ctx.style().term(term, form, plural).is_some();
+    Ok((prints, UsageInfo::default()))
 }
 
 /// What a text of a value says.
@@ -48,12 +43,10 @@ pub fn value_info<'s, T: EntryLike>(
     ctx: &mut Context<'s, T>,
     value: &str,
 ) -> Result<(bool, UsageInfo), RenderError>
-    ensures value { IfOk result (λ answer. told answer ≡ target_info (world T.answers ctx.old)
-        ctx.old.state (of_value value.now)) }
-    ensures ok { OnOk result (Leaves same ctx.old ctx.new) }
-    ensures err { IfErr result (λ e. FailsAs e ctx.old ctx.new) }
+    ensures { Reads told result
+        (target_info (world T.answers ctx.old) ctx.old.state (of_value value.now)) ctx.old ctx.new }
 {
-    nothing(ctx)?;
+    ctx.ensure_live()?;
     if !shows_words(ctx.special_form()) {
         return nothing_said(ctx);
     }
@@ -72,10 +65,8 @@ pub fn render_term<'s, T: EntryLike>(
     form: TermForm,
     plural: bool,
 ) -> Result<(), RenderError>
-    ensures ok { OnOk result (Leaves (λ now. with_made (target_tree (world T.answers now)
-        (of_term term form plural) (text_dressing text.now) now.inherited now.state) now)
-        ctx.old ctx.new) }
-    ensures err { IfErr result (λ e. FailsAs e ctx.old ctx.new) }
+    ensures { Appends T.answers (λ w. target_tree w
+        (of_term term form plural) (text_dressing text.now)) result ctx.old ctx.new }
 {
     if !shows_words(ctx.special_form()) {
         return nothing(ctx);
@@ -95,10 +86,8 @@ pub fn render_value<'s, T: EntryLike>(
     ctx: &mut Context<'s, T>,
     value: &str,
 ) -> Result<(), RenderError>
-    ensures ok { OnOk result (Leaves (λ now. with_made (target_tree (world T.answers now)
-        (of_value value.now) (text_dressing text.now) now.inherited now.state) now)
-        ctx.old ctx.new) }
-    ensures err { IfErr result (λ e. FailsAs e ctx.old ctx.new) }
+    ensures { Appends T.answers (λ w. target_tree w (of_value value.now) (text_dressing text.now))
+        result ctx.old ctx.new }
 {
     if !shows_words(ctx.special_form()) {
         return nothing(ctx);

@@ -10,3 +10,7 @@ use Rattle.csl_entry.specs.Answers.{behind}
 
 abbrev pub list_of : Vec (Cow Person) Global × NameVariable → List Named × NameVariable
 list_of l = (map (behind named) l.0.items, l.1)
+
+-- several of them
+abbrev pub lists_view : Vec (Vec (Cow Person) Global × NameVariable) Global → List (List Named × NameVariable)
+lists_view lists = map list_of lists.items

@@ -1,10 +1,10 @@
 //! What stands for the names that a list leaves out (CSL 1.0.2, Et-al; Name:
 //! delimiter-precedes-et-al, et-al-use-last).
 
-ghost use Rattle.std.specs.Prelude.{◌≡◌, ◌-◌, map, length, slice_get, OnOk, IfErr};
+ghost use Rattle.std.specs.Prelude.{◌≡◌, ◌-◌, map, length, slice_get};
 ghost use Rattle.std.specs.Cow.{cow_value};
 ghost use Rattle.lit_model.specs.Person.{named};
-ghost use Rattle.csl_context.specs.Now.{FailsAs, Leaves};
+ghost use Rattle.csl_context.specs.Now.{Runs};
 ghost use Rattle.csl_names.specs.Piece.{with_pieces};
 ghost use Rattle.csl_names.specs.NameList.{is_all, others, last_form, kept_last, cut_end};
 ghost use Rattle.csl_names.specs.ListWays.{list_how};
@@ -38,23 +38,20 @@ impl ListStyle<'_> {
         names: usize,
         shown: usize,
     ) -> Result<(), RenderError>
-        ensures ok { OnOk result (Leaves (with_pieces (others (list_how self.entry) names shown
-            (list_how self.entry).et_al)) ctx.old ctx.new) }
-        ensures err { IfErr result (λ e. FailsAs e ctx.old ctx.new) }
+        ensures { Runs (with_pieces (others (list_how self.entry) names shown
+            (list_how self.entry).et_al)) result ctx.old ctx.new }
     {
-        ctx.nothing()?;
         match self
             .style
             .term(Term::Other(self.et_al), TermForm::Long, false)
         {
-            None => Ok(()),
+            None => ctx.ensure_live(),
             Some(term) => {
                 if precedes(self.before_et_al, self.order, names, shown) {
                     put(ctx, self.delimiter, plain())?;
                 }
                 put_gap(ctx, self.et_al_formatting)?;
-                put(ctx, term, self.et_al_formatting)?;
-                Ok(())
+                put(ctx, term, self.et_al_formatting)
             }
         }
     }
@@ -77,21 +74,18 @@ impl ListStyle<'_> {
         persons: &[Cow<'_, Person>],
         form: DisambiguatedNameForm,
     ) -> Result<(), RenderError>
-        ensures ok { OnOk result (Leaves (λ now. with_pieces (kept_last now.inherited
+        ensures { Runs (λ now. with_pieces (kept_last now.inherited
             (list_how self.entry) (map (λ p. named (cow_value p)) persons.now) form
-            (slice_get (map (λ p. named (cow_value p)) persons.now)
-            (length (map (λ p. named (cow_value p)) persons.now) - 1))) now) ctx.old ctx.new) }
-        ensures err { IfErr result (λ e. FailsAs e ctx.old ctx.new) }
+            (slice_get (map (λ p. named (cow_value p)) persons.now) (length
+            (map (λ p. named (cow_value p)) persons.now) - 1))) now) result ctx.old ctx.new }
     {
-        ctx.nothing()?;
         match persons.last() {
-            None => Ok(()),
+            None => ctx.ensure_live(),
             Some(person) => {
                 put(ctx, self.delimiter, plain())?;
                 put(ctx, "… ", plain())?;
                 let place = persons.len() - 1;
-                self.put_whole(ctx, person.as_ref(), form, is_all(self.order), place)?;
-                Ok(())
+                self.put_whole(ctx, person.as_ref(), form, is_all(self.order), place)
             }
         }
     }
@@ -105,23 +99,17 @@ impl ListStyle<'_> {
         forms: &[Option<DisambiguatedNameForm>],
         persons: &[Cow<'_, Person>],
     ) -> Result<(), RenderError>
-        ensures ok { OnOk result (Leaves (λ now. with_pieces (cut_end now.inherited
+        ensures { Runs (λ now. with_pieces (cut_end now.inherited
             (list_how self.entry) names forms.now (map (λ p. named (cow_value p)) persons.now)
-            (last_form (list_how self.entry) forms.now)) now) ctx.old ctx.new) }
-        ensures err { IfErr result (λ e. FailsAs e ctx.old ctx.new) }
+            (last_form (list_how self.entry) forms.now)) now) result ctx.old ctx.new }
     {
         match self.last_form(forms) {
-            Some(form) => {
-                self.put_kept_last(ctx, persons, form)?;
-                Ok(())
-            }
+            Some(form) => self.put_kept_last(ctx, persons, form),
             None => {
                 if self.name.sorting {
-                    ctx.nothing()?;
-                    Ok(())
+                    ctx.ensure_live()
                 } else {
-                    self.put_others(ctx, names, names.min(persons.len()))?;
-                    Ok(())
+                    self.put_others(ctx, names, names.min(persons.len()))
                 }
             }
         }

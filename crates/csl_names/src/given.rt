@@ -1,10 +1,10 @@
 //! Given names, whole or cut down (CSL 1.0.2, Name: initialize-with).
 
-ghost use Rattle.std.specs.Prelude.{◌≡◌, ◌∷◌, [], Some, IfOk, OnOk, IfErr, option_map, string_bytes};
+ghost use Rattle.std.specs.Prelude.{◌≡◌, ◌∷◌, [], Some, IfOk, option_map, string_bytes};
 ghost use Rattle.lit_model.specs.Person.{named};
 ghost use Rattle.lit_model.specs.Initials.{person_initials};
 ghost use Rattle.lit_model.specs.FirstNames.{person_first_name};
-ghost use Rattle.csl_context.specs.Now.{FailsAs, Leaves};
+ghost use Rattle.csl_context.specs.Now.{Runs};
 ghost use Rattle.csl_names.specs.Piece.{word, with_pieces};
 ghost use Rattle.csl_names.specs.OneName.{name_how, shortened, given_word, given_block};
 
@@ -54,17 +54,11 @@ fn shorten(
         ≡ shortened text.now hyphen form given.now) }
 {
     match form {
-        DisambiguatedNameForm::LongInitialized => {
-            let short = initials_of(alloc, person, text, hyphen)?;
-            Ok(short)
-        }
+        DisambiguatedNameForm::LongInitialized => initials_of(alloc, person, text, hyphen),
         DisambiguatedNameForm::Count
         | DisambiguatedNameForm::ShortInitialized
         | DisambiguatedNameForm::ShortFull
-        | DisambiguatedNameForm::LongFull => {
-            let name = lettered_name(alloc, person, text)?;
-            Ok(name)
-        }
+        | DisambiguatedNameForm::LongFull => lettered_name(alloc, person, text),
     }
 }
 
@@ -76,13 +70,11 @@ impl NameStyle<'_> {
         person: &Person,
         form: DisambiguatedNameForm,
     ) -> Result<(), RenderError>
-        ensures ok { OnOk result (Leaves
-            (with_pieces (given_word (name_how self.entry) form (named person.now)))
-            ctx.old ctx.new) }
-        ensures err { IfErr result (λ e. FailsAs e ctx.old ctx.new) }
+        ensures { Runs (with_pieces (given_word (name_how self.entry) form (named person.now)))
+            result ctx.old ctx.new }
     {
         match &person.given_name {
-            None => ctx.nothing(),
+            None => ctx.ensure_live(),
             Some(given) => match self.initialize_with {
                 None => put(ctx, given.as_str(), self.given.formatting),
                 Some(text) => self.put_short(ctx, person, given.as_str(), form, text),
@@ -100,21 +92,12 @@ impl NameStyle<'_> {
         text: &str,
     ) -> Result<(), RenderError>
         requires given_name { option_map string_bytes person.now.given_name ≡ Some given.now }
-        ensures ok { OnOk result (Leaves
-            (with_pieces (word (shortened text.now (name_how self.entry).hyphen form given.now)
-            (name_how self.entry).given.formatting ∷ [])) ctx.old ctx.new) }
-        ensures err { IfErr result (λ e. FailsAs e ctx.old ctx.new) }
+        ensures { Runs (with_pieces (word (shortened text.now (name_how self.entry).hyphen
+            form given.now) (name_how self.entry).given.formatting ∷ [])) result ctx.old ctx.new }
     {
-        if ctx.has_failed() {
-            return Err(RenderError::Failed);
-        }
-        match shorten(ctx.alloc(), person, given, form, text, self.hyphen) {
-            Ok(short) => put(ctx, short.as_str(), self.given.formatting),
-            Err(_) => {
-                ctx.fail();
-                Err(RenderError::Memory)
-            }
-        }
+        let short = shorten(ctx.alloc(), person, given, form, text, self.hyphen);
+        let short = ctx.attempt(short)?;
+        put(ctx, short.as_str(), self.given.formatting)
     }
 
     /// Writes the given name and what stands before the family name, in the given part's
@@ -125,14 +108,11 @@ impl NameStyle<'_> {
         person: &Person,
         form: DisambiguatedNameForm,
     ) -> Result<(), RenderError>
-        ensures ok { OnOk result (Leaves
-            (with_pieces (given_block (name_how self.entry) form (named person.now)))
-            ctx.old ctx.new) }
-        ensures err { IfErr result (λ e. FailsAs e ctx.old ctx.new) }
+        ensures { Runs (with_pieces (given_block (name_how self.entry) form (named person.now)))
+            result ctx.old ctx.new }
     {
         put_optional(ctx, self.given.prefix, self.given.formatting)?;
         self.put_given(ctx, person, form)?;
-        put_spaced(ctx, person.prefix.as_deref(), self.given.formatting)?;
-        Ok(())
+        put_spaced(ctx, person.prefix.as_deref(), self.given.formatting)
     }
 }

@@ -1,8 +1,8 @@
 //! What stands before a name of a list (CSL 1.0.2, Name: and, delimiter,
 //! delimiter-precedes-last).
 
-ghost use Rattle.std.specs.Prelude.{◌≡◌, ◌<◌, option_map, OnOk, IfErr};
-ghost use Rattle.csl_context.specs.Now.{FailsAs, Leaves};
+ghost use Rattle.std.specs.Prelude.{◌≡◌, ◌<◌, option_map};
+ghost use Rattle.csl_context.specs.Now.{Runs};
 ghost use Rattle.csl_names.specs.Piece.{with_pieces};
 ghost use Rattle.csl_names.specs.NameList.{precedes, last_join, join};
 ghost use Rattle.csl_names.specs.ListWays.{and_word, list_how};
@@ -49,15 +49,11 @@ impl ListStyle<'_> {
     /// Writes what stands before the last name at a place: the word behind a delimiter or a
     /// space, or the delimiter alone.
     fn put_last_join<T>(self, ctx: &mut Context<'_, T>, place: usize) -> Result<(), RenderError>
-        ensures ok { OnOk result (Leaves (with_pieces (last_join (list_how self.entry) place
-            (list_how self.entry).and_word)) ctx.old ctx.new) }
-        ensures err { IfErr result (λ e. FailsAs e ctx.old ctx.new) }
+        ensures { Runs (with_pieces (last_join (list_how self.entry) place
+            (list_how self.entry).and_word)) result ctx.old ctx.new }
     {
         match and_word(self.style, self.and) {
-            None => {
-                put(ctx, self.delimiter, plain())?;
-                Ok(())
-            }
+            None => put(ctx, self.delimiter, plain()),
             Some(and) => {
                 let before = if precedes(self.before_last, self.order, place, place) {
                     self.delimiter
@@ -66,8 +62,7 @@ impl ListStyle<'_> {
                 };
                 put(ctx, before, plain())?;
                 put(ctx, and, plain())?;
-                put_gap(ctx, plain())?;
-                Ok(())
+                put_gap(ctx, plain())
             }
         }
     }
@@ -81,27 +76,16 @@ impl ListStyle<'_> {
         place: usize,
     ) -> Result<(), RenderError>
         requires { place < usize.MAX }
-        ensures ok { OnOk result
-            (Leaves (with_pieces (join (list_how self.entry) ends place)) ctx.old ctx.new) }
-        ensures err { IfErr result (λ e. FailsAs e ctx.old ctx.new) }
+        ensures { Runs (with_pieces (join (list_how self.entry) ends place))
+            result ctx.old ctx.new }
     {
         if place == 0 {
-            ctx.nothing()?;
-            return Ok(());
+            return ctx.ensure_live();
         }
         match ends {
-            Some(count) if place + 1 == count => {
-                self.put_last_join(ctx, place)?;
-                Ok(())
-            }
-            Some(_) => {
-                put(ctx, self.delimiter, plain())?;
-                Ok(())
-            }
-            None => {
-                put(ctx, self.delimiter, plain())?;
-                Ok(())
-            }
+            Some(count) if place + 1 == count => self.put_last_join(ctx, place),
+            Some(_) => put(ctx, self.delimiter, plain()),
+            None => put(ctx, self.delimiter, plain()),
         }
     }
 }

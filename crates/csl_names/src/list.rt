@@ -1,10 +1,10 @@
 //! A list of names (CSL 1.0.2, Name: delimiter, name-as-sort-order): the names that are shown,
 //! each behind what stands before it.
 
-ghost use Rattle.std.specs.Prelude.{◌≡◌, map, OnOk, IfErr};
+ghost use Rattle.std.specs.Prelude.{◌≡◌, map};
 ghost use Rattle.std.specs.Cow.{cow_value};
 ghost use Rattle.lit_model.specs.Person.{named};
-ghost use Rattle.csl_context.specs.Now.{FailsAs, Leaves};
+ghost use Rattle.csl_context.specs.Now.{Runs};
 ghost use Rattle.csl_names.specs.Piece.{with_pieces};
 ghost use Rattle.csl_names.specs.NameList.{form_at, first_absent, is_reversed, names_from, with_whole, with_names};
 ghost use Rattle.csl_names.specs.ListWays.{list_how};
@@ -84,10 +84,8 @@ impl ListStyle<'_> {
         reversed: bool,
         place: usize,
     ) -> Result<(), RenderError>
-        ensures ok { OnOk result (Leaves
-            (with_whole (list_how self.entry) form reversed place (named person.now))
-            ctx.old ctx.new) }
-        ensures err { IfErr result (λ e. FailsAs e ctx.old ctx.new) }
+        ensures { Runs (with_whole (list_how self.entry) form reversed place (named person.now))
+            result ctx.old ctx.new }
     {
         let element = ctx.push_elem()?;
         self.name.put_name(ctx, person, form, reversed)?;
@@ -104,12 +102,10 @@ impl ListStyle<'_> {
         forms: &[Option<DisambiguatedNameForm>],
         persons: &[Cow<'_, Person>],
     ) -> Result<(), RenderError>
-        ensures ok { OnOk result (Leaves (λ now. with_pieces (names_from now.inherited
-            (list_how self.entry) ends forms.now 0
-            (map (λ p. named (cow_value p)) persons.now)) now) ctx.old ctx.new) }
-        ensures err { IfErr result (λ e. FailsAs e ctx.old ctx.new) }
+        ensures { Runs (λ now. with_pieces (names_from now.inherited (list_how self.entry) ends
+            forms.now 0 (map (λ p. named (cow_value p)) persons.now)) now) result ctx.old ctx.new }
     {
-        ctx.nothing()?;
+        ctx.ensure_live()?;
         let mut place: usize = 0;
         for person in persons {
             match form_at(forms, place) {
@@ -133,19 +129,14 @@ impl ListStyle<'_> {
         persons: &[Cow<'_, Person>],
         forms: &[Option<DisambiguatedNameForm>],
     ) -> Result<(), RenderError>
-        ensures ok { OnOk result (Leaves (with_names (list_how self.entry)
-            (map (λ p. named (cow_value p)) persons.now) forms.now) ctx.old ctx.new) }
-        ensures err { IfErr result (λ e. FailsAs e ctx.old ctx.new) }
+        ensures { Runs (with_names (list_how self.entry)
+            (map (λ p. named (cow_value p)) persons.now) forms.now) result ctx.old ctx.new }
     {
         match first_absent(forms) {
-            None => {
-                self.put_names(ctx, Some(persons.len()), forms, persons)?;
-                Ok(())
-            }
+            None => self.put_names(ctx, Some(persons.len()), forms, persons),
             Some(names) => {
                 self.put_names(ctx, None, forms, persons)?;
-                self.put_cut_end(ctx, names, forms, persons)?;
-                Ok(())
+                self.put_cut_end(ctx, names, forms, persons)
             }
         }
     }

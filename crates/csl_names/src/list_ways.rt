@@ -1,11 +1,11 @@
 //! A list of names by a style (CSL 1.0.2, Name, Et-al).
 
-ghost use Rattle.std.specs.Prelude.{◌≡◌, map, OnOk, IfErr};
+ghost use Rattle.std.specs.Prelude.{◌≡◌, map};
 ghost use Rattle.std.specs.Cow.{cow_value};
 ghost use Rattle.lit_model.specs.Person.{named};
 ghost use Rattle.csl_style.specs.Names.{view_name, view_et_al};
 ghost use Rattle.csl_style.specs.NameOptions.{used_options};
-ghost use Rattle.csl_context.specs.Now.{FailsAs, Leaves};
+ghost use Rattle.csl_context.specs.Now.{Runs};
 ghost use Rattle.csl_names.specs.ListWays.{list_how, list_in, with_name_list};
 
 use crate::list::ListStyle;
@@ -57,12 +57,10 @@ pub fn write_name_list<T>(
     persons: &[Cow<'_, Person>],
     forms: &[Option<DisambiguatedNameForm>],
 ) -> Result<(), RenderError>
-    ensures ok { OnOk result (Leaves (with_name_list (view_name name.now)
-        (used_options options.entry) (view_et_al et_al.now) variable
-        (map (λ p. named (cow_value p)) persons.now) forms.now) ctx.old ctx.new) }
-    ensures err { IfErr result (λ e. FailsAs e ctx.old ctx.new) }
+    ensures { Runs (with_name_list (view_name name.now) (used_options options.entry)
+        (view_et_al et_al.now) variable (map (λ p. named (cow_value p)) persons.now) forms.now)
+        result ctx.old ctx.new }
 {
     let way = list_way(ctx, name, options, et_al, variable);
-    way.put_list(ctx, persons, forms)?;
-    Ok(())
+    way.put_list(ctx, persons, forms)
 }

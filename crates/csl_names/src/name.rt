@@ -1,8 +1,8 @@
 //! One name (CSL 1.0.2, Name; name-as-sort-order; demote-non-dropping-particle; sort-separator).
 
-ghost use Rattle.std.specs.Prelude.{◌≡◌, OnOk, IfErr, option_map};
+ghost use Rattle.std.specs.Prelude.{◌≡◌, option_map};
 ghost use Rattle.lit_model.specs.Person.{named};
-ghost use Rattle.csl_context.specs.Now.{FailsAs, Leaves};
+ghost use Rattle.csl_context.specs.Now.{Runs};
 ghost use Rattle.csl_names.specs.Piece.{with_pieces};
 ghost use Rattle.csl_names.specs.OneName.{name_how, front_of, particle_of, given_behind, family_first, suffix_behind, given_first, cjk_name, institution, long_name, one_name};
 
@@ -60,18 +60,16 @@ impl NameStyle<'_> {
         person: &Person,
         form: DisambiguatedNameForm,
     ) -> Result<(), RenderError>
-        ensures ok { OnOk result (Leaves (with_pieces (given_behind (name_how self.entry) form
-            (named person.now) (named person.now).given_name)) ctx.old ctx.new) }
-        ensures err { IfErr result (λ e. FailsAs e ctx.old ctx.new) }
+        ensures { Runs (with_pieces (given_behind (name_how self.entry) form
+            (named person.now) (named person.now).given_name)) result ctx.old ctx.new }
     {
         match &person.given_name {
-            None => ctx.nothing(),
+            None => ctx.ensure_live(),
             Some(_) => {
                 put(ctx, self.separator, plain())?;
                 self.put_given_block(ctx, person, form)?;
                 put_spaced(ctx, self.particle(person), plain())?;
-                put_optional(ctx, self.given.suffix, plain())?;
-                Ok(())
+                put_optional(ctx, self.given.suffix, plain())
             }
         }
     }
@@ -84,15 +82,12 @@ impl NameStyle<'_> {
         person: &Person,
         form: DisambiguatedNameForm,
     ) -> Result<(), RenderError>
-        ensures ok { OnOk result (Leaves
-            (with_pieces (family_first (name_how self.entry) form (named person.now)))
-            ctx.old ctx.new) }
-        ensures err { IfErr result (λ e. FailsAs e ctx.old ctx.new) }
+        ensures { Runs (with_pieces (family_first (name_how self.entry) form (named person.now)))
+            result ctx.old ctx.new }
     {
         self.family.put(ctx, self.front(person))?;
         self.put_given_behind(ctx, person, form)?;
-        put_separated(ctx, self.separator, person.suffix.as_deref())?;
-        Ok(())
+        put_separated(ctx, self.separator, person.suffix.as_deref())
     }
 
     /// Writes the suffix of a person, behind the separator where it wants a comma.
@@ -101,19 +96,17 @@ impl NameStyle<'_> {
         ctx: &mut Context<'_, T>,
         person: &Person,
     ) -> Result<(), RenderError>
-        ensures ok { OnOk result (Leaves (with_pieces (suffix_behind (name_how self.entry)
-            (named person.now).comma_suffix (named person.now).suffix)) ctx.old ctx.new) }
-        ensures err { IfErr result (λ e. FailsAs e ctx.old ctx.new) }
+        ensures { Runs (with_pieces (suffix_behind (name_how self.entry)
+            (named person.now).comma_suffix (named person.now).suffix)) result ctx.old ctx.new }
     {
         match &person.suffix {
-            None => ctx.nothing(),
+            None => ctx.ensure_live(),
             Some(suffix) => {
                 if person.comma_suffix {
                     put(ctx, self.separator, plain())?;
                 }
                 put_gap(ctx, plain())?;
-                put(ctx, suffix.as_str(), plain())?;
-                Ok(())
+                put(ctx, suffix.as_str(), plain())
             }
         }
     }
@@ -126,10 +119,8 @@ impl NameStyle<'_> {
         person: &Person,
         form: DisambiguatedNameForm,
     ) -> Result<(), RenderError>
-        ensures ok { OnOk result (Leaves
-            (with_pieces (given_first (name_how self.entry) form (named person.now)))
-            ctx.old ctx.new) }
-        ensures err { IfErr result (λ e. FailsAs e ctx.old ctx.new) }
+        ensures { Runs (with_pieces (given_first (name_how self.entry) form (named person.now)))
+            result ctx.old ctx.new }
     {
         self.put_given_block(ctx, person, form)?;
         put_optional(ctx, self.given.suffix, plain())?;
@@ -137,23 +128,18 @@ impl NameStyle<'_> {
         put_optional(ctx, self.family.prefix, self.family.formatting)?;
         put(ctx, person.name.as_str(), self.family.formatting)?;
         self.put_suffix_behind(ctx, person)?;
-        put_optional(ctx, self.family.suffix, plain())?;
-        Ok(())
+        put_optional(ctx, self.family.suffix, plain())
     }
 
     /// Writes a name in a Chinese, Japanese or Korean script: no gap stands between its parts.
     fn put_cjk<T>(self, ctx: &mut Context<'_, T>, person: &Person) -> Result<(), RenderError>
-        ensures ok { OnOk result (Leaves
-            (with_pieces (cjk_name (name_how self.entry) (named person.now))) ctx.old ctx.new) }
-        ensures err { IfErr result (λ e. FailsAs e ctx.old ctx.new) }
+        ensures { Runs (with_pieces (cjk_name (name_how self.entry) (named person.now)))
+            result ctx.old ctx.new }
     {
         self.family.put(ctx, person.name.as_str())?;
         match &person.given_name {
             None => Ok(()),
-            Some(given) => {
-                self.given.put(ctx, given.as_str())?;
-                Ok(())
-            }
+            Some(given) => self.given.put(ctx, given.as_str()),
         }
     }
 
@@ -163,10 +149,8 @@ impl NameStyle<'_> {
         ctx: &mut Context<'_, T>,
         person: &Person,
     ) -> Result<(), RenderError>
-        ensures ok { OnOk result (Leaves
-            (with_pieces (institution (name_how self.entry) (named person.now)))
-            ctx.old ctx.new) }
-        ensures err { IfErr result (λ e. FailsAs e ctx.old ctx.new) }
+        ensures { Runs (with_pieces (institution (name_how self.entry) (named person.now)))
+            result ctx.old ctx.new }
     {
         if !self.sorting {
             return self.family.put(ctx, person.name.as_str());
@@ -182,10 +166,8 @@ impl NameStyle<'_> {
         form: DisambiguatedNameForm,
         reversed: bool,
     ) -> Result<(), RenderError>
-        ensures ok { OnOk result (Leaves
-            (with_pieces (long_name (name_how self.entry) form reversed (named person.now)))
-            ctx.old ctx.new) }
-        ensures err { IfErr result (λ e. FailsAs e ctx.old ctx.new) }
+        ensures { Runs (with_pieces (long_name (name_how self.entry) form reversed
+            (named person.now))) result ctx.old ctx.new }
     {
         if person.is_cjk() {
             self.put_cjk(ctx, person)
@@ -204,10 +186,8 @@ impl NameStyle<'_> {
         form: DisambiguatedNameForm,
         reversed: bool,
     ) -> Result<(), RenderError>
-        ensures ok { OnOk result (Leaves
-            (with_pieces (one_name (name_how self.entry) form reversed (named person.now)))
-            ctx.old ctx.new) }
-        ensures err { IfErr result (λ e. FailsAs e ctx.old ctx.new) }
+        ensures { Runs (with_pieces (one_name (name_how self.entry) form reversed
+            (named person.now))) result ctx.old ctx.new }
     {
         if person.is_institutional() {
             self.put_institution(ctx, person)

@@ -1,7 +1,7 @@
 //! The parts of a name (CSL 1.0.2, Name-part).
 
-ghost use Rattle.std.specs.Prelude.{◌≡◌, OnOk, IfErr, option_map};
-ghost use Rattle.csl_context.specs.Now.{FailsAs, Leaves};
+ghost use Rattle.std.specs.Prelude.{option_map};
+ghost use Rattle.csl_context.specs.Now.{Runs};
 ghost use Rattle.csl_names.specs.Piece.{with_pieces};
 ghost use Rattle.csl_names.specs.OneName.{part_how, part_text, separated_word};
 
@@ -20,14 +20,12 @@ pub(crate) struct PartStyle<'s> {
 impl PartStyle<'_> {
     /// Writes a text as this part of a name: the suffix stands outside the part's formatting.
     pub(crate) fn put<T>(self, ctx: &mut Context<'_, T>, text: &str) -> Result<(), RenderError>
-        ensures ok { OnOk result (Leaves (with_pieces (part_text (part_how self.entry) text.now))
-            ctx.old ctx.new) }
-        ensures err { IfErr result (λ e. FailsAs e ctx.old ctx.new) }
+        ensures { Runs (with_pieces (part_text (part_how self.entry) text.now))
+            result ctx.old ctx.new }
     {
         put_optional(ctx, self.prefix, self.formatting)?;
         put(ctx, text, self.formatting)?;
-        put_optional(ctx, self.suffix, plain())?;
-        Ok(())
+        put_optional(ctx, self.suffix, plain())
     }
 }
 
@@ -37,17 +35,14 @@ pub(crate) fn put_separated<T>(
     separator: &str,
     text: Option<&str>,
 ) -> Result<(), RenderError>
-    ensures ok { OnOk result (Leaves
-        (with_pieces (separated_word separator.now (option_map (λ t. t.now) text.entry)))
-        ctx.old ctx.new) }
-    ensures err { IfErr result (λ e. FailsAs e ctx.old ctx.new) }
+    ensures { Runs (with_pieces (separated_word separator.now (option_map (λ t. t.now) text.entry)))
+        result ctx.old ctx.new }
 {
     match text {
         Some(text) => {
             put(ctx, separator, plain())?;
-            put(ctx, text, plain())?;
-            Ok(())
+            put(ctx, text, plain())
         }
-        None => ctx.nothing(),
+        None => ctx.ensure_live(),
     }
 }

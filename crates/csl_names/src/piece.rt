@@ -1,8 +1,8 @@
 //! Texts and gaps, written from the left.
 
-ghost use Rattle.std.specs.Prelude.{◌≡◌, ◌∷◌, [], OnOk, IfErr, option_map};
+ghost use Rattle.std.specs.Prelude.{◌≡◌, ◌∷◌, [], option_map};
 ghost use Rattle.csl_style.specs.NamesParts.{plain};
-ghost use Rattle.csl_context.specs.Now.{FailsAs, Leaves};
+ghost use Rattle.csl_context.specs.Now.{Runs};
 ghost use Rattle.csl_names.specs.Piece.{word, gap, with_pieces, optional_word, spaced_word};
 
 use csl_context::{Context, RenderError};
@@ -21,8 +21,7 @@ pub(crate) fn put<T>(
     text: &str,
     format: Formatting,
 ) -> Result<(), RenderError>
-    ensures ok { OnOk result (Leaves (with_pieces (word text.now format ∷ [])) ctx.old ctx.new) }
-    ensures err { IfErr result (λ e. FailsAs e ctx.old ctx.new) }
+    ensures { Runs (with_pieces (word text.now format ∷ [])) result ctx.old ctx.new }
 {
     ctx.push_format(format)?;
     ctx.push_str(text)?;
@@ -36,21 +35,18 @@ pub(crate) fn put_optional<T>(
     text: Option<&str>,
     format: Formatting,
 ) -> Result<(), RenderError>
-    ensures ok { OnOk result (Leaves
-        (with_pieces (optional_word (option_map (λ t. t.now) text.entry) format))
-        ctx.old ctx.new) }
-    ensures err { IfErr result (λ e. FailsAs e ctx.old ctx.new) }
+    ensures { Runs (with_pieces (optional_word (option_map (λ t. t.now) text.entry) format))
+        result ctx.old ctx.new }
 {
     match text {
         Some(text) => put(ctx, text, format),
-        None => ctx.nothing(),
+        None => ctx.ensure_live(),
     }
 }
 
 /// Writes a space, unless there is no text yet or white space ends it.
 pub(crate) fn put_gap<T>(ctx: &mut Context<'_, T>, format: Formatting) -> Result<(), RenderError>
-    ensures ok { OnOk result (Leaves (with_pieces (gap format ∷ [])) ctx.old ctx.new) }
-    ensures err { IfErr result (λ e. FailsAs e ctx.old ctx.new) }
+    ensures { Runs (with_pieces (gap format ∷ [])) result ctx.old ctx.new }
 {
     ctx.push_format(format)?;
     ctx.ensure_space()?;
@@ -64,16 +60,14 @@ pub(crate) fn put_spaced<T>(
     text: Option<&str>,
     format: Formatting,
 ) -> Result<(), RenderError>
-    ensures ok { OnOk result (Leaves
-        (with_pieces (spaced_word (option_map (λ t. t.now) text.entry) format)) ctx.old ctx.new) }
-    ensures err { IfErr result (λ e. FailsAs e ctx.old ctx.new) }
+    ensures { Runs (with_pieces (spaced_word (option_map (λ t. t.now) text.entry) format))
+        result ctx.old ctx.new }
 {
     match text {
         Some(text) => {
             put_gap(ctx, format)?;
-            put(ctx, text, format)?;
-            Ok(())
+            put(ctx, text, format)
         }
-        None => ctx.nothing(),
+        None => ctx.ensure_live(),
     }
 }

@@ -1,6 +1,10 @@
 -- Calls of a context in a row.
 use Rattle.std.proofs.Common.{◌≡◌, false, ap, ◌∙◌}
-use Rattle.csl_context.specs.Now.{Now, Leaves}
+use Rattle.csl_context.specs.Now.{Now, ReadsAs, Leaves, same}
+
+-- a call that leaves the context as it was
+pub stays : {R V T : Type 0} {view : R → V} {answer : R} {wanted : V} {a b : Now T} → ReadsAs view answer wanted a b → Leaves same a b
+stays r = record { sound = r.sound; left = r.kept }
 
 module _ {T : Type 0} (f g : Now T → Now T) (a b c : Now T) where
   -- a call, and another one behind it

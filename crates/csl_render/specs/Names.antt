@@ -25,10 +25,14 @@ use Rattle.csl_names.specs.NamesLists.{Lists, all_empty}
 use Rattle.csl_leaves.specs.Flags.{flags, Info, info_of, nothing_said}
 use Rattle.csl_leaves.specs.Text.{Made, made, within}
 
+-- what the macros of a style stand for
+abbrev pub Macros : Type 0
+Macros = List ℕ → Option Fulls
+
 -- ---- variables
 
 abbrev pub has_variable : NameVariable → List NameVariable → Bool
-has_variable v vs = list_any (sameb the_type v) vs
+has_variable v vs = list_any (λ own. sameb the_type own v) vs
 
 abbrev pub author : Variable
 author = variable.Name Author

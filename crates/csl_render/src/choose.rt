@@ -6,9 +6,9 @@ ghost use Rattle.csl_style.specs.declared.taxonomy.Variable.{Variable};
 ghost use Rattle.csl_style.specs.Node.{fill, fills, size, sizes};
 ghost use Rattle.csl_style.specs.View.{views, view_branch, view_choose};
 ghost use Rattle.csl_context.specs.World.{env};
-ghost use Rattle.csl_context.specs.Now.{FailsAs, Leaves, same, world};
+ghost use Rattle.csl_context.specs.Now.{Runs, Reads, FailsSilently, same, world};
 ghost use Rattle.csl_leaves.specs.Conditions.{holds, satisfies, chosen_of};
-ghost use Rattle.csl_leaves.specs.ConditionsLeft.{conditions_left, context_of, behind_first, behind_deciding, FailsSilently};
+ghost use Rattle.csl_leaves.specs.ConditionsLeft.{conditions_left, context_of, behind_first, behind_deciding};
 ghost use Rattle.csl_render.specs.Rendering.{part};
 ghost use Rattle.csl_render.specs.Tree.{info, shows, tree, choice_info, choice_shows, choice_tree};
 
@@ -69,14 +69,8 @@ fn satisfied<'a, 's, T: EntryLike>(
     ensures err { IfErr result (λ e. FailsSilently e (context_of conditions.old)) }
 {
     match match_ {
-        ChooseMatch::All => {
-            let all = all_hold(conditions)?;
-            Ok(all)
-        }
-        ChooseMatch::Any => {
-            let any = any_holds(conditions)?;
-            Ok(any)
-        }
+        ChooseMatch::All => all_hold(conditions),
+        ChooseMatch::Any => any_holds(conditions),
         ChooseMatch::None => {
             let any = any_holds(conditions)?;
             Ok(!any)
@@ -100,19 +94,11 @@ fn is_taken<'s, T: EntryLike>(
     branch: &ChooseBranch,
     ctx: &mut Context<'s, T>,
 ) -> Result<bool, RenderError>
-    ensures value { IfOk result (λ taken. taken
-        ≡ holds (world T.answers ctx.old) ctx.old.state (view_branch branch.now).tests) }
-    ensures ok { OnOk result (Leaves same ctx.old ctx.new) }
-    ensures err { IfErr result (λ e. FailsAs e ctx.old ctx.new) }
+    ensures { Reads (λ taken. taken) result (holds (world T.answers ctx.old) ctx.old.state
+        (view_branch branch.now).tests) ctx.old ctx.new }
 {
-    nothing(ctx)?;
-    match holds(branch, ctx) {
-        Ok(taken) => Ok(taken),
-        Err(error) => {
-            ctx.fail();
-            Err(error)
-        }
-    }
+    ctx.ensure_live()?;
+    ctx.settle(holds(branch, ctx))
 }
 
 /// The nodes of the first branch whose conditions satisfy its match, else those for the other
@@ -126,10 +112,8 @@ pub fn choose_children<'a, 's, T: EntryLike>(
     choose: &'a Choose,
     ctx: &mut Context<'s, T>,
 ) -> Result<Option<&'a [LayoutRenderingElement]>, RenderError>
-    ensures value { IfOk result (λ chosen. option_map (λ ns. views ns.now) chosen
-        ≡ chosen_of (world T.answers ctx.old) ctx.old.state (view_choose choose.now)) }
-    ensures ok { OnOk result (Leaves same ctx.old ctx.new) }
-    ensures err { IfErr result (λ e. FailsAs e ctx.old ctx.new) }
+    ensures { Reads (option_map (λ ns. views ns.now)) result (chosen_of (world T.answers ctx.old)
+        ctx.old.state (view_choose choose.now)) ctx.old ctx.new }
 {
     if is_taken(&choose.if_, ctx)? {
         return Ok(Some(choose.if_.children.as_slice()));
@@ -166,8 +150,7 @@ fn chosen<'s, T: EntryLike>(
         ≡ choice_tree (world T.answers ctx.old)
         (option_map (fills (env ctx.old.style)) (option_map (λ ns. views ns.now) chosen))
         ctx.old.inherited ctx.old.state) }
-    ensures ok { OnOk result (Leaves same ctx.old ctx.new) }
-    ensures err { IfErr result (λ e. FailsAs e ctx.old ctx.new) }
+    ensures after { Runs same result ctx.old ctx.new }
 {
     let found = choose_children(choose, ctx)?;
     Ok(found)

@@ -1,11 +1,12 @@
 //! Nodes, and lists of nodes.
 
-ghost use Rattle.std.specs.Prelude.{◌≡◌, IfOk, OnOk, IfErr, true};
+ghost use Rattle.std.specs.Prelude.{◌≡◌, true};
 ghost use Rattle.csl_style.specs.Node.{fill, fills};
 ghost use Rattle.csl_style.specs.View.{view, views, view_rendering};
 ghost use Rattle.csl_context.specs.World.{env};
-ghost use Rattle.csl_context.specs.Now.{FailsAs, Leaves, same, world};
+ghost use Rattle.csl_context.specs.Now.{Runs, Reads, world};
 ghost use Rattle.csl_leaves.specs.Usages.{told};
+ghost use Rattle.csl_render.specs.Names.{Macros};
 ghost use Rattle.csl_render.specs.Tree.{infos, any_shows, is_group, tree, sum_of, delimited, admitted_made};
 ghost use Rattle.csl_render.specs.Rendering.{part, element_rendering};
 ghost use Rattle.csl_leaves.specs.Text.{with_made};
@@ -13,7 +14,7 @@ ghost use Rattle.csl_leaves.specs.Text.{with_made};
 use crate::render::RenderCsl;
 use csl_context::{Context, RenderError};
 use csl_entry::EntryLike;
-use csl_leaves::{UsageInfo, nothing, with_child};
+use csl_leaves::{UsageInfo, with_child};
 use csl_style::{LayoutRenderingElement, RenderingElement, Variable};
 
 impl RenderCsl for LayoutRenderingElement {
@@ -99,8 +100,8 @@ impl RenderCsl for RenderingElement {
 }
 
 /// Whether the node is a group.
-fn is_group<'s, T: EntryLike>(ctx: &Context<'s, T>, node: &LayoutRenderingElement) -> bool
-    ensures { result ≡ is_group (fill (env ctx.now.style) (view node.now)) }
+fn is_group(node: &LayoutRenderingElement) -> bool
+    ensures { (env : Macros) → result ≡ is_group (fill env (view node.now)) }
 {
     match node {
         LayoutRenderingElement::Text(_) => false,
@@ -119,16 +120,14 @@ pub(crate) fn infos<'s, T: EntryLike>(
     ctx: &mut Context<'s, T>,
     nodes: &'s [LayoutRenderingElement],
 ) -> Result<(bool, UsageInfo), RenderError>
-    ensures value { IfOk result (λ answer. told answer ≡ infos (world T.answers ctx.old)
-        ctx.old.state (fills (env ctx.old.style) (views nodes.now))) }
-    ensures ok { OnOk result (Leaves same ctx.old ctx.new) }
-    ensures err { IfErr result (λ e. FailsAs e ctx.old ctx.new) }
+    ensures { Reads told result (infos (world T.answers ctx.old) ctx.old.state
+        (fills (env ctx.old.style) (views nodes.now))) ctx.old ctx.new }
 {
-    nothing(ctx)?;
+    ctx.ensure_live()?;
     let mut all = (false, UsageInfo::default());
     for node in nodes {
         let said = node.will_have_info(ctx)?;
-        all = with_child(all, said, is_group(ctx, node));
+        all = with_child(all, said, is_group(node));
     }
     Ok(all)
 }
@@ -140,12 +139,10 @@ pub(crate) fn any_shows<'s, T: EntryLike>(
     nodes: &'s [LayoutRenderingElement],
     var: Variable,
 ) -> Result<bool, RenderError>
-    ensures value { IfOk result (λ answer. answer ≡ any_shows (world T.answers ctx.old)
-        ctx.old.state var (fills (env ctx.old.style) (views nodes.now))) }
-    ensures ok { OnOk result (Leaves same ctx.old ctx.new) }
-    ensures err { IfErr result (λ e. FailsAs e ctx.old ctx.new) }
+    ensures { Reads (λ answer. answer) result (any_shows (world T.answers ctx.old) ctx.old.state var
+        (fills (env ctx.old.style) (views nodes.now))) ctx.old ctx.new }
 {
-    nothing(ctx)?;
+    ctx.ensure_live()?;
     for node in nodes {
         if node.will_render(ctx, var)? {
             return Ok(true);
@@ -160,11 +157,10 @@ pub(crate) fn render_all<'s, T: EntryLike>(
     ctx: &mut Context<'s, T>,
     nodes: &'s [LayoutRenderingElement],
 ) -> Result<(), RenderError>
-    ensures ok { OnOk result (Leaves (λ now. with_made (sum_of (world T.answers now)
-        (fills (env now.style) (views nodes.now)) now.inherited now.state) now) ctx.old ctx.new) }
-    ensures err { IfErr result (λ e. FailsAs e ctx.old ctx.new) }
+    ensures { Runs (λ now. with_made (sum_of (world T.answers now) (fills (env now.style)
+        (views nodes.now)) now.inherited now.state) now) result ctx.old ctx.new }
 {
-    nothing(ctx)?;
+    ctx.ensure_live()?;
     for node in nodes {
         node.render(ctx)?;
     }
@@ -177,12 +173,10 @@ pub(crate) fn render_with_delimiter<'s, T: EntryLike>(
     ctx: &mut Context<'s, T>,
     nodes: &'s [LayoutRenderingElement],
 ) -> Result<(), RenderError>
-    ensures ok { OnOk result (Leaves (λ now. with_made (delimited (world T.answers now)
-        (fills (env now.style) (views nodes.now)) now.inherited true now.state) now)
-        ctx.old ctx.new) }
-    ensures err { IfErr result (λ e. FailsAs e ctx.old ctx.new) }
+    ensures { Runs (λ now. with_made (delimited (world T.answers now) (fills (env now.style)
+        (views nodes.now)) now.inherited true now.state) now) result ctx.old ctx.new }
 {
-    nothing(ctx)?;
+    ctx.ensure_live()?;
     let mut first = true;
     for node in nodes {
         let (prints, _) = node.will_have_info(ctx)?;
@@ -201,10 +195,9 @@ fn render_admitted<'s, T: EntryLike>(
     ctx: &mut Context<'s, T>,
     first: bool,
 ) -> Result<(), RenderError>
-    ensures ok { OnOk result (Leaves (λ now. with_made (admitted_made first now.inherited
+    ensures { Runs (λ now. with_made (admitted_made first now.inherited
         (tree (world T.answers now) (fill (env now.style) (view node.now)) now.inherited now.state))
-        now) ctx.old ctx.new) }
-    ensures err { IfErr result (λ e. FailsAs e ctx.old ctx.new) }
+        now) result ctx.old ctx.new }
 {
     match ctx.delimiter() {
         Some(delimiter) if !first => {

@@ -1,11 +1,11 @@
 //! Groups (CSL 1.0.2, Group).
 
-ghost use Rattle.std.specs.Prelude.{◌≡◌, None, OnOk, IfErr};
+ghost use Rattle.std.specs.Prelude.{None};
 ghost use Rattle.csl_tree.specs.Content.{boxed};
 ghost use Rattle.csl_style.specs.Node.{fill};
 ghost use Rattle.csl_style.specs.View.{view_group};
 ghost use Rattle.csl_context.specs.World.{env};
-ghost use Rattle.csl_context.specs.Now.{FailsAs, Leaves, IsInnermost, closed_by};
+ghost use Rattle.csl_context.specs.Now.{Runs, IsInnermost, closed_by};
 ghost use Rattle.csl_render.specs.Tree.{shown_if};
 ghost use Rattle.csl_render.specs.Rendering.{part};
 
@@ -13,7 +13,7 @@ use crate::element::{any_shows, infos, render_with_delimiter};
 use crate::render::RenderCsl;
 use csl_context::{Context, Mark, RenderError};
 use csl_entry::EntryLike;
-use csl_leaves::{UsageInfo, group_said, nothing};
+use csl_leaves::{UsageInfo, group_said};
 use csl_style::{Display, Group, Variable};
 
 impl RenderCsl for Group {
@@ -61,11 +61,10 @@ fn close_group<'s, T: EntryLike>(
     display: Option<Display>,
 ) -> Result<(), RenderError>
     requires innermost { IsInnermost mark ctx.old }
-    ensures ok { OnOk result
-        (Leaves (closed_by (λ _ c. shown_if shows (boxed display None c))) ctx.old ctx.new) }
-    ensures err { IfErr result (λ e. FailsAs e ctx.old ctx.new) }
+    ensures { Runs (closed_by (λ _ c. shown_if shows (boxed display None c)))
+        result ctx.old ctx.new }
 {
-    nothing(ctx)?;
+    ctx.ensure_live()?;
     if shows {
         return ctx.commit_elem(mark, display, None);
     }

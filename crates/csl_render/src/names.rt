@@ -1,6 +1,6 @@
 //! Names (CSL 1.0.2, Names; Substitute): what a names node says, shows and makes.
 
-ghost use Rattle.std.specs.Prelude.{◌≡◌, ◌<◌, ◌&&◌, ◌||◌, [], false, map, IfOk, OnOk, IfErr, IfSome, option_map};
+ghost use Rattle.std.specs.Prelude.{◌≡◌, Bool, ◌<◌, ◌&&◌, ◌||◌, [], false, map, IfOk, IfSome, option_map};
 ghost use Rattle.csl_style.specs.declared.taxonomy.Variable.{Variable};
 ghost use Rattle.csl_style.specs.declared.taxonomy.NameVariable.{NameVariable};
 ghost use Rattle.csl_style.specs.Names.{NamesNode};
@@ -9,12 +9,12 @@ ghost use Rattle.csl_style.specs.Node.{Full, fill, fills, fill_within, no_instea
 ghost use Rattle.csl_style.specs.View.{view, views, view_names};
 ghost use Rattle.csl_context.specs.State.{Inherited, State};
 ghost use Rattle.csl_context.specs.World.{env};
-ghost use Rattle.csl_context.specs.Now.{FailsAs, Leaves, same, world};
+ghost use Rattle.csl_context.specs.Now.{Runs, Reads, same, world};
 ghost use Rattle.csl_names.specs.NamesForms.{is_void};
 ghost use Rattle.csl_names.specs.NamesLists.{all_empty, found_lists};
 ghost use Rattle.csl_names.specs.PersonLists.{list_of};
-ghost use Rattle.csl_render.specs.Names.{author, has_variable, is_of_names, names_it, any_names_it, choice_names_it, substitutes_it, insteads_of, standing_in, refuses_alone, is_refused, names_show, names_said, in_substitute, suppressing_from, substitute_made};
-ghost use Rattle.csl_leaves.specs.Text.{made, with_made};
+ghost use Rattle.csl_render.specs.Names.{Macros, author, has_variable, is_of_names, names_it, any_names_it, substitutes_it, insteads_of, standing_in, refuses_alone, is_refused, names_show, names_said, in_substitute, suppressing_from, substitute_made};
+ghost use Rattle.csl_leaves.specs.Text.{Appends, made, with_made};
 ghost use Rattle.csl_leaves.specs.Usages.{told};
 ghost use Rattle.csl_render.specs.Rendering.{part, with_all_made};
 ghost use Rattle.csl_render.specs.Tree.{tree, substitute_shows, substitute_info, substitute_tree, until_text, tries_tree, choice_info, choice_shows, names_tree, shorthand_tree};
@@ -86,8 +86,7 @@ fn judge<'s, T: EntryLike>(
     ensures void { IfOk result (λ judged. judged.is_void ≡ is_void (parts_node parts.entry)
         (found_lists (world T.answers ctx.old) ctx.old.state
         (parts_node parts.entry).variables)) }
-    ensures ok { OnOk result (Leaves same ctx.old ctx.new) }
-    ensures err { IfErr result (λ e. FailsAs e ctx.old ctx.new) }
+    ensures after { Runs same result ctx.old ctx.new }
 {
     let lists = found_lists(ctx, parts.variables)?;
     Ok(Judged {
@@ -100,12 +99,7 @@ fn judge<'s, T: EntryLike>(
 fn has_variable(wanted: NameVariable, variables: &[NameVariable]) -> bool
     ensures { result ≡ has_variable wanted variables.now }
 {
-    for variable in variables {
-        if wanted == *variable {
-            return true;
-        }
-    }
-    false
+    variables.contains(&wanted)
 }
 
 /// Whether the variable is that of one of the lists.
@@ -162,9 +156,6 @@ fn substitute_nodes<'n, 's, T: EntryLike>(
         (insteads_of (env ctx.now.style) names.now)
         ≡ choice_shows (world T.answers ctx.now) ctx.now.state v
         (option_map (fills (env ctx.now.style)) (option_map (λ ns. views ns.now) result)) }
-    ensures named { (v : NameVariable) → substitutes_it v
-        (insteads_of (env ctx.now.style) names.now) ≡ choice_names_it v
-        (option_map (fills (env ctx.now.style)) (option_map (λ ns. views ns.now) result)) }
     ensures made { (inh : Inherited) → (s : State) → substitute_tree (world T.answers ctx.now)
         (insteads_of (env ctx.now.style) names.now) inh s ≡ tries_tree (world T.answers ctx.now)
         (option_map (fill_within (env ctx.now.style) (names_node names.now))
@@ -174,41 +165,34 @@ fn substitute_nodes<'n, 's, T: EntryLike>(
 }
 
 /// Whether the node is names of the variable.
-fn names_it<'s, T: EntryLike>(
-    variable: NameVariable,
-    node: &LayoutRenderingElement,
-    ctx: &Context<'s, T>,
-) -> bool
-    ensures { result ≡ names_it variable (fill (env ctx.now.style) (view node.now)) }
+fn names_it(variable: NameVariable, node: &LayoutRenderingElement) -> bool
+    ensures { (env : Macros) → result ≡ names_it variable (fill env (view node.now)) }
 {
     match node {
         LayoutRenderingElement::Text(_) => false,
         LayoutRenderingElement::Number(_) => false,
         LayoutRenderingElement::Label(_) => false,
         LayoutRenderingElement::Date(_) => false,
-        LayoutRenderingElement::Names(names) => are_of(variable, names, ctx),
+        LayoutRenderingElement::Names(names) => are_of(variable, names),
         LayoutRenderingElement::Choose(_) => false,
         LayoutRenderingElement::Group(_) => false,
     }
 }
 
 /// Whether the names are of the variable.
-fn are_of<'s, T: EntryLike>(variable: NameVariable, names: &Names, ctx: &Context<'s, T>) -> bool
-    ensures { result ≡ names_it variable (fill (env ctx.now.style) (view_names names.now)) }
+#[tactic(auto, using(crate::proofs::NamesOf::names_it_by))]
+fn are_of(variable: NameVariable, names: &Names) -> bool
+    ensures { (env : Macros) → result ≡ names_it variable (fill env (view_names names.now)) }
 {
     has_variable(variable, names.parts().variables)
 }
 
 /// Whether any of the nodes is a `cs:names` of this variable.
-fn any_names_it<'s, T: EntryLike>(
-    variable: NameVariable,
-    nodes: &[LayoutRenderingElement],
-    ctx: &Context<'s, T>,
-) -> bool
-    ensures { result ≡ any_names_it variable (fills (env ctx.now.style) (views nodes.now)) }
+fn any_names_it(variable: NameVariable, nodes: &[LayoutRenderingElement]) -> bool
+    ensures { (env : Macros) → result ≡ any_names_it variable (fills env (views nodes.now)) }
 {
     for node in nodes {
-        if names_it(variable, node, ctx) {
+        if names_it(variable, node) {
             return true;
         }
     }
@@ -216,48 +200,35 @@ fn any_names_it<'s, T: EntryLike>(
 }
 
 /// Whether directly in the substitute stand names of the variable.
-fn substitutes_it<'s, T: EntryLike>(
-    variable: NameVariable,
-    names: &Names,
-    ctx: &Context<'s, T>,
-) -> bool
-    ensures { result ≡ substitutes_it variable (insteads_of (env ctx.now.style) names.now) }
+#[tactic(auto, using(crate::proofs::NamesOf::substitutes_by))]
+fn substitutes_it(variable: NameVariable, names: &Names) -> bool
+    ensures { (env : Macros) → result ≡ substitutes_it variable (insteads_of env names.now) }
 {
-    match substitute_nodes(names, ctx) {
-        Some(nodes) => any_names_it(variable, nodes, ctx),
+    match first_nodes(names) {
+        Some(nodes) => any_names_it(variable, nodes),
         None => false,
     }
 }
 
 /// Whether names are refused where that variable alone is to be shown.
-fn refuses_alone<'s, T: EntryLike>(
-    only: Variable,
-    names: &Names,
-    ctx: &Context<'s, T>,
-    is_empty: bool,
-) -> bool
-    ensures { result ≡ refuses_alone only (names_node names.now) is_empty
-        (insteads_of (env ctx.now.style) names.now) }
+fn refuses_alone(only: Variable, names: &Names, is_empty: bool) -> bool
+    ensures { (env : Macros) → result
+        ≡ refuses_alone only (names_node names.now) is_empty (insteads_of env names.now) }
 {
     match only {
         Variable::Standard(_) => true,
         Variable::Number(_) => true,
         Variable::Page(_) => true,
-        Variable::Name(variable) => !has_or_substitutes(variable, names, ctx, is_empty),
+        Variable::Name(variable) => !has_or_substitutes(variable, names, is_empty),
         Variable::Date(_) => true,
     }
 }
 
 /// Whether the variable is one of the names, or where there are no persons one of the names in
 /// their substitute.
-fn has_or_substitutes<'s, T: EntryLike>(
-    variable: NameVariable,
-    names: &Names,
-    ctx: &Context<'s, T>,
-    is_empty: bool,
-) -> bool
-    ensures { result ≡ (has_variable variable (names_node names.now).variables
-        || (is_empty && substitutes_it variable (insteads_of (env ctx.now.style) names.now))) }
+fn has_or_substitutes(variable: NameVariable, names: &Names, is_empty: bool) -> bool
+    ensures { (env : Macros) → result ≡ (has_variable variable (names_node names.now).variables
+        || (is_empty && substitutes_it variable (insteads_of env names.now))) }
 {
     if has_variable(variable, names.parts().variables) {
         return true;
@@ -265,7 +236,7 @@ fn has_or_substitutes<'s, T: EntryLike>(
     if !is_empty {
         return false;
     }
-    substitutes_it(variable, names, ctx)
+    substitutes_it(variable, names)
 }
 
 /// Whether names show the variable. `is_empty` says that there are no persons.
@@ -276,13 +247,11 @@ fn shows_it<'s, T: EntryLike>(
     var: Variable,
     is_empty: bool,
 ) -> Result<bool, RenderError>
-    ensures value { IfOk result (λ shows. shows ≡ names_show var (names_node names.now) is_empty
-        (substitute_shows (world T.answers ctx.old) ctx.old.state var
-        (insteads_of (env ctx.old.style) names.now))) }
-    ensures ok { OnOk result (Leaves same ctx.old ctx.new) }
-    ensures err { IfErr result (λ e. FailsAs e ctx.old ctx.new) }
+    ensures { Reads (λ shows. shows) result
+        (names_show var (names_node names.now) is_empty (substitute_shows (world T.answers ctx.old)
+        ctx.old.state var (insteads_of (env ctx.old.style) names.now))) ctx.old ctx.new }
 {
-    nothing(ctx)?;
+    ctx.ensure_live()?;
     if is_of_names(var, names.parts().variables) {
         return Ok(true);
     }
@@ -301,18 +270,15 @@ fn refuses<'s, T: EntryLike>(
     ctx: &mut Context<'s, T>,
     is_empty: bool,
 ) -> Result<bool, RenderError>
-    ensures value { IfOk result (λ refused. refused ≡ is_refused ctx.old.special
-        (names_node names.now) is_empty (insteads_of (env ctx.old.style) names.now)
-        (names_show author (names_node names.now) is_empty (substitute_shows
-        (world T.answers ctx.old) ctx.old.state author
-        (insteads_of (env ctx.old.style) names.now)))) }
-    ensures ok { OnOk result (Leaves same ctx.old ctx.new) }
-    ensures err { IfErr result (λ e. FailsAs e ctx.old ctx.new) }
+    ensures { Reads (λ refused. refused) result (is_refused ctx.old.special (names_node names.now)
+        is_empty (insteads_of (env ctx.old.style) names.now) (names_show author
+        (names_node names.now) is_empty (substitute_shows (world T.answers ctx.old)
+        ctx.old.state author (insteads_of (env ctx.old.style) names.now)))) ctx.old ctx.new }
 {
-    nothing(ctx)?;
+    ctx.ensure_live()?;
     match ctx.special_form() {
         None => Ok(false),
-        Some(SpecialForm::VarOnly(only)) => Ok(refuses_alone(only, names, ctx, is_empty)),
+        Some(SpecialForm::VarOnly(only)) => Ok(refuses_alone(only, names, is_empty)),
         Some(SpecialForm::OnlyFirstDate) => Ok(true),
         Some(SpecialForm::OnlyYearSuffix) => Ok(true),
         Some(SpecialForm::SuppressAuthor) => {
@@ -327,10 +293,8 @@ fn substitute_info<'s, T: EntryLike>(
     names: &'s Names,
     ctx: &mut Context<'s, T>,
 ) -> Result<(bool, UsageInfo), RenderError>
-    ensures value { IfOk result (λ answer. told answer ≡ substitute_info (world T.answers ctx.old)
-        ctx.old.state (insteads_of (env ctx.old.style) names.now)) }
-    ensures ok { OnOk result (Leaves same ctx.old ctx.new) }
-    ensures err { IfErr result (λ e. FailsAs e ctx.old ctx.new) }
+    ensures { Reads told result (substitute_info (world T.answers ctx.old) ctx.old.state
+        (insteads_of (env ctx.old.style) names.now)) ctx.old ctx.new }
 {
     match substitute_nodes(names, ctx) {
         Some(nodes) => {
@@ -348,12 +312,11 @@ fn render_lists<'s, T: EntryLike>(
     ctx: &mut Context<'s, T>,
     lists: &[PersonList<'s>],
 ) -> Result<(), RenderError>
-    ensures ok { OnOk result (Leaves (λ now. with_made (names_tree (world T.answers now)
-        (names_node names.now) (insteads_of (env now.style) names.now) now.inherited
-        (substitute_tree (world T.answers now) (insteads_of (env now.style) names.now)
-        (in_substitute (names_node names.now) now.inherited) (suppressing_from now.state))
-        (map list_of lists.now) now.state) now) ctx.old ctx.new) }
-    ensures err { IfErr result (λ e. FailsAs e ctx.old ctx.new) }
+    ensures { Runs (λ now. with_made (names_tree (world T.answers now) (names_node names.now)
+        (insteads_of (env now.style) names.now) now.inherited (substitute_tree (world T.answers now)
+        (insteads_of (env now.style) names.now) (in_substitute (names_node names.now) now.inherited)
+        (suppressing_from now.state)) (map list_of lists.now) now.state) now)
+        result ctx.old ctx.new }
 {
     let is_empty = all_empty(lists);
     if refuses(names, ctx, is_empty)? {
@@ -372,11 +335,10 @@ fn render_substitute<'s, T: EntryLike>(
     ctx: &mut Context<'s, T>,
     lists: &[PersonList<'s>],
 ) -> Result<(), RenderError>
-    ensures ok { OnOk result (Leaves (λ now. with_made (substitute_made (names_node names.now)
-        (map list_of lists.now) (substitute_tree (world T.answers now)
-        (insteads_of (env now.style) names.now) (in_substitute (names_node names.now)
-        now.inherited) (suppressing_from now.state)) now.state) now) ctx.old ctx.new) }
-    ensures err { IfErr result (λ e. FailsAs e ctx.old ctx.new) }
+    ensures { Runs (λ now. with_made (substitute_made (names_node names.now) (map list_of lists.now)
+        (substitute_tree (world T.answers now) (insteads_of (env now.style) names.now)
+        (in_substitute (names_node names.now) now.inherited) (suppressing_from now.state))
+        now.state) now) result ctx.old ctx.new }
 {
     match substitute_nodes(names, ctx) {
         Some(nodes) => render_tries(nodes, ctx, names, lists),
@@ -393,11 +355,10 @@ fn render_tries<'s, T: EntryLike>(
     names: &'s Names,
     lists: &[PersonList<'s>],
 ) -> Result<(), RenderError>
-    ensures ok { OnOk result (Leaves (λ now. with_made (substitute_made (names_node names.now)
-        (map list_of lists.now) (until_text (world T.answers now) (fill_within (env now.style)
-        (names_node names.now) (views nodes.now)) (in_substitute (names_node names.now)
-        now.inherited) (made [] (suppressing_from now.state))) now.state) now) ctx.old ctx.new) }
-    ensures err { IfErr result (λ e. FailsAs e ctx.old ctx.new) }
+    ensures { Runs (λ now. with_made (substitute_made (names_node names.now) (map list_of lists.now)
+        (until_text (world T.answers now) (fill_within (env now.style) (names_node names.now)
+        (views nodes.now)) (in_substitute (names_node names.now) now.inherited)
+        (made [] (suppressing_from now.state))) now.state) now) result ctx.old ctx.new }
 {
     let parts = names.parts();
     ctx.push_name_options(&names.options)?;
@@ -419,12 +380,11 @@ fn render_until_text<'s, T: EntryLike>(
     ctx: &mut Context<'s, T>,
     original: NamesParts<'s>,
 ) -> Result<(), RenderError>
-    ensures ok { OnOk result (Leaves (λ now. with_all_made (until_text (world T.answers now)
+    ensures { Runs (λ now. with_all_made (until_text (world T.answers now)
         (fill_within (env now.style) (parts_node original.entry) (views nodes.now)) now.inherited
-        (made now.inner now.state)) now) ctx.old ctx.new) }
-    ensures err { IfErr result (λ e. FailsAs e ctx.old ctx.new) }
+        (made now.inner now.state)) now) result ctx.old ctx.new }
 {
-    nothing(ctx)?;
+    ctx.ensure_live()?;
     for node in nodes {
         if ctx.open_part_has_text() {
             return Ok(());
@@ -451,11 +411,11 @@ fn shorthand(node: &LayoutRenderingElement) -> Option<&Names>
 }
 
 /// The names, where they have no children.
+#[tactic(auto, using(crate::proofs::NamesView::names_out))]
 fn childless(names: &Names) -> Option<&Names>
     ensures { (original : NamesNode) → (f : Full) → within original (view_names names.now) f
         ≡ standing_in original f (option_map (λ n. names_node n.now) result) }
 {
-    let _parts = names.parts();
     if names.is_childless() {
         Some(names)
     } else {
@@ -471,10 +431,9 @@ fn render_in_place<'s, T: EntryLike>(
     ctx: &mut Context<'s, T>,
     original: NamesParts<'s>,
 ) -> Result<(), RenderError>
-    ensures ok { OnOk result (Leaves (λ now. with_made (tree (world T.answers now)
-        (within (parts_node original.entry) (view node.now)
-        (fill (env now.style) (view node.now))) now.inherited now.state) now) ctx.old ctx.new) }
-    ensures err { IfErr result (λ e. FailsAs e ctx.old ctx.new) }
+    ensures { Runs (λ now. with_made (tree (world T.answers now) (within (parts_node original.entry)
+        (view node.now) (fill (env now.style) (view node.now))) now.inherited now.state) now)
+        result ctx.old ctx.new }
 {
     match shorthand(node) {
         Some(names) => render_shorthand(ctx, names.parts_in_place_of(original)),
@@ -483,13 +442,10 @@ fn render_in_place<'s, T: EntryLike>(
 }
 
 /// Whether the special form of the cite leaves no names of these parts, which have no substitute.
-fn refuses_shorthand<'s, T: EntryLike>(
-    ctx: &Context<'s, T>,
-    parts: NamesParts<'_>,
-    is_empty: bool,
-) -> bool
-    ensures { result ≡ is_refused ctx.now.special (parts_node parts.entry) is_empty no_insteads
-        (names_show author (parts_node parts.entry) is_empty false) }
+#[tactic(auto, using(crate::proofs::NamesOf::unless_substituted))]
+fn refuses_shorthand<'s, T: EntryLike>(ctx: &Context<'s, T>, parts: NamesParts<'_>) -> bool
+    ensures { (is_empty : Bool) → result ≡ is_refused ctx.now.special (parts_node parts.entry)
+        is_empty no_insteads (names_show author (parts_node parts.entry) is_empty false) }
 {
     match ctx.special_form() {
         None => false,
@@ -507,13 +463,12 @@ fn render_shorthand<'s, T: EntryLike>(
     ctx: &mut Context<'s, T>,
     parts: NamesParts<'s>,
 ) -> Result<(), RenderError>
-    ensures ok { OnOk result (Leaves (λ now. with_made (shorthand_tree (world T.answers now)
-        (parts_node parts.entry) now.inherited now.state) now) ctx.old ctx.new) }
-    ensures err { IfErr result (λ e. FailsAs e ctx.old ctx.new) }
+    ensures { Appends T.answers (λ w. shorthand_tree w (parts_node parts.entry))
+        result ctx.old ctx.new }
 {
     let lists = printed_lists(ctx, parts.variables)?;
     let is_empty = all_empty(&lists);
-    if is_empty || refuses_shorthand(ctx, parts, is_empty) {
+    if is_empty || refuses_shorthand(ctx, parts) {
         return nothing(ctx);
     }
     write_names(ctx, parts, &lists)

@@ -1,8 +1,7 @@
 //! The three calls of what can be rendered.
 
-ghost use Rattle.std.specs.Prelude.{◌≡◌, IfOk, OnOk, IfErr};
 ghost use Rattle.csl_style.specs.Style.{StyleParts};
-ghost use Rattle.csl_context.specs.Now.{FailsAs, Leaves, same, world};
+ghost use Rattle.csl_context.specs.Now.{Runs, Reads, world};
 ghost use Rattle.csl_leaves.specs.Usages.{told};
 ghost use Rattle.csl_render.specs.Rendering.{Rendering, info_in, shows_in, rendered};
 
@@ -26,10 +25,8 @@ pub trait RenderCsl {
         &'s self,
         ctx: &mut Context<'s, T>,
     ) -> Result<(bool, UsageInfo), RenderError>
-        ensures value { IfOk result (λ answer. told answer
-            ≡ info_in (world T.answers ctx.old) ctx.old.state (rendering ctx.old.style self.now)) }
-        ensures ok { OnOk result (Leaves same ctx.old ctx.new) }
-        ensures err { IfErr result (λ e. FailsAs e ctx.old ctx.new) };
+        ensures { Reads told result (info_in (world T.answers ctx.old) ctx.old.state
+            (rendering ctx.old.style self.now)) ctx.old ctx.new };
 
     /// Whether it would show the variable. The context stays as it was.
     ///
@@ -40,10 +37,8 @@ pub trait RenderCsl {
         ctx: &mut Context<'s, T>,
         var: Variable,
     ) -> Result<bool, RenderError>
-        ensures value { IfOk result (λ answer. answer ≡ shows_in (world T.answers ctx.old)
-            ctx.old.state var (rendering ctx.old.style self.now)) }
-        ensures ok { OnOk result (Leaves same ctx.old ctx.new) }
-        ensures err { IfErr result (λ e. FailsAs e ctx.old ctx.new) };
+        ensures { Reads (λ answer. answer) result (shows_in (world T.answers ctx.old)
+            ctx.old.state var (rendering ctx.old.style self.now)) ctx.old ctx.new };
 
     /// Appends its content to the innermost open part and leaves its state. Nothing else of the
     /// context changes.
@@ -51,7 +46,6 @@ pub trait RenderCsl {
     /// # Errors
     /// As [`RenderCsl::will_have_info`].
     fn render<'s, T: EntryLike>(&'s self, ctx: &mut Context<'s, T>) -> Result<(), RenderError>
-        ensures ok { OnOk result (Leaves (rendered T.answers (rendering ctx.old.style self.now))
-            ctx.old ctx.new) }
-        ensures err { IfErr result (λ e. FailsAs e ctx.old ctx.new) };
+        ensures { Runs (rendered T.answers (rendering ctx.old.style self.now))
+            result ctx.old ctx.new };
 }

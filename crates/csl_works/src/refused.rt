@@ -21,7 +21,7 @@ fn says_failed<A: Drop>(answer: Result<A, RenderError>) -> bool {
 /// Whether each call that writes says that the context has failed.
 fn writing_fails<T>(ctx: &mut Context<'_, T>) -> bool {
     let no_chunks = ChunkedString(Vec::new(ctx.alloc()));
-    says_failed(ctx.nothing())
+    says_failed(ctx.ensure_live())
         && says_failed(ctx.push_str(""))
         && says_failed(ctx.push_chunked(&no_chunks))
         && says_failed(ctx.push_link("", ""))

@@ -1,13 +1,12 @@
 //! The lists of persons of a names node, one for each of its variables (CSL 1.0.2, Names;
 //! Name Variables: editortranslator).
 
-ghost use Rattle.std.specs.Prelude.{◌≡◌, [], ◌∷◌, ◌++◌, map, IfOk, OnOk, IfErr};
+ghost use Rattle.std.specs.Prelude.{◌≡◌, [], ◌∷◌, ◌++◌, map, IfOk, OnOk};
 ghost use Rattle.lit_model.specs.Person.{Named, named};
 ghost use Rattle.csl_entry.specs.Answers.{behind};
-ghost use Rattle.csl_context.specs.World.{name_look};
-ghost use Rattle.csl_context.specs.Now.{FailsAs, Leaves, same, world};
+ghost use Rattle.csl_context.specs.Now.{Runs, GivesBy, Reads, Looks, world};
 ghost use Rattle.csl_names.specs.NamesLists.{has_none, all_empty, is_pair, merges, merged, found_lists, each_printed, all_looked, printed_lists, lists_state};
-ghost use Rattle.csl_names.specs.PersonLists.{list_of};
+ghost use Rattle.csl_names.specs.PersonLists.{list_of, lists_view};
 
 use csl_context::{Context, RenderError};
 use csl_entry::{EntryLike, same_people};
@@ -79,67 +78,34 @@ fn merged<'a>(
     Ok(lists)
 }
 
-/// The merged lists, or the failure of the context.
-fn merged_in<'a, 's, T>(
-    ctx: &mut Context<'s, T>,
-    editors: Vec<Cow<'a, Person>>,
-    translators: Vec<Cow<'a, Person>>,
-) -> Result<Vec<PersonList<'a>>, RenderError>
-    ensures value { IfOk result (λ lists. map list_of lists.items
-        ≡ merged (map (behind named) editors.entry.items)
-        (map (behind named) translators.entry.items)) }
-    ensures ok { OnOk result (Leaves same ctx.old ctx.new) }
-    ensures err { IfErr result (λ e. FailsAs e ctx.old ctx.new) }
-{
-    ctx.nothing()?;
-    match merged(ctx.alloc(), editors, translators) {
-        Ok(lists) => Ok(lists),
-        Err(_) => {
-            ctx.fail();
-            Err(RenderError::Memory)
-        }
-    }
-}
-
-/// A silent look, after whose failure the context has failed.
-fn peek<'s, T: EntryLike>(
-    ctx: &mut Context<'s, T>,
-    variable: NameVariable,
-) -> Result<Vec<Cow<'s, Person>>, RenderError>
-    ensures value { IfOk result (λ found. map (behind named) found.items
-        ≡ name_look (world T.answers ctx.old) ctx.old.state variable) }
-    ensures ok { OnOk result (Leaves same ctx.old ctx.new) }
-    ensures err { IfErr result (λ e. FailsAs e ctx.old ctx.new) }
-{
-    match ctx.peek_name_variable(variable) {
-        Ok(found) => Ok(found),
-        Err(error) => {
-            ctx.fail();
-            Err(error)
-        }
-    }
-}
-
 /// Appends a list to others.
-fn pushed<'a, 's, T>(
-    ctx: &mut Context<'s, T>,
+fn add<'a>(
     lists: &mut Vec<PersonList<'a>>,
     persons: Vec<Cow<'a, Person>>,
     variable: NameVariable,
-) -> Result<(), RenderError>
-    ensures value { OnOk result (map list_of lists.new.items ≡ map list_of lists.old.items
+) -> Result<(), Memory>
+    ensures { OnOk result (lists_view lists.new ≡ lists_view lists.old
         ++ (map (behind named) persons.entry.items, variable) ∷ []) }
-    ensures ok { OnOk result (Leaves same ctx.old ctx.new) }
-    ensures err { IfErr result (λ e. FailsAs e ctx.old ctx.new) }
 {
-    ctx.nothing()?;
-    match lists.push((persons, variable)) {
-        Ok(()) => Ok(()),
-        Err(_) => {
-            ctx.fail();
-            Err(RenderError::Memory)
-        }
+    lists.push((persons, variable))?;
+    Ok(())
+}
+
+/// The list of each variable, by silent looks.
+fn lists_found<'s, T: EntryLike>(
+    ctx: &Context<'s, T>,
+    variables: &[NameVariable],
+) -> Result<Vec<PersonList<'s>>, RenderError>
+    ensures { Looks lists_view result
+        (found_lists (world T.answers ctx.now) ctx.now.state variables.now) ctx.now }
+{
+    ctx.ensure_live()?;
+    let mut lists = Vec::new(ctx.alloc());
+    for variable in variables {
+        let persons = ctx.peek_name_variable(*variable)?;
+        add(&mut lists, persons, *variable)?;
     }
+    Ok(lists)
 }
 
 /// The list of each variable, by looks for printing.
@@ -147,18 +113,17 @@ fn each_printed<'s, T: EntryLike>(
     ctx: &mut Context<'s, T>,
     variables: &[NameVariable],
 ) -> Result<Vec<PersonList<'s>>, RenderError>
-    ensures value { IfOk result (λ lists. map list_of lists.items
-        ≡ each_printed (world T.answers ctx.old) ctx.old.state variables.now) }
-    ensures ok { OnOk result (Leaves (λ now. record now {
+    ensures value { GivesBy lists_view result
+        (each_printed (world T.answers ctx.old) ctx.old.state variables.now) }
+    ensures after { Runs (λ now. record now {
       state = all_looked (world T.answers now) now.state variables.now;
-    }) ctx.old ctx.new) }
-    ensures err { IfErr result (λ e. FailsAs e ctx.old ctx.new) }
+    }) result ctx.old ctx.new }
 {
-    ctx.nothing()?;
+    ctx.ensure_live()?;
     let mut lists = Vec::new(ctx.alloc());
     for variable in variables {
         let persons = ctx.resolve_name_variable(*variable)?;
-        pushed(ctx, &mut lists, persons, *variable)?;
+        ctx.attempt(add(&mut lists, persons, *variable))?;
     }
     Ok(lists)
 }
@@ -173,18 +138,10 @@ pub fn found_lists<'s, T: EntryLike>(
     ctx: &mut Context<'s, T>,
     variables: &[NameVariable],
 ) -> Result<Vec<PersonList<'s>>, RenderError>
-    ensures value { IfOk result (λ lists. map list_of lists.items
-        ≡ found_lists (world T.answers ctx.old) ctx.old.state variables.now) }
-    ensures ok { OnOk result (Leaves same ctx.old ctx.new) }
-    ensures err { IfErr result (λ e. FailsAs e ctx.old ctx.new) }
+    ensures { Reads lists_view result
+        (found_lists (world T.answers ctx.old) ctx.old.state variables.now) ctx.old ctx.new }
 {
-    ctx.nothing()?;
-    let mut lists = Vec::new(ctx.alloc());
-    for variable in variables {
-        let persons = peek(ctx, *variable)?;
-        pushed(ctx, &mut lists, persons, *variable)?;
-    }
-    Ok(lists)
+    ctx.settle(lists_found(ctx, variables))
 }
 
 /// The lists that a names node of these variables prints. Each look may suppress its variable.
@@ -195,18 +152,16 @@ pub fn printed_lists<'s, T: EntryLike>(
     ctx: &mut Context<'s, T>,
     variables: &[NameVariable],
 ) -> Result<Vec<PersonList<'s>>, RenderError>
-    ensures value { IfOk result (λ lists. map list_of lists.items
-        ≡ printed_lists (world T.answers ctx.old) ctx.old.state variables.now) }
-    ensures ok { OnOk result (Leaves (λ now. record now {
+    ensures value { GivesBy lists_view result
+        (printed_lists (world T.answers ctx.old) ctx.old.state variables.now) }
+    ensures after { Runs (λ now. record now {
       state = lists_state (world T.answers now) now.state variables.now;
-    }) ctx.old ctx.new) }
-    ensures err { IfErr result (λ e. FailsAs e ctx.old ctx.new) }
+    }) result ctx.old ctx.new }
 {
-    ctx.nothing()?;
     if merges(ctx, variables) {
         let editors = ctx.resolve_name_variable(NameVariable::Editor)?;
         let translators = ctx.resolve_name_variable(NameVariable::Translator)?;
-        return merged_in(ctx, editors, translators);
+        return ctx.attempt(merged(ctx.alloc(), editors, translators));
     }
     each_printed(ctx, variables)
 }

@@ -1,6 +1,6 @@
 //! The box of a names node that has persons (CSL 1.0.2, Names; Affixes; Display; Name: form).
 
-ghost use Rattle.std.specs.Prelude.{◌≡◌, [], Some, true, map, is_some, decimal, IfOk, OnOk, IfErr};
+ghost use Rattle.std.specs.Prelude.{◌≡◌, [], Some, true, map, is_some, decimal, IfOk};
 ghost use Rattle.std.specs.Bool.{OnFalse};
 ghost use Rattle.lit_model.specs.Person.{named};
 ghost use Rattle.csl_style.specs.NameOptions.{inherited_options};
@@ -10,7 +10,7 @@ ghost use Rattle.csl_tree.specs.Content.{◌++>◌, boxed};
 ghost use Rattle.csl_tree.specs.Tokens.{meta_of};
 ghost use Rattle.csl_entry.specs.Answers.{behind};
 ghost use Rattle.csl_context.specs.Texts.{text_in};
-ghost use Rattle.csl_context.specs.Now.{FailsAs, Leaves, IsInnermost, closed_by, with_content};
+ghost use Rattle.csl_context.specs.Now.{Runs, IsInnermost, closed_by, with_content};
 ghost use Rattle.csl_names.specs.KeptForms.{forms_in, keeping, keeping_by};
 ghost use Rattle.csl_names.specs.NamesContent.{names_how, with_lists, written_by, names_content, names_state, lists_meta};
 ghost use Rattle.csl_names.specs.NamesStyles.{names_of};
@@ -79,18 +79,10 @@ fn names_style<'n>(
 
 /// Writes a number.
 fn put_count<T>(ctx: &mut Context<'_, T>, count: usize) -> Result<(), RenderError>
-    ensures ok { OnOk result (Leaves (with_content (λ inh. text_in inh (decimal count)))
-        ctx.old ctx.new) }
-    ensures err { IfErr result (λ e. FailsAs e ctx.old ctx.new) }
+    ensures { Runs (with_content (λ inh. text_in inh (decimal count))) result ctx.old ctx.new }
 {
-    ctx.nothing()?;
-    match format!(in ctx.alloc(); "{count}") {
-        Ok(text) => ctx.push_str(text.as_str()),
-        Err(_) => {
-            ctx.fail();
-            Err(RenderError::Memory)
-        }
-    }
+    let text = ctx.attempt(format!(in ctx.alloc(); "{count}"))?;
+    ctx.push_str(text.as_str())
 }
 
 /// Writes the lists, each name in its form. The first forms that are written are kept.
@@ -100,15 +92,14 @@ fn put_all<T>(
     variables: &[NameVariable],
     lists: &[PersonList<'_>],
 ) -> Result<(), RenderError>
-    ensures ok { OnOk result (Leaves (λ now. record now {
+    ensures { Runs (λ now. record now {
       inner = with_lists now.style
           (is_some now.sorting) (names_of style.entry) now.inherited true 0
           (forms_in now.cite variables.now (names_of style.entry).options
           (map list_of lists.now)).lists (map list_of lists.now) now.inner;
       state = keeping (forms_in now.cite variables.now (names_of style.entry).options
           (map list_of lists.now)) now.state;
-    }) ctx.old ctx.new) }
-    ensures err { IfErr result (λ e. FailsAs e ctx.old ctx.new) }
+    }) result ctx.old ctx.new }
 {
     let forms = forms_in(ctx, variables, style.options, lists)?;
     style.put_lists(ctx, lists, forms.name_forms())?;
@@ -125,15 +116,14 @@ fn put_body<T>(
     lists: &[PersonList<'_>],
 ) -> Result<(), RenderError>
     requires { OnFalse ctx.old.failed (ctx.old.inner ≡ []) }
-    ensures ok { OnOk result (Leaves (λ now. record now {
+    ensures { Runs (λ now. record now {
       inner =
           written_by (names_of style.entry).options.form now.style (is_some now.sorting) now.cite
           variables.now (names_of style.entry) (map list_of lists.now) now.inherited;
       state =
           keeping_by (names_of style.entry).options.form (forms_in now.cite variables.now
           (names_of style.entry).options (map list_of lists.now)) now.state;
-    }) ctx.old ctx.new) }
-    ensures err { IfErr result (λ e. FailsAs e ctx.old ctx.new) }
+    }) result ctx.old ctx.new }
 {
     match style.options.form {
         NameForm::Count => {
@@ -156,18 +146,11 @@ pub fn commit_names<T>(
     lists: &[PersonList<'_>],
 ) -> Result<(), RenderError>
     requires innermost { IsInnermost mark ctx.old }
-    ensures ok { OnOk result (Leaves (closed_by (λ _ c. boxed display
-        (lists_meta (map list_of lists.now)) c)) ctx.old ctx.new) }
-    ensures err { IfErr result (λ e. FailsAs e ctx.old ctx.new) }
+    ensures { Runs (closed_by (λ _ c. boxed display (lists_meta (map list_of lists.now)) c))
+        result ctx.old ctx.new }
 {
-    ctx.nothing()?;
-    match lists_meta(ctx.alloc(), lists) {
-        Ok(meta) => ctx.commit_elem(mark, display, Some(meta)),
-        Err(_) => {
-            ctx.fail();
-            Err(RenderError::Memory)
-        }
-    }
+    let meta = ctx.attempt(lists_meta(ctx.alloc(), lists))?;
+    ctx.commit_elem(mark, display, Some(meta))
 }
 
 /// Writes a names node that has persons: its box around the affixed lists. The first that is not
@@ -181,16 +164,14 @@ pub fn write_names<T>(
     parts: NamesParts<'_>,
     lists: &[PersonList<'_>],
 ) -> Result<(), RenderError>
-    ensures ok { OnOk result (Leaves (λ now. record now {
+    ensures { Runs (λ now. record now {
       inner = now.inner ++> names_content now.style
           (is_some now.sorting) now.cite (parts_node parts.entry) (map list_of lists.now)
           now.inherited;
       state = names_state now.cite (parts_node parts.entry) (map list_of lists.now) now.inherited
           now.state;
-    }) ctx.old ctx.new) }
-    ensures err { IfErr result (λ e. FailsAs e ctx.old ctx.new) }
+    }) result ctx.old ctx.new }
 {
-    ctx.nothing()?;
     let missing_name = Name::new(ctx.alloc());
     let missing_et_al = EtAl::default();
     let style = names_style(parts, ctx.name_options(), &missing_name, &missing_et_al);

@@ -1,7 +1,7 @@
 //! The lists of a names node, each with its label, and delimiters between them (CSL 1.0.2, Names;
 //! Label in Names).
 
-ghost use Rattle.std.specs.Prelude.{◌≡◌, map, length, slice_get, option_map, is_some, true, OnOk, IfErr};
+ghost use Rattle.std.specs.Prelude.{◌≡◌, map, slice_get, option_map, is_some, true};
 ghost use Rattle.lit_model.specs.Person.{named};
 ghost use Rattle.csl_style.specs.Names.{view_label, view_name, view_et_al};
 ghost use Rattle.csl_style.specs.NameOptions.{used_options};
@@ -9,7 +9,7 @@ ghost use Rattle.csl_style.specs.NamesParts.{placed_label};
 ghost use Rattle.csl_style.specs.declared.term.Term.TheVariants.{Name as name_term};
 ghost use Rattle.csl_entry.specs.Answers.{behind};
 ghost use Rattle.csl_context.specs.World.{term_in};
-ghost use Rattle.csl_context.specs.Now.{FailsAs, Leaves, with_content};
+ghost use Rattle.csl_context.specs.Now.{Runs, with_content};
 ghost use Rattle.csl_names.specs.NamesContent.{label_content, label_on, with_label, with_list, with_one, with_one_if, is_skipped, with_lists};
 ghost use Rattle.csl_names.specs.NamesStyles.{names_of};
 ghost use Rattle.csl_names.specs.PersonLists.{list_of};
@@ -60,9 +60,8 @@ fn put_term<T>(
     label: &VariablelessLabel,
     term: &str,
 ) -> Result<(), RenderError>
-    ensures ok { OnOk result (Leaves (with_content (label_content (view_label label.now)
-        term.now)) ctx.old ctx.new) }
-    ensures err { IfErr result (λ e. FailsAs e ctx.old ctx.new) }
+    ensures { Runs (with_content (label_content (view_label label.now) term.now))
+        result ctx.old ctx.new }
 {
     ctx.push_format(label.formatting)?;
     let middle = ctx.apply_prefix()?;
@@ -83,23 +82,18 @@ impl NamesStyle<'_> {
         variable: NameVariable,
         count: usize,
     ) -> Result<(), RenderError>
-        ensures ok { OnOk result (Leaves (λ now. record now {
+        ensures { Runs (λ now. record now {
           inner = with_label now.style
               (label_on (is_some now.sorting) behind (names_of self.entry).label) variable count
               now.inherited now.inner;
-        }) ctx.old ctx.new) }
-        ensures err { IfErr result (λ e. FailsAs e ctx.old ctx.new) }
+        }) result ctx.old ctx.new }
     {
-        ctx.nothing()?;
         let sorting = ctx.sorting().is_some();
         match label_on(self.label, sorting, behind) {
-            None => Ok(()),
+            None => ctx.ensure_live(),
             Some(label) => match ctx.term(Term::Name(variable), label.form, count != 1) {
-                None => Ok(()),
-                Some(term) => {
-                    put_term(ctx, label, term)?;
-                    Ok(())
-                }
+                None => ctx.ensure_live(),
+                Some(term) => put_term(ctx, label, term),
             },
         }
     }
@@ -112,12 +106,11 @@ impl NamesStyle<'_> {
         variable: NameVariable,
         forms: &[Option<DisambiguatedNameForm>],
     ) -> Result<(), RenderError>
-        ensures ok { OnOk result (Leaves (λ now. record now {
+        ensures { Runs (λ now. record now {
           inner = with_list now.style
               (is_some now.sorting) (names_of self.entry) now.inherited
               (map (behind named) persons.now) variable forms.now now.inner;
-        }) ctx.old ctx.new) }
-        ensures err { IfErr result (λ e. FailsAs e ctx.old ctx.new) }
+        }) result ctx.old ctx.new }
     {
         ctx.push_format(self.name.formatting)?;
         write_name_list(
@@ -143,20 +136,18 @@ impl NamesStyle<'_> {
         variable: NameVariable,
         forms: &[Option<DisambiguatedNameForm>],
     ) -> Result<(), RenderError>
-        ensures ok { OnOk result (Leaves (λ now. record now {
+        ensures { Runs (λ now. record now {
           inner = with_one now.style
               (is_some now.sorting) (names_of self.entry) now.inherited first
               (map (behind named) persons.now) variable forms.now now.inner;
-        }) ctx.old ctx.new) }
-        ensures err { IfErr result (λ e. FailsAs e ctx.old ctx.new) }
+        }) result ctx.old ctx.new }
     {
         if !first {
             ctx.push_str(self.delimiter)?;
         }
         self.put_label(ctx, false, variable, persons.len())?;
         self.put_names(ctx, persons, variable, forms)?;
-        self.put_label(ctx, true, variable, persons.len())?;
-        Ok(())
+        self.put_label(ctx, true, variable, persons.len())
     }
 
     /// Writes a list, unless it is empty or has no forms.
@@ -168,15 +159,14 @@ impl NamesStyle<'_> {
         variable: NameVariable,
         forms: Option<&[Option<DisambiguatedNameForm>]>,
     ) -> Result<(), RenderError>
-        ensures ok { OnOk result (Leaves (λ now. record now {
+        ensures { Runs (λ now. record now {
           inner = with_one_if now.style
               (is_some now.sorting) (names_of self.entry) now.inherited first
               (map (behind named) persons.now) variable (option_map (λ f. f.now) forms.entry)
               now.inner;
-        }) ctx.old ctx.new) }
-        ensures err { IfErr result (λ e. FailsAs e ctx.old ctx.new) }
+        }) result ctx.old ctx.new }
     {
-        ctx.nothing()?;
+        ctx.ensure_live()?;
         match forms {
             None => Ok(()),
             Some(forms) => {
@@ -195,15 +185,13 @@ impl NamesStyle<'_> {
         lists: &[PersonList<'_>],
         forms: &[Vec<Option<DisambiguatedNameForm>>],
     ) -> Result<(), RenderError>
-        ensures ok { OnOk result (Leaves (λ now. record now {
+        ensures { Runs (λ now. record now {
           inner = with_lists now.style
               (is_some now.sorting) (names_of self.entry) now.inherited true 0
               (map (λ f. f.items) forms.now) (map list_of lists.now) now.inner;
-        })
-            ctx.old ctx.new) }
-        ensures err { IfErr result (λ e. FailsAs e ctx.old ctx.new) }
+        }) result ctx.old ctx.new }
     {
-        ctx.nothing()?;
+        ctx.ensure_live()?;
         let mut first = true;
         let mut place: usize = 0;
         for list in lists {
