@@ -83,7 +83,7 @@ fn value_told<'s, T: EntryLike>(
     Ok((info, shown || moved))
 }
 
-/// The same of a text.
+/// What a dry run says of a text, and whether a variable would be shown. The text is written.
 fn text_told<'s, T: EntryLike>(
     ctx: &mut Context<'s, T>,
     text: &'s Text,

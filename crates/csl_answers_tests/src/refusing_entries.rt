@@ -86,7 +86,7 @@ fn tried<T: EntryLike>(
     }
 }
 
-/// The same of a first cite.
+/// What a style makes of the first cite of an entry, or nothing where there was no memory.
 fn tried_first<T: EntryLike>(
     alloc: Global,
     style: &Style,
@@ -157,7 +157,7 @@ fn assert_refusals(
     Err(Fail::from("an entry that is not asked so often"))
 }
 
-/// Asserts those of the built-in entry of a row.
+/// Asserts each refusal of the built-in entry of a row.
 fn assert_row(rt: &impl Abort, alloc: Global, style: &Style, row: &Row) -> Result<(), Fail> {
     let entry = BuiltIn::of_key(row.0).ok_or("an entry")?;
     let works = entries(alloc, &[entry])?;
@@ -165,7 +165,7 @@ fn assert_row(rt: &impl Abort, alloc: Global, style: &Style, row: &Row) -> Resul
     assert_refusals(rt, alloc, style, work, line(row.1))
 }
 
-/// Asserts those of each row.
+/// Asserts each refusal of the built-in entry of each row.
 fn assert_rows(rt: &impl Abort, alloc: Global, style: &Style, rows: &[Row]) -> Result<(), Fail> {
     for row in rows {
         assert_row(rt, alloc, style, row)?;
@@ -173,7 +173,7 @@ fn assert_rows(rt: &impl Abort, alloc: Global, style: &Style, rows: &[Row]) -> R
     Ok(())
 }
 
-/// The same in a built-in style.
+/// Asserts each refusal of each row in a built-in style.
 fn assert_style(
     rt: &impl Abort,
     alloc: Global,

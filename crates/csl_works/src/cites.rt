@@ -210,7 +210,7 @@ fn pair_of(
     said
 }
 
-/// The same in a style.
+/// What is said of the book and of a title of the same text in a style.
 fn pair_in(alloc: Global, style: &Style) -> Result<String, WorkError> {
     let title = one_piece(alloc, "Crazy Rich Asians")?;
     let book = BuiltIn::CrazyRich.entry(alloc)?;

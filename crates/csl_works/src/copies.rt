@@ -29,7 +29,7 @@ fn say(said: &mut String, name: &str, is_equal: bool) -> Result<(), Memory> {
     Ok(())
 }
 
-/// The same of a copy.
+/// Says whether a copy equals what it was made of.
 fn tell<T: PartialEq + Drop>(
     said: &mut String,
     name: &str,
@@ -144,7 +144,7 @@ fn tell_adviser(alloc: Global, said: &mut String, it: &PersonsWithRoles) -> Resu
     }
 }
 
-/// Of where a work can be had.
+/// Copies where a work can be had: publisher, address, serial numbers and language.
 fn tell_sources(alloc: Global, said: &mut String, work: &Entry) -> Result<(), Memory> {
     if let Some(it) = &work.publisher {
         tell(said, "Publisher", it, it.clone(alloc))?;
@@ -161,7 +161,7 @@ fn tell_sources(alloc: Global, said: &mut String, work: &Entry) -> Result<(), Me
     Ok(())
 }
 
-/// Of an entry and of its parts.
+/// Copies an entry and its parts, and says which copies are equal.
 fn tell_entry(alloc: Global, work: &Entry) -> Result<String, Memory> {
     let mut said = String::new(alloc);
     tell(&mut said, "Entry", work, work.clone(alloc))?;
@@ -205,12 +205,12 @@ pub fn entry(alloc: Global) -> Result<String, WorkError> {
     said
 }
 
-/// Some numbers.
+/// A number of three.
 fn numeric(alloc: Global) -> Result<Numeric, WorkError> {
     Ok(Numeric::parse(alloc, "4-6, 9")?)
 }
 
-/// Of an answer, and of the number that it holds.
+/// Copies an answer, and the number that it holds.
 fn tell_number(
     alloc: Global,
     said: &mut String,
@@ -225,7 +225,7 @@ fn tell_number(
     }
 }
 
-/// Of answers.
+/// Copies the answers of an entry.
 fn tell_answers(
     alloc: Global,
     answers: &[NumberOrPageVariableResult<'_>],
@@ -299,7 +299,7 @@ fn tell_speculative(
     tell_state(alloc, said, &props.disambiguation)
 }
 
-/// Of what a citation says of a cite.
+/// Copies what a citation says of a cite.
 fn tell_cite(alloc: Global, props: &CiteProperties<'_>) -> Result<String, Memory> {
     let mut said = String::new(alloc);
     let copy = props.clone(alloc)?;
@@ -322,7 +322,7 @@ pub fn cite(alloc: Global) -> Result<String, WorkError> {
     Ok(said?)
 }
 
-/// Of what a rendering leaves.
+/// Copies what a rendering leaves.
 fn tell_left(alloc: Global, left: &LeftState) -> Result<String, Memory> {
     let mut said = String::new(alloc);
     let copy = left.clone(alloc)?;
@@ -370,7 +370,7 @@ fn names_elem(alloc: Global) -> Result<Elem, Memory> {
     })
 }
 
-/// Of an element and of its parts.
+/// Copies an element and its parts.
 fn tell_elem(alloc: Global, said: &mut String, elem: &Elem) -> Result<(), Memory> {
     tell(said, "Elem", elem, elem.clone(alloc))?;
     tell(
