@@ -94,24 +94,19 @@ fn rendering_fails<'s, T: EntryLike>(ctx: &mut Context<'s, T>) -> bool {
         && says_failed(layout.will_render(ctx, Variable::Date(DateVariable::Issued)))
 }
 
-/// Whether each call of a context but the last says that it has failed. A mark is had from a context
-/// of the same cite, unless that is refused memory too.
-fn all_fail<'s, T: EntryLike>(ctx: &mut Context<'s, T>) -> bool {
+/// Whether each call of a context but the last says that it has failed. The marks of what it would
+/// close are those of a context of the same cite.
+fn all_fail<'s, T: EntryLike>(ctx: &mut Context<'s, T>) -> Result<bool, WorkError> {
     let failed = ctx.has_failed()
         && writing_fails(ctx)
         && opening_fails(ctx)
         && peeking_fails(ctx)
         && looking_fails(ctx)
         && rendering_fails(ctx);
-    let Ok(mut other) = Context::new(ctx.alloc(), ctx.style(), ctx.instance(), ctx.scope()) else {
-        return failed;
-    };
+    let mut other = Context::new(ctx.alloc(), ctx.style(), ctx.instance(), ctx.scope())?;
     let mark = other.push_elem();
     drop(other);
-    match mark {
-        Ok(mark) => failed && closing_fails(ctx, mark),
-        Err(_) => failed,
-    }
+    Ok(failed && closing_fails(ctx, mark?))
 }
 
 /// Why nothing was made in a context: for want of memory, unless a later call of the context does
@@ -123,7 +118,7 @@ pub fn refusal<'s, T: EntryLike>(mut ctx: Context<'s, T>) -> WorkError {
         drop(ctx);
         return unexpected;
     }
-    if says_failed(ctx.finish()) && failed {
+    if says_failed(ctx.finish()) && !matches!(failed, Ok(false)) {
         WorkError::Memory
     } else {
         unexpected
