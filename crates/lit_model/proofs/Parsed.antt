@@ -1,5 +1,5 @@
 -- What the answer of `parse` says, from the exact answer.
-use Rattle.std.proofs.Common.{◌≡◌, ℕ, true, List, Option, Some, None, Result, Ok, Err, MatchResult, refl, sym, ◌∙◌}
+use Rattle.std.proofs.Common.{◌≡◌, ◌↔◌, ℕ, true, List, Option, Some, None, Result, Ok, Err, MatchResult, refl, sym, ◌∙◌}
 use Rattle.std.specs.Prelude.{IfOk}
 use Rattle.lit_model.specs.declared.numeric.error.NumericError.{NumericError}
 use Rattle.lit_model.specs.declared.numeric.error.NumericError.TheVariants as errors
@@ -37,3 +37,7 @@ unique cs v w s t = some_is v w (sym (numeric_complete v cs s) ∙ numeric_compl
 pub writable : {X : Type 0} (view : X → NumericView) (cs : List ℕ) → all_scalars cs ≡ true → (r : Result X NumericError) → Gives view r (numeric_from cs) → IfOk r (λ n. IsWritable (view n))
 writable view cs is_scalar (Ok n) h = numeric_writable (view n) cs is_scalar (numeric_sound cs (view n) h)
 writable view cs is_scalar (Err e) h = tt
+
+-- a value is read exactly where it is spelled
+pub grammar : (cs : List ℕ) (v : NumericView) → (numeric_from cs ≡ Some v) ↔ Spells v cs
+grammar cs v = (numeric_sound cs v, numeric_complete v cs)

@@ -79,10 +79,7 @@ impl Numeric {
     pub fn clone(&self, alloc: Global) -> Result<Numeric, Memory>
         ensures { IfOk result (λ copy. numeric_view copy ≡ numeric_view self.now) }
     {
-        let value = match &self.value {
-            NumericValue::Number(number) => NumericValue::Number(*number),
-            NumericValue::Set(numbers) => NumericValue::Set(numbers.as_slice().to_vec(alloc)?),
-        };
+        let value = self.value.clone(alloc)?;
         let prefix = copy_text(&self.prefix, alloc)?;
         let suffix = copy_text(&self.suffix, alloc)?;
         Ok(Numeric {
@@ -100,6 +97,21 @@ pub enum NumericValue {
     Number(i32),
     /// Several numbers, each with what separates it from the next.
     Set(Vec<(i32, Option<NumericDelimiter>)>),
+}
+
+impl NumericValue {
+    /// A copy.
+    ///
+    /// # Errors
+    /// [`Memory`]: there was no memory left.
+    pub fn clone(&self, alloc: Global) -> Result<NumericValue, Memory>
+        ensures { IfOk result (λ copy. value_view copy ≡ value_view self.now) }
+    {
+        match self {
+            NumericValue::Number(number) => Ok(NumericValue::Number(*number)),
+            NumericValue::Set(numbers) => Ok(NumericValue::Set(numbers.as_slice().to_vec(alloc)?)),
+        }
+    }
 }
 
 /// What separates two numbers of a list.

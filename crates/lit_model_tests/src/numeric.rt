@@ -1,8 +1,9 @@
 //! Numbers: what is read, and how they are written.
 
 ghost use Rattle.std.specs.Prelude.{◌≡◌, ◌↔◌, IsTrue, Some, None, codes};
-ghost use Rattle.lit_model.specs.Numeric.{numeric_view};
+ghost use Rattle.lit_model.specs.Numeric.{numeric_view, value_view};
 ghost use Rattle.lit_model.specs.contracts.numeric.NumericHash.TheImpl.{hash_input-value as hash_number};
+ghost use Rattle.lit_model.specs.contracts.numeric.NumericValueHash.TheImpl.{hash_input-value as hash_value};
 
 use crate::asserted::assert_of;
 use crate::samples::{assert_text, assert_whether};
@@ -63,6 +64,15 @@ fn same(a: &Numeric, b: &Numeric) -> bool
     *a == *b
 }
 
+/// Numbers without their texts are equal exactly if they are the same, and equal ones feed a hasher
+/// the same.
+fn same_value(a: &NumericValue, b: &NumericValue) -> bool
+    ensures equal { IsTrue result ↔ (value_view a.now ≡ value_view b.now) }
+    ensures hashed { value_view a.now ≡ value_view b.now → hash_value.it a.now ≡ hash_value.it b.now }
+{
+    *a == *b
+}
+
 fn text_of(text: &Option<String>) -> &str {
     match text {
         Some(text) => text.as_str(),
@@ -106,6 +116,33 @@ fn is_copied(alloc: Global, text: &str) -> Result<bool, NumericError> {
     let read = Numeric::parse(alloc, text)?;
     let copy = read.clone(alloc)?;
     Ok(same(&copy, &read))
+}
+
+/// Whether the numbers of two texts are equal, where a copy of those of the first is asked.
+fn are_same_values(alloc: Global, text: &str, other: &str) -> Result<bool, NumericError> {
+    let read = Numeric::parse(alloc, text)?;
+    let other = Numeric::parse(alloc, other)?;
+    let copy = read.value.clone(alloc)?;
+    Ok(same_value(&copy, &other.value))
+}
+
+/// Two texts, and whether their numbers are equal: the texts around the numbers do not count.
+static VALUES: [(&str, &str, bool); 6] = [
+    ("4", "4", true),
+    ("n4", "4a", true),
+    ("4", "5", false),
+    ("4 & 7", "4&7", true),
+    ("4 & 7", "4, 7", false),
+    ("4", "4 & 7", false),
+];
+
+#[test]
+fn numbers_are_equal_by_value(rt: HostRuntime) -> Result<(), NumericError> {
+    for (text, other, wanted) in &VALUES {
+        let are_same = are_same_values(rt.alloc(), *text, *other)?;
+        assert_of(&rt, &are_same, wanted, &(text, other));
+    }
+    Ok(())
 }
 
 #[test]

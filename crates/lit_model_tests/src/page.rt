@@ -1,8 +1,9 @@
 //! Pages: what is read, and how they are written.
 
 ghost use Rattle.std.specs.Prelude.{◌≡◌, ◌↔◌, IsTrue};
-ghost use Rattle.lit_model.specs.Page.{pages_view};
+ghost use Rattle.lit_model.specs.Page.{part_view, pages_view};
 ghost use Rattle.lit_model.specs.contracts.page.PageRangesHash.TheImpl.{hash_input-value as hash_pages};
+ghost use Rattle.lit_model.specs.contracts.page.PageRangesPartHash.TheImpl.{hash_input-value as hash_part};
 
 use crate::asserted::assert_of;
 use crate::samples::{assert_text, assert_whether};
@@ -23,6 +24,44 @@ fn same(a: &PageRanges, b: &PageRanges) -> bool
     ensures { IsTrue result ↔ (pages_view a.now ≡ pages_view b.now) }
 {
     *a == *b
+}
+
+/// Parts of pages are equal exactly if they say the same, and equal ones feed a hasher the same.
+fn same_part(a: &PageRangesPart, b: &PageRangesPart) -> bool
+    ensures equal { IsTrue result ↔ (part_view a.now ≡ part_view b.now) }
+    ensures hashed { part_view a.now ≡ part_view b.now → hash_part.it a.now ≡ hash_part.it b.now }
+{
+    *a == *b
+}
+
+/// Whether the first parts of two texts are equal.
+fn are_same_parts(alloc: Global, text: &str, other: &str) -> Result<bool, NumericError> {
+    let pages = PageRanges::parse(alloc, text)?;
+    let others = PageRanges::parse(alloc, other)?;
+    let are_same = match (pages.ranges.first(), others.ranges.first()) {
+        (Some(part), Some(other)) => same_part(part, other),
+        _ => false,
+    };
+    Ok(are_same)
+}
+
+/// Two texts, and whether their first parts are equal.
+static PARTS: [(&str, &str, bool); 6] = [
+    ("7", "7, 9", true),
+    ("7", "8", false),
+    ("7", "7-9", false),
+    ("7-9", "7 – 9", true),
+    ("7-9", "7-8", false),
+    ("7-9", "6-9", false),
+];
+
+#[test]
+fn parts_are_equal_by_value(rt: HostRuntime) -> Result<(), NumericError> {
+    for (text, other, wanted) in &PARTS {
+        let are_same = are_same_parts(rt.alloc(), *text, *other)?;
+        assert_of(&rt, &are_same, wanted, &(text, other));
+    }
+    Ok(())
 }
 
 /// Whether a range and a page are read as such.

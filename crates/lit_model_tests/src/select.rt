@@ -1,4 +1,6 @@
-//! What is selected of a work and its parents.
+//! What is selected of a work and its parents, and when two clauses are equal.
+
+ghost use Rattle.std.specs.Prelude.{◌≡◌, ◌↔◌, IsTrue, option_copied};
 
 use crate::asserted::{assert_of, assert_same};
 use crate::samples::{Shown, Work, alone, assert_text, entries, person, put};
@@ -71,6 +73,60 @@ static DATED: [Clause<'static>; 1] = [Clause {
     parent: Some(&[]),
     bind: Bind::Parent,
 }];
+
+/// Whether the two clauses are equal: they are where they ask for the same types and fields, in the
+/// same order, and bind the same.
+fn same_clause(a: &Clause<'_>, b: &Clause<'_>) -> bool
+    ensures { IsTrue result ↔ ((a.now.own.now ≡ b.now.own.now)
+        × (a.now.fields.now ≡ b.now.fields.now)
+        × (option_copied a.now.parent ≡ option_copied b.now.parent)
+        × (a.now.bind ≡ b.now.bind)) }
+{
+    *a == *b
+}
+
+/// Clauses that differ in one part from the one before.
+static CLAUSES: [Clause<'static>; 5] = [
+    Clause {
+        own: &[EntryType::Book],
+        fields: &[Field::Date],
+        parent: Some(&[]),
+        bind: Bind::Parent,
+    },
+    Clause {
+        own: &[EntryType::Book],
+        fields: &[Field::Date],
+        parent: Some(&[]),
+        bind: Bind::Child,
+    },
+    Clause {
+        own: &[EntryType::Book],
+        fields: &[Field::Date],
+        parent: None,
+        bind: Bind::Child,
+    },
+    Clause {
+        own: &[EntryType::Book],
+        fields: &[Field::Url],
+        parent: None,
+        bind: Bind::Child,
+    },
+    Clause {
+        own: &[],
+        fields: &[Field::Url],
+        parent: None,
+        bind: Bind::Child,
+    },
+];
+
+#[test]
+fn clauses_are_equal_by_value(rt: HostRuntime) {
+    assert_of(&rt, &same_clause(&CLAUSES[0], &DATED[0]), &true, &"dated");
+    for pair in CLAUSES.windows(2) {
+        assert_of(&rt, &same_clause(&pair[0], &pair[0]), &true, &"itself");
+        assert_of(&rt, &same_clause(&pair[0], &pair[1]), &false, &"the next");
+    }
+}
 
 /// The clauses that say what is asked for, where clauses do.
 fn clauses_of(asked: Asked) -> Option<&'static [Clause<'static>]> {

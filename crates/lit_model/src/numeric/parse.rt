@@ -163,6 +163,10 @@ impl Numeric {
         // A text stands for one value at most.
         ensures unique { (v w : NumericView) → Spells v (chars text.now)
             → Spells w (chars text.now) → v ≡ w }
+        // The reading of any text finds a value exactly where the grammar spells it, whatever
+        // memory there is.
+        ensures grammar { (v : NumericView) → (numeric_from (chars text.now) ≡ Some v)
+            ↔ Spells v (chars text.now) }
         // What is spelled by no value is refused.
         ensures refused { ((v : NumericView) → Spells v (chars text.now) → ⊥)
             → result ≡ Err NumericError.NotNumeric }

@@ -1,7 +1,7 @@
 use Rattle.std.proofs.Common.{ℕ, List, chars, subst, sym}
 use Rattle.std.proofs.lemmas.Str.{scalars-chars}
 use Rattle.lit_model.specs.Numeric.{numeric_view, Spells}
-use Rattle.lit_model.proofs.Parsed.{found, only, nothing_read, unique, writable}
+use Rattle.lit_model.proofs.Parsed.{found, grammar, only, nothing_read, unique, writable}
 use Rattle.lit_model.proofs.RoundTrip.{numeric_spelled}
 use Rattle.lit_model.proofs.numeric.Numeric.parse.Goals as goal
 
@@ -22,3 +22,6 @@ returns-clause-writable c = writable numeric_view (chars c.args.text.now) (scala
 
 pub returns-clause-again : goal.returns-clause-again
 returns-clause-again c v w e = only numeric_view (chars c.args.text.now) c.number_in.result c.number_in.ensures.exact v (subst (λ (t : List ℕ). Spells v (chars t)) (sym e) (numeric_spelled v w))
+
+pub returns-clause-grammar : goal.returns-clause-grammar
+returns-clause-grammar c = grammar (chars c.args.text.now)
