@@ -1,13 +1,14 @@
 -- The places of macros by name, with one more macro.
-use Rattle.std.proofs.Common.{◌≡◌, ℕ, ◌+◌, ◌<◌, suc, List, ◌∷◌, length, drop, get_or, Bool, true, false, Option, Some, None, option_map, is_some, if◌then◌else◌, cond, String, Global, string_bytes, refl, sym, ap, ◌∙◌, arith}
+use Rattle.std.proofs.Common.{◌≡◌, ℕ, ◌+◌, ◌<◌, suc, List, [], ◌∷◌, length, drop, get_or, Bool, true, false, Option, Some, None, option_map, is_some, if◌then◌else◌, cond, String, Global, string_bytes, refl, sym, ap, ◌∙◌, arith}
 use Rattle.std.specs.Option.{option_or}
+use Rattle.std.specs.List.{find}
 use Rattle.std.specs.HashMap.{HashMap, get_by_text}
 use Rattle.std.specs.Map.{update}
 use Rattle.std.specs.Str.{bytes_eq}
 use Rattle.std.proofs.lemmas.Slice.Eq.{bytes_eq-Decides}
 use Rattle.std.proofs.lemmas.List.{at_drop_more}
 use Rattle.csl_style.specs.declared.element.CslMacro.{CslMacro}
-use Rattle.csl_style.specs.View.{definitions, views}
+use Rattle.csl_style.specs.View.{definitions, is_named, views}
 use Rattle.csl_style.specs.Meaning.{place, body}
 use Rattle.csl_style.proofs.Meanings.{body-none}
 use Rattle.csl_style.proofs.Called.{place-is, children-read, length-definitions}
@@ -58,3 +59,23 @@ placed ms name i h = let here = place-is name (definitions ms) i h in let len = 
 
 pub read : (ms : List CslMacro) (name : List ℕ) (i : ℕ) (m : CslMacro) → place name (definitions ms) ≡ Some i → m ≡ get_or ms i m → body name (definitions ms) ≡ Some (views m.children.items)
 read ms name i m h is = (place-is name (definitions ms) i h).holds ∙ ap Some (children-read ms i m (placed ms name i h) is)
+
+-- the first macro of a name is the one at the name's place
+find_cases : (x m : CslMacro) (ms : List CslMacro) (i : ℕ) (b : Bool) (o : Option ℕ) (f : Option CslMacro) → ((k : ℕ) → o ≡ Some k → m ≡ get_or ms k m → f ≡ Some m)
+    → (if b then Some 0 else option_map suc o) ≡ Some i → m ≡ get_or (x ∷ ms) i m → cond b (Some x) f ≡ Some m
+find_cases x m ms i true o f rest h is = let z : 0 ≡ i = cc in ap Some (sym (is ∙ ap (λ j. get_or (x ∷ ms) j m) (sym z)))
+find_cases x m ms i false None f rest h is = grind arith
+find_cases x m ms i false (Some k) f rest h is = let z : suc k ≡ i = cc in rest k refl (is ∙ ap (λ j. get_or (x ∷ ms) j m) (sym z))
+
+pub found_at : (ms : List CslMacro) (name : List ℕ) (i : ℕ) (m : CslMacro) → place name (definitions ms) ≡ Some i → m ≡ get_or ms i m → find (is_named name) ms ≡ Some m
+found_at [] name i m h is = grind arith
+found_at (x ∷ ms) name i m h is = find_cases x m ms i (is_named name x) (place name (definitions ms)) (find (is_named name) ms) (λ k e at. found_at ms name k m e at) h is
+
+none_cases : (x : CslMacro) (b : Bool) (o : Option ℕ) (f : Option CslMacro) → (o ≡ None → f ≡ None) → (if b then Some 0 else option_map suc o) ≡ None → cond b (Some x) f ≡ None
+none_cases x true o f rest h = grind arith
+none_cases x false None f rest h = rest refl
+none_cases x false (Some k) f rest h = grind arith
+
+pub none_named : (ms : List CslMacro) (name : List ℕ) → place name (definitions ms) ≡ None → find (is_named name) ms ≡ None
+none_named [] name h = refl
+none_named (x ∷ ms) name h = none_cases x (is_named name x) (place name (definitions ms)) (find (is_named name) ms) (λ e. none_named ms name e) h

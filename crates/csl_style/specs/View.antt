@@ -25,6 +25,7 @@ use Rattle.csl_style.specs.declared.element.Layout.{Layout}
 use Rattle.csl_style.specs.declared.element.RenderingElement.{RenderingElement}
 use Rattle.csl_style.specs.declared.element.RenderingElement.TheVariants as rendering
 use Rattle.csl_style.specs.declared.element.CslMacro.{CslMacro}
+use Rattle.std.specs.Str.{bytes_eq}
 
 abbrev pub nodes_of : List Node → Nodes
 nodes_of [] = no_nodes
@@ -214,3 +215,7 @@ definition m = (string_bytes m.name, views m.children.items)
 
 abbrev pub definitions : List CslMacro → List Definition
 definitions ms = map definition ms
+
+-- the macro has that name
+abbrev pub is_named : List ℕ → CslMacro → Bool
+is_named name m = bytes_eq (string_bytes m.name) name

@@ -1,9 +1,9 @@
 //! A style: its settings, macros, layouts and locales. No macro of it leads back to itself (CSL
 //! 1.0.2, Style Structure; Macro).
 
-ghost use Rattle.std.specs.Prelude.{◌≡◌, false, None, IfOk, OnOk, IfErr, map, option_map, option_copied};
+ghost use Rattle.std.specs.Prelude.{◌≡◌, false, None, IfOk, OnOk, IfErr, map, find, option_map, option_copied};
 ghost use Rattle.csl_style.specs.Node.{fills};
-ghost use Rattle.csl_style.specs.View.{definitions, views};
+ghost use Rattle.csl_style.specs.View.{definitions, is_named, views};
 ghost use Rattle.csl_style.specs.Meaning.{body, meaning, IsAcyclic};
 ghost use Rattle.csl_style.specs.Calls.{ArePlacesByName};
 ghost use Rattle.csl_style.specs.Cyclic.{NoneReturns};
@@ -110,7 +110,8 @@ fn first_macro<'s>(
     name: &str,
 ) -> Option<&'s CslMacro>
     requires { ArePlacesByName places.now (definitions macros.now) }
-    ensures { option_map (λ m. views m.now.children.items) result
+    ensures found { option_copied result ≡ find (is_named name.now) macros.now }
+    ensures holds { option_map (λ m. views m.now.children.items) result
         ≡ body name.now (definitions macros.now) }
 {
     let i = *places.get(name)?;
@@ -136,6 +137,7 @@ impl Style {
     ) -> Result<Style, StyleError>
         ensures value { IfOk result (λ style. style
             ≡ style_of settings macros.items citation bibliography locales.items) }
+        ensures ranks { OnOk result (IsAcyclic (definitions macros.items)) }
         ensures returns { OnOk result (NoneReturns (definitions macros.items)) }
         ensures format { OnOk result (is_chicago settings.page_range_format ≡ false) }
         ensures refused { IfErr result (IsRefusal settings.page_range_format
@@ -209,6 +211,7 @@ impl Style {
 
     /// The first macro of a name (CSL 1.0.2, Macro).
     pub fn get_macro(&self, name: &str) -> Option<&CslMacro>
+        ensures found { option_copied result ≡ find (is_named name.now) self.now.macros }
         ensures first { option_map (λ m. views m.now.children.items) result
             ≡ body name.now (definitions self.now.macros) }
         ensures meaning { option_map (λ m. fills (meaning (definitions self.now.macros))

@@ -32,6 +32,13 @@ fn order(a: &Variable, b: &Variable) -> Ordering
     a.cmp(b)
 }
 
+/// How the two kinds stand in order: as equals where they are one.
+fn order_of_kinds(a: &Kind, b: &Kind) -> Ordering
+    ensures { (result ≡ Equal) ↔ (a.now ≡ b.now) }
+{
+    a.cmp(b)
+}
+
 /// A name, and the kind of that name.
 static KINDS: [(&str, Option<Kind>); 51] = [
     ("article", Some(Kind::Article)),
@@ -111,6 +118,8 @@ fn variables_are_equal_where_they_are_one(rt: HostRuntime) {
     assert_same(&rt, &order(&TITLE, &ISSUED), &Ordering::Less);
     assert_same(&rt, &same_kind(&Kind::Book, &Kind::Book), &true);
     assert_same(&rt, &same_kind(&Kind::Book, &Kind::ReviewBook), &false);
+    assert_same(&rt, &order_of_kinds(&Kind::Book, &Kind::Book), &Ordering::Equal);
+    assert_same(&rt, &order_of_kinds(&Kind::Book, &Kind::Article), &Ordering::Greater);
 }
 
 fn assert_variable(rt: &impl Abort, answer: Variable, wanted: Variable) {

@@ -1,9 +1,12 @@
 use Rattle.std.proofs.Common.{◌<◌, length, sym, ◌∙◌, arith}
-use Rattle.csl_style.proofs.PlacesByName.{placed, unplaced, read}
+use Rattle.csl_style.proofs.PlacesByName.{placed, unplaced, read, found_at, none_named}
 use Rattle.csl_style.proofs.style.first_macro.Goals as goal
 
-pub returns-in_err-i : goal.returns-in_err-i
-returns-in_err-i c = rw c.from_residual.ensures (sym (unplaced c.args.macros.now c.args.name.now (sym (c.requires c.args.name.now) ∙ sym c.in_err-i.ensures.value)))
+pub returns-in_err-i-clause-found : goal.returns-in_err-i-clause-found
+returns-in_err-i-clause-found c = rw c.from_residual.ensures (sym (none_named c.args.macros.now c.args.name.now (sym (c.requires c.args.name.now) ∙ sym c.in_err-i.ensures.value)))
+
+pub returns-in_err-i-clause-holds : goal.returns-in_err-i-clause-holds
+returns-in_err-i-clause-holds c = rw c.from_residual.ensures (sym (unplaced c.args.macros.now c.args.name.now (sym (c.requires c.args.name.now) ∙ sym c.in_err-i.ensures.value)))
 
 pub offset_bounds-macros-i : goal.offset_bounds-macros-i
 offset_bounds-macros-i c =
@@ -13,5 +16,8 @@ offset_bounds-macros-i c =
 pub bounds-macros-i : goal.bounds-macros-i
 bounds-macros-i c = placed c.args.macros.now c.args.name.now c.in_ok-i.field-0.now (sym (c.requires c.args.name.now) ∙ sym c.in_ok-i.ensures.value)
 
-pub returns : goal.returns
-returns c = sym (read c.args.macros.now c.args.name.now c.in_ok-i.field-0.now c.index-macros-i.result (sym (c.requires c.args.name.now) ∙ sym c.in_ok-i.ensures.value) c.index-macros-i.is)
+pub returns-clause-found : goal.returns-clause-found
+returns-clause-found c = sym (found_at c.args.macros.now c.args.name.now c.in_ok-i.field-0.now c.index-macros-i.result (sym (c.requires c.args.name.now) ∙ sym c.in_ok-i.ensures.value) c.index-macros-i.is)
+
+pub returns-clause-holds : goal.returns-clause-holds
+returns-clause-holds c = sym (read c.args.macros.now c.args.name.now c.in_ok-i.field-0.now c.index-macros-i.result (sym (c.requires c.args.name.now) ∙ sym c.in_ok-i.ensures.value) c.index-macros-i.is)

@@ -8,4 +8,4 @@ pub returns-clause-meaning : goal.returns-clause-meaning
 returns-clause-meaning c =
     let ds = definitions c.self.inside.macros.items in
     rw (← c.self.view_is) (meaning-of ds c.args.name.now (λ m. views m.now.children.items) c.first_macro.result c.self.invariant.0
-    (c.first_macro.ensures ∙ ap (λ ms. body c.args.name.now (definitions ms)) c.deref.ensures.value))
+    (c.first_macro.ensures.holds ∙ ap (λ ms. body c.args.name.now (definitions ms)) c.deref.ensures.value))

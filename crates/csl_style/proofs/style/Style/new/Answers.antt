@@ -15,5 +15,8 @@ returns-in_err-places-clause-refused c =
     let equal : c.in_err-places.field-0.0 ≡ e = sym same in
     rw is (subst (IsRefusal c.args.settings.page_range_format (definitions c.args.macros.items)) equal refused)
 
+pub returns-clause-ranks : goal.returns-clause-ranks
+returns-clause-ranks c = subst (λ (ms : List CslMacro). IsAcyclic (definitions ms)) c.deref.ensures.value c.in_ok-places.ensures.ranks
+
 pub returns-clause-returns : goal.returns-clause-returns
 returns-clause-returns c = none-returns (definitions c.args.macros.items) (subst (λ (ms : List CslMacro). IsAcyclic (definitions ms)) c.deref.ensures.value c.in_ok-places.ensures.ranks)
