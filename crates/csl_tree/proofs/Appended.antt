@@ -193,13 +193,9 @@ no_items (x ∷ xs) h = let b = some (x ∷ xs) (omega arith) in cc (b.is)
 pub items_none : (c : ElemChildren) → tokens c ≡ [] → length c.0.items ≡ 0
 items_none c h = no_items c.0.items (sym (tokens_out c) ∙ h)
 
--- an element shows nothing exactly where it has no children
-pub elem_shows : (e : elem.Elem) (r : Bool) → r ≡ (vec_len (elem.out-Elem e).children.0 == 0) → OnFalse r (child_content (variants.Elem e) ≡ child_tokens (variants.Elem e))
-elem_shows e true h = tt
-elem_shows e false h =
-    let inside = (elem.out-Elem e).children in
-    let some : 0 < length inside.0.items = grind (arith, common_steps, inside.0.ok.0) in
-    ap layer_content (outs-Elem e) ∙ boxed_is (elem.out-Elem e).display (optional_meta (elem.out-Elem e).meta) inside some ∙ sym (elem_child e ∙ elem_tokens_are e)
+-- an element stands as a child
+pub elem_shows : (e : elem.Elem) → child_content (variants.Elem e) ≡ child_tokens (variants.Elem e)
+elem_shows e = ap layer_content (outs-Elem e) ∙ sym (elem_child e ∙ elem_tokens_are e)
 
 -- children that are not none, between two contents
 pub affixed_is : (p s : List Token) (c : ElemChildren) → 0 < length c.0.items → affixed p s (tokens c) ≡ p ++> (tokens c ++> s)

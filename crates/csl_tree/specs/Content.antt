@@ -1,7 +1,8 @@
 -- A *content* is what a node prints: a list of tokens. Of two contents in a row (`++>`), a last
 -- text and a first text of equal formatting become one text. An empty text has no content, and
--- neither has a markup or a link with an empty text. An element around no content is no content. So
--- what these build has no empty leaf and no element without children (`IsContent`).
+-- neither has a markup or a link with an empty text. An element that is closed around no content is
+-- no content. So what these build has no empty leaf and no element without children (`IsContent`).
+-- An element that is appended whole stands as it is, be it without children.
 -- A content between affixes (CSL 1.0.2, Affixes) is nothing if the content is nothing, else prefix,
 -- content and suffix in a row.
 use Rattle.std.specs.Prelude.{◌≡◌, ℕ, List, [], ◌∷◌, ◌++◌, Option, Some, None, option_map, string_bytes, if◌then◌else◌}
@@ -66,10 +67,10 @@ abbrev pub link_content : List ℕ → Formatting → List ℕ → List Token
 link_content [] f url = []
 link_content (b ∷ bs) f url = solid (link (b ∷ bs) f url) ∷ []
 
--- the content of one child
+-- the content of one child: an element stands, whatever is in it
 abbrev pub layer_content : ElemChild-F ElemChild elem.Elem ElemChildren → List Token
 layer_content (Text t) = text_content (string_bytes t.text) t.formatting
-layer_content (Elem e) = boxed (elem.out-Elem e).display (optional_meta (elem.out-Elem e).meta) (tokens (elem.out-Elem e).children)
+layer_content (Elem e) = around (elem.out-Elem e).display (optional_meta (elem.out-Elem e).meta) (tokens (elem.out-Elem e).children)
 layer_content (Markup s) = markup_content (string_bytes s)
 layer_content (Link t url) = link_content (string_bytes t.text) t.formatting (string_bytes url)
 layer_content (Transparent n f) = solid (transparent n f) ∷ []

@@ -82,7 +82,7 @@ impl ElemChildren {
 
 impl ElemChildren {
     /// Appends a child, which joins a last text if it is a text of equal formatting. A text, a
-    /// markup or a link of empty text writes nothing, nor does an element without children.
+    /// markup or a link of empty text writes nothing; an element stands, be it without children.
     ///
     /// # Errors
     /// [`Memory`]: there was no memory left. The children stay as they were.
@@ -124,14 +124,14 @@ impl ElemChildren {
 }
 
 impl ElemChild {
-    /// Whether it is a text, a markup or a link of empty text, or an element without children.
+    /// Whether it is a text, a markup or a link of empty text.
     pub(crate) fn shows_nothing(&self) -> bool
         ensures nothing { OnTrue result (child_content self.now ≡ []) }
         ensures something { OnFalse result (child_content self.now ≡ child_tokens self.now) }
     {
         match self {
             ElemChild::Text(text) => text.text.is_empty(),
-            ElemChild::Elem(elem) => elem.children.0.is_empty(),
+            ElemChild::Elem(_) => false,
             ElemChild::Markup(markup) => markup.is_empty(),
             ElemChild::Link { text, .. } => text.text.is_empty(),
             ElemChild::Transparent { .. } => false,

@@ -97,7 +97,7 @@ impl FlatTree {
     }
 
     /// Appends a child, which joins a last text if it is a text of equal formatting. A text, a
-    /// markup or a link of empty text writes nothing, nor does an element without children.
+    /// markup or a link of empty text writes nothing; an element stands, be it without children.
     ///
     /// # Errors
     /// [`Memory`]: there was no memory left. The contents stay as they were.

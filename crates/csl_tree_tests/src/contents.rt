@@ -22,11 +22,10 @@ fn with_child(alloc: Global, before: &str, child: &str) -> Result<ElemChildren, 
 }
 
 /// A tree, a child behind it, and the tree of both.
-static PUSHED: [(&str, &str, &str); 13] = [
+static PUSHED: [(&str, &str, &str); 16] = [
     ("a", "_", "a"),
     ("a", "$_", "a"),
     ("a", "@_|u", "a"),
-    ("a", "( )block", "a"),
     ("", "b", "b"),
     ("a", "b", "ab"),
     ("a", "/b", "a /b"),
@@ -36,6 +35,11 @@ static PUSHED: [(&str, &str, &str); 13] = [
     ("a", "@b|u", "a @b|u"),
     ("a", "#1", "a #1"),
     ("a", "( b )block", "a ( b )block"),
+    // An element stands, be it without children.
+    ("", "( )", "( )"),
+    ("a", "( )block", "a ( )block"),
+    ("( )", "b", "( ) b"),
+    ("( )", "( )", "( ) ( )"),
 ];
 
 fn assert_pushed(
@@ -47,7 +51,7 @@ fn assert_pushed(
 }
 
 #[test]
-fn an_empty_child_writes_nothing(rt: HostRuntime) -> Result<(), Fail> {
+fn an_empty_leaf_writes_nothing_and_an_element_stands(rt: HostRuntime) -> Result<(), Fail> {
     let pushed: &[(&str, &str, &str)] = &PUSHED;
     for row in pushed {
         assert_pushed(&rt, rt.alloc(), row)?;

@@ -2,6 +2,7 @@
 
 ghost use Rattle.std.specs.Prelude.{◌≡◌, ◌↔◌, IsTrue};
 ghost use Rattle.csl_tree.specs.Tokens.{meta_of};
+ghost use Rattle.csl_tree.specs.contracts.elem.ElemMetaHash.TheImpl.{hash_input-value as hash_meta};
 
 use crate::asserted::assert_of;
 use crate::trees::{MIXED, names, read};
@@ -12,9 +13,11 @@ use std::alloc::Global;
 use std::process::Abort;
 use std::test::Fail;
 
-/// Whether the two metas are equal: they are where what they say is.
+/// Whether the two metas are equal: they are where what they say is, and equal ones have the same
+/// hash.
 fn same_meta(a: &ElemMeta, b: &ElemMeta) -> bool
-    ensures { IsTrue result ↔ (meta_of a.now ≡ meta_of b.now) }
+    ensures equal { IsTrue result ↔ (meta_of a.now ≡ meta_of b.now) }
+    ensures hashed { meta_of a.now ≡ meta_of b.now → hash_meta.it a.now ≡ hash_meta.it b.now }
 {
     *a == *b
 }

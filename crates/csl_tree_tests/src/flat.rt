@@ -9,12 +9,13 @@
 //! | `}<\|>` | it is spliced between `<` and `>`, of which either may be missing |
 //! | `!` | it is discarded |
 //! | `=a` | the text `a` is pushed as a text |
+//! | `()` | an element without children is pushed |
 //! | any other | a child is pushed, as the descriptions of trees say it |
 
 use crate::asserted::{assert_of, assert_same};
 use crate::trees::{assert_tree, read_formatted, read_leaf};
 use csl_style::Display;
-use csl_tree::{ElemChildren, ElemMeta, FlatTree, Formatted, Formatting};
+use csl_tree::{Elem, ElemChild, ElemChildren, ElemMeta, FlatTree, Formatted, Formatting};
 use std::alloc::Global;
 use std::process::Abort;
 use std::test::Fail;
@@ -45,6 +46,15 @@ fn close(tree: &mut FlatTree, alloc: Global, word: &str) -> Result<(), Fail> {
     Ok(tree.close_elem(Some(Display::Block), Some(ElemMeta::Date))?)
 }
 
+/// An element without children.
+fn childless(alloc: Global) -> ElemChild {
+    ElemChild::from(Elem {
+        children: ElemChildren::new(alloc),
+        display: None,
+        meta: None,
+    })
+}
+
 /// Makes the call of a word.
 fn call(tree: &mut FlatTree, alloc: Global, word: &str) -> Result<(), Fail> {
     if word == "[" {
@@ -52,6 +62,9 @@ fn call(tree: &mut FlatTree, alloc: Global, word: &str) -> Result<(), Fail> {
     }
     if let Some(text) = word.strip_prefix('=') {
         return Ok(tree.push_text(text, Formatting::default())?);
+    }
+    if word == "()" {
+        return Ok(tree.push(childless(alloc))?);
     }
     if word == "]" || word == "!" || word.starts_with('}') {
         return close(tree, alloc, word);
@@ -79,7 +92,7 @@ fn finished(tree: FlatTree) -> Result<ElemChildren, Fail> {
 }
 
 /// A script, and the tree that it makes.
-static CALLS: [(&str, &str); 18] = [
+static CALLS: [(&str, &str); 22] = [
     ("", ""),
     ("a b", "ab"),
     ("=a =b", "ab"),
@@ -98,6 +111,11 @@ static CALLS: [(&str, &str); 18] = [
     ("a [ b !", "a"),
     ("[ a [ b ! c ]", "( ac )block:date"),
     ("a [ b [ c ] ! d", "ad"),
+    // An element that is pushed stands, be it without children.
+    ("a () b", "a ( ) b"),
+    ("[ () ]", "( ( ) )block:date"),
+    ("a [ () }<|> b", "a< ( ) >b"),
+    ("a [ () ! b", "ab"),
 ];
 
 fn assert_calls(
@@ -153,7 +171,7 @@ fn flags(alloc: Global, script: &str) -> Result<Flags, Fail> {
 }
 
 /// A script, and what is said of the part that is open after it.
-static FLAGS: [(&str, Flags); 15] = [
+static FLAGS: [(&str, Flags); 17] = [
     ("", (1, true, false, false)),
     ("a", (1, false, true, false)),
     ("a~", (1, false, true, true)),
@@ -169,6 +187,8 @@ static FLAGS: [(&str, Flags); 15] = [
     ("a [ b~ !", (1, false, true, false)),
     ("[ [ ] [ }<|>", (2, true, false, false)),
     ("[ [ [", (4, true, false, false)),
+    ("()", (1, false, false, false)),
+    ("a~ [ ()", (2, false, false, false)),
 ];
 
 fn assert_flags(

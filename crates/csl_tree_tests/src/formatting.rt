@@ -2,6 +2,8 @@
 
 ghost use Rattle.std.specs.Prelude.{◌≡◌, ◌↔◌, IsTrue};
 ghost use Rattle.csl_tree.specs.Tokens.{text_tokens};
+ghost use Rattle.csl_tree.specs.contracts.formatting.FormattedHash.TheImpl.{hash_input-value as hash_text};
+ghost use Rattle.csl_tree.specs.contracts.formatting.FormattingHash.TheImpl.{hash_input-value as hash_formatting};
 
 use crate::asserted::{assert_of, assert_same};
 use csl_style::{FontStyle, FontVariant, FontWeight, TextDecoration, VerticalAlign, formatting};
@@ -10,16 +12,20 @@ use lit_model::Memory;
 use std::alloc::Global;
 use std::test::Fail;
 
-/// Whether the two texts are equal: they are where their tokens are.
+/// Whether the two texts are equal: they are where their tokens are, and equal ones have the same
+/// hash.
 fn same_text(a: &Formatted, b: &Formatted) -> bool
-    ensures { IsTrue result ↔ (text_tokens a.now ≡ text_tokens b.now) }
+    ensures equal { IsTrue result ↔ (text_tokens a.now ≡ text_tokens b.now) }
+    ensures hashed { text_tokens a.now ≡ text_tokens b.now
+        → hash_text.it a.now ≡ hash_text.it b.now }
 {
     *a == *b
 }
 
-/// `==` of formattings is equality.
+/// `==` of formattings is equality, and equal ones have the same hash.
 fn same_formatting(a: Formatting, b: Formatting) -> bool
-    ensures { IsTrue result ↔ (a ≡ b) }
+    ensures equal { IsTrue result ↔ (a ≡ b) }
+    ensures hashed { a ≡ b → hash_formatting.it a ≡ hash_formatting.it b }
 {
     a == b
 }
