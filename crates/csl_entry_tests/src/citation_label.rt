@@ -1,3 +1,5 @@
+ghost use Rattle.std.specs.Prelude.{◌≡◌, ◌↔◌, IsTrue};
+
 use crate::asked::{assert_answer, only};
 use crate::asserted::assert_same;
 use crate::described::described;
@@ -5,6 +7,20 @@ use csl_entry::Alphanumerical;
 use std::alloc::Global;
 use std::process::Abort;
 use std::test::Fail;
+
+/// Whether the two make labels alike: they do where they take as many letters.
+fn same_way(a: Alphanumerical, b: Alphanumerical) -> bool
+    ensures { IsTrue result ↔ (a ≡ b) }
+{
+    a == b
+}
+
+#[test]
+fn ways_are_equal_by_their_letters(rt: HostRuntime) {
+    let three = Alphanumerical::default();
+    assert_same(&rt, &same_way(three, Alphanumerical::new()), &true);
+    assert_same(&rt, &same_way(three, Alphanumerical { letters: 4 }), &false);
+}
 
 fn label(alloc: Global, letters: usize, description: &str) -> Result<String, Fail> {
     let works = described(alloc, description)?;

@@ -1,8 +1,9 @@
 ghost use Rattle.std.specs.Prelude.{◌≡◌, ◌↔◌, ◌<◌, IsTrue};
-ghost use Rattle.csl_entry.specs.NameForm.{form_place};
+ghost use Rattle.csl_entry.specs.NameForm.{form_place, form_cmp};
 
 use crate::asserted::assert_of;
 use csl_entry::DisambiguatedNameForm;
+use std::cmp::Ordering;
 use std::process::Abort;
 
 const SHORT: DisambiguatedNameForm = DisambiguatedNameForm::ShortInitialized;
@@ -20,6 +21,13 @@ fn is_less(a: DisambiguatedNameForm, b: DisambiguatedNameForm) -> bool
     a < b
 }
 
+/// How the two forms stand in order: as their places do.
+fn order(a: DisambiguatedNameForm, b: DisambiguatedNameForm) -> Ordering
+    ensures { result ≡ form_cmp a b }
+{
+    a.cmp(&b)
+}
+
 #[test]
 fn forms_stand_in_order(rt: HostRuntime) {
     let forms = [
@@ -33,6 +41,8 @@ fn forms_stand_in_order(rt: HostRuntime) {
         assert_of(&rt, &is_less(pair[0], pair[1]), &true, &pair);
         assert_of(&rt, &is_less(pair[1], pair[0]), &false, &pair);
         assert_ne!(rt; pair[0], pair[1]);
+        assert_of(&rt, &order(pair[0], pair[1]), &Ordering::Less, &pair);
+        assert_of(&rt, &order(pair[0], pair[0]), &Ordering::Equal, &pair);
     }
 }
 
