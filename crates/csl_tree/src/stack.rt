@@ -2,6 +2,7 @@
 
 ghost use Rattle.std.specs.Prelude.{◌≡◌, ℕ, ◌+◌, ◌-◌, ◌<◌, [], ◌∷◌, ◌++◌, length, take, drop, IfOk, OnOk, IfErr, OnErr, IfSome, IfNone, slice_index_or};
 ghost use Rattle.std.specs.Borrow.{sem};
+ghost use Rattle.std.specs.Cmp.Lexicographic.{pointwise, lists_per, lists_equiv};
 ghost use Rattle.std.specs.Int.NonZero.{non_zero_usize_get};
 ghost use Rattle.std.specs.Slice.Iter.{iter_rest};
 ghost use Rattle.csl_tree.specs.Stack.{lends_item, lends_accepted, IsLastAccepted, IsLastAt, RejectsFrom};
@@ -191,4 +192,19 @@ impl<T> NonEmptyStack<T> {
             None => unreachable!(),
         }
     }
+}
+
+/// Stacks are equal where they have equal items in the same order.
+impl<T: PartialEq> PartialEq for NonEmptyStack<T> {
+    ghost eq = { pointwise T.eq };
+
+    ghost laws = { lists_per T.laws };
+
+    fn eq(&self, other: &Self) -> bool {
+        self.items.as_slice() == other.items.as_slice()
+    }
+}
+
+impl<T: Eq> Eq for NonEmptyStack<T> {
+    ghost laws = { lists_equiv T.Eq.laws };
 }

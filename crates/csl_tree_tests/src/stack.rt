@@ -1,5 +1,7 @@
 //! The nonempty stack.
 
+ghost use Rattle.std.specs.Prelude.{◌≡◌, ◌↔◌, IsTrue};
+
 use crate::asserted::assert_same;
 use csl_tree::NonEmptyStack;
 use std::alloc::Global;
@@ -63,6 +65,31 @@ fn write_items(alloc: Global) -> Result<(Vec<u8>, bool), Fail> {
     }
     let absent = stack.last_mut_predicate(|item| *item == 99).is_some();
     Ok((items(alloc, &stack)?, absent))
+}
+
+/// Whether the two stacks are equal: they are where their items are.
+fn same_stack(a: &NonEmptyStack<u8>, b: &NonEmptyStack<u8>) -> bool
+    ensures { IsTrue result ↔ (a.now ≡ b.now) }
+{
+    *a == *b
+}
+
+/// Whether the stack 1, 2, 3, 4 is itself, with one item written anew, and with one more.
+fn is_same(alloc: Global) -> Result<(bool, bool, bool), Fail> {
+    let stack = one_to_four(alloc)?;
+    let mut other = one_to_four(alloc)?;
+    let itself = same_stack(&stack, &other);
+    *other.first_mut() = 10;
+    let rewritten = same_stack(&stack, &other);
+    *other.first_mut() = 1;
+    push(&mut other, 5)?;
+    Ok((itself, rewritten, same_stack(&stack, &other)))
+}
+
+#[test]
+fn stacks_are_equal_by_their_items(rt: HostRuntime) -> Result<(), Fail> {
+    assert_same(&rt, &is_same(rt.alloc())?, &(true, false, false));
+    Ok(())
 }
 
 #[test]
