@@ -1,14 +1,14 @@
 -- A names node and a choose, one level out: what of a year suffix stands in them, and their sizes.
 use Rattle.std.proofs.Common.{◌≡◌, ℕ, ◌+◌, suc, Bool, true, false, ◌||◌, List, ◌∷◌, map, Option, option_map, refl, ap, ap₂, ◌∙◌, arith, if◌then◌else◌}
-use Rattle.std.proofs.lemmas.Grind.{common_steps}
 use Rattle.csl_style.specs.Names.{NamesNode, in_place_of}
 use Rattle.csl_style.specs.Node.{Node, names, choose, Nodes, no_nodes, node, Substitutes, no_substitutes, substitute, Branches, branch, Full, Fulls, named, shorthand, fill, fills, fill_branches, fill_substitutes, fill_within, within, is_childless, size, sizes, cases_size, insteads_size}
 use Rattle.csl_style.specs.declared.element.Names.{Names as NamesElement, out-Names}
 use Rattle.csl_style.specs.declared.element.Choose.{Choose, out-Choose}
 use Rattle.csl_style.specs.declared.element.ChooseBranch.{ChooseBranch, out-ChooseBranch}
-use Rattle.csl_style.specs.declared.element.LayoutRenderingElement.TheFolds.{fold_out-Names, fold_out-Choose, fold_out-ChooseBranch}
+use Rattle.csl_style.specs.declared.element.LayoutRenderingElement.TheFolds.{fold_out-Names, fold_out-ChooseBranch}
 use Rattle.csl_style.specs.View.{views, view_choose, view_branch, branches_of, view_names, view_child, substitutes, Child, a_substitute, Part, element_step, child_step, choose_step, branch_step, group_step, names_step, substitute_step}
 use Rattle.csl_style.specs.Filled.{child_size}
+use Rattle.csl_style.proofs.Rolled.{choose_view}
 use Rattle.csl_style.specs.Reached.{has_year_suffix, any_has_year_suffix, case_has_year_suffix, instead_has_year_suffix, child_has_year_suffix}
 
 -- as it is written: the substitutes of a names node
@@ -83,7 +83,7 @@ abbrev pub behind : Choose → Branches
 behind x = branches_of (map view_branch (out-Choose x).else_if.items) (option_map (λ v. views v.items) (out-Choose x).otherwise)
 
 pub choose_out : (x : Choose) → view_choose x ≡ choose (branch (view_branch (out-Choose x).if_).tests (view_branch (out-Choose x).if_).nodes (behind x))
-choose_out x = rw (fold_out-Choose Node Child Node Part Node Node Nodes element_step child_step choose_step branch_step group_step names_step substitute_step x) (grind (arith, common_steps))
+choose_out x = choose_view x
 
 module _ (env : List ℕ → Option Fulls) where
   pub choose_has : (x : Choose) → has_year_suffix (fill env (view_choose x)) ≡ (any_has_year_suffix (fills env (views (out-ChooseBranch (out-Choose x).if_).children.items)) || case_has_year_suffix (fill_branches env (behind x)))

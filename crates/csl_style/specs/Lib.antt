@@ -9,6 +9,8 @@ pub mod NameOptions
 pub mod Names
 pub mod Node
 pub mod View
+pub mod Constructors
+pub mod Missing
 pub mod Meaning
 pub mod Leads
 pub mod Reaches

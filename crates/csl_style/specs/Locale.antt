@@ -1,6 +1,5 @@
 -- The terms and the ordinals of a locale (CSL 1.0.2, Locale) as plain data: texts as bytes.
-use Rattle.std.specs.Prelude.{ℕ, List, [], ◌∷◌, map, Option, None, option_map, string_bytes}
-use Rattle.std.specs.Option.{option_or}
+use Rattle.std.specs.Prelude.{ℕ, List, map, Option, option_map, string_bytes}
 use Rattle.csl_common.specs.declared.ordinal.GrammarGender.{GrammarGender}
 use Rattle.csl_style.specs.declared.term.Term.{Term}
 use Rattle.csl_style.specs.declared.term.TermForm.{TermForm}

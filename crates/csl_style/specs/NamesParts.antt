@@ -6,22 +6,19 @@
 -- field by field, and that node's elsewhere (`in_place_of`). A node without a name, et-al or label
 -- has the standard's, which set nothing. Of the parts of a name, the first for the given name and
 -- the first for the family name count.
-use Rattle.std.specs.Prelude.{ℕ, Bool, false, List, [], ◌∷◌, map, Option, Some, None, option_map, find}
+use Rattle.std.specs.Prelude.{ℕ, Bool, false, List, [], map, Option, Some, None, option_map, find}
 use denote.Bor.{Bor}
 use denote.Enum.Bare.{sameb}
-use Rattle.csl_style.specs.declared.affixes.Affixes.{Affixes}
 use Rattle.csl_style.specs.declared.element.Names.{Names, out-Names}
 use Rattle.csl_style.specs.declared.names.NamePartName.{NamePartName}
 use Rattle.csl_style.specs.contracts.names.NamePartName.{the_type}
 use Rattle.csl_style.specs.declared.names_parts.NamesParts.{NamesParts}
 use Rattle.csl_style.specs.declared.names_parts.PlacedLabel.{PlacedLabel}
 use Rattle.csl_style.specs.declared.term.OtherTerm.TheVariants.{EtAl}
-use Rattle.csl_style.specs.declared.term.TermForm.TheVariants.{Long}
-use Rattle.csl_style.specs.declared.number.LabelPluralize.TheVariants.{Contextual}
 use Rattle.csl_style.specs.declared.formatting.Formatting.{Formatting}
 use Rattle.csl_style.specs.Dressing.{dressing_of, text_if}
 use Rattle.csl_style.specs.NameOptions.{own_options, inherited_options}
-use Rattle.csl_style.specs.Names.{NamePartNode, NameNode, EtAlNode, LabelNode, view_label, NamesLabel, NamesNode}
+use Rattle.csl_style.specs.Names.{NamePartNode, NameNode, EtAlNode, view_label, NamesLabel, NamesNode}
 use Rattle.csl_style.specs.Node.{Nodes, Substitutes, no_substitutes, substitute}
 use Rattle.csl_style.specs.Style.{no_options}
 use Rattle.csl_style.specs.View.{Child, view_child, name_children, first_et_al, first_label, substitutes}
@@ -83,15 +80,6 @@ default_name = record { options = no_options; formatting = plain; parts = [] }
 
 abbrev pub default_et_al : EtAlNode
 default_et_al = record { term = EtAl; formatting = plain }
-
-abbrev pub default_label : LabelNode
-default_label = record {
-  form = Long;
-  plural = Contextual;
-  formatting = plain;
-  affixes = record { prefix = None; suffix = None };
-  strip_periods = false;
-}
 
 -- ---- the parts of a name: of each the first one counts
 

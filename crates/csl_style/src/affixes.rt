@@ -1,8 +1,58 @@
 //! Affixes (CSL 1.0.2, Affixes).
 
+ghost use Rattle.std.specs.Prelude.{◌≡◌, IfOk};
+ghost use Rattle.csl_style.specs.Dressing.{affix_texts};
+ghost use Rattle.csl_style.specs.Constructors.{text_before, text_behind, texts_around};
+
+use csl_common::Memory;
+use std::alloc::Global;
+
 /// What stands before and behind what a node prints. Both stand inside the node's own formatting.
 #[derive(Default, Drop)]
 pub struct Affixes {
     pub prefix: Option<String>,
     pub suffix: Option<String>,
+}
+
+impl Affixes {
+    /// A text before what the node prints.
+    ///
+    /// # Errors
+    /// [`Memory`]: there was no memory left.
+    pub fn before(alloc: Global, prefix: &str) -> Result<Affixes, Memory>
+        ensures { IfOk result (λ affixes. affix_texts affixes ≡ text_before prefix.now) }
+    {
+        Ok(Affixes {
+            prefix: Some(String::from_str(alloc, prefix)?),
+            ..Affixes::default()
+        })
+    }
+
+    /// A text behind what the node prints.
+    ///
+    /// # Errors
+    /// [`Memory`]: there was no memory left.
+    pub fn behind(alloc: Global, suffix: &str) -> Result<Affixes, Memory>
+        ensures { IfOk result (λ affixes. affix_texts affixes ≡ text_behind suffix.now) }
+    {
+        Ok(Affixes {
+            suffix: Some(String::from_str(alloc, suffix)?),
+            ..Affixes::default()
+        })
+    }
+
+    /// A text before what the node prints, and one behind it.
+    ///
+    /// # Errors
+    /// [`Memory`]: there was no memory left.
+    pub fn around(alloc: Global, prefix: &str, suffix: &str) -> Result<Affixes, Memory>
+        ensures { IfOk result (λ affixes. affix_texts affixes ≡ texts_around prefix.now suffix.now) }
+    {
+        let prefix = String::from_str(alloc, prefix)?;
+        let suffix = String::from_str(alloc, suffix)?;
+        Ok(Affixes {
+            prefix: Some(prefix),
+            suffix: Some(suffix),
+        })
+    }
 }

@@ -1,5 +1,8 @@
 //! Dates (CSL 1.0.2, Date).
 
+ghost use Rattle.std.specs.Prelude.{◌≡◌};
+ghost use Rattle.csl_style.specs.Constructors.{date_of, date_part_of};
+
 use crate::affixes::Affixes;
 use crate::formatting::{Display, Formatting};
 use crate::taxonomy::DateVariable;
@@ -69,4 +72,37 @@ pub struct Date {
     pub formatting: Formatting,
     pub affixes: Affixes,
     pub display: Option<Display>,
+}
+
+impl DatePart {
+    /// A part of which nothing but its name is said.
+    pub fn new(name: DatePartName) -> DatePart
+        ensures { result ≡ date_part_of name }
+    {
+        DatePart {
+            name,
+            form: None,
+            formatting: Formatting::default(),
+            affixes: Affixes::default(),
+            strip_periods: false,
+        }
+    }
+}
+
+impl Date {
+    /// The date of a variable, written by these parts.
+    pub fn new(variable: DateVariable, parts: Vec<DatePart>) -> Date
+        ensures { result ≡ date_of variable parts }
+    {
+        Date {
+            variable: Some(variable),
+            form: None,
+            parts: None,
+            date_part: parts,
+            delimiter: None,
+            formatting: Formatting::default(),
+            affixes: Affixes::default(),
+            display: None,
+        }
+    }
 }

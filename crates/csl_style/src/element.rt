@@ -15,6 +15,10 @@ use crate::text::Text;
 use std::iter::{Chain, Once, once};
 use std::slice::Iter;
 
+mod choices;
+mod constructors;
+mod conversions;
+
 /// A node that a layout, a macro or a group may hold.
 #[cycle(element)]
 #[derive(Drop)]

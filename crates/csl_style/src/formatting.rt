@@ -1,6 +1,7 @@
 //! How a style formats its text (CSL 1.0.2, Formatting) and where it places it (Display).
 
 ghost use Rattle.std.specs.Prelude.{◌≡◌};
+ghost use Rattle.csl_style.specs.Constructors.{italic};
 ghost use Rattle.csl_style.specs.Formatting.{over};
 ghost use Rattle.csl_style.specs.Overlaid.{IsBoth};
 
@@ -71,6 +72,16 @@ pub struct Formatting {
 }
 
 impl Formatting {
+    /// Italics, and nothing else.
+    pub fn italic() -> Formatting
+        ensures { result ≡ italic }
+    {
+        Formatting {
+            font_style: Some(FontStyle::Italic),
+            ..Formatting::default()
+        }
+    }
+
     /// This formatting over another: each attribute that is set here, else that of `base`. The
     /// result over a third one, full or not, is this over `base` over that one.
     #[tactic(auto, using(crate::proofs::Overlays::over_both))]

@@ -7,6 +7,7 @@ pub mod date;
 pub mod element;
 pub mod formatting;
 pub mod locale;
+mod missing;
 mod named;
 pub mod names;
 mod names_parts;

@@ -1,12 +1,13 @@
 //! Locales: the terms, ordinals and dates of a language (CSL 1.0.2, Locale).
 
-ghost use Rattle.std.specs.Prelude.{◌≡◌};
-ghost use Rattle.csl_style.specs.Locale.{term_view};
+ghost use Rattle.std.specs.Prelude.{◌≡◌, IfOk, None, Some, false, []};
+ghost use Rattle.csl_style.specs.Locale.{ordinals_of, term_view, terms_of};
 ghost use Rattle.csl_style.specs.Term.{entry_text};
 
 use crate::date::Date;
 use crate::term::{Term, TermForm};
-use csl_common::GrammarGender;
+use csl_common::{GrammarGender, Memory};
+use std::alloc::Global;
 
 pub(crate) mod lookup;
 pub(crate) mod ordinals;
@@ -27,6 +28,58 @@ pub struct TermEntry {
 }
 
 impl TermEntry {
+    /// A term that has one text.
+    ///
+    /// # Errors
+    /// [`Memory`]: there was no memory left.
+    pub fn new(alloc: Global, term: Term, form: TermForm, text: &str) -> Result<TermEntry, Memory>
+        ensures { IfOk result (λ made. term_view made ≡ record {
+          term = term;
+          form = form;
+          single = text.now;
+          multiple = None;
+          gender = None;
+        }) }
+    {
+        Ok(TermEntry {
+            term,
+            form,
+            single: String::from_str(alloc, text)?,
+            multiple: None,
+            gender: None,
+        })
+    }
+
+    /// A term that has a text for one and one for several.
+    ///
+    /// # Errors
+    /// [`Memory`]: there was no memory left.
+    pub fn counted(
+        alloc: Global,
+        term: Term,
+        form: TermForm,
+        one: &str,
+        several: &str,
+    ) -> Result<TermEntry, Memory>
+        ensures { IfOk result (λ made. term_view made ≡ record {
+          term = term;
+          form = form;
+          single = one.now;
+          multiple = Some several.now;
+          gender = None;
+        }) }
+    {
+        let single = String::from_str(alloc, one)?;
+        let several = String::from_str(alloc, several)?;
+        Ok(TermEntry {
+            term,
+            form,
+            single,
+            multiple: Some(several),
+            gender: None,
+        })
+    }
+
     /// The text for several where several are meant and there is one, else the text for one.
     pub fn text(&self, plural: bool) -> &str
         ensures { result.now ≡ entry_text plural (term_view self.now) }
@@ -79,4 +132,23 @@ pub struct Locale {
     pub punctuation_in_quote: bool,
     /// Whether only the first day of a month is written as an ordinal.
     pub limit_day_ordinals_to_day_1: bool,
+}
+
+impl Locale {
+    /// A locale without words.
+    pub fn new(alloc: Global) -> Locale
+        ensures terms { terms_of result ≡ [] }
+        ensures ordinals { ordinals_of result ≡ [] }
+        ensures dates { result.dates.items ≡ [] }
+        ensures quote { result.punctuation_in_quote ≡ false }
+        ensures days { result.limit_day_ordinals_to_day_1 ≡ false }
+    {
+        Locale {
+            terms: Vec::new(alloc),
+            ordinals: Vec::new(alloc),
+            dates: Vec::new(alloc),
+            punctuation_in_quote: false,
+            limit_day_ordinals_to_day_1: false,
+        }
+    }
 }

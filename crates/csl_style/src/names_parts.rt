@@ -219,10 +219,9 @@ impl Default for EtAl {
 
 impl Default for VariablelessLabel {
     ghost use Rattle.std.specs.Prelude.{◌≡◌};
-    ghost use Rattle.csl_style.specs.Names.{view_label};
-    ghost use Rattle.csl_style.specs.NamesParts.{default_label};
+    ghost use Rattle.csl_style.specs.Constructors.{plain_label};
 
-    ghost is_default = { λ l. view_label l ≡ default_label };
+    ghost is_default = { λ label. label ≡ plain_label };
 
     fn default() -> VariablelessLabel {
         VariablelessLabel {

@@ -1,5 +1,8 @@
 //! Numbers and the labels beside them (CSL 1.0.2, Number and Label).
 
+ghost use Rattle.std.specs.Prelude.{◌≡◌};
+ghost use Rattle.csl_style.specs.Constructors.{label_of, number_of, short_label_of};
+
 use crate::affixes::Affixes;
 use crate::formatting::{Display, Formatting};
 use crate::taxonomy::NumberOrPageVariable;
@@ -42,4 +45,44 @@ pub struct VariablelessLabel {
 pub struct Label {
     pub variable: NumberOrPageVariable,
     pub label: VariablelessLabel,
+}
+
+impl Number {
+    /// A number of which nothing but its variable is said.
+    pub fn new(variable: NumberOrPageVariable) -> Number
+        ensures { result ≡ number_of variable }
+    {
+        Number {
+            variable,
+            form: NumberForm::Numeric,
+            formatting: Formatting::default(),
+            affixes: Affixes::default(),
+            display: None,
+        }
+    }
+}
+
+impl Label {
+    /// A label of which nothing but its variable is said: the long form of the variable's term.
+    pub fn new(variable: NumberOrPageVariable) -> Label
+        ensures { result ≡ label_of variable }
+    {
+        Label {
+            variable,
+            label: VariablelessLabel::default(),
+        }
+    }
+
+    /// A label that prints the short form of the variable's term, as `vol.` or `pp.`.
+    pub fn short(variable: NumberOrPageVariable) -> Label
+        ensures { result ≡ short_label_of variable }
+    {
+        Label {
+            variable,
+            label: VariablelessLabel {
+                form: TermForm::Short,
+                ..VariablelessLabel::default()
+            },
+        }
+    }
 }

@@ -3,6 +3,7 @@
 
 ghost use Rattle.std.specs.Prelude.{◌≡◌, ◌↔◌, Some};
 ghost use Rattle.csl_style.specs.Taxonomy.{name_of, variable_of};
+ghost use Rattle.csl_style.specs.declared.taxonomy.NumberOrPageVariable.TheVariants as numbers_or_pages;
 ghost use Rattle.csl_style.specs.declared.taxonomy.Variable.TheVariants as variables;
 
 /// A variable that holds a number.
@@ -193,6 +194,22 @@ impl From<NumberOrPageVariable> for Variable {
             NumberOrPageVariable::Number(number) => Variable::Number(number),
             NumberOrPageVariable::Page(page) => Variable::Page(page),
         }
+    }
+}
+
+impl From<NumberVariable> for NumberOrPageVariable {
+    ghost from_gives = { λ variable result. result ≡ numbers_or_pages.Number variable };
+
+    fn from(variable: NumberVariable) -> NumberOrPageVariable {
+        NumberOrPageVariable::Number(variable)
+    }
+}
+
+impl From<PageVariable> for NumberOrPageVariable {
+    ghost from_gives = { λ variable result. result ≡ numbers_or_pages.Page variable };
+
+    fn from(variable: PageVariable) -> NumberOrPageVariable {
+        NumberOrPageVariable::Page(variable)
     }
 }
 

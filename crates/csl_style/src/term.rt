@@ -57,6 +57,14 @@ impl From<NumberOrPageVariable> for Term {
     }
 }
 
+impl From<OtherTerm> for Term {
+    ghost from_gives = { λ term result. result ≡ terms.Other term };
+
+    fn from(term: OtherTerm) -> Term {
+        Term::Other(term)
+    }
+}
+
 /// A term that names no variable.
 #[derive(Clone, Copy, Debug, PartialEq, Eq, PartialOrd, Ord, Hash)]
 pub enum OtherTerm {

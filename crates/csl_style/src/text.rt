@@ -1,10 +1,17 @@
 //! Text nodes (CSL 1.0.2, Text).
 
+ghost use Rattle.std.specs.Prelude.{◌≡◌, IfOk};
+ghost use Rattle.csl_style.specs.Constructors.{text_of_target, text_of_term, text_of_variable};
+ghost use Rattle.csl_style.specs.Node.{of_value};
+ghost use Rattle.csl_style.specs.Node as node;
+ghost use Rattle.csl_style.specs.View.{text_dressing, view_text};
+
 use crate::affixes::Affixes;
 use crate::formatting::{Display, Formatting};
 use crate::taxonomy::Variable;
 use crate::term::{Term, TermForm};
-use csl_common::LongShortForm;
+use csl_common::{LongShortForm, Memory};
+use std::alloc::Global;
 
 /// What a text prints.
 #[derive(Drop)]
@@ -41,4 +48,70 @@ pub struct Text {
     pub quotes: bool,
     /// Whether what is printed loses its periods (CSL 1.0.2, Strip-periods).
     pub strip_periods: bool,
+}
+
+impl Text {
+    /// A text of which nothing but its target is said.
+    pub fn new(target: TextTarget) -> Text
+        ensures { result ≡ text_of_target target }
+    {
+        Text {
+            target,
+            formatting: Formatting::default(),
+            affixes: Affixes::default(),
+            display: None,
+            quotes: false,
+            strip_periods: false,
+        }
+    }
+
+    /// The text of a variable, in its long form.
+    pub fn variable(variable: Variable) -> Text
+        ensures { result ≡ text_of_variable variable }
+    {
+        Text::new(TextTarget::Variable {
+            var: variable,
+            form: LongShortForm::Long,
+        })
+    }
+
+    /// The text of a term, in its long form and the singular.
+    pub fn term(term: Term) -> Text
+        ensures { result ≡ text_of_term term }
+    {
+        Text::new(TextTarget::Term {
+            term,
+            form: TermForm::Long,
+            plural: false,
+        })
+    }
+
+    /// A text that prints these words.
+    ///
+    /// # Errors
+    /// [`Memory`]: there was no memory left.
+    pub fn value(alloc: Global, value: &str) -> Result<Text, Memory>
+        ensures view { IfOk result (λ text. view_text text
+            ≡ node.text (of_value value.now) (text_dressing text)) }
+        ensures rest { IfOk result (λ text. text ≡ text_of_target text.target) }
+    {
+        Ok(Text::new(TextTarget::Value {
+            val: String::from_str(alloc, value)?,
+        }))
+    }
+
+    /// A text that prints the macro of this name. Where the style has none, it prints nothing
+    /// ([`Style::missing_macro`](crate::style::Style::missing_macro)).
+    ///
+    /// # Errors
+    /// [`Memory`]: there was no memory left.
+    pub fn macro_call(alloc: Global, name: &str) -> Result<Text, Memory>
+        ensures view { IfOk result (λ text. view_text text
+            ≡ node.call name.now (text_dressing text)) }
+        ensures rest { IfOk result (λ text. text ≡ text_of_target text.target) }
+    {
+        Ok(Text::new(TextTarget::Macro {
+            name: String::from_str(alloc, name)?,
+        }))
+    }
 }

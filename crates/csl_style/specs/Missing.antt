@@ -1,0 +1,66 @@
+-- The macro that a style calls and does not have (CSL 1.0.2, Macro): the first such name, as the
+-- style is written. The layout of citations comes before that of the bibliography, and both before
+-- the macros in their order, the unreached and the hidden ones included. In each node comes first
+-- what is written first: of a choice each branch in order and then what is printed where none is
+-- chosen, of a names node its substitutes. No name is followed.
+use Rattle.std.specs.Prelude.{ℕ, List, [], ◌∷◌, Option, Some, None}
+use Rattle.std.specs.Option.{option_or}
+use Rattle.csl_style.specs.Node.{Node, text, call, number, label, date, names, choose, group, Nodes, no_nodes, node, Branches, no_branches, otherwise, branch, Substitutes, no_substitutes, substitute}
+use Rattle.csl_style.specs.declared.element.Layout.{Layout}
+use Rattle.csl_style.specs.View.{Definition, definitions, view_layout, Child, a_name, an_et_al, a_label, a_substitute}
+use Rattle.csl_style.specs.Meaning.{body}
+use Rattle.csl_style.specs.Style.{StyleParts}
+
+abbrev unless_defined : Option Nodes → List ℕ → Option (List ℕ)
+unless_defined None name = Some name
+unless_defined (Some ns) name = None
+
+-- the name, if there is no macro of it
+abbrev pub if_missing : List Definition → List ℕ → Option (List ℕ)
+if_missing ds name = unless_defined (body name ds) name
+
+abbrev mutual
+  pub missing_in : List Definition → Node → Option (List ℕ)
+  missing_in ds (text t d) = None
+  missing_in ds (call name d) = if_missing ds name
+  missing_in ds (number n) = None
+  missing_in ds (label v l) = None
+  missing_in ds (date d) = None
+  missing_in ds (names n ss) = missing_in_substitutes ds ss
+  missing_in ds (choose bs) = missing_in_branches ds bs
+  missing_in ds (group delimiter d ns) = missing_in_all ds ns
+
+  pub missing_in_all : List Definition → Nodes → Option (List ℕ)
+  missing_in_all ds no_nodes = None
+  missing_in_all ds (node n ns) = option_or (missing_in ds n) (missing_in_all ds ns)
+
+  pub missing_in_branches : List Definition → Branches → Option (List ℕ)
+  missing_in_branches ds no_branches = None
+  missing_in_branches ds (otherwise ns) = missing_in_all ds ns
+  missing_in_branches ds (branch ts ns bs) = option_or (missing_in_all ds ns) (missing_in_branches ds bs)
+
+  pub missing_in_substitutes : List Definition → Substitutes → Option (List ℕ)
+  missing_in_substitutes ds no_substitutes = None
+  missing_in_substitutes ds (substitute ns ss) = option_or (missing_in_all ds ns) (missing_in_substitutes ds ss)
+
+-- in a child of names: in a substitute
+abbrev pub missing_in_child : List Definition → Child → Option (List ℕ)
+missing_in_child ds (a_name n) = None
+missing_in_child ds (an_et_al e) = None
+missing_in_child ds (a_label l) = None
+missing_in_child ds (a_substitute ns) = missing_in_all ds ns
+
+-- in what macros stand for
+abbrev pub missing_in_macros : List Definition → List Definition → Option (List ℕ)
+missing_in_macros ds [] = None
+missing_in_macros ds (m ∷ ms) = option_or (missing_in_all ds m.1) (missing_in_macros ds ms)
+
+-- in a layout, where there is one
+abbrev pub missing_in_layout : List Definition → Option Layout → Option (List ℕ)
+missing_in_layout ds None = None
+missing_in_layout ds (Some l) = missing_in_all ds (view_layout l).elements
+
+abbrev pub missing_macro : StyleParts → Option (List ℕ)
+missing_macro style =
+    let ds = definitions style.macros in
+    option_or (missing_in_layout ds (Some style.citation)) (option_or (missing_in_layout ds style.bibliography) (missing_in_macros ds ds))

@@ -1,0 +1,127 @@
+//! Groups, names, layouts and macros of which nothing is said but what they hold.
+
+ghost use Rattle.std.specs.Prelude.{◌≡◌, IfOk, None, Some, []};
+ghost use Rattle.csl_style.specs.Constructors.{no_affixes, plain_layout, undressed};
+ghost use Rattle.csl_style.specs.Dressing.{text_if};
+ghost use Rattle.csl_style.specs.NamesParts.{plain};
+ghost use Rattle.csl_style.specs.NameOptions.{own_options};
+ghost use Rattle.csl_style.specs.Node.{group, names, no_substitutes};
+ghost use Rattle.csl_style.specs.Style.{no_options};
+ghost use Rattle.csl_style.specs.View.{definition, view_group, view_names, views};
+
+use crate::affixes::Affixes;
+use crate::element::{CslMacro, Group, Layout, LayoutRenderingElement, Names};
+use crate::formatting::Formatting;
+use crate::names::InheritableNameOptions;
+use crate::taxonomy::NameVariable;
+use csl_common::Memory;
+use std::alloc::Global;
+
+impl Group {
+    /// A group of which nothing but its children is said.
+    #[tactic(auto, using(crate::proofs::Rolled::group_view))]
+    pub fn new(children: Vec<LayoutRenderingElement>) -> Group
+        ensures view { view_group result ≡ group None undressed (views children.items) }
+        ensures children { result.children ≡ children }
+        ensures delimiter { result.delimiter ≡ None }
+        ensures formatting { result.formatting ≡ plain }
+        ensures affixes { result.affixes ≡ no_affixes }
+        ensures display { result.display ≡ None }
+    {
+        Group {
+            children,
+            delimiter: None,
+            formatting: Formatting::default(),
+            affixes: Affixes::default(),
+            display: None,
+        }
+    }
+
+    /// A group with a text between its children.
+    ///
+    /// # Errors
+    /// [`Memory`]: there was no memory left.
+    #[tactic(auto, using(crate::proofs::Rolled::group_view))]
+    pub fn delimited(
+        alloc: Global,
+        delimiter: &str,
+        children: Vec<LayoutRenderingElement>,
+    ) -> Result<Group, Memory>
+        ensures view { IfOk result (λ made. view_group made
+            ≡ group (Some delimiter.now) undressed (views children.items)) }
+        ensures children { IfOk result (λ made. made.children ≡ children) }
+        ensures delimiter { IfOk result (λ made. text_if made.delimiter ≡ Some delimiter.now) }
+        ensures formatting { IfOk result (λ made. made.formatting ≡ plain) }
+        ensures affixes { IfOk result (λ made. made.affixes ≡ no_affixes) }
+        ensures display { IfOk result (λ made. made.display ≡ None) }
+    {
+        let delimiter = String::from_str(alloc, delimiter)?;
+        Ok(Group {
+            delimiter: Some(delimiter),
+            ..Group::new(children)
+        })
+    }
+}
+
+impl Layout {
+    /// A layout of which nothing but its elements is said.
+    pub fn new(elements: Vec<LayoutRenderingElement>) -> Layout
+        ensures { result ≡ plain_layout elements }
+    {
+        Layout {
+            elements,
+            delimiter: None,
+            formatting: Formatting::default(),
+        }
+    }
+}
+
+impl CslMacro {
+    /// A macro of this name.
+    ///
+    /// # Errors
+    /// [`Memory`]: there was no memory left.
+    pub fn new(
+        alloc: Global,
+        name: &str,
+        children: Vec<LayoutRenderingElement>,
+    ) -> Result<CslMacro, Memory>
+        ensures { IfOk result (λ made. definition made ≡ (name.now, views children.items)) }
+    {
+        let name = String::from_str(alloc, name)?;
+        Ok(CslMacro { name, children })
+    }
+}
+
+impl Names {
+    /// The names of these variables, of which nothing else is said.
+    #[tactic(auto, using(crate::proofs::Rolled::names_view))]
+    pub fn new(alloc: Global, variables: Vec<NameVariable>) -> Names
+        ensures view { view_names result ≡ names (record {
+          variables = variables.items;
+          options = no_options;
+          delimiter = None;
+          dressing = undressed;
+          name_children = [];
+          et_al = None;
+          label = None;
+        }) no_substitutes }
+        ensures variable { result.variable ≡ variables }
+        ensures children { result.children.items ≡ [] }
+        ensures options { own_options result.options ≡ no_options }
+        ensures delimiter { result.delimiter ≡ None }
+        ensures formatting { result.formatting ≡ plain }
+        ensures affixes { result.affixes ≡ no_affixes }
+        ensures display { result.display ≡ None }
+    {
+        Names {
+            variable: variables,
+            children: Vec::new(alloc),
+            options: InheritableNameOptions::default(),
+            delimiter: None,
+            formatting: Formatting::default(),
+            affixes: Affixes::default(),
+            display: None,
+        }
+    }
+}

@@ -1,0 +1,130 @@
+//! Which macro a style calls and does not have (CSL 1.0.2, Macro).
+
+ghost use Rattle.std.specs.Prelude.{◌≡◌, option_map};
+ghost use Rattle.csl_style.specs.Missing.{if_missing, missing_in, missing_in_all, missing_in_child, missing_in_layout, missing_in_macros, missing_macro};
+ghost use Rattle.csl_style.specs.View.{definitions, view, view_child, view_choose, views};
+
+use crate::element::{Choose, CslMacro, LayoutRenderingElement, NamesChild};
+use crate::style::Style;
+use crate::text::TextTarget;
+
+/// The name, if the style has no macro of it.
+fn if_missing<'s>(style: &Style, name: &'s str) -> Option<&'s str>
+    ensures { option_map (λ missing. missing.now) result
+        ≡ if_missing (definitions style.now.macros) name.now }
+{
+    match style.get_macro(name) {
+        Some(_) => None,
+        None => Some(name),
+    }
+}
+
+/// The first missing name in an element.
+#[cycle(missing)]
+fn missing_in<'s>(style: &Style, element: &'s LayoutRenderingElement) -> Option<&'s str>
+    ensures { option_map (λ name. name.now) result
+        ≡ missing_in (definitions style.now.macros) (view element.now) }
+{
+    match element {
+        LayoutRenderingElement::Text(text) => match &text.target {
+            TextTarget::Macro { name } => if_missing(style, name.as_str()),
+            TextTarget::Variable { .. } | TextTarget::Term { .. } | TextTarget::Value { .. } => {
+                None
+            }
+        },
+        LayoutRenderingElement::Number(_)
+        | LayoutRenderingElement::Label(_)
+        | LayoutRenderingElement::Date(_) => None,
+        LayoutRenderingElement::Names(names) => {
+            for child in &names.children {
+                if let Some(name) = missing_in_child(style, child) {
+                    return Some(name);
+                }
+            }
+            None
+        }
+        LayoutRenderingElement::Choose(choose) => missing_in_choose(style, choose),
+        LayoutRenderingElement::Group(group) => missing_in_all(style, &group.children),
+    }
+}
+
+/// The first missing name in a list of elements.
+#[cycle(missing)]
+fn missing_in_all<'s>(style: &Style, elements: &'s [LayoutRenderingElement]) -> Option<&'s str>
+    ensures { option_map (λ name. name.now) result
+        ≡ missing_in_all (definitions style.now.macros) (views elements.now) }
+{
+    for element in elements {
+        if let Some(name) = missing_in(style, element) {
+            return Some(name);
+        }
+    }
+    None
+}
+
+/// The first missing name in a child of names: in a substitute.
+#[cycle(missing)]
+fn missing_in_child<'s>(style: &Style, child: &'s NamesChild) -> Option<&'s str>
+    ensures { option_map (λ name. name.now) result
+        ≡ missing_in_child (definitions style.now.macros) (view_child child.now) }
+{
+    match child {
+        NamesChild::Name(_) | NamesChild::EtAl(_) | NamesChild::Label(_) => None,
+        NamesChild::Substitute(substitute) => missing_in_all(style, &substitute.children),
+    }
+}
+
+/// The first missing name in the branches of a choose, and then in what is printed where none of
+/// them is chosen.
+#[cycle(missing)]
+fn missing_in_choose<'s>(style: &Style, choose: &'s Choose) -> Option<&'s str>
+    ensures { option_map (λ name. name.now) result
+        ≡ missing_in (definitions style.now.macros) (view_choose choose.now) }
+{
+    if let Some(name) = missing_in_all(style, &choose.if_.children) {
+        return Some(name);
+    }
+    for branch in &choose.else_if {
+        if let Some(name) = missing_in_all(style, &branch.children) {
+            return Some(name);
+        }
+    }
+    match &choose.otherwise {
+        Some(otherwise) => missing_in_all(style, otherwise),
+        None => None,
+    }
+}
+
+/// The first missing name in what macros stand for.
+fn missing_in_macros<'s>(style: &Style, macros: &'s [CslMacro]) -> Option<&'s str>
+    ensures { option_map (λ name. name.now) result
+        ≡ missing_in_macros (definitions style.now.macros) (definitions macros.now) }
+{
+    for m in macros {
+        if let Some(name) = missing_in_all(style, &m.children) {
+            return Some(name);
+        }
+    }
+    None
+}
+
+impl Style {
+    /// The first name that the style calls and has no macro of, as it is written: in the layout of
+    /// citations, that of the bibliography, and then the macros in order, those that no layout
+    /// reaches included. Such a call prints nothing, so ask this of a style that you wrote.
+    ///
+    /// The call takes no memory. It looks each called name up once.
+    pub fn missing_macro(&self) -> Option<&str>
+        ensures { option_map (λ name. name.now) result ≡ missing_macro self.now }
+    {
+        if let Some(name) = missing_in_all(self, &self.citation().elements) {
+            return Some(name);
+        }
+        if let Some(bibliography) = self.bibliography() {
+            if let Some(name) = missing_in_all(self, &bibliography.elements) {
+                return Some(name);
+            }
+        }
+        missing_in_macros(self, self.macros())
+    }
+}
