@@ -3,7 +3,7 @@
 -- day 0 is the first day.
 -- A month and a day are on the calendar (`IsOnCalendar`) if the month, where there is one, is at
 -- most 11 and the day, where there is one, is at most 30. The length of the month does not count.
-use Rattle.std.specs.Prelude.{ℕ, ℤ, ◌≤◌, Bool, Option, IfSome}
+use Rattle.std.specs.Prelude.{ℕ, ℤ, ◌≤◌, Bool, false, Option, None, IfSome}
 use Rattle.lit_model.specs.declared.date.Date.{Date}
 use Rattle.csl_common.specs.declared.season.Season.{Season}
 
@@ -21,3 +21,7 @@ pub record Parts : Type 0 where
 
 abbrev pub date_parts : Date → Parts
 date_parts d = record { year = d.year; month = d.month; day = d.day; season = d.season; approximate = d.approximate }
+
+-- a date of which the year alone is known
+abbrev pub year_alone : ℤ → Parts
+year_alone year = record { year = year; month = None; day = None; season = None; approximate = false }

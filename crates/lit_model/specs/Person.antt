@@ -1,5 +1,5 @@
 -- Persons, their roles, and groups of persons with one role, as plain data: texts as bytes.
-use Rattle.std.specs.Prelude.{ℕ, Bool, List, [], map, Option, option_map, string_bytes, flat_map, if◌then◌else◌}
+use Rattle.std.specs.Prelude.{ℕ, Bool, false, List, [], map, Option, Some, None, option_map, string_bytes, flat_map, if◌then◌else◌}
 use Rattle.lit_model.specs.declared.person.Person.{Person}
 use Rattle.lit_model.specs.declared.person.PersonRole.{PersonRole}
 use Rattle.lit_model.specs.declared.person.PersonRole.TheVariants.{Unknown}
@@ -24,6 +24,13 @@ named p = record {
   alias = option_map string_bytes p.alias;
   comma_suffix = p.comma_suffix;
 }
+
+-- a person of a name and a given name alone, and one of a name alone
+abbrev pub person_of : List ℕ → List ℕ → Named
+person_of name given = record { name = name; given_name = Some given; prefix = None; suffix = None; alias = None; comma_suffix = false }
+
+abbrev pub institution_of : List ℕ → Named
+institution_of name = record { name = name; given_name = None; prefix = None; suffix = None; alias = None; comma_suffix = false }
 
 -- a role: one of those with a name, or a text
 pub data Role : Type 0 where

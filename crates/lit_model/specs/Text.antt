@@ -2,9 +2,10 @@
 -- mathematics. A format string is a text that may have a short form. `select` returns the short
 -- form where the style asks for Short and there is one, else the whole text (CSL 1.0.2, Text,
 -- `form`).
-use Rattle.std.specs.Prelude.{ℕ, List, map, Option, option_map, string_bytes, unwrap_or}
+use Rattle.std.specs.Prelude.{ℕ, List, [], ◌∷◌, map, Option, None, option_map, string_bytes, unwrap_or}
 use Rattle.lit_model.specs.declared.text.StringChunk.{StringChunk}
 use Rattle.lit_model.specs.declared.text.ChunkKind.{ChunkKind}
+use Rattle.lit_model.specs.declared.text.ChunkKind.TheVariants.{Normal}
 use Rattle.lit_model.specs.declared.text.ChunkedString.{ChunkedString}
 use Rattle.lit_model.specs.declared.text.FormatString.{FormatString}
 use Rattle.csl_common.specs.declared.form.LongShortForm.{LongShortForm}
@@ -29,6 +30,13 @@ pub record Forms : Type 0 where
 
 abbrev pub forms_of : FormatString → Forms
 forms_of t = record { value = chunks t.value; short = option_map chunks t.short }
+
+-- a text in one piece that a style may change, and such a text without a short form
+abbrev pub in_one_piece : List ℕ → List Chunk
+in_one_piece text = record { value = text; kind = Normal } ∷ []
+
+abbrev pub plain_forms : List ℕ → Forms
+plain_forms text = record { value = in_one_piece text; short = None }
 
 -- the text in a form: the short form where it is requested and there is one
 abbrev pub select : LongShortForm → FormatString → ChunkedString

@@ -18,7 +18,7 @@ pub struct Date {
 }
 
 impl Date {
-    ghost use Rattle.lit_model.specs.Date.{IsOnCalendar, date_parts};
+    ghost use Rattle.lit_model.specs.Date.{IsOnCalendar, date_parts, year_alone};
 
     /// A date, where the month is at most 11 and the day at most 30: both count from 0, so January
     /// is month 0. Otherwise `None`.
@@ -48,6 +48,19 @@ impl Date {
             season,
             approximate,
         })
+    }
+
+    /// A date of which the year alone is known; 0 is the year before the year 1.
+    pub fn of_year(year: i32) -> Date
+        ensures { date_parts result ≡ year_alone year }
+    {
+        Date {
+            year,
+            month: None,
+            day: None,
+            season: None,
+            approximate: false,
+        }
     }
 
     /// The year; 0 is the year before the year 1.

@@ -4,7 +4,7 @@ ghost use Rattle.std.specs.Prelude.{◌≡◌, not, ◌||◌, ◌++◌, option_c
 ghost use Rattle.std.specs.List.{list_any, list_all};
 ghost use Rattle.unicode.specs.Binary.{is_alphabetic};
 ghost use Rattle.lit_model.specs.Name.{is_institutional, is_cjk_script, letters, are_cjk, is_cjk, is_particle_word, name_particle, name_without_particle, without, first_without, name_without_article};
-ghost use Rattle.lit_model.specs.Person.{named, role_of, group_of};
+ghost use Rattle.lit_model.specs.Person.{named, person_of, institution_of, role_of, group_of};
 ghost use Rattle.unicode.specs.Script.{script};
 
 use crate::text::copy_text;
@@ -66,6 +66,42 @@ pub struct PersonsWithRoles {
 }
 
 impl Person {
+    /// A person of a name and a given name, of whom nothing else is said.
+    ///
+    /// # Errors
+    /// [`Memory`]: there was no memory left.
+    pub fn new(alloc: Global, name: &str, given_name: &str) -> Result<Person, Memory>
+        ensures { IfOk result (λ person. named person ≡ person_of name.now given_name.now) }
+    {
+        let name = String::from_str(alloc, name)?;
+        let given_name = String::from_str(alloc, given_name)?;
+        Ok(Person {
+            name,
+            given_name: Some(given_name),
+            prefix: None,
+            suffix: None,
+            alias: None,
+            comma_suffix: false,
+        })
+    }
+
+    /// An institution, or a person who has one name.
+    ///
+    /// # Errors
+    /// [`Memory`]: there was no memory left.
+    pub fn institution(alloc: Global, name: &str) -> Result<Person, Memory>
+        ensures { IfOk result (λ person. named person ≡ institution_of name.now) }
+    {
+        Ok(Person {
+            name: String::from_str(alloc, name)?,
+            given_name: None,
+            prefix: None,
+            suffix: None,
+            alias: None,
+            comma_suffix: false,
+        })
+    }
+
     /// An institution: no given name, no prefix and no suffix. One that is present and empty
     /// counts.
     pub fn is_institutional(&self) -> bool

@@ -1,7 +1,7 @@
 //! Texts that a style prints.
 
 ghost use Rattle.std.specs.Prelude.{◌≡◌, map, option_map, string_bytes, IfOk};
-ghost use Rattle.lit_model.specs.Text.{chunk_of, chunks, forms_of, select};
+ghost use Rattle.lit_model.specs.Text.{chunk_of, chunks, forms_of, in_one_piece, plain_forms, select};
 
 use csl_common::{LongShortForm, Memory};
 use std::alloc::Global;
@@ -40,7 +40,36 @@ pub struct FormatString {
     pub short: Option<ChunkedString>,
 }
 
+impl ChunkedString {
+    /// A text in one piece, which a style may change.
+    ///
+    /// # Errors
+    /// [`Memory`]: there was no memory left.
+    pub fn plain(alloc: Global, text: &str) -> Result<ChunkedString, Memory>
+        ensures { IfOk result (λ plain. chunks plain ≡ in_one_piece text.now) }
+    {
+        let chunk = StringChunk {
+            value: String::from_str(alloc, text)?,
+            kind: ChunkKind::Normal,
+        };
+        Ok(ChunkedString(vec![in alloc; chunk]?))
+    }
+}
+
 impl FormatString {
+    /// A text in one piece, which a style may change, without a short form.
+    ///
+    /// # Errors
+    /// [`Memory`]: there was no memory left.
+    pub fn plain(alloc: Global, text: &str) -> Result<FormatString, Memory>
+        ensures { IfOk result (λ plain. forms_of plain ≡ plain_forms text.now) }
+    {
+        Ok(FormatString {
+            value: ChunkedString::plain(alloc, text)?,
+            short: None,
+        })
+    }
+
     /// The text in a form: the short form where it is asked for and there is one, else the whole
     /// text.
     pub fn select(&self, form: LongShortForm) -> &ChunkedString

@@ -33,3 +33,14 @@ fn months_end_at_eleven_and_days_at_thirty_and_a_season_may_stand_alone(rt: Host
         assert_date(&rt, row);
     }
 }
+
+#[test]
+fn of_a_year_the_rest_is_unknown(rt: HostRuntime) {
+    for year in [-44, 0, 2014] {
+        assert_same(
+            &rt,
+            &parts(&Date::of_year(year)),
+            &(year, None, None, None, false),
+        );
+    }
+}

@@ -227,3 +227,21 @@ fn persons_groups_and_roles_are_equal_by_their_texts(rt: HostRuntime) -> Result<
     assert_of(&rt, &muse, &(true, false), &"a muse");
     Ok(())
 }
+
+/// A person with a given name, or else an institution.
+fn new_person(alloc: Global, name: &str, given: Option<&str>) -> Result<Person, Memory> {
+    match given {
+        Some(given) => Person::new(alloc, name, given),
+        None => Person::institution(alloc, name),
+    }
+}
+
+#[test]
+fn new_persons_have_names_alone(rt: HostRuntime) -> Result<(), Memory> {
+    for (name, given) in [("Doe", Some("Jane")), ("Doe", Some("")), ("UNESCO", None)] {
+        let new = new_person(rt.alloc(), name, given)?;
+        let wanted = person(rt.alloc(), name, given)?;
+        assert_whether(&rt, same_person(&new, &wanted), true, name);
+    }
+    Ok(())
+}

@@ -67,13 +67,12 @@ fn title_of(alloc: Global, shown: Shown) -> Result<Option<FormatString>, Memory>
     let Shown::Title(title) = shown else {
         return Ok(None);
     };
-    let value = text(alloc, title, ChunkKind::Normal)?;
-    Ok(Some(FormatString { value, short: None }))
+    Ok(Some(FormatString::plain(alloc, title)?))
 }
 
 fn date_of(shown: Shown) -> Option<Date> {
     match shown {
-        Shown::Year(year) => Date::new(year, None, None, None, false),
+        Shown::Year(year) => Some(Date::of_year(year)),
         _ => None,
     }
 }

@@ -102,3 +102,21 @@ fn titles_and_chunks_are_equal_by_their_parts(rt: HostRuntime) -> Result<(), Mem
     }
     Ok(())
 }
+
+/// A title in one normal chunk, without a short form.
+fn one_normal_chunk(alloc: Global, title: &str) -> Result<FormatString, Memory> {
+    Ok(FormatString {
+        value: text(alloc, title, ChunkKind::Normal)?,
+        short: None,
+    })
+}
+
+#[test]
+fn plain_texts_are_one_normal_chunk(rt: HostRuntime) -> Result<(), Memory> {
+    let wanted = one_normal_chunk(rt.alloc(), "Nature")?;
+    let title = FormatString::plain(rt.alloc(), "Nature")?;
+    assert_whether(&rt, same_forms(&title, &wanted), true, "a title");
+    let chunks = ChunkedString::plain(rt.alloc(), "Nature")?;
+    assert_whether(&rt, same_chunks(&chunks, &wanted.value), true, "its chunks");
+    Ok(())
+}
