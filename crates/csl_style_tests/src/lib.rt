@@ -5,6 +5,8 @@
 #[cfg(test)]
 mod asserted;
 #[cfg(test)]
+mod constructors;
+#[cfg(test)]
 mod defaults;
 #[cfg(test)]
 mod element;
@@ -12,6 +14,8 @@ mod element;
 mod locale;
 #[cfg(test)]
 mod made;
+#[cfg(test)]
+mod missing;
 #[cfg(test)]
 mod named;
 #[cfg(test)]

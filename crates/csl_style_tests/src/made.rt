@@ -2,10 +2,9 @@
 
 use csl_style::{
     Affixes, Choose, ChooseBranch, ChooseMatch, CslMacro, Date, DateForm, DateParts, DateVariable,
-    Formatting, Group, InheritableNameOptions, Layout, LayoutRenderingElement, Locale,
-    NameVariable, Names, NamesChild, OrdinalMatch, OrdinalSlot, OrdinalTerm, PageRangeFormat,
-    StandardVariable, Style, StyleError, StyleSettings, Substitute, Term, TermEntry, TermForm,
-    Text, TextTarget, Variable,
+    Formatting, Group, Layout, LayoutRenderingElement, Locale, NameVariable, Names, NamesChild,
+    OrdinalMatch, OrdinalSlot, OrdinalTerm, PageRangeFormat, StandardVariable, Style, StyleError,
+    StyleSettings, Substitute, Term, TermEntry, TermForm, Text, TextTarget, Variable,
 };
 use lit_model::{GrammarGender, LongShortForm};
 use std::alloc::{AllocError, Global};
@@ -192,14 +191,8 @@ pub(crate) fn branch(
 ) -> ChooseBranch {
     ChooseBranch {
         disambiguate,
-        is_numeric: None,
-        is_uncertain_date: None,
-        locator: None,
-        position: None,
-        type_: None,
-        variable: None,
         match_,
-        children,
+        ..ChooseBranch::new(children)
     }
 }
 
@@ -218,26 +211,16 @@ pub(crate) fn names(
     variable: NameVariable,
     children: Vec<NamesChild>,
 ) -> Result<LayoutRenderingElement, AllocError> {
-    Ok(LayoutRenderingElement::Names(Names {
-        variable: vec![in alloc; variable]?,
+    let names = Names {
         children,
-        options: InheritableNameOptions::default(),
-        delimiter: None,
-        formatting: Formatting::default(),
-        affixes: Affixes::default(),
-        display: None,
-    }))
+        ..Names::new(alloc, vec![in alloc; variable]?)
+    };
+    Ok(names.into())
 }
 
 /// A group of some nodes.
 pub(crate) fn group(children: Vec<LayoutRenderingElement>) -> LayoutRenderingElement {
-    LayoutRenderingElement::Group(Group {
-        children,
-        delimiter: None,
-        formatting: Formatting::default(),
-        affixes: Affixes::default(),
-        display: None,
-    })
+    Group::new(children).into()
 }
 
 /// The node around some nodes.
@@ -247,24 +230,27 @@ fn node_around(
     children: Vec<LayoutRenderingElement>,
 ) -> Result<LayoutRenderingElement, AllocError> {
     match around {
-        Around::If(told) => Ok(LayoutRenderingElement::Choose(Choose {
-            if_: branch(ChooseMatch::All, told, children),
-            else_if: Vec::new(alloc),
-            otherwise: None,
-        })),
-        Around::ElseIf(told) => {
-            let else_if = one(alloc, branch(ChooseMatch::All, told, children))?;
-            Ok(LayoutRenderingElement::Choose(Choose {
-                if_: branch(ChooseMatch::All, told, Vec::new(alloc)),
-                else_if,
-                otherwise: None,
-            }))
+        Around::If(told) => {
+            let branch = branch(ChooseMatch::All, told, children);
+            Ok(Choose::new(alloc, branch).into())
         }
-        Around::Else(told) => Ok(LayoutRenderingElement::Choose(Choose {
-            if_: branch(ChooseMatch::All, told, Vec::new(alloc)),
-            else_if: Vec::new(alloc),
-            otherwise: Some(children),
-        })),
+        Around::ElseIf(told) => {
+            let empty = branch(ChooseMatch::All, told, Vec::new(alloc));
+            let chosen = branch(ChooseMatch::All, told, children);
+            let choose = Choose {
+                else_if: one(alloc, chosen)?,
+                ..Choose::new(alloc, empty)
+            };
+            Ok(choose.into())
+        }
+        Around::Else(told) => {
+            let empty = branch(ChooseMatch::All, told, Vec::new(alloc));
+            let choose = Choose {
+                otherwise: Some(children),
+                ..Choose::new(alloc, empty)
+            };
+            Ok(choose.into())
+        }
         Around::Group => Ok(group(children)),
         Around::Substitute => names_or(alloc, children),
     }
@@ -295,14 +281,7 @@ fn target(alloc: Global, word: &str) -> Result<TextTarget, AllocError> {
 
 /// A text node of a target.
 pub(crate) fn text(target: TextTarget) -> LayoutRenderingElement {
-    LayoutRenderingElement::Text(Text {
-        target,
-        formatting: Formatting::default(),
-        affixes: Affixes::default(),
-        display: None,
-        quotes: false,
-        strip_periods: false,
-    })
+    Text::new(target).into()
 }
 
 /// The text nodes of words.
@@ -366,11 +345,7 @@ fn layout(alloc: Global, line: &str) -> Result<Layout, AllocError> {
 
 /// A layout of some elements.
 pub(crate) fn layout_of(elements: Vec<LayoutRenderingElement>) -> Layout {
-    Layout {
-        elements,
-        delimiter: None,
-        formatting: Formatting::default(),
-    }
+    Layout::new(elements)
 }
 
 /// What a style says: its page format, a line for each macro and each layout, its locales.

@@ -1,15 +1,12 @@
 //! What layouts name.
 
 use crate::asserted::assert_text;
-use crate::made::{
-    EMPTY, StyleRows, branch, date, group, layout_of, names, names_or, one, put, style, text,
-};
+use crate::made::{EMPTY, StyleRows, branch, group, layout_of, names, names_or, one, put, style};
 use csl_style::{
-    Affixes, Choose, ChooseBranch, ChooseMatch, DateVariable, Formatting, Kind, Label, Layout,
+    Choose, ChooseBranch, ChooseMatch, Date, DateVariable, Kind, Label, Layout,
     LayoutRenderingElement, NameVariable, Named, Number, NumberOrPageVariable, NumberVariable,
-    PageVariable, StandardVariable, Style, TextTarget, Variable, VariablelessLabel, named_by,
+    PageVariable, StandardVariable, Style, Text, Variable, named_by,
 };
-use lit_model::{LongShortForm, NumberForm};
 use std::alloc::{AllocError, Global};
 use std::process::Abort;
 use std::test::Fail;
@@ -107,24 +104,10 @@ enum Leaf {
 
 fn make_leaf(alloc: Global, leaf: &Leaf) -> LayoutRenderingElement {
     match *leaf {
-        Leaf::Text(var) => text(TextTarget::Variable {
-            var,
-            form: LongShortForm::Long,
-        }),
-        Leaf::Number(variable) => LayoutRenderingElement::Number(Number {
-            variable,
-            form: NumberForm::Numeric,
-            formatting: Formatting::default(),
-            affixes: Affixes::default(),
-            display: None,
-        }),
-        Leaf::Label(variable) => LayoutRenderingElement::Label(Label {
-            variable,
-            label: VariablelessLabel::default(),
-        }),
-        Leaf::Issued => {
-            LayoutRenderingElement::Date(date(alloc, Some(DateVariable::Issued), None, None))
-        }
+        Leaf::Text(variable) => Text::variable(variable).into(),
+        Leaf::Number(variable) => Number::new(variable).into(),
+        Leaf::Label(variable) => Label::new(variable).into(),
+        Leaf::Issued => Date::new(DateVariable::Issued, Vec::new(alloc)).into(),
     }
 }
 
@@ -233,12 +216,8 @@ fn uncertain_or_placed(alloc: Global) -> Result<ChooseBranch, AllocError> {
 
 /// A layout of a choice of one branch.
 fn choice(alloc: Global, if_: ChooseBranch) -> Result<Layout, AllocError> {
-    let choose = LayoutRenderingElement::Choose(Choose {
-        if_,
-        else_if: Vec::new(alloc),
-        otherwise: None,
-    });
-    Ok(layout_of(one(alloc, choose)?))
+    let choose = Choose::new(alloc, if_);
+    Ok(layout_of(one(alloc, choose.into())?))
 }
 
 /// Numbers that the citation answers, one of the entry, and its pages as a number.

@@ -1,0 +1,418 @@
+//! Nodes by their constructors and struct update, as a caller makes them. A clause here is what a
+//! caller knows of such a node with at most one lemma named.
+
+ghost use Rattle.std.specs.Prelude.{◌≡◌, IfOk, None, Some, [], ◌∷◌, codes, false, map, true};
+ghost use Rattle.csl_common.specs.declared.form.LongShortForm.TheVariants.{Long};
+ghost use Rattle.csl_style.specs.Constructors.{date_of, no_tests, short_label_of, texts_around, undressed};
+ghost use Rattle.csl_style.specs.Names.{view_label};
+ghost use Rattle.csl_style.specs.Node as node;
+ghost use Rattle.csl_style.specs.Node.{of_value, of_variable};
+ghost use Rattle.csl_style.specs.Style.{no_options};
+ghost use Rattle.csl_style.specs.View.{branches_of, first_et_al, first_label, name_children, substitutes, view, view_branch, view_child, view_date, views};
+
+use crate::asserted::{assert_same, assert_text};
+use crate::made::{one, put};
+use csl_style::{
+    Affixes, Choose, ChooseBranch, ChooseMatch, CslMacro, Date, DatePart, DatePartName,
+    DateVariable, EtAl, FontStyle, Formatting, Group, Kind, Label, Layout, LayoutRenderingElement,
+    Locale, Name, NameVariable, Names, NamesChild, Number, NumberOrPageVariable, NumberVariable,
+    OtherTerm, PageVariable, StandardVariable, Substitute, Term, TermEntry, TermForm, Text,
+    TextTarget, Variable, VariablelessLabel,
+};
+use lit_model::{Memory, NumberForm};
+use std::alloc::Global;
+use std::process::Abort;
+use std::test::Fail;
+
+/// Italics alone.
+const SLANTED: Formatting = Formatting {
+    font_style: Some(FontStyle::Italic),
+    font_variant: None,
+    font_weight: None,
+    text_decoration: None,
+    vertical_align: None,
+};
+
+/// A text of a variable, in a formatting.
+fn variable_in(variable: Variable, formatting: Formatting) -> LayoutRenderingElement
+    ensures { view result ≡ node.text (of_variable variable Long) (record {
+      dressing = record undressed { formatting = formatting };
+      quotes = false;
+      strip_periods = false;
+    }) }
+{
+    Text {
+        formatting,
+        ..Text::variable(variable)
+    }
+    .into()
+}
+
+/// Words in quotes and in parentheses.
+fn quoted(alloc: Global, words: &str) -> Result<LayoutRenderingElement, Memory>
+    ensures { IfOk result (λ made. view made ≡ node.text (of_value words.now) (record {
+      dressing = record undressed { affixes = texts_around (codes "(") (codes ")") };
+      quotes = true;
+      strip_periods = false;
+    })) }
+{
+    let affixes = Affixes::around(alloc, "(", ")")?;
+    Ok(Text {
+        quotes: true,
+        affixes,
+        ..Text::value(alloc, words)?
+    }
+    .into())
+}
+
+/// A short label of a variable.
+fn short_label(variable: NumberOrPageVariable) -> LayoutRenderingElement
+    ensures { view result ≡ node.label variable (view_label (short_label_of variable).label) }
+{
+    Label::short(variable).into()
+}
+
+/// A date by its parts, with blanks between them.
+fn spaced_date(
+    alloc: Global,
+    variable: DateVariable,
+    parts: Vec<DatePart>,
+) -> Result<LayoutRenderingElement, Memory>
+    ensures { IfOk result (λ made. view made
+        ≡ node.date (record (view_date (date_of variable parts)) { delimiter = Some (codes " ") })) }
+{
+    let delimiter = String::from_str(alloc, " ")?;
+    Ok(Date {
+        delimiter: Some(delimiter),
+        ..Date::new(variable, parts)
+    }
+    .into())
+}
+
+/// A group in parentheses, with commas between its children.
+#[tactic(auto, using(csl_style::proofs::Rolled::group_made))]
+fn in_parentheses(
+    alloc: Global,
+    children: Vec<LayoutRenderingElement>,
+) -> Result<LayoutRenderingElement, Memory>
+    ensures { IfOk result (λ made. view made ≡ node.group (Some (codes ", "))
+        (record undressed { affixes = texts_around (codes "(") (codes ")") })
+        (views children.items)) }
+{
+    let affixes = Affixes::around(alloc, "(", ")")?;
+    Ok(Group {
+        affixes,
+        ..Group::delimited(alloc, ", ", children)?
+    }
+    .into())
+}
+
+/// The names of variables, by these children.
+#[tactic(auto, using(csl_style::proofs::Rolled::names_made))]
+fn names_by(
+    alloc: Global,
+    variables: Vec<NameVariable>,
+    children: Vec<NamesChild>,
+) -> LayoutRenderingElement
+    ensures { view result ≡ node.names (record {
+      variables = variables.items;
+      options = no_options;
+      delimiter = None;
+      dressing = undressed;
+      name_children = name_children (map view_child children.items);
+      et_al = first_et_al (map view_child children.items);
+      label = first_label false (map view_child children.items);
+    }) (substitutes (map view_child children.items)) }
+{
+    Names {
+        children,
+        ..Names::new(alloc, variables)
+    }
+    .into()
+}
+
+/// A branch for entries of these kinds.
+#[tactic(auto, using(csl_style::proofs::Rolled::branch_made))]
+fn of_kinds(kinds: Vec<Kind>, children: Vec<LayoutRenderingElement>) -> ChooseBranch
+    ensures { view_branch result ≡ record {
+      tests = record no_tests { type_ = Some kinds.items };
+      nodes = views children.items;
+    } }
+{
+    ChooseBranch {
+        type_: Some(kinds),
+        ..ChooseBranch::new(children)
+    }
+}
+
+/// A choice of one branch, and what is printed where it is not chosen.
+#[tactic(auto, using(csl_style::proofs::Rolled::choose_made))]
+fn either(
+    alloc: Global,
+    branch: ChooseBranch,
+    otherwise: Vec<LayoutRenderingElement>,
+) -> LayoutRenderingElement
+    ensures { view result
+        ≡ node.choose (branches_of (view_branch branch ∷ []) (Some (views otherwise.items))) }
+{
+    Choose {
+        otherwise: Some(otherwise),
+        ..Choose::new(alloc, branch)
+    }
+    .into()
+}
+
+/// A prefix and a suffix, each or none.
+fn affixes(alloc: Global, prefix: Option<&str>, suffix: Option<&str>) -> Result<Affixes, Memory> {
+    match (prefix, suffix) {
+        (None, None) => Ok(Affixes::default()),
+        (Some(prefix), None) => Affixes::before(alloc, prefix),
+        (None, Some(suffix)) => Affixes::behind(alloc, suffix),
+        (Some(prefix), Some(suffix)) => Affixes::around(alloc, prefix, suffix),
+    }
+}
+
+#[test]
+fn affixes_stand_on_their_sides(rt: HostRuntime) -> Result<(), Memory> {
+    for (prefix, suffix) in [
+        (None, None),
+        (Some("in: "), None),
+        (None, Some(".")),
+        (Some("("), Some(")")),
+    ] {
+        let made = affixes(rt.alloc(), prefix, suffix)?;
+        assert_text(&rt, made.prefix.as_deref(), prefix);
+        assert_text(&rt, made.suffix.as_deref(), suffix);
+    }
+    Ok(())
+}
+
+/// The words that a text prints, or the name of the macro that it calls.
+fn words_of(element: &LayoutRenderingElement) -> Option<&str> {
+    let LayoutRenderingElement::Text(text) = element else {
+        return None;
+    };
+    match &text.target {
+        TextTarget::Value { val } => Some(val.as_str()),
+        TextTarget::Macro { name } => Some(name.as_str()),
+        TextTarget::Variable { .. } | TextTarget::Term { .. } => None,
+    }
+}
+
+fn assert_words(rt: &impl Abort, element: LayoutRenderingElement, wanted: &str) {
+    assert_text(rt, words_of(&element), Some(wanted));
+    drop(element);
+}
+
+#[test]
+fn texts_print_words_and_macros(rt: HostRuntime) -> Result<(), Memory> {
+    let alloc = rt.alloc();
+    assert_words(&rt, Text::value(alloc, "in press")?.into(), "in press");
+    assert_words(&rt, Text::macro_call(alloc, "author")?.into(), "author");
+    assert_words(&rt, quoted(alloc, "sic")?, "sic");
+    Ok(())
+}
+
+/// The attributes of a text node: its formatting, and whether it is in quotes.
+fn attributes(element: LayoutRenderingElement) -> Option<(Formatting, bool)> {
+    let found = match &element {
+        LayoutRenderingElement::Text(text) => Some((text.formatting, text.quotes)),
+        _ => None,
+    };
+    drop(element);
+    found
+}
+
+#[test]
+fn texts_have_the_attributes_that_are_set(rt: HostRuntime) -> Result<(), Memory> {
+    let title = variable_in(StandardVariable::Title.into(), Formatting::italic());
+    assert_same(&rt, &attributes(title), &Some((SLANTED, false)));
+    let and = Text::term(OtherTerm::And.into());
+    let plain = Formatting::default();
+    assert_same(&rt, &attributes(and.into()), &Some((plain, false)));
+    let words = quoted(rt.alloc(), "sic")?;
+    assert_same(&rt, &attributes(words), &Some((plain, true)));
+    Ok(())
+}
+
+/// The form of a number or of a label.
+fn form_in(element: LayoutRenderingElement) -> (Option<NumberForm>, Option<TermForm>) {
+    let found = match &element {
+        LayoutRenderingElement::Number(number) => (Some(number.form), None),
+        LayoutRenderingElement::Label(label) => (None, Some(label.label.form)),
+        _ => (None, None),
+    };
+    drop(element);
+    found
+}
+
+#[test]
+fn numbers_and_labels_have_their_forms(rt: HostRuntime) {
+    let volume = NumberVariable::Volume.into();
+    let pages = PageVariable::Page.into();
+    let number = form_in(Number::new(volume).into());
+    assert_same(&rt, &number, &(Some(NumberForm::Numeric), None));
+    let long = form_in(Label::new(pages).into());
+    assert_same(&rt, &long, &(None, Some(TermForm::Long)));
+    assert_same(
+        &rt,
+        &form_in(short_label(pages)),
+        &(None, Some(TermForm::Short)),
+    );
+}
+
+/// The year of a publication.
+fn issued(alloc: Global) -> Result<LayoutRenderingElement, Memory> {
+    let parts = one(alloc, DatePart::new(DatePartName::Year))?;
+    spaced_date(alloc, DateVariable::Issued, parts)
+}
+
+fn assert_date(rt: &impl Abort, element: LayoutRenderingElement) {
+    if let LayoutRenderingElement::Date(date) = &element {
+        assert_same(rt, &date.variable, &Some(DateVariable::Issued));
+        assert_text(rt, date.delimiter.as_deref(), Some(" "));
+        let names = date.date_part.first().map(|part| part.name);
+        assert_same(rt, &names, &Some(DatePartName::Year));
+    } else {
+        assert_same(rt, &"another node", &"a date");
+    }
+    drop(element);
+}
+
+fn assert_group(rt: &impl Abort, element: LayoutRenderingElement) {
+    if let LayoutRenderingElement::Group(group) = &element {
+        assert_text(rt, group.delimiter.as_deref(), Some(", "));
+        assert_text(rt, group.affixes.suffix.as_deref(), Some(")"));
+        assert_same(rt, &group.children.len(), &1);
+    } else {
+        assert_same(rt, &"another node", &"a group");
+    }
+    drop(element);
+}
+
+#[test]
+fn a_group_may_hold_a_date(rt: HostRuntime) -> Result<(), Memory> {
+    let alloc = rt.alloc();
+    assert_date(&rt, issued(alloc)?);
+    let children = one(alloc, issued(alloc)?)?;
+    assert_group(&rt, in_parentheses(alloc, children)?);
+    Ok(())
+}
+
+/// Authors by a name, et al., a short label and a substitute.
+fn authors(alloc: Global) -> Result<LayoutRenderingElement, Memory> {
+    let mut children: Vec<NamesChild> = one(alloc, Name::new(alloc).into())?;
+    put(&mut children, EtAl::default().into())?;
+    put(&mut children, VariablelessLabel::default().into())?;
+    let substitute = Substitute {
+        children: Vec::new(alloc),
+    };
+    put(&mut children, substitute.into())?;
+    let variables = vec![in alloc; NameVariable::Author]?;
+    Ok(names_by(alloc, variables, children))
+}
+
+fn assert_names(rt: &impl Abort, element: LayoutRenderingElement) {
+    if let LayoutRenderingElement::Names(names) = &element {
+        assert_same(
+            rt,
+            &names.variable.first().copied(),
+            &Some(NameVariable::Author),
+        );
+        assert_same(rt, &names.children.len(), &4);
+        let parts = names.parts();
+        assert_same(rt, &parts.label().map(|label| label.is_behind), &Some(true));
+        assert_same(rt, &names.substitute().is_some(), &true);
+    } else {
+        assert_same(rt, &"another node", &"names");
+    }
+    drop(element);
+}
+
+#[test]
+fn names_have_their_children(rt: HostRuntime) -> Result<(), Memory> {
+    assert_names(&rt, authors(rt.alloc())?);
+    Ok(())
+}
+
+/// A group for books, and else two words.
+fn books(alloc: Global) -> Result<LayoutRenderingElement, Memory> {
+    let kinds = vec![in alloc; Kind::Book]?;
+    let inner: LayoutRenderingElement = Group::new(Vec::new(alloc)).into();
+    let branch = of_kinds(kinds, one(alloc, inner)?);
+    let mut otherwise: Vec<LayoutRenderingElement> = one(alloc, Text::value(alloc, "no")?.into())?;
+    put(&mut otherwise, Text::value(alloc, "book")?.into())?;
+    Ok(either(alloc, branch, otherwise))
+}
+
+/// How many elements stand in the branch of a choice, and how many where it is not chosen.
+fn counts(choose: &Choose) -> (usize, usize) {
+    let otherwise = match &choose.otherwise {
+        Some(elements) => elements.len(),
+        None => 0,
+    };
+    (choose.if_.children.len(), otherwise)
+}
+
+fn assert_choose(rt: &impl Abort, element: &LayoutRenderingElement) {
+    if let LayoutRenderingElement::Choose(choose) = element {
+        assert_same(rt, &counts(choose), &(1, 2));
+        let kinds = choose.if_.type_.as_deref();
+        assert_same(rt, &kinds, &Some([Kind::Book].as_slice()));
+        assert_same(rt, &choose.if_.match_, &ChooseMatch::All);
+        assert_same(rt, &choose.else_if.len(), &0);
+    } else {
+        assert_same(rt, &"another node", &"a choice");
+    }
+}
+
+#[test]
+fn a_macro_may_hold_a_choice(rt: HostRuntime) -> Result<(), Memory> {
+    let alloc = rt.alloc();
+    let children = one(alloc, books(alloc)?)?;
+    let books = CslMacro::new(alloc, "books", children)?;
+    assert_text(&rt, Some(books.name.as_str()), Some("books"));
+    for element in &books.children {
+        assert_choose(&rt, element);
+    }
+    assert_same(&rt, &books.children.len(), &1);
+    drop(books);
+    Ok(())
+}
+
+#[test]
+fn a_layout_holds_its_elements(rt: HostRuntime) -> Result<(), Memory> {
+    let alloc = rt.alloc();
+    let layout = Layout::new(one(alloc, issued(alloc)?)?);
+    assert_same(&rt, &layout.elements.len(), &1);
+    assert_text(&rt, layout.delimiter.as_deref(), None);
+    drop(layout);
+    Ok(())
+}
+
+#[test]
+fn terms_have_a_text_for_one_or_two(rt: HostRuntime) -> Result<(), Memory> {
+    let alloc = rt.alloc();
+    let and = TermEntry::new(alloc, OtherTerm::And.into(), TermForm::Long, "and")?;
+    assert_same(&rt, &and.term, &Term::Other(OtherTerm::And));
+    assert_same(&rt, &and.form, &TermForm::Long);
+    assert_text(&rt, Some(and.text(true)), Some("and"));
+    let volume = TermEntry::counted(
+        alloc,
+        NumberVariable::Volume.into(),
+        TermForm::Short,
+        "vol.",
+        "vols.",
+    )?;
+    assert_same(&rt, &volume.form, &TermForm::Short);
+    assert_text(&rt, Some(volume.text(false)), Some("vol."));
+    assert_text(&rt, Some(volume.text(true)), Some("vols."));
+    let mut locale = Locale::new(alloc);
+    assert_same(&rt, &locale.terms.len(), &0);
+    assert_same(&rt, &locale.ordinals.len(), &0);
+    put(&mut locale.terms, and)?;
+    put(&mut locale.terms, volume)?;
+    assert_same(&rt, &locale.terms.len(), &2);
+    drop(locale);
+    Ok(())
+}

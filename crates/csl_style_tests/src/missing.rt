@@ -1,0 +1,79 @@
+//! Which macro a style calls and does not have.
+
+use crate::asserted::assert_text;
+use crate::made::{EMPTY, StyleRows, style};
+use csl_style::StyleError;
+use std::alloc::Global;
+use std::process::Abort;
+use std::test::Fail;
+
+/// The lines of the macros, the citation, the bibliography, and the missing name.
+type Row = (
+    &'static [&'static str],
+    &'static str,
+    Option<&'static str>,
+    Option<&'static str>,
+);
+
+static ROWS: [Row; 23] = [
+    // None is missing.
+    (&[], "", None, None),
+    (&[], "'a @title; group", Some("'b"), None),
+    (
+        &["a b", "b 'word"],
+        "a; group b",
+        Some("substitute a"),
+        None,
+    ),
+    // A name is called in a layout, in a macro that one calls, and in one that none calls.
+    (&["a"], "a; b", None, Some("b")),
+    (&["a"], "a", Some("a; b"), Some("b")),
+    (&["a b"], "a", None, Some("b")),
+    (&["a", "c b"], "a", None, Some("b")),
+    // So it is in a macro that an earlier one of its name hides.
+    (&["a", "a b"], "a", None, Some("b")),
+    // It stands in what holds nodes, at each place.
+    (&[], "group 'a b", None, Some("b")),
+    (&[], "substitute b", None, Some("b")),
+    (&[], "if b", None, Some("b")),
+    (&[], "else-if b", None, Some("b")),
+    (&[], "else b", None, Some("b")),
+    (&["a"], "a; group if substitute else b", None, Some("b")),
+    (&["a substitute else-if b"], "a", None, Some("b")),
+    // What is written first is answered: in the citation, the bibliography, then the macros.
+    (&["a b"], "a c; d", Some("e"), Some("c")),
+    (&["a b"], "a", Some("a; e c"), Some("e")),
+    (&["a", "d c", "e b"], "a", Some("d"), Some("c")),
+    (&["a"], "group a; substitute c; b", None, Some("c")),
+    // A name is found by all of its letters, with their case.
+    (&["a"], "A", None, Some("A")),
+    (&["author"], "authr", None, Some("authr")),
+    (&["author"], "author-short", None, Some("author-short")),
+    (&["author"], "aut", None, Some("aut")),
+];
+
+fn assert_missing(
+    rt: &impl Abort,
+    alloc: Global,
+    (macros, citation, bibliography, wanted): Row,
+) -> Result<(), StyleError> {
+    let rows = StyleRows {
+        macros,
+        citation,
+        bibliography,
+        ..EMPTY
+    };
+    let style = style(alloc, &rows)?;
+    assert_text(rt, style.missing_macro(), wanted);
+    drop(style);
+    Ok(())
+}
+
+#[test]
+fn the_first_missing_macro_is_answered(rt: HostRuntime) -> Result<(), Fail> {
+    let rows: &[Row] = &ROWS;
+    for row in rows {
+        assert_missing(&rt, rt.alloc(), *row)?;
+    }
+    Ok(())
+}
