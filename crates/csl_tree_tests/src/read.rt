@@ -185,11 +185,9 @@ static TREES: [(&str, &str); 6] = [
 /// The HTML of the tree of a description.
 fn html_of(alloc: Global, source: &str) -> Result<String, Fail> {
     let tree = read(alloc, source)?;
-    let mut html = String::new(alloc);
-    let written = tree.write_buf(&mut html, BufWriteFormat::Html);
+    let html = tree.to_text(alloc, BufWriteFormat::Html);
     drop(tree);
-    written?;
-    Ok(html)
+    Ok(html?)
 }
 
 fn assert_read_back(

@@ -16,6 +16,8 @@ fn assert_tree_written(
     (source, format): (&str, BufWriteFormat),
     wanted: &str,
 ) -> Result<(), Fail> {
+    let text = tree.to_text(alloc, format)?;
+    assert_text(rt, text.as_str(), wanted, source);
     let mut wrote = String::new(alloc);
     tree.write_buf(&mut wrote, format)?;
     assert_text(rt, wrote.as_str(), wanted, source);
