@@ -6,7 +6,7 @@ ghost use Rattle.lit_model.specs.Numeric.{numeric_view};
 ghost use Rattle.csl_style.specs.Taxonomy.{variable_of};
 ghost use Rattle.csl_entry.specs.NumberResult.{result_view, number_or_page_view};
 ghost use Rattle.csl_context.specs.World.{number_text};
-ghost use Rattle.csl_context.specs.Now.{Runs, Reads, world, after_look};
+ghost use Rattle.csl_context.specs.Now.{Runs, GivesBy, world, after_look};
 ghost use Rattle.csl_leaves.specs.Answered.{number_or_page_look, shown_view, number_shown, shown_by_number, shown_by_text};
 
 use crate::pages::{pages_in_style, with_dashes};
@@ -24,27 +24,25 @@ pub(crate) enum Shown {
     Place(usize),
 }
 
-/// A silent look, after whose failure the context has failed.
+/// A silent look.
 pub(crate) fn peek_number_or_page<'s, T: EntryLike>(
-    ctx: &mut Context<'s, T>,
+    ctx: &Context<'s, T>,
     variable: NumberOrPageVariable,
-) -> Result<Option<NumberOrPageVariableResult<'s>>, RenderError>
-    ensures { Reads (option_map number_or_page_view) result
-        (number_or_page_look (world T.answers ctx.old) ctx.old.state variable) ctx.old ctx.new }
+) -> Result<Option<NumberOrPageVariableResult<'s>>, Memory>
+    ensures { GivesBy (option_map number_or_page_view) result
+        (number_or_page_look (world T.answers ctx.now) ctx.now.state variable) }
 {
     match variable {
-        NumberOrPageVariable::Number(variable) => {
-            match ctx.settle(ctx.peek_number_variable(variable))? {
-                Some(number) => Ok(Some(NumberOrPageVariableResult::Number(number))),
-                None => Ok(None),
-            }
-        }
-        NumberOrPageVariable::Page(variable) => {
-            match ctx.settle(ctx.peek_page_variable(variable))? {
-                Some(pages) => Ok(Some(NumberOrPageVariableResult::Page(pages))),
-                None => Ok(None),
-            }
-        }
+        NumberOrPageVariable::Number(variable) => match ctx.peek_number_variable(variable) {
+            Ok(Some(number)) => Ok(Some(NumberOrPageVariableResult::Number(number))),
+            Ok(None) => Ok(None),
+            Err(_) => Err(Memory),
+        },
+        NumberOrPageVariable::Page(variable) => match ctx.peek_page_variable(variable) {
+            Ok(Some(pages)) => Ok(Some(NumberOrPageVariableResult::Page(pages))),
+            Ok(None) => Ok(None),
+            Err(_) => Err(Memory),
+        },
     }
 }
 
@@ -53,8 +51,8 @@ pub(crate) fn resolve_number_or_page<'s, T: EntryLike>(
     ctx: &mut Context<'s, T>,
     variable: NumberOrPageVariable,
 ) -> Result<Option<NumberOrPageVariableResult<'s>>, RenderError>
-    ensures value { IfOk result (λ found. option_map number_or_page_view found
-        ≡ number_or_page_look (world T.answers ctx.old) ctx.old.state variable) }
+    ensures value { GivesBy (option_map number_or_page_view) result
+        (number_or_page_look (world T.answers ctx.old) ctx.old.state variable) }
     ensures after { Runs (after_look (variable_of variable)) result ctx.old ctx.new }
 {
     match variable {

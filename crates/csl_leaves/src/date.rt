@@ -5,7 +5,7 @@ ghost use Rattle.lit_model.specs.Date.{date_parts};
 ghost use Rattle.csl_style.specs.View.{view_date};
 ghost use Rattle.csl_entry.specs.Answers.{behind};
 ghost use Rattle.csl_context.specs.World.{date_look};
-ghost use Rattle.csl_context.specs.Now.{Reads, world};
+ghost use Rattle.csl_context.specs.Now.{GivesBy, world};
 ghost use Rattle.csl_leaves.specs.Dates.{date_info, date_shows, date_tree, is_own, date_shown, is_first, shows_date, printed_date, date_or_key, found_date};
 ghost use Rattle.csl_leaves.specs.Text.{Appends};
 ghost use Rattle.csl_leaves.specs.Usages.{told};
@@ -15,60 +15,51 @@ use crate::condition::lent;
 use crate::date_key::sort_key;
 use crate::date_parts::{Found, Written, render_parts};
 use crate::date_suffix::{first_suffix, implicit_suffix};
-use crate::empty::{nothing, nothing_said};
+use crate::empty::nothing;
 use crate::number::number_said;
-use crate::usage::UsageInfo;
+use crate::usage::{UsageInfo, nothing_said};
 use csl_context::{Context, RenderError};
 use csl_entry::{EntryLike, Sorting, SpecialForm};
 use csl_style::{Date, DateVariable, Variable};
 use csl_tree::ElemMeta;
-use lit_model::Date as Given;
+use lit_model::{Date as Given, Memory};
 use std::borrow::Cow;
 
 /// What a date says.
 ///
 /// # Errors
-/// [`RenderError::Memory`]: there was no memory left, or the entry said so. The context has failed.
-/// [`RenderError::Failed`]: the context had failed before.
+/// [`Memory`]: there was no memory left, or the entry said so, or the context had failed.
 pub fn date_info<'s, T: EntryLike>(
-    ctx: &mut Context<'s, T>,
+    ctx: &Context<'s, T>,
     node: &Date,
-) -> Result<(bool, UsageInfo), RenderError>
-    ensures { Reads told result
-        (date_info (world T.answers ctx.old) ctx.old.state (view_date node.now)) ctx.old ctx.new }
+) -> Result<(bool, UsageInfo), Memory>
+    ensures { GivesBy told result
+        (date_info (world T.answers ctx.now) ctx.now.state (view_date node.now)) }
 {
-    ctx.ensure_live()?;
     let Some(own) = node.variable else {
         return Ok(number_said(false));
     };
     if !shows_date(ctx, own) {
-        return nothing_said(ctx);
+        return Ok(nothing_said());
     }
     let found = peek_date(ctx, own)?;
     Ok(number_said(lent(&found).is_some()))
 }
 
 /// Whether a date shows the variable that is asked for.
-///
-/// # Errors
-/// [`RenderError::Failed`]: the context had failed before.
-pub fn date_shown<'s, T: EntryLike>(
-    ctx: &mut Context<'s, T>,
-    node: &Date,
-    asked: Variable,
-) -> Result<bool, RenderError>
-    ensures { Reads (λ answer. answer) result (date_shows (world T.answers ctx.old)
-        ctx.old.state asked (view_date node.now)) ctx.old ctx.new }
+pub fn date_shown<'s, T: EntryLike>(ctx: &Context<'s, T>, node: &Date, asked: Variable) -> bool
+    ensures { result ≡ date_shows (world T.answers ctx.now) ctx.now.state asked
+        (view_date node.now) }
 {
-    ctx.ensure_live()?;
     let first = ctx.peek_is_first_date();
-    Ok(is_shown(ctx.special_form(), first, node.variable, asked))
+    is_shown(ctx.special_form(), first, node.variable, asked)
 }
 
 /// Appends a date, whose variable is looked up for printing where the date shows it.
 ///
 /// # Errors
-/// As [`date_info`].
+/// [`RenderError::Memory`]: there was no memory left, or the entry said so. The context has failed.
+/// [`RenderError::Failed`]: the context had failed before.
 pub fn render_date<'s, T: EntryLike>(
     node: &Date,
     ctx: &mut Context<'s, T>,
@@ -125,15 +116,18 @@ fn shows_date<'s, T: EntryLike>(ctx: &Context<'s, T>, own: DateVariable) -> bool
     is_shown(ctx.special_form(), first, Some(own), Variable::Date(own))
 }
 
-/// A silent look, after whose failure the context has failed.
+/// A silent look.
 fn peek_date<'s, T: EntryLike>(
-    ctx: &mut Context<'s, T>,
+    ctx: &Context<'s, T>,
     variable: DateVariable,
-) -> Result<Option<Cow<'s, Given>>, RenderError>
-    ensures { Reads (option_map (behind date_parts)) result
-        (date_look (world T.answers ctx.old) ctx.old.state variable) ctx.old ctx.new }
+) -> Result<Option<Cow<'s, Given>>, Memory>
+    ensures { GivesBy (option_map (behind date_parts)) result
+        (date_look (world T.answers ctx.now) ctx.now.state variable) }
 {
-    ctx.settle(ctx.peek_date_variable(variable))
+    match ctx.peek_date_variable(variable) {
+        Ok(found) => Ok(found),
+        Err(_) => Err(Memory),
+    }
 }
 
 /// Appends the sort key of a date.
@@ -146,7 +140,7 @@ fn render_key<'s, T: EntryLike>(
     ensures { Appends T.answers (λ w. date_or_key w
         (view_date node.now) (Some sorting) (date_parts date.now)) result ctx.old ctx.new }
 {
-    let suffix = implicit_suffix(ctx)?;
+    let suffix = ctx.attempt(implicit_suffix(ctx))?;
     let key = ctx.attempt(sort_key(ctx.alloc(), node, sorting, suffix.as_str(), date))?;
     ctx.push_str(key.as_str())
 }

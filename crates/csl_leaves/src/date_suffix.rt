@@ -1,14 +1,14 @@
 //! The year suffix behind the first year (CSL 1.0.2, Disambiguation: disambiguate-add-year-suffix).
 
-ghost use Rattle.std.specs.Prelude.{◌≡◌, IfOk, string_bytes};
-ghost use Rattle.csl_context.specs.Now.{Runs, Reads, world, with_first_date};
+ghost use Rattle.std.specs.Prelude.{◌≡◌, string_bytes};
+ghost use Rattle.csl_context.specs.Now.{Runs, GivesBy, world, with_first_date};
 ghost use Rattle.csl_leaves.specs.Dates.{suffix_text, implicit_suffix, first_suffix, is_suffix_alone};
 
 use crate::standard::peek_standard;
 use csl_context::{Context, RenderError};
 use csl_entry::{EntryLike, SpecialForm};
 use csl_style::StandardVariable;
-use lit_model::LongShortForm;
+use lit_model::{LongShortForm, Memory};
 
 /// Whether the parts of a date lose all but the suffix.
 pub(crate) fn is_suffix_alone(form: Option<SpecialForm>) -> bool
@@ -25,11 +25,9 @@ pub(crate) fn is_suffix_alone(form: Option<SpecialForm>) -> bool
 
 /// The suffix that stands behind the first year: an empty text where the cite has none, and where
 /// the layout has a place of its own for it. The look is silent.
-pub(crate) fn implicit_suffix<'s, T: EntryLike>(
-    ctx: &mut Context<'s, T>,
-) -> Result<String, RenderError>
-    ensures { Reads string_bytes result
-        (implicit_suffix (world T.answers ctx.old) ctx.old.state) ctx.old ctx.new }
+pub(crate) fn implicit_suffix<'s, T: EntryLike>(ctx: &Context<'s, T>) -> Result<String, Memory>
+    ensures { GivesBy string_bytes result
+        (implicit_suffix (world T.answers ctx.now) ctx.now.state) }
 {
     let alloc = ctx.alloc();
     let found = match peek_standard(ctx, LongShortForm::Long, StandardVariable::YearSuffix)? {
@@ -40,7 +38,7 @@ pub(crate) fn implicit_suffix<'s, T: EntryLike>(
     if !ctx.style().renders_year_suffix_implicitly(ctx.scope()) {
         return Ok(String::new(alloc));
     }
-    ctx.attempt(found.as_ref().to_text(alloc))
+    found.as_ref().to_text(alloc)
 }
 
 /// The suffix of a date that is printed now: that behind the first year where no date was printed
@@ -48,13 +46,13 @@ pub(crate) fn implicit_suffix<'s, T: EntryLike>(
 pub(crate) fn first_suffix<'s, T: EntryLike>(
     ctx: &mut Context<'s, T>,
 ) -> Result<String, RenderError>
-    ensures value { IfOk result (λ suffix. string_bytes suffix
-        ≡ first_suffix (world T.answers ctx.old) ctx.old.state) }
+    ensures value { GivesBy string_bytes result
+        (first_suffix (world T.answers ctx.old) ctx.old.state) }
     ensures after { Runs with_first_date result ctx.old ctx.new }
 {
     ctx.ensure_live()?;
     if ctx.is_first_date() {
-        implicit_suffix(ctx)
+        ctx.attempt(implicit_suffix(ctx))
     } else {
         Ok(String::new(ctx.alloc()))
     }

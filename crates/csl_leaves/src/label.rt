@@ -3,7 +3,7 @@
 ghost use Rattle.std.specs.Prelude.{◌≡◌, option_map};
 ghost use Rattle.csl_style.specs.Names.{view_label};
 ghost use Rattle.csl_entry.specs.NumberResult.{result_view, number_or_page_view};
-ghost use Rattle.csl_context.specs.Now.{Reads, world};
+ghost use Rattle.csl_context.specs.Now.{GivesBy, world};
 ghost use Rattle.csl_leaves.specs.Labels.{label_info, label_tree, label_term, is_count, plural_number, is_plural, label_text, is_locator, is_other_number, unless_locator, said_by_form};
 ghost use Rattle.csl_leaves.specs.Text.{Appends};
 ghost use Rattle.csl_leaves.specs.Usages.{told};
@@ -19,21 +19,19 @@ use csl_style::{
     Label, LabelPluralize, Locator, NumberOrPageVariable, NumberVariable, Term, Variable,
 };
 use csl_tree::ElemMeta;
-use lit_model::MaybeTyped;
+use lit_model::{MaybeTyped, Memory};
 
 /// What a label says.
 ///
 /// # Errors
-/// [`RenderError::Memory`]: there was no memory left, or the entry said so. The context has failed.
-/// [`RenderError::Failed`]: the context had failed before.
+/// [`Memory`]: there was no memory left, or the entry said so, or the context had failed.
 pub fn label_info<'s, T: EntryLike>(
-    ctx: &mut Context<'s, T>,
+    ctx: &Context<'s, T>,
     label: &Label,
-) -> Result<(bool, UsageInfo), RenderError>
-    ensures { Reads told result (label_info (world T.answers ctx.old)
-        ctx.old.state label.now.variable (view_label label.now.label)) ctx.old ctx.new }
+) -> Result<(bool, UsageInfo), Memory>
+    ensures { GivesBy told result (label_info (world T.answers ctx.now) ctx.now.state
+        label.now.variable (view_label label.now.label)) }
 {
-    ctx.ensure_live()?;
     match said_by_form(ctx.special_form(), label.variable) {
         Some(prints) => Ok((prints, UsageInfo::default())),
         None => {
@@ -46,7 +44,8 @@ pub fn label_info<'s, T: EntryLike>(
 /// Appends a label, whose variable is looked up silently.
 ///
 /// # Errors
-/// As [`label_info`].
+/// [`RenderError::Memory`]: there was no memory left, or the entry said so. The context has failed.
+/// [`RenderError::Failed`]: the context had failed before.
 pub fn render_label<'s, T: EntryLike>(
     label: &Label,
     ctx: &mut Context<'s, T>,
@@ -57,7 +56,7 @@ pub fn render_label<'s, T: EntryLike>(
     if let Some(false) = said_by_form(ctx.special_form(), label.variable) {
         return nothing(ctx);
     }
-    match label_text(ctx, label)? {
+    match ctx.attempt(label_text(ctx, label))? {
         Some(text) => {
             let around = Around {
                 formatting: label.label.formatting,
@@ -182,11 +181,11 @@ fn is_plural(label: &Label, found: &NumberOrPageVariableResult<'_>) -> bool
 
 /// The text of a label, where its variable and its term are found. The look is silent.
 fn label_text<'s, T: EntryLike>(
-    ctx: &mut Context<'s, T>,
+    ctx: &Context<'s, T>,
     label: &Label,
-) -> Result<Option<&'s str>, RenderError>
-    ensures { Reads (option_map (λ t. t.now)) result (label_text (world T.answers ctx.old)
-        ctx.old.state label.now.variable (view_label label.now.label)) ctx.old ctx.new }
+) -> Result<Option<&'s str>, Memory>
+    ensures { GivesBy (option_map (λ t. t.now)) result (label_text (world T.answers ctx.now)
+        ctx.now.state label.now.variable (view_label label.now.label)) }
 {
     match peek_number_or_page(ctx, label.variable)? {
         Some(found) => match label_term(ctx, label.variable) {

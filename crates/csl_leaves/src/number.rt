@@ -6,7 +6,7 @@ ghost use Rattle.lit_model.specs.NumericText.{integer_text, value_text};
 ghost use Rattle.csl_style.specs.View.{view_number};
 ghost use Rattle.csl_tree.specs.Tokens.{meta_of};
 ghost use Rattle.csl_entry.specs.NumberResult.{number_or_page_view};
-ghost use Rattle.csl_context.specs.Now.{Runs, Reads, world, with_content};
+ghost use Rattle.csl_context.specs.Now.{Runs, GivesBy, world, with_content};
 ghost use Rattle.csl_leaves.specs.Numbers.{is_shown, number_said, number_info, number_shows, number_tree, sort_text_if, number_meta, number_content, found_content};
 ghost use Rattle.csl_leaves.specs.Text.{Appends};
 ghost use Rattle.csl_leaves.specs.Usages.{told};
@@ -27,16 +27,14 @@ use std::alloc::Global;
 /// What a number says.
 ///
 /// # Errors
-/// [`RenderError::Memory`]: there was no memory left, or the entry said so. The context has failed.
-/// [`RenderError::Failed`]: the context had failed before.
+/// [`Memory`]: there was no memory left, or the entry said so, or the context had failed.
 pub fn number_info<'s, T: EntryLike>(
-    ctx: &mut Context<'s, T>,
+    ctx: &Context<'s, T>,
     number: &Number,
-) -> Result<(bool, UsageInfo), RenderError>
-    ensures { Reads told result (number_info (world T.answers ctx.old) ctx.old.state
-        (view_number number.now)) ctx.old ctx.new }
+) -> Result<(bool, UsageInfo), Memory>
+    ensures { GivesBy told result
+        (number_info (world T.answers ctx.now) ctx.now.state (view_number number.now)) }
 {
-    ctx.ensure_live()?;
     let own = Variable::from(number.variable);
     if !is_shown(ctx.special_form(), own, own) {
         return Ok(number_said(false));
@@ -46,25 +44,21 @@ pub fn number_info<'s, T: EntryLike>(
 }
 
 /// Whether a number shows the variable that is asked for.
-///
-/// # Errors
-/// [`RenderError::Failed`]: the context had failed before.
 pub fn number_shown<'s, T: EntryLike>(
-    ctx: &mut Context<'s, T>,
+    ctx: &Context<'s, T>,
     number: &Number,
     asked: Variable,
-) -> Result<bool, RenderError>
-    ensures { Reads (λ answer. answer) result
-        (number_shows (world T.answers ctx.old) asked (view_number number.now)) ctx.old ctx.new }
+) -> bool
+    ensures { result ≡ number_shows (world T.answers ctx.now) asked (view_number number.now) }
 {
-    ctx.ensure_live()?;
-    Ok(is_shown(ctx.special_form(), Variable::from(number.variable), asked))
+    is_shown(ctx.special_form(), Variable::from(number.variable), asked)
 }
 
 /// Appends a number, whose variable is looked up for printing where the number shows it.
 ///
 /// # Errors
-/// As [`number_info`].
+/// [`RenderError::Memory`]: there was no memory left, or the entry said so. The context has failed.
+/// [`RenderError::Failed`]: the context had failed before.
 pub fn render_number<'s, T: EntryLike>(
     number: &Number,
     ctx: &mut Context<'s, T>,

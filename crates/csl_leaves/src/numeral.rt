@@ -5,13 +5,13 @@ ghost use Rattle.csl_style.specs.Taxonomy.{variable_of};
 ghost use Rattle.csl_style.specs.View.{text_dressing};
 ghost use Rattle.csl_tree.specs.Tokens.{meta_of};
 ghost use Rattle.csl_entry.specs.NumberResult.{number_or_page_view};
-ghost use Rattle.csl_context.specs.Now.{Runs, Reads, world};
+ghost use Rattle.csl_context.specs.Now.{Runs, GivesBy, world};
 ghost use Rattle.csl_leaves.specs.Text.{made, numeral, same_variable, shows_variable, numeral_found, found_info, numeral_meta, found_tree, state_after_look, with_made};
 ghost use Rattle.csl_leaves.specs.Usages.{told};
 
 use crate::answered::{peek_number_or_page, resolve_number_or_page, shown_by_text};
 use crate::dressing::{Body, render_body};
-use crate::empty::{nothing, nothing_shown};
+use crate::empty::nothing;
 use crate::special::shows_variable;
 use crate::standard::called_in_vain;
 use crate::usage::UsageInfo;
@@ -19,37 +19,38 @@ use csl_context::{Context, RenderError};
 use csl_entry::{EntryLike, NumberOrPageVariableResult};
 use csl_style::{NumberOrPageVariable, NumberVariable, Text, Variable};
 use csl_tree::ElemMeta;
+use lit_model::Memory;
 
 /// What a text of the variable says.
 pub(crate) fn numeral_info<'s, T: EntryLike>(
-    ctx: &mut Context<'s, T>,
+    ctx: &Context<'s, T>,
     variable: NumberOrPageVariable,
-) -> Result<(bool, UsageInfo), RenderError>
-    ensures { Reads told result
-        (found_info true (if shows_variable ctx.old.special (variable_of variable) then
-        numeral_found (world T.answers ctx.old) ctx.old.state variable else None)) ctx.old ctx.new }
+) -> Result<(bool, UsageInfo), Memory>
+    ensures { GivesBy told result
+        (found_info true (if shows_variable ctx.now.special (variable_of variable) then
+        numeral_found (world T.answers ctx.now) ctx.now.state variable else None)) }
 {
     if !shows_variable(ctx.special_form(), Variable::from(variable)) {
-        return called_in_vain(ctx);
+        return Ok(called_in_vain());
     }
     match peek_number_or_page(ctx, variable)? {
         Some(_) => Ok((true, UsageInfo::of_variable(true, true))),
-        None => called_in_vain(ctx),
+        None => Ok(called_in_vain()),
     }
 }
 
 /// Whether a text of the variable shows the variable that is asked for.
 pub(crate) fn numeral_shown<'s, T: EntryLike>(
-    ctx: &mut Context<'s, T>,
+    ctx: &Context<'s, T>,
     variable: NumberOrPageVariable,
     asked: Variable,
-) -> Result<bool, RenderError>
-    ensures { Reads (λ answer. answer) result ((is_some (if shows_variable ctx.old.special
-        (variable_of variable) then numeral_found (world T.answers ctx.old) ctx.old.state
-        variable else None) && same_variable (variable_of variable) asked)) ctx.old ctx.new }
+) -> Result<bool, Memory>
+    ensures { GivesBy (λ answer. answer) result (is_some (if shows_variable ctx.now.special
+        (variable_of variable) then numeral_found (world T.answers ctx.now) ctx.now.state
+        variable else None) && same_variable (variable_of variable) asked) }
 {
     if !shows_variable(ctx.special_form(), Variable::from(variable)) {
-        return nothing_shown(ctx);
+        return Ok(false);
     }
     match peek_number_or_page(ctx, variable)? {
         Some(_) => Ok(Variable::from(variable) == asked),

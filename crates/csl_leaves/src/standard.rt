@@ -8,13 +8,13 @@ ghost use Rattle.csl_style.specs.Node.{of_variable};
 ghost use Rattle.csl_style.specs.View.{text_dressing};
 ghost use Rattle.csl_tree.specs.Tokens.{meta_of};
 ghost use Rattle.csl_context.specs.World.{standard_look};
-ghost use Rattle.csl_context.specs.Now.{Runs, Reads, world};
+ghost use Rattle.csl_context.specs.Now.{Runs, GivesBy, world};
 ghost use Rattle.csl_leaves.specs.Flags.{info_of, flags};
 ghost use Rattle.csl_leaves.specs.Text.{Appends, answer, made, in_body, text_box, found_affixes, standard_meta, found_meta, found_body, target_info, target_shows, target_tree, with_made};
 ghost use Rattle.csl_leaves.specs.Usages.{told};
 
 use crate::dressing::{Body, render_body};
-use crate::empty::{nothing, nothing_shown};
+use crate::empty::nothing;
 use crate::links::{address, address_prefix, begins_link};
 use crate::special::shows_variable;
 use crate::usage::UsageInfo;
@@ -26,38 +26,37 @@ use lit_model::{ChunkedString, LongShortForm, Memory};
 use std::alloc::Global;
 use std::borrow::Cow;
 
-/// A silent look, after whose failure the context has failed.
+/// A silent look.
 pub(crate) fn peek_standard<'s, T: EntryLike>(
-    ctx: &mut Context<'s, T>,
+    ctx: &Context<'s, T>,
     form: LongShortForm,
     variable: StandardVariable,
-) -> Result<Option<Cow<'s, ChunkedString>>, RenderError>
-    ensures { Reads (option_map (behind chunks)) result
-        (standard_look (world T.answers ctx.old) ctx.old.state form variable) ctx.old ctx.new }
+) -> Result<Option<Cow<'s, ChunkedString>>, Memory>
+    ensures { GivesBy (option_map (behind chunks)) result
+        (standard_look (world T.answers ctx.now) ctx.now.state form variable) }
 {
-    ctx.settle(ctx.peek_standard_variable(form, variable))
+    match ctx.peek_standard_variable(form, variable) {
+        Ok(found) => Ok(found),
+        Err(_) => Err(Memory),
+    }
 }
 
 /// What a text says of a variable that it calls and finds nothing of.
-pub(crate) fn called_in_vain<'s, T: EntryLike>(
-    ctx: &mut Context<'s, T>,
-) -> Result<(bool, UsageInfo), RenderError>
-    ensures { Reads told result (info_of false (flags true false false false)) ctx.old ctx.new }
+pub(crate) fn called_in_vain() -> (bool, UsageInfo)
+    ensures { told result ≡ info_of false (flags true false false false) }
 {
-    ctx.ensure_live()?;
-    Ok((false, UsageInfo::of_variable(true, false)))
+    (false, UsageInfo::of_variable(true, false))
 }
 
 /// What a text of a standard variable says. The year suffix is called only where it is found.
 pub(crate) fn standard_info<'s, T: EntryLike>(
-    ctx: &mut Context<'s, T>,
+    ctx: &Context<'s, T>,
     form: LongShortForm,
     variable: StandardVariable,
-) -> Result<(bool, UsageInfo), RenderError>
-    ensures { Reads told result (target_info (world T.answers ctx.old) ctx.old.state
-        (of_variable (Variable.Standard variable) form)) ctx.old ctx.new }
+) -> Result<(bool, UsageInfo), Memory>
+    ensures { GivesBy told result (target_info (world T.answers ctx.now) ctx.now.state
+        (of_variable (Variable.Standard variable) form)) }
 {
-    ctx.ensure_live()?;
     let called = variable != StandardVariable::YearSuffix;
     if !shows_variable(ctx.special_form(), Variable::Standard(variable)) {
         return Ok((false, UsageInfo::of_variable(called, false)));
@@ -73,16 +72,16 @@ pub(crate) fn standard_info<'s, T: EntryLike>(
 
 /// Whether a text of a standard variable shows the variable that is asked for.
 pub(crate) fn standard_shown<'s, T: EntryLike>(
-    ctx: &mut Context<'s, T>,
+    ctx: &Context<'s, T>,
     form: LongShortForm,
     variable: StandardVariable,
     asked: Variable,
-) -> Result<bool, RenderError>
-    ensures { Reads (λ answer. answer) result (target_shows (world T.answers ctx.old)
-        ctx.old.state asked (of_variable (Variable.Standard variable) form)) ctx.old ctx.new }
+) -> Result<bool, Memory>
+    ensures { GivesBy (λ answer. answer) result (target_shows (world T.answers ctx.now)
+        ctx.now.state asked (of_variable (Variable.Standard variable) form)) }
 {
     if !shows_variable(ctx.special_form(), Variable::Standard(variable)) {
-        return nothing_shown(ctx);
+        return Ok(false);
     }
     match peek_standard(ctx, form, variable)? {
         Some(_) => Ok(Variable::Standard(variable) == asked),

@@ -1,7 +1,7 @@
 //! What a dry run notes (CSL 1.0.2, Group).
 
 ghost use Rattle.std.specs.Prelude.{◌≡◌, true, false};
-ghost use Rattle.csl_leaves.specs.Flags.{merged, rule, flags, either, counted, but_groups, group_info, macro_info};
+ghost use Rattle.csl_leaves.specs.Flags.{merged, rule, flags, either, counted, but_groups, group_info, macro_info, nothing_said};
 ghost use Rattle.csl_leaves.specs.Usages.{flags_of, told};
 
 /// What a dry run notes of a node's variables, macros and groups.
@@ -53,6 +53,13 @@ impl UsageInfo {
             || self.has_used_macros
             || self.has_non_empty_group
     }
+}
+
+/// What a node says that prints nothing and calls no variable.
+pub fn nothing_said() -> (bool, UsageInfo)
+    ensures { told result ≡ nothing_said }
+{
+    (false, UsageInfo::default())
 }
 
 /// What is said so far, joined by what a child says.

@@ -2,38 +2,37 @@
 
 ghost use Rattle.csl_style.specs.Node.{of_variable};
 ghost use Rattle.csl_style.specs.View.{text_dressing};
-ghost use Rattle.csl_context.specs.Now.{Reads, world};
+ghost use Rattle.csl_context.specs.Now.{GivesBy, world};
 ghost use Rattle.csl_leaves.specs.Text.{Appends, target_info, target_shows, target_tree};
 ghost use Rattle.csl_leaves.specs.Usages.{told};
 
-use crate::empty::{nothing, nothing_shown};
+use crate::empty::nothing;
 use crate::numeral::{numeral_info, numeral_shown, render_numeral};
 use crate::standard::{called_in_vain, render_standard, standard_info, standard_shown};
 use crate::usage::UsageInfo;
 use csl_context::{Context, RenderError};
 use csl_entry::EntryLike;
 use csl_style::{NumberOrPageVariable, Text, Variable};
-use lit_model::LongShortForm;
+use lit_model::{LongShortForm, Memory};
 
 /// What a text of a variable says.
 ///
 /// # Errors
-/// [`RenderError::Memory`]: there was no memory left, or the entry said so. The context has failed.
-/// [`RenderError::Failed`]: the context had failed before.
+/// [`Memory`]: there was no memory left, or the entry said so, or the context had failed.
 pub fn variable_info<'s, T: EntryLike>(
-    ctx: &mut Context<'s, T>,
+    ctx: &Context<'s, T>,
     form: LongShortForm,
     variable: Variable,
-) -> Result<(bool, UsageInfo), RenderError>
-    ensures { Reads told result (target_info (world T.answers ctx.old) ctx.old.state
-        (of_variable variable form)) ctx.old ctx.new }
+) -> Result<(bool, UsageInfo), Memory>
+    ensures { GivesBy told result (target_info (world T.answers ctx.now) ctx.now.state
+        (of_variable variable form)) }
 {
     match variable {
         Variable::Standard(variable) => standard_info(ctx, form, variable),
         Variable::Number(variable) => numeral_info(ctx, NumberOrPageVariable::Number(variable)),
         Variable::Page(variable) => numeral_info(ctx, NumberOrPageVariable::Page(variable)),
-        Variable::Name(_) => called_in_vain(ctx),
-        Variable::Date(_) => called_in_vain(ctx),
+        Variable::Name(_) => Ok(called_in_vain()),
+        Variable::Date(_) => Ok(called_in_vain()),
     }
 }
 
@@ -42,13 +41,13 @@ pub fn variable_info<'s, T: EntryLike>(
 /// # Errors
 /// As [`variable_info`].
 pub fn variable_shown<'s, T: EntryLike>(
-    ctx: &mut Context<'s, T>,
+    ctx: &Context<'s, T>,
     form: LongShortForm,
     variable: Variable,
     asked: Variable,
-) -> Result<bool, RenderError>
-    ensures { Reads (λ answer. answer) result (target_shows (world T.answers ctx.old)
-        ctx.old.state asked (of_variable variable form)) ctx.old ctx.new }
+) -> Result<bool, Memory>
+    ensures { GivesBy (λ answer. answer) result (target_shows (world T.answers ctx.now)
+        ctx.now.state asked (of_variable variable form)) }
 {
     match variable {
         Variable::Standard(variable) => standard_shown(ctx, form, variable, asked),
@@ -58,15 +57,16 @@ pub fn variable_shown<'s, T: EntryLike>(
         Variable::Page(variable) => {
             numeral_shown(ctx, NumberOrPageVariable::Page(variable), asked)
         }
-        Variable::Name(_) => nothing_shown(ctx),
-        Variable::Date(_) => nothing_shown(ctx),
+        Variable::Name(_) => Ok(false),
+        Variable::Date(_) => Ok(false),
     }
 }
 
 /// Appends a text of a variable.
 ///
 /// # Errors
-/// As [`variable_info`].
+/// [`RenderError::Memory`]: there was no memory left, or the entry said so. The context has failed.
+/// [`RenderError::Failed`]: the context had failed before.
 pub fn render_variable<'s, T: EntryLike>(
     text: &Text,
     ctx: &mut Context<'s, T>,

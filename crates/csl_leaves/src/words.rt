@@ -1,56 +1,46 @@
 //! Texts of a term and of a value (CSL 1.0.2, Text: term, value; Terms).
 
+ghost use Rattle.std.specs.Prelude.{◌≡◌};
 ghost use Rattle.csl_style.specs.Node.{of_term, of_value};
 ghost use Rattle.csl_style.specs.View.{text_dressing};
-ghost use Rattle.csl_context.specs.Now.{Reads, world};
+ghost use Rattle.csl_context.specs.Now.{world};
 ghost use Rattle.csl_leaves.specs.Text.{Appends, target_info, target_tree};
 ghost use Rattle.csl_leaves.specs.Usages.{told};
 
 use crate::dressing::{Body, render_body};
-use crate::empty::{nothing, nothing_said};
+use crate::empty::nothing;
 use crate::special::shows_words;
-use crate::usage::UsageInfo;
+use crate::usage::{UsageInfo, nothing_said};
 use csl_context::{Context, RenderError};
 use csl_entry::EntryLike;
 use csl_style::{Term, TermForm, Text};
 
 /// What a text of a term says.
-///
-/// # Errors
-/// [`RenderError::Failed`]: the context had failed before.
 pub fn term_info<'s, T: EntryLike>(
-    ctx: &mut Context<'s, T>,
+    ctx: &Context<'s, T>,
     term: Term,
     form: TermForm,
     plural: bool,
-) -> Result<(bool, UsageInfo), RenderError>
-    ensures { Reads told result (target_info (world T.answers ctx.old) ctx.old.state
-        (of_term term form plural)) ctx.old ctx.new }
+) -> (bool, UsageInfo)
+    ensures { told result ≡ target_info (world T.answers ctx.now) ctx.now.state
+        (of_term term form plural) }
 {
-    ctx.ensure_live()?;
     if !shows_words(ctx.special_form()) {
-        return Ok((false, UsageInfo::default()));
+        return nothing_said();
     }
     let prints = ctx.style().term(term, form, plural).is_some();
-    Ok((prints, UsageInfo::default()))
+    (prints, UsageInfo::default())
 }
 
 /// What a text of a value says.
-///
-/// # Errors
-/// [`RenderError::Failed`]: the context had failed before.
-pub fn value_info<'s, T: EntryLike>(
-    ctx: &mut Context<'s, T>,
-    value: &str,
-) -> Result<(bool, UsageInfo), RenderError>
-    ensures { Reads told result
-        (target_info (world T.answers ctx.old) ctx.old.state (of_value value.now)) ctx.old ctx.new }
+pub fn value_info<'s, T: EntryLike>(ctx: &Context<'s, T>, value: &str) -> (bool, UsageInfo)
+    ensures { told result ≡ target_info (world T.answers ctx.now) ctx.now.state
+        (of_value value.now) }
 {
-    ctx.ensure_live()?;
     if !shows_words(ctx.special_form()) {
-        return nothing_said(ctx);
+        return nothing_said();
     }
-    Ok((!value.is_empty(), UsageInfo::default()))
+    (!value.is_empty(), UsageInfo::default())
 }
 
 /// Appends a text of a term.
