@@ -4,7 +4,8 @@
 ghost use Rattle.std.specs.Prelude.{◌≡◌, [], ◌∷◌, ◌++◌, map, IfOk, OnOk};
 ghost use Rattle.lit_model.specs.Person.{Named, named};
 ghost use Rattle.csl_entry.specs.Answers.{behind};
-ghost use Rattle.csl_context.specs.Now.{Runs, GivesBy, Reads, Looks, world};
+ghost use Rattle.csl_context.specs.World.{name_look};
+ghost use Rattle.csl_context.specs.Now.{Runs, GivesBy, world};
 ghost use Rattle.csl_names.specs.NamesLists.{has_none, all_empty, is_pair, merges, merged, found_lists, each_printed, all_looked, printed_lists, lists_state};
 ghost use Rattle.csl_names.specs.PersonLists.{list_of, lists_view};
 
@@ -91,21 +92,18 @@ fn add<'a>(
     Ok(())
 }
 
-/// The list of each variable, by silent looks.
-fn lists_found<'s, T: EntryLike>(
+/// A silent look.
+fn peek_names<'s, T: EntryLike>(
     ctx: &Context<'s, T>,
-    variables: &[NameVariable],
-) -> Result<Vec<PersonList<'s>>, RenderError>
-    ensures { Looks lists_view result
-        (found_lists (world T.answers ctx.now) ctx.now.state variables.now) ctx.now }
+    variable: NameVariable,
+) -> Result<Vec<Cow<'s, Person>>, Memory>
+    ensures { GivesBy (λ found. map (behind named) found.items) result
+        (name_look (world T.answers ctx.now) ctx.now.state variable) }
 {
-    ctx.ensure_live()?;
-    let mut lists = Vec::new(ctx.alloc());
-    for variable in variables {
-        let persons = ctx.peek_name_variable(*variable)?;
-        add(&mut lists, persons, *variable)?;
+    match ctx.peek_name_variable(variable) {
+        Ok(found) => Ok(found),
+        Err(_) => Err(Memory),
     }
-    Ok(lists)
 }
 
 /// The list of each variable, by looks for printing.
@@ -132,22 +130,27 @@ fn each_printed<'s, T: EntryLike>(
 /// looked up: editors and translators are not merged. The looks are silent.
 ///
 /// # Errors
-/// [`RenderError::Memory`]: there was no memory left, or the entry said so. The context has failed.
-/// [`RenderError::Failed`]: the context had failed before.
+/// [`Memory`]: there was no memory left, or the entry said so, or the context had failed.
 pub fn found_lists<'s, T: EntryLike>(
-    ctx: &mut Context<'s, T>,
+    ctx: &Context<'s, T>,
     variables: &[NameVariable],
-) -> Result<Vec<PersonList<'s>>, RenderError>
-    ensures { Reads lists_view result
-        (found_lists (world T.answers ctx.old) ctx.old.state variables.now) ctx.old ctx.new }
+) -> Result<Vec<PersonList<'s>>, Memory>
+    ensures { GivesBy lists_view result
+        (found_lists (world T.answers ctx.now) ctx.now.state variables.now) }
 {
-    ctx.settle(lists_found(ctx, variables))
+    let mut lists = Vec::new(ctx.alloc());
+    for variable in variables {
+        let persons = peek_names(ctx, *variable)?;
+        add(&mut lists, persons, *variable)?;
+    }
+    Ok(lists)
 }
 
 /// The lists that a names node of these variables prints. Each look may suppress its variable.
 ///
 /// # Errors
-/// As [`found_lists`].
+/// [`RenderError::Memory`]: there was no memory left, or the entry said so. The context has failed.
+/// [`RenderError::Failed`]: the context had failed before.
 pub fn printed_lists<'s, T: EntryLike>(
     ctx: &mut Context<'s, T>,
     variables: &[NameVariable],

@@ -1,14 +1,11 @@
-use Rattle.std.proofs.Common.{◌≡◌, false, drop, map, ◌++◌}
+use Rattle.std.proofs.Common.{◌≡◌, drop, map, ◌++◌}
 use Rattle.csl_context.specs.Now.{world}
 use Rattle.csl_names.specs.NamesLists.{found_lists}
 use Rattle.csl_names.specs.PersonLists.{list_of}
-use Rattle.csl_names.proofs.names.lists.lists_found.Given as goal
+use Rattle.csl_names.proofs.names.lists.found_lists.Given as goal
 
 -- the lists so far and those of the variables from here on are all lists
 abbrev pub invariant-loop-variable : goal.invariant-loop-variable
 invariant-loop-variable g l =
     let w = world g.T.EntryLike.answers l.ctx in
-    record {
-      sound : l.ctx.failed ≡ false;
-      left : map list_of l.lists.items ++ found_lists w l.ctx.state (drop l.variable-index l.variables) ≡ found_lists w l.ctx.state l.variables;
-    }
+    map list_of l.lists.items ++ found_lists w l.ctx.state (drop l.variable-index l.variables) ≡ found_lists w l.ctx.state l.variables
