@@ -11,10 +11,9 @@ use csl_built_in::{BuiltIn, BuiltInStyle};
 use csl_context::{Context, RenderError, Rendered};
 use csl_entry::{CiteProperties, DisambiguateState, EntryLike};
 use csl_leaves::{
-    UsageInfo, close_quotes, date_info, date_shown, label_info, nothing, nothing_said,
-    nothing_shown, number_info, number_shown, open_quotes, render_date, render_label,
-    render_number, render_term, render_value, render_variable, term_info, value_info,
-    variable_info, variable_shown,
+    UsageInfo, close_quotes, date_info, date_shown, label_info, nothing, nothing_said, number_info,
+    number_shown, open_quotes, render_date, render_label, render_number, render_term, render_value,
+    render_variable, term_info, value_info, variable_info, variable_shown,
 };
 use csl_names::{commit_names, found_lists, printed_lists, write_names};
 use csl_style::{
@@ -45,8 +44,8 @@ fn variable_told<'s, T: EntryLike>(
 ) -> Result<DryRun, RenderError>
     ensures { OnOk result (ctx.new.outer ≡ ctx.old.outer) }
 {
-    let info = variable_info(ctx, form, variable)?;
-    let shown = variable_shown(ctx, form, variable, asked)?;
+    let info = ctx.attempt(variable_info(ctx, form, variable))?;
+    let shown = ctx.attempt(variable_shown(ctx, form, variable, asked))?;
     render_variable(text, ctx, form, variable)?;
     Ok((info, shown))
 }
@@ -60,10 +59,9 @@ fn term_told<'s, T: EntryLike>(
 ) -> Result<DryRun, RenderError>
     ensures { OnOk result (ctx.new.outer ≡ ctx.old.outer) }
 {
-    let info = term_info(ctx, term, form, true)?;
-    let shown = nothing_shown(ctx)?;
+    let info = term_info(ctx, term, form, true);
     render_term(text, ctx, term, form, true)?;
-    Ok((info, shown))
+    Ok((info, false))
 }
 
 /// The same of a value. It is written in quotes.
@@ -75,12 +73,11 @@ fn value_told<'s, T: EntryLike>(
 ) -> Result<DryRun, RenderError>
     ensures { OnOk result (ctx.new.outer ≡ ctx.old.outer) }
 {
-    let info = value_info(ctx, value)?;
-    let shown = nothing_shown(ctx)?;
+    let info = value_info(ctx, value);
     let mark = open_quotes(ctx, true)?;
     render_value(text, ctx, value)?;
     let moved = close_quotes(ctx, mark, true, &text.affixes)?;
-    Ok((info, shown || moved))
+    Ok((info, moved))
 }
 
 /// What a dry run says of a text, and whether a variable would be shown. The text is written.
@@ -103,10 +100,8 @@ fn text_told<'s, T: EntryLike>(
 fn nothing_told<T: EntryLike>(ctx: &mut Context<'_, T>) -> Result<DryRun, RenderError>
     ensures { OnOk result (ctx.new.outer ≡ ctx.old.outer) }
 {
-    let info = nothing_said(ctx)?;
-    let shown = nothing_shown(ctx)?;
     nothing(ctx)?;
-    Ok((info, shown))
+    Ok((nothing_said(), false))
 }
 
 /// Whether names have one list that is found, and one that is printed. They are written, and a
@@ -118,7 +113,7 @@ fn names_told<'s, T: EntryLike>(
     ensures { OnOk result (ctx.new.outer ≡ ctx.old.outer) }
 {
     let parts = names.parts();
-    let found = found_lists(ctx, parts.variables)?.len();
+    let found = ctx.attempt(found_lists(ctx, parts.variables))?.len();
     let lists = printed_lists(ctx, parts.variables)?;
     write_names(ctx, parts, &lists)?;
     let element = ctx.push_elem()?;
@@ -140,22 +135,21 @@ fn told<'s, T: EntryLike>(
         LayoutRenderingElement::Text(text) => text_told(ctx, text, asked),
         LayoutRenderingElement::Names(names) => names_told(ctx, names),
         LayoutRenderingElement::Number(number) => {
-            let info = number_info(ctx, number)?;
-            let shown = number_shown(ctx, number, asked)?;
+            let info = ctx.attempt(number_info(ctx, number))?;
+            let shown = number_shown(ctx, number, asked);
             render_number(number, ctx)?;
             Ok((info, shown))
         }
         LayoutRenderingElement::Date(date) => {
-            let info = date_info(ctx, date)?;
-            let shown = date_shown(ctx, date, asked)?;
+            let info = ctx.attempt(date_info(ctx, date))?;
+            let shown = date_shown(ctx, date, asked);
             render_date(date, ctx)?;
             Ok((info, shown))
         }
         LayoutRenderingElement::Label(label) => {
-            let info = label_info(ctx, label)?;
-            let shown = nothing_shown(ctx)?;
+            let info = ctx.attempt(label_info(ctx, label))?;
             render_label(label, ctx)?;
-            Ok((info, shown))
+            Ok((info, false))
         }
         _ => nothing_told(ctx),
     }
