@@ -7,6 +7,7 @@ pub mod Usages
 pub mod Pages
 pub mod Answered
 pub mod Text
+pub mod TextFound
 pub mod Boxes
 pub mod Bodies
 pub mod Numbers

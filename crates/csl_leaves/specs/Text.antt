@@ -298,17 +298,17 @@ abbrev pub found_tree : World → TextDressing → Inherited → Option Found �
 found_tree w d inh None = []
 found_tree w d inh (Some f) = text_box w.style (found_affixes d f) d (found_meta f) inh (found_body w.style d (in_body d inh) f)
 
--- a text of the variable that is left looks it up for printing, whatever is found
-abbrev pub state_after_look : World → Variable → State → State
-state_after_look w v s = if shows_variable w.instance.special v then looked v s else s
-
 -- no name and no date is looked up
+abbrev pub state_after_look : Variable → State → State
+state_after_look (variable.Standard v) s = looked (variable.Standard v) s
+state_after_look (variable.Number v) s = looked (variable.Number v) s
+state_after_look (variable.Page v) s = looked (variable.Page v) s
+state_after_look (variable.Name v) s = s
+state_after_look (variable.Date v) s = s
+
+-- a text of the variable that is left looks it up for printing, whatever is found
 abbrev pub variable_state : World → Variable → State → State
-variable_state w (variable.Standard v) s = state_after_look w (variable.Standard v) s
-variable_state w (variable.Number v) s = state_after_look w (variable.Number v) s
-variable_state w (variable.Page v) s = state_after_look w (variable.Page v) s
-variable_state w (variable.Name v) s = s
-variable_state w (variable.Date v) s = s
+variable_state w v s = if shows_variable w.instance.special v then state_after_look v s else s
 
 abbrev pub target_state : World → Target → State → State
 target_state w (of_variable v form) s = variable_state w v s

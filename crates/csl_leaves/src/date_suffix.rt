@@ -4,7 +4,7 @@ ghost use Rattle.std.specs.Prelude.{◌≡◌, string_bytes};
 ghost use Rattle.csl_context.specs.Now.{Runs, GivesBy, world, with_first_date};
 ghost use Rattle.csl_leaves.specs.Dates.{suffix_text, implicit_suffix, first_suffix, is_suffix_alone};
 
-use crate::standard::peek_standard;
+use crate::found::peek_standard;
 use csl_context::{Context, RenderError};
 use csl_entry::{EntryLike, SpecialForm};
 use csl_style::StandardVariable;

@@ -15,16 +15,14 @@ mod date_suffix;
 mod date_text;
 mod dressing;
 mod empty;
+mod found;
 mod label;
 mod links;
 mod number;
-mod numeral;
 mod pages;
 mod special;
-mod standard;
+mod text;
 mod usage;
-mod variable;
-mod words;
 
 pub use conditions::{BranchConditionIter, BranchConditionPos};
 pub use date::{date_info, date_shown, render_date};
@@ -34,6 +32,8 @@ pub use empty::nothing;
 pub use label::{label_info, render_label};
 pub use number::{number_info, number_shown, render_number};
 pub use special::shows_macro_affixes;
+pub use text::{
+    render_term, render_value, render_variable, term_info, value_info, variable_info,
+    variable_shown,
+};
 pub use usage::{UsageInfo, but_groups, group_said, macro_said, nothing_said, with_child};
-pub use variable::{render_variable, variable_info, variable_shown};
-pub use words::{render_term, render_value, term_info, value_info};
