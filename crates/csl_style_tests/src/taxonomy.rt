@@ -118,8 +118,16 @@ fn variables_are_equal_where_they_are_one(rt: HostRuntime) {
     assert_same(&rt, &order(&TITLE, &ISSUED), &Ordering::Less);
     assert_same(&rt, &same_kind(&Kind::Book, &Kind::Book), &true);
     assert_same(&rt, &same_kind(&Kind::Book, &Kind::ReviewBook), &false);
-    assert_same(&rt, &order_of_kinds(&Kind::Book, &Kind::Book), &Ordering::Equal);
-    assert_same(&rt, &order_of_kinds(&Kind::Book, &Kind::Article), &Ordering::Greater);
+    assert_same(
+        &rt,
+        &order_of_kinds(&Kind::Book, &Kind::Book),
+        &Ordering::Equal,
+    );
+    assert_same(
+        &rt,
+        &order_of_kinds(&Kind::Book, &Kind::Article),
+        &Ordering::Greater,
+    );
 }
 
 fn assert_variable(rt: &impl Abort, answer: Variable, wanted: Variable) {

@@ -29,6 +29,7 @@ returns c =
     let a = c.args.a.now in
     let b = c.args.b.now in
     let d = both _ _ (types_in a.own.now b.own.now) (both _ _ (slice_eq-Decides fields a.fields.now b.fields.now _ refl)
-    (both _ _ (option_view _ (λ t. t.now) (λ s t. types_in s.now t.now) a.parent b.parent) (bound a.bind b.bind))) in
-    (λ t. let h = d.0 (sym c.eq.ensures ∙ t) in (h.0, h.1.0, h.1.1.0, h.1.1.1),
-    λ h. let (own, fields, parent, bind) = h in c.eq.ensures ∙ d.1 (own, (fields, (parent, bind))))
+    (both _ _ (option_view _ (λ t. t.now) (λ s t. types_in s.now t.now) a.parent b.parent) (bound a.bind b.bind))) in (
+      λ t. let h = d.0 (sym c.eq.ensures ∙ t) in (h.0, h.1.0, h.1.1.0, h.1.1.1),
+      λ h. let (own, fields, parent, bind) = h in c.eq.ensures ∙ d.1 (own, (fields, (parent, bind))),
+    )
