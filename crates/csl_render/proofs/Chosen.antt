@@ -10,10 +10,10 @@ use Rattle.csl_context.specs.World.{World}
 use Rattle.csl_leaves.specs.Conditions.{holds, chosen_nodes, chosen_of}
 use Rattle.csl_render.specs.Tree.{info, shows, tree, cases_info, cases_show, cases_tree, choice_info, choice_shows, choice_tree}
 
-abbrev IsChoice : Node → Type 0
+abbrev pub IsChoice : Node → Type 0
 IsChoice n = (bs : Branches) × (n ≡ choose bs)
 
-is_choice : (c : Choose) → IsChoice (view_choose c)
+pub is_choice : (c : Choose) → IsChoice (view_choose c)
 is_choice c = (_, fold_out-Choose Node Child Node Part Node Node Nodes element_step child_step choose_step branch_step group_step names_step substitute_step c)
 
 module _ (w : World) (s : State) (env : List ℕ → Option Fulls) where

@@ -2,6 +2,8 @@
 -- a dry run and renders.
 pub mod Names
 pub mod Tree
+pub mod DryRun
+pub mod Plan
 pub mod Rendering
 pub mod Cited
 pub mod Printed

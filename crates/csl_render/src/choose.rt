@@ -1,25 +1,31 @@
 //! Choices (CSL 1.0.2, Choose).
 
-ghost use Rattle.std.specs.Prelude.{◌≡◌, ◌<◌, not, IfOk, OnOk, IfErr, IfSome, option_map};
+ghost use Rattle.std.specs.Prelude.{◌≡◌, ◌<◌, List, not, IfOk, OnOk, IfErr, IfSome, option_map};
 ghost use Rattle.std.specs.List.{list_all, list_any};
 ghost use Rattle.csl_style.specs.declared.taxonomy.Variable.{Variable};
 ghost use Rattle.csl_style.specs.Node.{fill, fills, size, sizes};
 ghost use Rattle.csl_style.specs.View.{views, view_branch, view_choose};
 ghost use Rattle.csl_context.specs.World.{env};
-ghost use Rattle.csl_context.specs.Now.{Runs, Reads, FailsSilently, same, world};
+ghost use Rattle.csl_context.specs.Now.{Runs, Reads, GivesBy, FailsSilently, world};
+ghost use Rattle.csl_context.specs.State.{State};
 ghost use Rattle.csl_leaves.specs.Conditions.{holds, satisfies, chosen_of};
 ghost use Rattle.csl_leaves.specs.ConditionsLeft.{conditions_left, context_of, behind_first, behind_deciding};
+ghost use Rattle.csl_leaves.specs.Text.{with_made};
+ghost use Rattle.csl_render.specs.declared.plan.NodeInfo.{NodeInfo};
+ghost use Rattle.csl_render.specs.Plan.{AreReadAlike, AreInside, IsInfo, IsPlan, AreOfTaken};
 ghost use Rattle.csl_render.specs.Rendering.{part};
 ghost use Rattle.csl_render.specs.Tree.{info, shows, tree, choice_info, choice_shows, choice_tree};
 
+use crate::dry_run::DryRun;
 use crate::element::{any_shows, infos, render_with_delimiter};
+use crate::plan::{NodeInfo, NodePlan, inside_plan};
+use crate::query::Query;
 use crate::render::RenderCsl;
 use csl_context::{Context, RenderError};
 use csl_entry::EntryLike;
-use csl_leaves::{
-    BranchConditionIter, UsageInfo, but_groups, nothing, nothing_said, nothing_shown,
-};
+use csl_leaves::{BranchConditionIter, UsageInfo, but_groups, nothing, nothing_said};
 use csl_style::{Choose, ChooseBranch, ChooseMatch, LayoutRenderingElement, Variable};
+use lit_model::Memory;
 
 /// Whether each condition holds. It reads them up to the first that does not.
 fn all_hold<'a, 's, T: EntryLike>(
@@ -89,16 +95,28 @@ fn holds<'s, T: EntryLike>(branch: &ChooseBranch, ctx: &Context<'s, T>) -> Resul
     satisfied(branch.match_, &mut conditions)
 }
 
-/// Whether a branch is taken; a failure fails the context.
-fn is_taken<'s, T: EntryLike>(
-    branch: &ChooseBranch,
-    ctx: &mut Context<'s, T>,
-) -> Result<bool, RenderError>
-    ensures { Reads (λ taken. taken) result (holds (world T.answers ctx.old) ctx.old.state
-        (view_branch branch.now).tests) ctx.old ctx.new }
+/// The nodes of the first branch whose conditions satisfy its match, else those for the other
+/// cases, if there are some. The looks are silent.
+fn first_taken<'a, 's, T: EntryLike>(
+    choose: &'a Choose,
+    ctx: &Context<'s, T>,
+) -> Result<Option<&'a [LayoutRenderingElement]>, RenderError>
+    ensures value { GivesBy (option_map (λ ns. views ns.now)) result (chosen_of
+        (world T.answers ctx.now) ctx.now.state (view_choose choose.now)) }
+    ensures err { IfErr result (λ e. FailsSilently e ctx.now) }
 {
-    ctx.ensure_live()?;
-    ctx.settle(holds(branch, ctx))
+    if holds(&choose.if_, ctx)? {
+        return Ok(Some(choose.if_.children.as_slice()));
+    }
+    for branch in &choose.else_if {
+        if holds(branch, ctx)? {
+            return Ok(Some(branch.children.as_slice()));
+        }
+    }
+    match &choose.otherwise {
+        Some(otherwise) => Ok(Some(otherwise.as_slice())),
+        None => Ok(None),
+    }
 }
 
 /// The nodes of the first branch whose conditions satisfy its match, else those for the other
@@ -115,81 +133,128 @@ pub fn choose_children<'a, 's, T: EntryLike>(
     ensures { Reads (option_map (λ ns. views ns.now)) result (chosen_of (world T.answers ctx.old)
         ctx.old.state (view_choose choose.now)) ctx.old ctx.new }
 {
-    if is_taken(&choose.if_, ctx)? {
-        return Ok(Some(choose.if_.children.as_slice()));
-    }
-    for branch in &choose.else_if {
-        if is_taken(branch, ctx)? {
-            return Ok(Some(branch.children.as_slice()));
-        }
-    }
-    match &choose.otherwise {
-        Some(otherwise) => Ok(Some(otherwise.as_slice())),
-        None => Ok(None),
-    }
+    ctx.ensure_live()?;
+    ctx.settle(first_taken(choose, ctx))
 }
 
-/// The chosen nodes. The choice says, shows and makes what they do.
-fn chosen<'s, T: EntryLike>(
+/// The nodes that a choice takes. Its dry run, the variables that it shows and its content are
+/// theirs, and so is what is known of the nodes inside it.
+fn taken_nodes<'s, T: EntryLike>(
     choose: &'s Choose,
-    ctx: &mut Context<'s, T>,
-) -> Result<Option<&'s [LayoutRenderingElement]>, RenderError>
-    ensures within { IfOk result (λ chosen. IfSome chosen (λ ns.
-        sizes (fills (env ctx.old.style) (views ns.now))
-        < size (fill (env ctx.old.style) (view_choose choose.now)))) }
-    ensures said { IfOk result (λ chosen. info (world T.answers ctx.old) ctx.old.state
-        (fill (env ctx.old.style) (view_choose choose.now))
-        ≡ choice_info (world T.answers ctx.old) ctx.old.state
-        (option_map (fills (env ctx.old.style)) (option_map (λ ns. views ns.now) chosen))) }
-    ensures shown { IfOk result (λ chosen. (v : Variable) → shows (world T.answers ctx.old)
-        ctx.old.state v (fill (env ctx.old.style) (view_choose choose.now))
-        ≡ choice_shows (world T.answers ctx.old) ctx.old.state v
-        (option_map (fills (env ctx.old.style)) (option_map (λ ns. views ns.now) chosen))) }
-    ensures made { IfOk result (λ chosen. tree (world T.answers ctx.old)
-        (fill (env ctx.old.style) (view_choose choose.now)) ctx.old.inherited ctx.old.state
-        ≡ choice_tree (world T.answers ctx.old)
-        (option_map (fills (env ctx.old.style)) (option_map (λ ns. views ns.now) chosen))
-        ctx.old.inherited ctx.old.state) }
-    ensures after { Runs same result ctx.old ctx.new }
+    ctx: &Context<'s, T>,
+) -> Result<Option<&'s [LayoutRenderingElement]>, Memory>
+    ensures within { IfOk result (λ taken. IfSome taken (λ ns.
+        sizes (fills (env ctx.now.style) (views ns.now))
+        < size (fill (env ctx.now.style) (view_choose choose.now)))) }
+    ensures info { IfOk result (λ taken. info (world T.answers ctx.now) ctx.now.state
+        (fill (env ctx.now.style) (view_choose choose.now))
+        ≡ choice_info (world T.answers ctx.now) ctx.now.state
+        (option_map (fills (env ctx.now.style)) (option_map (λ ns. views ns.now) taken))) }
+    ensures shown { IfOk result (λ taken. (v : Variable) → shows (world T.answers ctx.now)
+        ctx.now.state v (fill (env ctx.now.style) (view_choose choose.now))
+        ≡ choice_shows (world T.answers ctx.now) ctx.now.state v
+        (option_map (fills (env ctx.now.style)) (option_map (λ ns. views ns.now) taken))) }
+    ensures made { IfOk result (λ taken. tree (world T.answers ctx.now)
+        (fill (env ctx.now.style) (view_choose choose.now)) ctx.now.inherited ctx.now.state
+        ≡ choice_tree (world T.answers ctx.now)
+        (option_map (fills (env ctx.now.style)) (option_map (λ ns. views ns.now) taken))
+        ctx.now.inherited ctx.now.state) }
+    ensures asked { IfOk result (λ taken. (infos : List NodeInfo)
+        → AreOfTaken (world T.answers ctx.now) ctx.now.state
+        (option_map (fills (env ctx.now.style)) (option_map (λ ns. views ns.now) taken)) infos
+        → AreInside (world T.answers ctx.now) ctx.now.state
+        (fill (env ctx.now.style) (view_choose choose.now)) infos) }
+    ensures planned { IfOk result (λ taken. (at : State)
+        → AreReadAlike (world T.answers ctx.now) at ctx.now.state → (infos : List NodeInfo)
+        → AreInside (world T.answers ctx.now) at
+        (fill (env ctx.now.style) (view_choose choose.now)) infos
+        → AreOfTaken (world T.answers ctx.now) at
+        (option_map (fills (env ctx.now.style)) (option_map (λ ns. views ns.now) taken)) infos) }
 {
-    let found = choose_children(choose, ctx)?;
-    Ok(found)
+    match first_taken(choose, ctx) {
+        Ok(taken) => Ok(taken),
+        Err(_) => Err(Memory),
+    }
 }
 
 impl RenderCsl for Choose {
     ghost rendering = { λ style c. part (fill (env style) (view_choose c)) };
 
-    #[cycle(info)]
     fn will_have_info<'s, T: EntryLike>(
         &'s self,
         ctx: &mut Context<'s, T>,
     ) -> Result<(bool, UsageInfo), RenderError> {
-        match chosen(self, ctx)? {
-            Some(nodes) => {
-                let said = infos(ctx, nodes)?;
-                Ok(but_groups(said))
-            }
-            None => nothing_said(ctx),
-        }
+        let info = choose_info(self, &mut DryRun::new(ctx));
+        let info = ctx.attempt(info)?;
+        Ok(info.answer)
     }
 
-    #[cycle(shows)]
     fn will_render<'s, T: EntryLike>(
         &'s self,
         ctx: &mut Context<'s, T>,
         var: Variable,
     ) -> Result<bool, RenderError> {
-        match chosen(self, ctx)? {
-            Some(nodes) => any_shows(ctx, nodes, var),
-            None => nothing_shown(ctx),
-        }
+        let shows = choose_shows(self, &mut Query::new(ctx, var));
+        ctx.attempt(shows)
     }
 
-    #[cycle(render)]
     fn render<'s, T: EntryLike>(&'s self, ctx: &mut Context<'s, T>) -> Result<(), RenderError> {
-        match chosen(self, ctx)? {
-            Some(nodes) => render_with_delimiter(ctx, nodes),
-            None => nothing(ctx),
+        render_choose(self, ctx, None)
+    }
+}
+
+/// The dry run of a choice.
+#[cycle(info)]
+pub(crate) fn choose_info<'c, 's, T: EntryLike>(
+    choose: &'s Choose,
+    run: &mut DryRun<'c, 's, T>,
+) -> Result<NodeInfo, Memory>
+    ensures value { IfOk result (IsInfo (world T.answers run.old) run.old.state
+        (fill (env run.old.style) (view_choose choose.now))) }
+    ensures kept { run.new ≡ run.old }
+{
+    match taken_nodes(choose, run.context())? {
+        Some(nodes) => {
+            let (sum, inside) = infos(nodes, run)?;
+            Ok(NodeInfo::new(but_groups(sum), inside))
         }
+        None => Ok(run.leaf(nothing_said())),
+    }
+}
+
+/// Whether a choice shows the variable.
+#[cycle(shows)]
+pub(crate) fn choose_shows<'c, 's, T: EntryLike>(
+    choose: &'s Choose,
+    query: &mut Query<'c, 's, T>,
+) -> Result<bool, Memory>
+    ensures value { GivesBy (λ answer. answer) result (shows (world T.answers query.old.now)
+        query.old.now.state query.old.variable
+        (fill (env query.old.now.style) (view_choose choose.now))) }
+    ensures kept { query.new ≡ query.old }
+{
+    match taken_nodes(choose, query.context())? {
+        Some(nodes) => any_shows(nodes, query),
+        None => Ok(false),
+    }
+}
+
+/// Appends what a choice makes, by its plan if it has one.
+#[cycle(render)]
+pub(crate) fn render_choose<'p, 's, T: EntryLike>(
+    choose: &'s Choose,
+    ctx: &mut Context<'s, T>,
+    plan: Option<NodePlan<'p>>,
+) -> Result<(), RenderError>
+    requires { IfSome plan (IsPlan (world T.answers ctx.old) ctx.old.state
+        (fill (env ctx.old.style) (view_choose choose.now))) }
+    ensures { Runs (λ now. with_made (tree (world T.answers now)
+        (fill (env now.style) (view_choose choose.now)) now.inherited now.state) now)
+        result ctx.old ctx.new }
+{
+    let taken = taken_nodes(choose, ctx);
+    match ctx.attempt(taken)? {
+        Some(nodes) => render_with_delimiter(nodes, ctx, inside_plan(plan)),
+        None => nothing(ctx),
     }
 }

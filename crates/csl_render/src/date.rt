@@ -18,7 +18,8 @@ impl RenderCsl for Date {
         &'s self,
         ctx: &mut Context<'s, T>,
     ) -> Result<(bool, UsageInfo), RenderError> {
-        date_info(ctx, self)
+        let answer = date_info(ctx, self);
+        ctx.attempt(answer)
     }
 
     fn will_render<'s, T: EntryLike>(
@@ -26,7 +27,8 @@ impl RenderCsl for Date {
         ctx: &mut Context<'s, T>,
         var: Variable,
     ) -> Result<bool, RenderError> {
-        date_shown(ctx, self, var)
+        ctx.ensure_live()?;
+        Ok(date_shown(ctx, self, var))
     }
 
     fn render<'s, T: EntryLike>(&'s self, ctx: &mut Context<'s, T>) -> Result<(), RenderError> {

@@ -1,69 +1,57 @@
 //! Nodes, and lists of nodes.
 
-ghost use Rattle.std.specs.Prelude.{◌≡◌, true};
+ghost use Rattle.std.specs.Prelude.{◌≡◌, true, IfOk, IfSome, if◌then◌else◌};
 ghost use Rattle.csl_style.specs.Node.{fill, fills};
 ghost use Rattle.csl_style.specs.View.{view, views, view_rendering};
 ghost use Rattle.csl_context.specs.World.{env};
-ghost use Rattle.csl_context.specs.Now.{Runs, Reads, world};
+ghost use Rattle.csl_context.specs.Now.{Runs, GivesBy, world};
 ghost use Rattle.csl_leaves.specs.Usages.{told};
 ghost use Rattle.csl_render.specs.Names.{Macros};
-ghost use Rattle.csl_render.specs.Tree.{infos, any_shows, is_group, tree, sum_of, delimited, admitted_made};
+ghost use Rattle.csl_render.specs.Plan.{AreReadAlike, IsInfo, AreInfos, IsPlan, ArePlans};
+ghost use Rattle.csl_render.specs.Tree.{info, infos, shows, any_shows, is_group, tree, sum_of, delimited, admitted_made};
 ghost use Rattle.csl_render.specs.Rendering.{part, element_rendering};
 ghost use Rattle.csl_leaves.specs.Text.{with_made};
 
+use crate::choose::{choose_info, choose_shows, render_choose};
+use crate::dry_run::DryRun;
+use crate::group::{group_info, group_shows, render_group};
+use crate::names::{names_info, names_show, render_names};
+use crate::plan::{DryState, ListPlan, NodeInfo, NodePlan, next_plan};
+use crate::query::Query;
 use crate::render::RenderCsl;
+use crate::text::{render_text, text_info, text_shows};
 use csl_context::{Context, RenderError};
 use csl_entry::EntryLike;
-use csl_leaves::{UsageInfo, with_child};
+use csl_leaves::{
+    UsageInfo, date_info, date_shown, label_info, nothing_said, number_info, number_shown,
+    render_date, render_label, render_number, with_child,
+};
 use csl_style::{LayoutRenderingElement, RenderingElement, Variable};
+use lit_model::Memory;
 
 impl RenderCsl for LayoutRenderingElement {
     ghost rendering = { λ style e. part (fill (env style) (view e)) };
 
-    #[cycle(info)]
     fn will_have_info<'s, T: EntryLike>(
         &'s self,
         ctx: &mut Context<'s, T>,
     ) -> Result<(bool, UsageInfo), RenderError> {
-        match self {
-            LayoutRenderingElement::Text(text) => text.will_have_info(ctx),
-            LayoutRenderingElement::Group(group) => group.will_have_info(ctx),
-            LayoutRenderingElement::Number(number) => number.will_have_info(ctx),
-            LayoutRenderingElement::Label(label) => label.will_have_info(ctx),
-            LayoutRenderingElement::Date(date) => date.will_have_info(ctx),
-            LayoutRenderingElement::Names(names) => names.will_have_info(ctx),
-            LayoutRenderingElement::Choose(choose) => choose.will_have_info(ctx),
-        }
+        let info = node_info(self, &mut DryRun::new(ctx));
+        let info = ctx.attempt(info)?;
+        Ok(info.answer)
     }
 
-    #[cycle(shows)]
     fn will_render<'s, T: EntryLike>(
         &'s self,
         ctx: &mut Context<'s, T>,
         var: Variable,
     ) -> Result<bool, RenderError> {
-        match self {
-            LayoutRenderingElement::Text(text) => text.will_render(ctx, var),
-            LayoutRenderingElement::Group(group) => group.will_render(ctx, var),
-            LayoutRenderingElement::Number(number) => number.will_render(ctx, var),
-            LayoutRenderingElement::Label(label) => label.will_render(ctx, var),
-            LayoutRenderingElement::Date(date) => date.will_render(ctx, var),
-            LayoutRenderingElement::Names(names) => names.will_render(ctx, var),
-            LayoutRenderingElement::Choose(choose) => choose.will_render(ctx, var),
-        }
+        let shows = node_shows(self, &mut Query::new(ctx, var));
+        ctx.attempt(shows)
     }
 
-    #[cycle(render)]
     fn render<'s, T: EntryLike>(&'s self, ctx: &mut Context<'s, T>) -> Result<(), RenderError> {
-        match self {
-            LayoutRenderingElement::Text(text) => text.render(ctx),
-            LayoutRenderingElement::Group(group) => group.render(ctx),
-            LayoutRenderingElement::Number(number) => number.render(ctx),
-            LayoutRenderingElement::Label(label) => label.render(ctx),
-            LayoutRenderingElement::Date(date) => date.render(ctx),
-            LayoutRenderingElement::Names(names) => names.render(ctx),
-            LayoutRenderingElement::Choose(choose) => choose.render(ctx),
-        }
+        render_node(self, ctx, None)
     }
 }
 
@@ -114,87 +102,245 @@ fn is_group(node: &LayoutRenderingElement) -> bool
     }
 }
 
-/// What some nodes say together.
+/// The dry run of a node.
 #[cycle(info)]
-pub(crate) fn infos<'s, T: EntryLike>(
-    ctx: &mut Context<'s, T>,
-    nodes: &'s [LayoutRenderingElement],
-) -> Result<(bool, UsageInfo), RenderError>
-    ensures { Reads told result (infos (world T.answers ctx.old) ctx.old.state
-        (fills (env ctx.old.style) (views nodes.now))) ctx.old ctx.new }
+pub(crate) fn node_info<'c, 's, T: EntryLike>(
+    node: &'s LayoutRenderingElement,
+    run: &mut DryRun<'c, 's, T>,
+) -> Result<NodeInfo, Memory>
+    ensures value { IfOk result (IsInfo (world T.answers run.old) run.old.state
+        (fill (env run.old.style) (view node.now))) }
+    ensures kept { run.new ≡ run.old }
 {
-    ctx.ensure_live()?;
-    let mut all = (false, UsageInfo::default());
-    for node in nodes {
-        let said = node.will_have_info(ctx)?;
-        all = with_child(all, said, is_group(node));
+    match node {
+        LayoutRenderingElement::Text(text) => text_info(text, run),
+        LayoutRenderingElement::Group(group) => group_info(group, run),
+        LayoutRenderingElement::Number(number) => {
+            Ok(run.leaf(number_info(run.context(), number)?))
+        }
+        LayoutRenderingElement::Label(label) => Ok(run.leaf(label_info(run.context(), label)?)),
+        LayoutRenderingElement::Date(date) => Ok(run.leaf(date_info(run.context(), date)?)),
+        LayoutRenderingElement::Names(names) => names_info(names, run),
+        LayoutRenderingElement::Choose(choose) => choose_info(choose, run),
     }
-    Ok(all)
 }
 
-/// Whether one of some nodes would show the variable.
-#[cycle(shows)]
-pub(crate) fn any_shows<'s, T: EntryLike>(
-    ctx: &mut Context<'s, T>,
+/// The dry run of some nodes together, and that of each.
+#[cycle(info)]
+pub(crate) fn infos<'c, 's, T: EntryLike>(
     nodes: &'s [LayoutRenderingElement],
-    var: Variable,
-) -> Result<bool, RenderError>
-    ensures { Reads (λ answer. answer) result (any_shows (world T.answers ctx.old) ctx.old.state var
-        (fills (env ctx.old.style) (views nodes.now))) ctx.old ctx.new }
+    run: &mut DryRun<'c, 's, T>,
+) -> Result<((bool, UsageInfo), Vec<NodeInfo>), Memory>
+    ensures sum { IfOk result (λ r. told r.0 ≡ infos (world T.answers run.old) run.old.state
+        (fills (env run.old.style) (views nodes.now))) }
+    ensures each { IfOk result (λ r. AreInfos (world T.answers run.old) run.old.state
+        (fills (env run.old.style) (views nodes.now)) r.1.items) }
+    ensures kept { run.new ≡ run.old }
 {
-    ctx.ensure_live()?;
+    let mut sum = nothing_said();
+    let mut each = Vec::with_capacity(run.context().alloc(), nodes.len())?;
     for node in nodes {
-        if node.will_render(ctx, var)? {
+        let info = node_info(node, run)?;
+        sum = with_child(sum, info.answer, is_group(node));
+        each.push(info)?;
+    }
+    Ok((sum, each))
+}
+
+/// Whether a node shows the variable.
+#[cycle(shows)]
+pub(crate) fn node_shows<'c, 's, T: EntryLike>(
+    node: &'s LayoutRenderingElement,
+    query: &mut Query<'c, 's, T>,
+) -> Result<bool, Memory>
+    ensures value { GivesBy (λ answer. answer) result (shows (world T.answers query.old.now)
+        query.old.now.state query.old.variable
+        (fill (env query.old.now.style) (view node.now))) }
+    ensures kept { query.new ≡ query.old }
+{
+    match node {
+        LayoutRenderingElement::Text(text) => text_shows(text, query),
+        LayoutRenderingElement::Group(group) => group_shows(group, query),
+        LayoutRenderingElement::Number(number) => {
+            Ok(number_shown(query.context(), number, query.variable()))
+        }
+        LayoutRenderingElement::Label(_) => Ok(false),
+        LayoutRenderingElement::Date(date) => {
+            Ok(date_shown(query.context(), date, query.variable()))
+        }
+        LayoutRenderingElement::Names(names) => names_show(names, query),
+        LayoutRenderingElement::Choose(choose) => choose_shows(choose, query),
+    }
+}
+
+/// Whether one of some nodes shows the variable.
+#[cycle(shows)]
+pub(crate) fn any_shows<'c, 's, T: EntryLike>(
+    nodes: &'s [LayoutRenderingElement],
+    query: &mut Query<'c, 's, T>,
+) -> Result<bool, Memory>
+    ensures value { GivesBy (λ answer. answer) result (any_shows (world T.answers query.old.now)
+        query.old.now.state query.old.variable
+        (fills (env query.old.now.style) (views nodes.now))) }
+    ensures kept { query.new ≡ query.old }
+{
+    for node in nodes {
+        if node_shows(node, query)? {
             return Ok(true);
         }
     }
     Ok(false)
 }
 
+/// The dry run of a node, with the state that it read.
+fn ask_node<'s, T: EntryLike>(
+    node: &'s LayoutRenderingElement,
+    ctx: &Context<'s, T>,
+) -> Result<(DryState, NodeInfo), Memory>
+    ensures at { IfOk result (λ r. AreReadAlike (world T.answers ctx.now) r.0 ctx.now.state) }
+    ensures info { IfOk result (λ r. IsInfo (world T.answers ctx.now) r.0
+        (fill (env ctx.now.style) (view node.now)) r.1) }
+{
+    let at = DryState::of(ctx)?;
+    let info = node_info(node, &mut DryRun::new(ctx))?;
+    Ok((at, info))
+}
+
+/// Appends what a node makes, by its plan if it has one.
+#[cycle(render)]
+pub(crate) fn render_node<'p, 's, T: EntryLike>(
+    node: &'s LayoutRenderingElement,
+    ctx: &mut Context<'s, T>,
+    plan: Option<NodePlan<'p>>,
+) -> Result<(), RenderError>
+    requires { IfSome plan (IsPlan (world T.answers ctx.old) ctx.old.state
+        (fill (env ctx.old.style) (view node.now))) }
+    ensures { Runs (λ now. with_made (tree (world T.answers now)
+        (fill (env now.style) (view node.now)) now.inherited now.state) now)
+        result ctx.old ctx.new }
+{
+    match node {
+        LayoutRenderingElement::Text(text) => render_text(text, ctx, plan),
+        LayoutRenderingElement::Group(group) => render_group(group, ctx, plan),
+        LayoutRenderingElement::Number(number) => render_number(number, ctx),
+        LayoutRenderingElement::Label(label) => render_label(label, ctx),
+        LayoutRenderingElement::Date(date) => render_date(date, ctx),
+        LayoutRenderingElement::Names(names) => render_names(names, ctx),
+        LayoutRenderingElement::Choose(choose) => render_choose(choose, ctx, plan),
+    }
+}
+
 /// Appends what some nodes make, one after another.
 #[cycle(render)]
-pub(crate) fn render_all<'s, T: EntryLike>(
-    ctx: &mut Context<'s, T>,
+pub(crate) fn render_all<'p, 's, T: EntryLike>(
     nodes: &'s [LayoutRenderingElement],
+    ctx: &mut Context<'s, T>,
+    plan: Option<ListPlan<'p>>,
 ) -> Result<(), RenderError>
+    requires { IfSome plan (ArePlans (world T.answers ctx.old)
+        (fills (env ctx.old.style) (views nodes.now))) }
     ensures { Runs (λ now. with_made (sum_of (world T.answers now) (fills (env now.style)
         (views nodes.now)) now.inherited now.state) now) result ctx.old ctx.new }
 {
     ctx.ensure_live()?;
+    let mut plan = plan;
     for node in nodes {
-        node.render(ctx)?;
+        let known = next_plan(&mut plan, ctx);
+        render_node(node, ctx, known)?;
     }
     Ok(())
 }
 
 /// Appends what those nodes make that print something, with the inherited delimiter between them.
 #[cycle(render)]
-pub(crate) fn render_with_delimiter<'s, T: EntryLike>(
-    ctx: &mut Context<'s, T>,
+pub(crate) fn render_with_delimiter<'p, 's, T: EntryLike>(
     nodes: &'s [LayoutRenderingElement],
+    ctx: &mut Context<'s, T>,
+    plan: Option<ListPlan<'p>>,
 ) -> Result<(), RenderError>
+    requires { IfSome plan (ArePlans (world T.answers ctx.old)
+        (fills (env ctx.old.style) (views nodes.now))) }
     ensures { Runs (λ now. with_made (delimited (world T.answers now) (fills (env now.style)
         (views nodes.now)) now.inherited true now.state) now) result ctx.old ctx.new }
 {
     ctx.ensure_live()?;
+    let mut plan = plan;
     let mut first = true;
     for node in nodes {
-        let (prints, _) = node.will_have_info(ctx)?;
-        if prints {
-            render_admitted(node, ctx, first)?;
+        let known = next_plan(&mut plan, ctx);
+        if render_if_it_prints(node, ctx, first, known)? {
             first = false;
         }
     }
     Ok(())
 }
 
-/// Appends what one node makes, behind the inherited delimiter unless it is the first.
+/// Appends what a node makes if it would print, after the inherited delimiter unless it is the
+/// first. It returns whether the node would print.
 #[cycle(render)]
-fn render_admitted<'s, T: EntryLike>(
+fn render_if_it_prints<'p, 's, T: EntryLike>(
     node: &'s LayoutRenderingElement,
     ctx: &mut Context<'s, T>,
     first: bool,
+    plan: Option<NodePlan<'p>>,
+) -> Result<bool, RenderError>
+    requires { IfSome plan (IsPlan (world T.answers ctx.old) ctx.old.state
+        (fill (env ctx.old.style) (view node.now))) }
+    ensures value { GivesBy (λ answer. answer) result (info (world T.answers ctx.old)
+        ctx.old.state (fill (env ctx.old.style) (view node.now))).prints }
+    ensures after { Runs (λ now. if (info (world T.answers now) now.state
+        (fill (env now.style) (view node.now))).prints then with_made
+        (admitted_made first now.inherited (tree (world T.answers now)
+        (fill (env now.style) (view node.now)) now.inherited now.state)) now else now)
+        result ctx.old ctx.new }
+{
+    match plan {
+        Some(plan) => render_by_plan(node, ctx, first, plan),
+        None => {
+            let asked = ask_node(node, ctx);
+            let (at, info) = ctx.attempt(asked)?;
+            render_by_plan(node, ctx, first, NodePlan::new(&at, &info))
+        }
+    }
+}
+
+/// The same by a plan.
+#[cycle(render)]
+fn render_by_plan<'p, 's, T: EntryLike>(
+    node: &'s LayoutRenderingElement,
+    ctx: &mut Context<'s, T>,
+    first: bool,
+    plan: NodePlan<'p>,
+) -> Result<bool, RenderError>
+    requires { IsPlan (world T.answers ctx.old) ctx.old.state
+        (fill (env ctx.old.style) (view node.now)) plan }
+    ensures value { GivesBy (λ answer. answer) result (info (world T.answers ctx.old)
+        ctx.old.state (fill (env ctx.old.style) (view node.now))).prints }
+    ensures after { Runs (λ now. if (info (world T.answers now) now.state
+        (fill (env now.style) (view node.now))).prints then with_made
+        (admitted_made first now.inherited (tree (world T.answers now)
+        (fill (env now.style) (view node.now)) now.inherited now.state)) now else now)
+        result ctx.old ctx.new }
+{
+    let prints = plan.prints();
+    if prints {
+        render_admitted(node, ctx, first, plan)?;
+    } else {
+        ctx.ensure_live()?;
+    }
+    Ok(prints)
+}
+
+/// Appends what a node makes, behind the inherited delimiter unless it is the first.
+#[cycle(render)]
+fn render_admitted<'p, 's, T: EntryLike>(
+    node: &'s LayoutRenderingElement,
+    ctx: &mut Context<'s, T>,
+    first: bool,
+    plan: NodePlan<'p>,
 ) -> Result<(), RenderError>
+    requires { IsPlan (world T.answers ctx.old) ctx.old.state
+        (fill (env ctx.old.style) (view node.now)) plan }
     ensures { Runs (λ now. with_made (admitted_made first now.inherited
         (tree (world T.answers now) (fill (env now.style) (view node.now)) now.inherited now.state))
         now) result ctx.old ctx.new }
@@ -204,14 +350,14 @@ fn render_admitted<'s, T: EntryLike>(
             let behind = ctx.push_elem()?;
             ctx.push_str(delimiter)?;
             let element = ctx.push_elem()?;
-            node.render(ctx)?;
+            render_node(node, ctx, Some(plan))?;
             ctx.commit_elem(element, None, None)?;
             ctx.commit_elem(behind, None, None)?;
             Ok(())
         }
         _ => {
             let element = ctx.push_elem()?;
-            node.render(ctx)?;
+            render_node(node, ctx, Some(plan))?;
             ctx.commit_elem(element, None, None)?;
             Ok(())
         }

@@ -1,56 +1,142 @@
 //! Groups (CSL 1.0.2, Group).
 
-ghost use Rattle.std.specs.Prelude.{None};
+ghost use Rattle.std.specs.Prelude.{◌≡◌, None, IfOk, IfSome};
 ghost use Rattle.csl_tree.specs.Content.{boxed};
 ghost use Rattle.csl_style.specs.Node.{fill};
 ghost use Rattle.csl_style.specs.View.{view_group};
 ghost use Rattle.csl_context.specs.World.{env};
-ghost use Rattle.csl_context.specs.Now.{Runs, IsInnermost, closed_by};
-ghost use Rattle.csl_render.specs.Tree.{shown_if};
+ghost use Rattle.csl_context.specs.Now.{Runs, GivesBy, IsInnermost, closed_by, world};
+ghost use Rattle.csl_leaves.specs.Text.{with_made};
+ghost use Rattle.csl_render.specs.Plan.{AreReadAlike, IsInfo, IsPlan};
+ghost use Rattle.csl_render.specs.Tree.{shows, tree, shown_if};
 ghost use Rattle.csl_render.specs.Rendering.{part};
 
+use crate::dry_run::DryRun;
 use crate::element::{any_shows, infos, render_with_delimiter};
+use crate::plan::{DryState, NodeInfo, NodePlan};
+use crate::query::Query;
 use crate::render::RenderCsl;
 use csl_context::{Context, Mark, RenderError};
 use csl_entry::EntryLike;
 use csl_leaves::{UsageInfo, group_said};
 use csl_style::{Display, Group, Variable};
+use lit_model::Memory;
 
 impl RenderCsl for Group {
     ghost rendering = { λ style g. part (fill (env style) (view_group g)) };
 
-    #[cycle(info)]
     fn will_have_info<'s, T: EntryLike>(
         &'s self,
         ctx: &mut Context<'s, T>,
     ) -> Result<(bool, UsageInfo), RenderError> {
-        let said = infos(ctx, &self.children)?;
-        Ok(group_said(said))
+        let info = group_info(self, &mut DryRun::new(ctx));
+        let info = ctx.attempt(info)?;
+        Ok(info.answer)
     }
 
-    #[cycle(shows)]
     fn will_render<'s, T: EntryLike>(
         &'s self,
         ctx: &mut Context<'s, T>,
         var: Variable,
     ) -> Result<bool, RenderError> {
-        any_shows(ctx, &self.children, var)
+        let shows = group_shows(self, &mut Query::new(ctx, var));
+        ctx.attempt(shows)
     }
 
-    #[cycle(render)]
     fn render<'s, T: EntryLike>(&'s self, ctx: &mut Context<'s, T>) -> Result<(), RenderError> {
-        let (_, usage) = infos(ctx, &self.children)?;
-        ctx.push_format(self.formatting)?;
-        ctx.push_delimiter(self.delimiter.as_deref())?;
-        let element = ctx.push_elem()?;
-        let middle = ctx.apply_prefix()?;
-        render_with_delimiter(ctx, &self.children)?;
-        ctx.apply_suffix(&self.affixes, middle, false)?;
-        close_group(ctx, element, usage.should_render_group(), self.display)?;
-        ctx.pop_delimiter();
-        ctx.pop_format();
-        Ok(())
+        render_group(self, ctx, None)
     }
+}
+
+/// The dry run of a group.
+#[cycle(info)]
+pub(crate) fn group_info<'c, 's, T: EntryLike>(
+    group: &'s Group,
+    run: &mut DryRun<'c, 's, T>,
+) -> Result<NodeInfo, Memory>
+    ensures value { IfOk result (IsInfo (world T.answers run.old) run.old.state
+        (fill (env run.old.style) (view_group group.now))) }
+    ensures kept { run.new ≡ run.old }
+{
+    let (sum, inside) = infos(&group.children, run)?;
+    Ok(NodeInfo::new(group_said(sum), inside))
+}
+
+/// Whether a group shows the variable.
+#[cycle(shows)]
+pub(crate) fn group_shows<'c, 's, T: EntryLike>(
+    group: &'s Group,
+    query: &mut Query<'c, 's, T>,
+) -> Result<bool, Memory>
+    ensures value { GivesBy (λ answer. answer) result (shows (world T.answers query.old.now)
+        query.old.now.state query.old.variable
+        (fill (env query.old.now.style) (view_group group.now))) }
+    ensures kept { query.new ≡ query.old }
+{
+    any_shows(&group.children, query)
+}
+
+/// The dry run of a group, with the state that it read.
+fn ask_group<'s, T: EntryLike>(
+    group: &'s Group,
+    ctx: &Context<'s, T>,
+) -> Result<(DryState, NodeInfo), Memory>
+    ensures at { IfOk result (λ r. AreReadAlike (world T.answers ctx.now) r.0 ctx.now.state) }
+    ensures info { IfOk result (λ r. IsInfo (world T.answers ctx.now) r.0
+        (fill (env ctx.now.style) (view_group group.now)) r.1) }
+{
+    let at = DryState::of(ctx)?;
+    let info = group_info(group, &mut DryRun::new(ctx))?;
+    Ok((at, info))
+}
+
+/// Appends what a group makes, by its plan if it has one.
+#[cycle(render)]
+pub(crate) fn render_group<'p, 's, T: EntryLike>(
+    group: &'s Group,
+    ctx: &mut Context<'s, T>,
+    plan: Option<NodePlan<'p>>,
+) -> Result<(), RenderError>
+    requires { IfSome plan (IsPlan (world T.answers ctx.old) ctx.old.state
+        (fill (env ctx.old.style) (view_group group.now))) }
+    ensures { Runs (λ now. with_made (tree (world T.answers now)
+        (fill (env now.style) (view_group group.now)) now.inherited now.state) now)
+        result ctx.old ctx.new }
+{
+    match plan {
+        Some(plan) => render_group_by_plan(group, ctx, plan),
+        None => {
+            let asked = ask_group(group, ctx);
+            let (at, info) = ctx.attempt(asked)?;
+            render_group_by_plan(group, ctx, NodePlan::new(&at, &info))
+        }
+    }
+}
+
+/// The same by a plan.
+#[cycle(render)]
+fn render_group_by_plan<'p, 's, T: EntryLike>(
+    group: &'s Group,
+    ctx: &mut Context<'s, T>,
+    plan: NodePlan<'p>,
+) -> Result<(), RenderError>
+    requires { IsPlan (world T.answers ctx.old) ctx.old.state
+        (fill (env ctx.old.style) (view_group group.now)) plan }
+    ensures { Runs (λ now. with_made (tree (world T.answers now)
+        (fill (env now.style) (view_group group.now)) now.inherited now.state) now)
+        result ctx.old ctx.new }
+{
+    let usage = plan.usage();
+    ctx.push_format(group.formatting)?;
+    ctx.push_delimiter(group.delimiter.as_deref())?;
+    let element = ctx.push_elem()?;
+    let middle = ctx.apply_prefix()?;
+    render_with_delimiter(&group.children, ctx, Some(plan.inside()))?;
+    ctx.apply_suffix(&group.affixes, middle, false)?;
+    close_group(ctx, element, usage.should_render_group(), group.display)?;
+    ctx.pop_delimiter();
+    ctx.pop_format();
+    Ok(())
 }
 
 /// Closes an element, and drops what it holds unless it is to be shown.

@@ -8,7 +8,7 @@ ghost use Rattle.csl_render.specs.Rendering.{part};
 use crate::render::RenderCsl;
 use csl_context::{Context, RenderError};
 use csl_entry::EntryLike;
-use csl_leaves::{UsageInfo, label_info, nothing_shown, render_label};
+use csl_leaves::{UsageInfo, label_info, render_label};
 use csl_style::{Label, Variable};
 
 impl RenderCsl for Label {
@@ -19,7 +19,8 @@ impl RenderCsl for Label {
         &'s self,
         ctx: &mut Context<'s, T>,
     ) -> Result<(bool, UsageInfo), RenderError> {
-        label_info(ctx, self)
+        let answer = label_info(ctx, self);
+        ctx.attempt(answer)
     }
 
     fn will_render<'s, T: EntryLike>(
@@ -27,7 +28,8 @@ impl RenderCsl for Label {
         ctx: &mut Context<'s, T>,
         _var: Variable,
     ) -> Result<bool, RenderError> {
-        nothing_shown(ctx)
+        ctx.ensure_live()?;
+        Ok(false)
     }
 
     fn render<'s, T: EntryLike>(&'s self, ctx: &mut Context<'s, T>) -> Result<(), RenderError> {

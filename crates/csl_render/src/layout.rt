@@ -5,7 +5,9 @@ ghost use Rattle.csl_style.specs.View.{view_layout};
 ghost use Rattle.csl_context.specs.World.{env};
 ghost use Rattle.csl_render.specs.Rendering.{whole};
 
+use crate::dry_run::DryRun;
 use crate::element::{any_shows, infos, render_all};
+use crate::query::Query;
 use crate::render::RenderCsl;
 use csl_context::{Context, RenderError};
 use csl_entry::EntryLike;
@@ -19,8 +21,9 @@ impl RenderCsl for Layout {
         &'s self,
         ctx: &mut Context<'s, T>,
     ) -> Result<(bool, UsageInfo), RenderError> {
-        let said = infos(ctx, &self.elements)?;
-        Ok(but_groups(said))
+        let answers = infos(&self.elements, &mut DryRun::new(ctx));
+        let (sum, _) = ctx.attempt(answers)?;
+        Ok(but_groups(sum))
     }
 
     fn will_render<'s, T: EntryLike>(
@@ -28,13 +31,14 @@ impl RenderCsl for Layout {
         ctx: &mut Context<'s, T>,
         var: Variable,
     ) -> Result<bool, RenderError> {
-        any_shows(ctx, &self.elements, var)
+        let shows = any_shows(&self.elements, &mut Query::new(ctx, var));
+        ctx.attempt(shows)
     }
 
     fn render<'s, T: EntryLike>(&'s self, ctx: &mut Context<'s, T>) -> Result<(), RenderError> {
         ctx.push_format(self.formatting)?;
         ctx.push_delimiter(self.delimiter.as_deref())?;
-        render_all(ctx, &self.elements)?;
+        render_all(&self.elements, ctx, None)?;
         ctx.pop_delimiter();
         ctx.pop_format();
         Ok(())

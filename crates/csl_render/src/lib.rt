@@ -6,6 +6,7 @@
 
 mod choose;
 mod date;
+mod dry_run;
 mod element;
 mod group;
 mod label;
@@ -13,6 +14,8 @@ mod layout;
 mod names;
 mod number;
 mod pair;
+mod plan;
+mod query;
 mod render;
 mod text;
 

@@ -9,61 +9,54 @@ ghost use Rattle.csl_style.specs.Node.{Full, fill, fills, fill_within, no_instea
 ghost use Rattle.csl_style.specs.View.{view, views, view_names};
 ghost use Rattle.csl_context.specs.State.{Inherited, State};
 ghost use Rattle.csl_context.specs.World.{env};
-ghost use Rattle.csl_context.specs.Now.{Runs, Reads, same, world};
+ghost use Rattle.csl_context.specs.Now.{Runs, GivesBy, world};
 ghost use Rattle.csl_names.specs.NamesForms.{is_void};
 ghost use Rattle.csl_names.specs.NamesLists.{all_empty, found_lists};
 ghost use Rattle.csl_names.specs.PersonLists.{list_of};
 ghost use Rattle.csl_render.specs.Names.{Macros, author, has_variable, is_of_names, names_it, any_names_it, substitutes_it, insteads_of, standing_in, refuses_alone, is_refused, names_show, names_said, in_substitute, suppressing_from, substitute_made};
 ghost use Rattle.csl_leaves.specs.Text.{Appends, made, with_made};
 ghost use Rattle.csl_leaves.specs.Usages.{told};
+ghost use Rattle.csl_render.specs.Plan.{IsInfo};
 ghost use Rattle.csl_render.specs.Rendering.{part, with_all_made};
-ghost use Rattle.csl_render.specs.Tree.{tree, substitute_shows, substitute_info, substitute_tree, until_text, tries_tree, choice_info, choice_shows, names_tree, shorthand_tree};
+ghost use Rattle.csl_render.specs.Tree.{shows, tree, substitute_shows, substitute_info, substitute_tree, until_text, tries_tree, choice_info, choice_shows, names_tree, shorthand_tree};
 
-use crate::element::{any_shows, infos};
+use crate::dry_run::DryRun;
+use crate::element::{any_shows, infos, render_node};
+use crate::plan::NodeInfo;
+use crate::query::Query;
 use crate::render::RenderCsl;
 use csl_context::{Context, RenderError};
 use csl_entry::{EntryLike, SpecialForm};
-use csl_leaves::{UsageInfo, but_groups, nothing, nothing_said, nothing_shown};
+use csl_leaves::{UsageInfo, but_groups, nothing, nothing_said};
 use csl_names::{
     PersonList, all_empty, commit_names, found_lists, is_void, printed_lists, write_names,
 };
 use csl_style::{LayoutRenderingElement, NameVariable, Names, NamesParts, Variable};
+use lit_model::Memory;
 
 impl RenderCsl for Names {
     ghost rendering = { λ style n. part (fill (env style) (view_names n)) };
 
-    #[cycle(info)]
     fn will_have_info<'s, T: EntryLike>(
         &'s self,
         ctx: &mut Context<'s, T>,
     ) -> Result<(bool, UsageInfo), RenderError> {
-        let judged = judge(ctx, self.parts())?;
-        if refuses(self, ctx, judged.is_empty)? {
-            return nothing_said(ctx);
-        }
-        if !judged.is_void {
-            return Ok(names_said(false, (false, UsageInfo::default())));
-        }
-        let said = substitute_info(self, ctx)?;
-        Ok(names_said(true, said))
+        let info = names_info(self, &mut DryRun::new(ctx));
+        let info = ctx.attempt(info)?;
+        Ok(info.answer)
     }
 
-    #[cycle(shows)]
     fn will_render<'s, T: EntryLike>(
         &'s self,
         ctx: &mut Context<'s, T>,
         var: Variable,
     ) -> Result<bool, RenderError> {
-        let judged = judge(ctx, self.parts())?;
-        shows_it(self, ctx, var, judged.is_empty)
+        let shows = names_show(self, &mut Query::new(ctx, var));
+        ctx.attempt(shows)
     }
 
-    #[cycle(render)]
     fn render<'s, T: EntryLike>(&'s self, ctx: &mut Context<'s, T>) -> Result<(), RenderError> {
-        let parts = self.parts();
-        let lists = printed_lists(ctx, parts.variables)?;
-        render_lists(self, ctx, &lists)?;
-        Ok(())
+        render_names(self, ctx)
     }
 }
 
@@ -77,16 +70,12 @@ struct Judged {
 }
 
 /// Judges the lists of a names node. The looks are silent.
-fn judge<'s, T: EntryLike>(
-    ctx: &mut Context<'s, T>,
-    parts: NamesParts<'_>,
-) -> Result<Judged, RenderError>
+fn judge<'s, T: EntryLike>(ctx: &Context<'s, T>, parts: NamesParts<'_>) -> Result<Judged, Memory>
     ensures empty { IfOk result (λ judged. judged.is_empty ≡ all_empty (found_lists
-        (world T.answers ctx.old) ctx.old.state (parts_node parts.entry).variables)) }
+        (world T.answers ctx.now) ctx.now.state (parts_node parts.entry).variables)) }
     ensures void { IfOk result (λ judged. judged.is_void ≡ is_void (parts_node parts.entry)
-        (found_lists (world T.answers ctx.old) ctx.old.state
+        (found_lists (world T.answers ctx.now) ctx.now.state
         (parts_node parts.entry).variables)) }
-    ensures after { Runs same result ctx.old ctx.new }
 {
     let lists = found_lists(ctx, parts.variables)?;
     Ok(Judged {
@@ -239,70 +228,135 @@ fn has_or_substitutes(variable: NameVariable, names: &Names, is_empty: bool) -> 
     substitutes_it(variable, names)
 }
 
+/// The dry run of names.
+#[cycle(info)]
+pub(crate) fn names_info<'c, 's, T: EntryLike>(
+    names: &'s Names,
+    run: &mut DryRun<'c, 's, T>,
+) -> Result<NodeInfo, Memory>
+    ensures value { IfOk result (IsInfo (world T.answers run.old) run.old.state
+        (fill (env run.old.style) (view_names names.now))) }
+    ensures kept { run.new ≡ run.old }
+{
+    let judged = judge(run.context(), names.parts())?;
+    if refuses(names, run.context(), judged.is_empty)? {
+        return Ok(run.leaf(nothing_said()));
+    }
+    if !judged.is_void {
+        return Ok(run.leaf(names_said(false, nothing_said())));
+    }
+    let answer = substitute_info(names, run)?;
+    Ok(run.leaf(names_said(true, answer)))
+}
+
+/// The dry run of the first substitute, which counts no group.
+#[cycle(info)]
+fn substitute_info<'c, 's, T: EntryLike>(
+    names: &'s Names,
+    run: &mut DryRun<'c, 's, T>,
+) -> Result<(bool, UsageInfo), Memory>
+    ensures value { GivesBy told result (substitute_info (world T.answers run.old) run.old.state
+        (insteads_of (env run.old.style) names.now)) }
+    ensures kept { run.new ≡ run.old }
+{
+    match substitute_nodes(names, run.context()) {
+        Some(nodes) => {
+            let (sum, _) = infos(nodes, run)?;
+            Ok(but_groups(sum))
+        }
+        None => Ok(nothing_said()),
+    }
+}
+
+/// Whether names show the variable.
+#[cycle(shows)]
+pub(crate) fn names_show<'c, 's, T: EntryLike>(
+    names: &'s Names,
+    query: &mut Query<'c, 's, T>,
+) -> Result<bool, Memory>
+    ensures value { GivesBy (λ answer. answer) result (shows (world T.answers query.old.now)
+        query.old.now.state query.old.variable
+        (fill (env query.old.now.style) (view_names names.now))) }
+    ensures kept { query.new ≡ query.old }
+{
+    let judged = judge(query.context(), names.parts())?;
+    names_or_substitute_show(names, query, judged.is_empty)
+}
+
 /// Whether names show the variable. `is_empty` says that there are no persons.
 #[cycle(shows)]
-fn shows_it<'s, T: EntryLike>(
+fn names_or_substitute_show<'c, 's, T: EntryLike>(
     names: &'s Names,
-    ctx: &mut Context<'s, T>,
-    var: Variable,
+    query: &mut Query<'c, 's, T>,
     is_empty: bool,
-) -> Result<bool, RenderError>
-    ensures { Reads (λ shows. shows) result
-        (names_show var (names_node names.now) is_empty (substitute_shows (world T.answers ctx.old)
-        ctx.old.state var (insteads_of (env ctx.old.style) names.now))) ctx.old ctx.new }
+) -> Result<bool, Memory>
+    ensures value { GivesBy (λ answer. answer) result (names_show query.old.variable
+        (names_node names.now) is_empty (substitute_shows (world T.answers query.old.now)
+        query.old.now.state query.old.variable
+        (insteads_of (env query.old.now.style) names.now))) }
+    ensures kept { query.new ≡ query.old }
 {
-    ctx.ensure_live()?;
-    if is_of_names(var, names.parts().variables) {
+    if is_of_names(query.variable(), names.parts().variables) {
         return Ok(true);
     }
     if !is_empty {
         return Ok(false);
     }
-    match substitute_nodes(names, ctx) {
-        Some(nodes) => any_shows(ctx, nodes, var),
-        None => nothing_shown(ctx),
+    match substitute_nodes(names, query.context()) {
+        Some(nodes) => any_shows(nodes, query),
+        None => Ok(false),
     }
 }
 
 /// Whether the special form of the cite leaves no names. `is_empty` says that there are no persons.
 fn refuses<'s, T: EntryLike>(
     names: &'s Names,
-    ctx: &mut Context<'s, T>,
+    ctx: &Context<'s, T>,
     is_empty: bool,
-) -> Result<bool, RenderError>
-    ensures { Reads (λ refused. refused) result (is_refused ctx.old.special (names_node names.now)
-        is_empty (insteads_of (env ctx.old.style) names.now) (names_show author
-        (names_node names.now) is_empty (substitute_shows (world T.answers ctx.old)
-        ctx.old.state author (insteads_of (env ctx.old.style) names.now)))) ctx.old ctx.new }
+) -> Result<bool, Memory>
+    ensures { GivesBy (λ refused. refused) result (is_refused ctx.now.special
+        (names_node names.now) is_empty (insteads_of (env ctx.now.style) names.now)
+        (names_show author (names_node names.now) is_empty (substitute_shows
+        (world T.answers ctx.now) ctx.now.state author
+        (insteads_of (env ctx.now.style) names.now)))) }
 {
-    ctx.ensure_live()?;
     match ctx.special_form() {
         None => Ok(false),
         Some(SpecialForm::VarOnly(only)) => Ok(refuses_alone(only, names, is_empty)),
         Some(SpecialForm::OnlyFirstDate) => Ok(true),
         Some(SpecialForm::OnlyYearSuffix) => Ok(true),
-        Some(SpecialForm::SuppressAuthor) => {
-            shows_it(names, ctx, Variable::Name(NameVariable::Author), is_empty)
-        }
+        Some(SpecialForm::SuppressAuthor) => shows_author(names, ctx, is_empty),
     }
 }
 
-/// The dry run of the first substitute, which counts no group.
-#[cycle(info)]
-fn substitute_info<'s, T: EntryLike>(
+/// Whether names show the authors. `is_empty` says that there are no persons.
+fn shows_author<'s, T: EntryLike>(
+    names: &'s Names,
+    ctx: &Context<'s, T>,
+    is_empty: bool,
+) -> Result<bool, Memory>
+    ensures { GivesBy (λ shows. shows) result (names_show author (names_node names.now) is_empty
+        (substitute_shows (world T.answers ctx.now) ctx.now.state author
+        (insteads_of (env ctx.now.style) names.now))) }
+{
+    let mut query = Query::new(ctx, Variable::Name(NameVariable::Author));
+    names_or_substitute_show(names, &mut query, is_empty)
+}
+
+/// Appends what names make.
+#[cycle(render)]
+pub(crate) fn render_names<'s, T: EntryLike>(
     names: &'s Names,
     ctx: &mut Context<'s, T>,
-) -> Result<(bool, UsageInfo), RenderError>
-    ensures { Reads told result (substitute_info (world T.answers ctx.old) ctx.old.state
-        (insteads_of (env ctx.old.style) names.now)) ctx.old ctx.new }
+) -> Result<(), RenderError>
+    ensures { Runs (λ now. with_made (tree (world T.answers now)
+        (fill (env now.style) (view_names names.now)) now.inherited now.state) now)
+        result ctx.old ctx.new }
 {
-    match substitute_nodes(names, ctx) {
-        Some(nodes) => {
-            let said = infos(ctx, nodes)?;
-            Ok(but_groups(said))
-        }
-        None => nothing_said(ctx),
-    }
+    let parts = names.parts();
+    let lists = printed_lists(ctx, parts.variables)?;
+    render_lists(names, ctx, &lists)?;
+    Ok(())
 }
 
 /// Appends what names make that have these lists.
@@ -319,7 +373,8 @@ fn render_lists<'s, T: EntryLike>(
         result ctx.old ctx.new }
 {
     let is_empty = all_empty(lists);
-    if refuses(names, ctx, is_empty)? {
+    let refused = refuses(names, ctx, is_empty);
+    if ctx.attempt(refused)? {
         return nothing(ctx);
     }
     if is_empty {
@@ -437,7 +492,7 @@ fn render_in_place<'s, T: EntryLike>(
 {
     match shorthand(node) {
         Some(names) => render_shorthand(ctx, names.parts_in_place_of(original)),
-        None => node.render(ctx),
+        None => render_node(node, ctx, None),
     }
 }
 

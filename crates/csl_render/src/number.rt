@@ -18,7 +18,8 @@ impl RenderCsl for Number {
         &'s self,
         ctx: &mut Context<'s, T>,
     ) -> Result<(bool, UsageInfo), RenderError> {
-        number_info(ctx, self)
+        let answer = number_info(ctx, self);
+        ctx.attempt(answer)
     }
 
     fn will_render<'s, T: EntryLike>(
@@ -26,7 +27,8 @@ impl RenderCsl for Number {
         ctx: &mut Context<'s, T>,
         var: Variable,
     ) -> Result<bool, RenderError> {
-        number_shown(ctx, self, var)
+        ctx.ensure_live()?;
+        Ok(number_shown(ctx, self, var))
     }
 
     fn render<'s, T: EntryLike>(&'s self, ctx: &mut Context<'s, T>) -> Result<(), RenderError> {

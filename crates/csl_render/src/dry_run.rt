@@ -1,0 +1,89 @@
+//! Dry runs: a context that is only read, and the results for macros that came before.
+
+ghost use Rattle.std.specs.Prelude.{◌≡◌, [], IfSome};
+ghost use Rattle.csl_context.specs.Now.{world};
+ghost use Rattle.csl_context.specs.World.{env};
+ghost use Rattle.csl_leaves.specs.Usages.{told};
+ghost use Rattle.csl_render.specs.DryRun.{call_info};
+ghost use Rattle.csl_render.specs.Plan.{answer_of, inside_of};
+
+use crate::plan::NodeInfo;
+use csl_context::Context;
+use csl_entry::EntryLike;
+use csl_leaves::UsageInfo;
+use lit_model::Memory;
+use std::collections::HashMap;
+use std::marker::Model;
+
+/// A dry run over a context that is only read. It goes through each macro once, and keeps the
+/// result by the macro's name.
+#[derive(Drop)]
+pub(crate) struct DryRun<'c, 's, T: EntryLike> {
+    ctx: &'c Context<'s, T>,
+    calls: HashMap<&'s str, (bool, UsageInfo)>,
+}
+
+impl<'c, 's, T: EntryLike> Model for DryRun<'c, 's, T> {
+    ghost use Rattle.std.specs.Coded.{codes};
+    ghost use Rattle.csl_style.specs.contracts.element.CslMacro as of_macro;
+    ghost use Rattle.csl_style.specs.contracts.element.Layout as of_layout;
+    ghost use Rattle.csl_context.specs.Now.{Now, world};
+    ghost use Rattle.csl_render.specs.DryRun.{HasInfos};
+
+    ghost Value = { Now T };
+
+    ghost coded = { Prim.hlevel (codes, of_macro.the_row.coded, of_layout.the_row.coded) };
+
+    ghost view = { λ r. r.ctx.now };
+
+    ghost invariant = { λ r. HasInfos (world T.answers r.ctx.now) r.ctx.now.state r.calls };
+}
+
+impl<'c, 's, T: EntryLike> DryRun<'c, 's, T> {
+    /// A dry run in which no macro is known yet.
+    pub(crate) fn new(ctx: &'c Context<'s, T>) -> DryRun<'c, 's, T>
+        ensures { result ≡ ctx.now }
+    {
+        DryRun {
+            ctx,
+            calls: HashMap::new(ctx.alloc()),
+        }
+    }
+
+    /// The context.
+    pub(crate) fn context(&self) -> &'c Context<'s, T>
+        ensures { result.now ≡ self.now }
+    {
+        self.ctx
+    }
+
+    /// The result for a node without nodes inside.
+    pub(crate) fn leaf(&self, answer: (bool, UsageInfo)) -> NodeInfo
+        ensures answer { answer_of result ≡ told answer }
+        ensures inside { inside_of result ≡ [] }
+    {
+        NodeInfo::new(answer, Vec::new(self.ctx.alloc()))
+    }
+
+    /// The result for a text of the macro, if one came before.
+    pub(crate) fn known_call(&self, name: &str) -> Option<(bool, UsageInfo)>
+        ensures { IfSome result (λ answer. told answer ≡ call_info (world T.answers self.now)
+            self.now.state (env self.now.style name.now)) }
+    {
+        self.calls.get(name).copied()
+    }
+
+    /// Keeps the result for a text of the macro.
+    pub(crate) fn keep_call(
+        &mut self,
+        name: &'s str,
+        answer: (bool, UsageInfo),
+    ) -> Result<(), Memory>
+        requires { told answer ≡ call_info (world T.answers self.old) self.old.state
+            (env self.old.style name.now) }
+        ensures { self.new ≡ self.old }
+    {
+        self.calls.insert(name, answer)?;
+        Ok(())
+    }
+}

@@ -1,0 +1,215 @@
+//! Plans: the result of a dry run of a node and of the nodes inside it, by which the node is then
+//! rendered without another one (CSL 1.0.2, Group).
+
+ghost use Rattle.std.specs.Prelude.{◌≡◌, ◌&&◌, not, [], IfOk, IfSome, IsSomeAnd, IsTrue};
+ghost use Rattle.csl_style.specs.Node.{Full, Fulls, more};
+ghost use Rattle.csl_context.specs.Now.{world};
+ghost use Rattle.csl_leaves.specs.Usages.{told, flags_of};
+ghost use Rattle.csl_render.specs.Plan.{asks_for_dates, AreReadAlike, answer_of, inside_of, IsPlan, ArePlans};
+
+use csl_context::Context;
+use csl_entry::{EntryLike, SpecialForm};
+use csl_leaves::UsageInfo;
+use csl_style::Variable;
+use lit_model::Memory;
+use std::collections::BTreeSet;
+use std::marker::Model;
+
+/// The result of a dry run of a node.
+#[derive(Drop)]
+pub(crate) struct NodeInfo {
+    /// Whether the node would print, and its usage flags.
+    pub(crate) answer: (bool, UsageInfo),
+    /// The results for the children of a group, the nodes of a macro, or those that a choice takes,
+    /// from the first. They may break off.
+    pub(crate) inside: Vec<NodeInfo>,
+}
+
+impl NodeInfo {
+    /// A result, with those for the nodes inside.
+    pub(crate) fn new(answer: (bool, UsageInfo), inside: Vec<NodeInfo>) -> NodeInfo
+        ensures answer { answer_of result ≡ told answer }
+        ensures inside { inside_of result ≡ inside.items }
+    {
+        NodeInfo { answer, inside }
+    }
+}
+
+/// What dry runs read of the state of a context.
+#[derive(Drop)]
+pub(crate) struct DryState {
+    suppressed: BTreeSet<Variable>,
+    first_date_seen: bool,
+}
+
+impl Model for DryState {
+    ghost use Rattle.std.specs.Prelude.{false, None};
+    ghost use Rattle.csl_context.specs.State.{State};
+
+    ghost Value = { State };
+
+    ghost view = { λ d. record {
+      suppressed = d.suppressed.keys;
+      suppressing = false;
+      first_date_seen = d.first_date_seen;
+      first_names = None;
+    } };
+}
+
+/// Whether dry runs under the special form ask if a date was rendered.
+fn asks_for_dates(special: Option<SpecialForm>) -> bool
+    ensures { result ≡ asks_for_dates special }
+{
+    match special {
+        None => false,
+        Some(SpecialForm::VarOnly(_)) => false,
+        Some(SpecialForm::OnlyFirstDate) => true,
+        Some(SpecialForm::OnlyYearSuffix) => true,
+        Some(SpecialForm::SuppressAuthor) => false,
+    }
+}
+
+/// Whether two date marks are the same as far as dry runs under the special form read them. The
+/// second is given by whether no date was rendered.
+#[tactic(auto, using(crate::proofs::Reading::mark_unread, crate::proofs::Reading::mark_unset, crate::proofs::Reading::mark_set))]
+fn is_same_mark(special: Option<SpecialForm>, seen: bool, is_first: bool) -> bool
+    ensures { IsTrue result
+        → (asks_for_dates special && seen) ≡ (asks_for_dates special && not is_first) }
+{
+    if !asks_for_dates(special) {
+        return true;
+    }
+    if is_first { !seen } else { seen }
+}
+
+/// Whether these are the suppressed variables of the context.
+fn are_suppressed<'s, T: EntryLike>(variables: &BTreeSet<Variable>, ctx: &Context<'s, T>) -> bool
+    ensures { IsTrue result → variables.now.keys ≡ ctx.now.state.suppressed }
+{
+    variables == ctx.suppressed()
+}
+
+impl DryState {
+    /// What dry runs read of the context.
+    pub(crate) fn of<'s, T: EntryLike>(ctx: &Context<'s, T>) -> Result<DryState, Memory>
+        ensures { IfOk result (λ at. AreReadAlike (world T.answers ctx.now) at ctx.now.state) }
+    {
+        Ok(DryState {
+            suppressed: ctx.suppressed().clone()?,
+            first_date_seen: !ctx.peek_is_first_date(),
+        })
+    }
+
+    /// Whether dry runs read this of the context.
+    #[tactic(auto, using(crate::proofs::Reading::read_alike))]
+    pub(crate) fn is_of<'s, T: EntryLike>(&self, ctx: &Context<'s, T>) -> bool
+        ensures { IsTrue result → AreReadAlike (world T.answers ctx.now) self.now ctx.now.state }
+    {
+        if !is_same_mark(
+            ctx.special_form(),
+            self.first_date_seen,
+            ctx.peek_is_first_date(),
+        ) {
+            return false;
+        }
+        are_suppressed(&self.suppressed, ctx)
+    }
+}
+
+/// A plan of a node: the result of its dry run, and the state that this read.
+#[derive(Clone, Copy)]
+pub(crate) struct NodePlan<'p> {
+    at: &'p DryState,
+    info: &'p NodeInfo,
+}
+
+impl<'p> NodePlan<'p> {
+    /// The plan of a result and the state that it goes by.
+    pub(crate) fn new(at: &'p DryState, info: &'p NodeInfo) -> NodePlan<'p>
+        ensures at { result.at.now ≡ at.now }
+        ensures info { result.info.now ≡ info.now }
+    {
+        NodePlan { at, info }
+    }
+
+    /// Whether the node would print.
+    pub(crate) fn prints(self) -> bool
+        ensures { result ≡ (answer_of self.entry.info.now).prints }
+    {
+        self.info.answer.0
+    }
+
+    /// The usage flags of the node.
+    pub(crate) fn usage(self) -> UsageInfo
+        ensures { flags_of result ≡ (answer_of self.entry.info.now).flags }
+    {
+        self.info.answer.1
+    }
+
+    /// The plan of the nodes inside.
+    pub(crate) fn inside(self) -> ListPlan<'p>
+        ensures at { result.at.now ≡ self.entry.at.now }
+        ensures infos { result.infos.now ≡ inside_of self.entry.info.now }
+    {
+        ListPlan {
+            at: self.at,
+            infos: self.info.inside.as_slice(),
+        }
+    }
+}
+
+/// A plan of some nodes: the results from the first node on, and the state that they go by.
+#[derive(Clone, Copy)]
+pub(crate) struct ListPlan<'p> {
+    at: &'p DryState,
+    infos: &'p [NodeInfo],
+}
+
+impl<'p> ListPlan<'p> {
+    /// The plan of the first node, if there is one and it holds for the context. That of the nodes
+    /// after it is left.
+    pub(crate) fn next<'s, T: EntryLike>(&mut self, ctx: &Context<'s, T>) -> Option<NodePlan<'p>>
+        ensures next { (f : Full) → (fs : Fulls) → ArePlans (world T.answers ctx.now) (more f fs) self.old
+            → IfSome result (IsPlan (world T.answers ctx.now) ctx.now.state f) }
+        ensures rest { (f : Full) → (fs : Fulls) → ArePlans (world T.answers ctx.now) (more f fs) self.old
+            → ArePlans (world T.answers ctx.now) fs self.new }
+    {
+        let (info, rest) = self.infos.split_first()?;
+        self.infos = rest;
+        if self.at.is_of(ctx) {
+            Some(NodePlan { at: self.at, info })
+        } else {
+            None
+        }
+    }
+}
+
+/// The plan of the first node, if the nodes have one and it holds for the context. That of the nodes
+/// after it is left.
+pub(crate) fn next_plan<'p, 's, T: EntryLike>(
+    plan: &mut Option<ListPlan<'p>>,
+    ctx: &Context<'s, T>,
+) -> Option<NodePlan<'p>>
+    ensures next { (f : Full) → (fs : Fulls)
+        → IfSome plan.old (ArePlans (world T.answers ctx.now) (more f fs))
+        → IfSome result (IsPlan (world T.answers ctx.now) ctx.now.state f) }
+    ensures rest { (f : Full) → (fs : Fulls)
+        → IfSome plan.old (ArePlans (world T.answers ctx.now) (more f fs))
+        → IfSome plan.new (ArePlans (world T.answers ctx.now) fs) }
+{
+    match plan {
+        Some(plan) => plan.next(ctx),
+        None => None,
+    }
+}
+
+/// The plan of the nodes inside a node, if the node has one.
+pub(crate) fn inside_plan<'p>(plan: Option<NodePlan<'p>>) -> Option<ListPlan<'p>>
+    ensures { IfSome result (λ nodes. IsSomeAnd plan.entry (λ node.
+        (nodes.at.now ≡ node.at.now) × (nodes.infos.now ≡ inside_of node.info.now))) }
+{
+    match plan {
+        Some(plan) => Some(plan.inside()),
+        None => None,
+    }
+}

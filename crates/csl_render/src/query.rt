@@ -1,0 +1,85 @@
+//! Whether nodes show one variable, in a context that is only read.
+
+ghost use Rattle.std.specs.Prelude.{◌≡◌, IfSome};
+ghost use Rattle.csl_context.specs.Now.{world};
+ghost use Rattle.csl_context.specs.World.{env};
+ghost use Rattle.csl_render.specs.DryRun.{call_shows};
+
+use csl_context::Context;
+use csl_entry::EntryLike;
+use csl_style::Variable;
+use lit_model::Memory;
+use std::collections::HashMap;
+use std::marker::Model;
+
+/// A query whether nodes show a variable, over a context that is only read. It goes through each
+/// macro once, and keeps the result by the macro's name.
+#[derive(Drop)]
+pub(crate) struct Query<'c, 's, T: EntryLike> {
+    ctx: &'c Context<'s, T>,
+    variable: Variable,
+    calls: HashMap<&'s str, bool>,
+}
+
+impl<'c, 's, T: EntryLike> Model for Query<'c, 's, T> {
+    ghost use Rattle.std.specs.Coded.{codes};
+    ghost use Rattle.csl_style.specs.contracts.element.CslMacro as of_macro;
+    ghost use Rattle.csl_style.specs.contracts.element.Layout as of_layout;
+    ghost use Rattle.csl_context.specs.Now.{world};
+    ghost use Rattle.csl_render.specs.DryRun as dry_run;
+    ghost use Rattle.csl_render.specs.DryRun.{HasShown};
+
+    ghost Value = { dry_run.Query T };
+
+    ghost coded = { Prim.hlevel (codes, of_macro.the_row.coded, of_layout.the_row.coded) };
+
+    ghost view = { λ q. record { now = q.ctx.now; variable = q.variable } };
+
+    ghost invariant = { λ q.
+        HasShown (world T.answers q.ctx.now) q.ctx.now.state q.variable q.calls };
+}
+
+impl<'c, 's, T: EntryLike> Query<'c, 's, T> {
+    /// A query for the variable in which no macro is known yet.
+    pub(crate) fn new(ctx: &'c Context<'s, T>, variable: Variable) -> Query<'c, 's, T>
+        ensures { result ≡ record { now = ctx.now; variable = variable } }
+    {
+        Query {
+            ctx,
+            variable,
+            calls: HashMap::new(ctx.alloc()),
+        }
+    }
+
+    /// The context.
+    pub(crate) fn context(&self) -> &'c Context<'s, T>
+        ensures { result.now ≡ self.now.now }
+    {
+        self.ctx
+    }
+
+    /// The variable that is looked for.
+    pub(crate) fn variable(&self) -> Variable
+        ensures { result ≡ self.now.variable }
+    {
+        self.variable
+    }
+
+    /// Whether a text of the macro shows the variable, if one came before.
+    pub(crate) fn known_call(&self, name: &str) -> Option<bool>
+        ensures { IfSome result (λ shows. shows ≡ call_shows (world T.answers self.now.now)
+            self.now.now.state self.now.variable (env self.now.now.style name.now)) }
+    {
+        self.calls.get(name).copied()
+    }
+
+    /// Keeps whether a text of the macro shows the variable.
+    pub(crate) fn keep_call(&mut self, name: &'s str, shows: bool) -> Result<(), Memory>
+        requires { shows ≡ call_shows (world T.answers self.old.now) self.old.now.state
+            self.old.variable (env self.old.now.style name.now) }
+        ensures { self.new ≡ self.old }
+    {
+        self.calls.insert(name, shows)?;
+        Ok(())
+    }
+}
