@@ -32,7 +32,7 @@ const SMALL: usize = 10;
 const MANY_PARENTS: usize = 500;
 
 /// The works, by name, and the size in which each is done without words.
-static WORKS: [(&'static str, usize); 30] = [
+static WORKS: [(&'static str, usize); 31] = [
     ("numeric", SMALL),
     ("pages", SMALL),
     ("initials", SMALL),
@@ -62,6 +62,7 @@ static WORKS: [(&'static str, usize); 30] = [
     ("macros", SMALL),
     ("substitutes", SMALL),
     ("bibliography", SMALL),
+    ("doubling", SMALL),
     ("doubling_size", SMALL),
 ];
 
@@ -97,6 +98,7 @@ fn checksum(alloc: Global, work: &str, size: usize) -> Result<usize, WorkError> 
         "macros" => nested::macros(alloc, size),
         "substitutes" => nested::substitutes(alloc, size),
         "bibliography" => bibliography::bibliography(alloc, size),
+        "doubling" => nested::doubling(alloc, size),
         "doubling_size" => nested::doubling_size(alloc, size),
         _ => Err(WorkError::Unexpected("no such work")),
     }

@@ -83,13 +83,28 @@ fn expanded_size(style: &Style) -> u64 {
     style.expanded_size(style.citation(), MOST).unwrap_or(0)
 }
 
-/// Asks how large a layout of as many macros as `size` is, each of which holds the next twice, the
-/// last twice a genre, which no entry here has. Nothing is rendered.
-pub fn doubling_size(alloc: Global, size: usize) -> Result<usize, WorkError> {
+/// A style of as many macros as `size`, each of which holds the next twice, the last twice a genre,
+/// which no entry here has. Its layout calls the first.
+fn doubling_style(alloc: Global, size: usize) -> Result<Style, WorkError> {
     let genre = Variable::Standard(StandardVariable::Genre);
     let macros = linked(alloc, size, 2, genre)?;
     let first = alone(alloc, macro_text(name(alloc, 0)?))?;
-    let style = with_layout(alloc, StyleSettings::default(), macros, layout(first))?;
+    with_layout(alloc, StyleSettings::default(), macros, layout(first))
+}
+
+/// Renders a layout of as many macros as `size`, each of which holds the next twice, and counts the
+/// bytes of the plain text: none, since the last has a genre, which no entry here has.
+pub fn doubling(alloc: Global, size: usize) -> Result<usize, WorkError> {
+    let style = doubling_style(alloc, size)?;
+    let bytes = size_for_one(alloc, &style);
+    drop(style);
+    bytes
+}
+
+/// Asks how large a layout of as many macros as `size` is, each of which holds the next twice.
+/// Nothing is rendered.
+pub fn doubling_size(alloc: Global, size: usize) -> Result<usize, WorkError> {
+    let style = doubling_style(alloc, size)?;
     let expanded = expanded_size(&style);
     drop(style);
     Ok(expanded as usize)
