@@ -169,9 +169,11 @@ impl<'p> ListPlan<'p> {
     /// The plan of the first node, if there is one and it holds for the context. That of the nodes
     /// after it is left.
     pub(crate) fn next<'s, T: EntryLike>(&mut self, ctx: &Context<'s, T>) -> Option<NodePlan<'p>>
-        ensures next { (f : Full) → (fs : Fulls) → ArePlans (world T.answers ctx.now) (more f fs) self.old
+        ensures next { (f : Full) → (fs : Fulls)
+            → ArePlans (world T.answers ctx.now) (more f fs) self.old
             → IfSome result (IsPlan (world T.answers ctx.now) ctx.now.state f) }
-        ensures rest { (f : Full) → (fs : Fulls) → ArePlans (world T.answers ctx.now) (more f fs) self.old
+        ensures rest { (f : Full) → (fs : Fulls)
+            → ArePlans (world T.answers ctx.now) (more f fs) self.old
             → ArePlans (world T.answers ctx.now) fs self.new }
     {
         let (info, rest) = self.infos.split_first()?;
