@@ -1,7 +1,6 @@
 //! An entry type of these tests' own: whatever a style asks for, it has it, and it is empty.
 
 use crate::cited::alone;
-use csl_built_in::one_piece;
 use csl_entry::EntryLike;
 use csl_style::{DateVariable, Kind, NameVariable, NumberVariable, PageVariable, StandardVariable};
 use lit_model::{
@@ -94,24 +93,15 @@ impl EntryLike for Blank {
 
 /// A person who has a name and a given name, or a name alone.
 pub(crate) fn person(alloc: Global, name: &str, given: Option<&str>) -> Result<Person, Memory> {
-    let name = String::from_str(alloc, name)?;
-    let given_name = match given {
-        Some(given) => Some(String::from_str(alloc, given)?),
-        None => None,
-    };
-    Ok(Person {
-        name,
-        given_name,
-        prefix: None,
-        suffix: None,
-        alias: None,
-        comma_suffix: false,
-    })
+    match given {
+        Some(given) => Person::new(alloc, name, given),
+        None => Person::institution(alloc, name),
+    }
 }
 
 /// The entry, alone in a list.
 pub(crate) fn blanks(alloc: Global) -> Result<Vec<Blank>, Memory> {
-    let text = one_piece(alloc, "")?;
-    let person = person(alloc, "", None)?;
+    let text = ChunkedString::plain(alloc, "")?;
+    let person = Person::institution(alloc, "")?;
     alone(alloc, Blank { text, person })
 }

@@ -11,7 +11,7 @@ use crate::styles::say_set;
 use csl_built_in::{BuiltIn, BuiltInStyle};
 use csl_context::{Context, LeftState, RenderError, Rendered};
 use csl_entry::{CiteProperties, DisambiguateState, EntryLike, InstanceContext};
-use csl_render::{RenderCsl, UsageInfo};
+use csl_render::{RenderCsl, UsageInfo, cite};
 use csl_style::{Layout, LayoutRenderingElement, Scope, Style};
 use std::alloc::{AllocError, Global};
 use std::process::Abort;
@@ -114,12 +114,12 @@ fn made_of<T: EntryLike>(
     alloc: Global,
     style: &Style,
     node: Option<&LayoutRenderingElement>,
-    cite: &CiteProperties<'_>,
+    cite_props: &CiteProperties<'_>,
     entry: &T,
 ) -> Result<Rendered, RenderError> {
     match node {
-        None => rendered(alloc, style, style.citation(), cite, None, entry),
-        Some(node) => rendered(alloc, style, node, cite, None, entry),
+        None => cite(alloc, style, entry, cite_props),
+        Some(node) => rendered(alloc, style, node, cite_props, None, entry),
     }
 }
 

@@ -5,12 +5,12 @@ use crate::asserted::assert_text;
 use crate::cited::entries;
 use crate::cites::{BOOK, DEPENDENCE_HTML, ESSAY_HTML, THREE, VORTEX_HTML};
 use crate::nodes::{layout, text_of};
-use csl_built_in::{BuiltIn, BuiltInStyle, TitleOnly, one_piece, title_style};
+use csl_built_in::{BuiltIn, BuiltInStyle, TitleOnly, title_style};
 use csl_context::{LeftState, RenderError};
 use csl_entry::{CiteProperties, DisambiguateState, EntryLike};
-use csl_render::{Pair, render_pair};
+use csl_render::{Pair, cite_pair, render_pair};
 use csl_style::{Layout, Scope, StandardVariable, Style};
-use lit_model::Entry;
+use lit_model::{ChunkedString, Entry};
 use std::alloc::Global;
 use std::process::Abort;
 use std::test::Fail;
@@ -76,8 +76,10 @@ fn pair_of(alloc: Global, style: BuiltInStyle, works: &[Entry]) -> Result<Pair, 
     let left = works.first().ok_or("an entry")?;
     let right = works.last().ok_or("an entry")?;
     let style = style.style(alloc)?;
-    let pair = paired(alloc, &style, style.citation(), left, right);
+    let cite = CiteProperties::first(DisambiguateState::None);
+    let pair = cite_pair(alloc, &style, &cite, left, right);
     drop(style);
+    drop(cite);
     Ok(pair?)
 }
 
@@ -157,7 +159,7 @@ fn titles(alloc: Global, book: &Entry, title: &TitleOnly) -> Result<Pair, Fail> 
 /// What the layout of a title makes of the book and of an entry that has this title alone.
 fn titles_of(alloc: Global, title: &str) -> Result<Pair, Fail> {
     let title = TitleOnly {
-        title: one_piece(alloc, title)?,
+        title: ChunkedString::plain(alloc, title)?,
     };
     titles_with(alloc, &title)
 }

@@ -1,14 +1,14 @@
 //! Cites of entries that have no memory for one of their answers, each answer in turn. What is
 //! expected stands here as written out by hand.
 
-use crate::cited::{assert_plain, entries, rendered};
+use crate::cited::{assert_plain, entries};
 use crate::cites::{BOOK, DEPENDENCE, ESSAY, VORTEX};
 use crate::pairs::{AUTHORS_AND_DATES, Row, line};
 use crate::without_memory::WithoutMemory;
 use csl_built_in::{BuiltIn, BuiltInStyle};
 use csl_context::{Context, RenderError, Rendered};
 use csl_entry::{CiteProperties, DisambiguateState, EntryLike, InstanceContext};
-use csl_render::RenderCsl;
+use csl_render::{RenderCsl, cite};
 use csl_style::{DateVariable, NameVariable, NumberVariable, Scope, Style, Variable};
 use lit_model::Entry;
 use std::alloc::Global;
@@ -106,9 +106,9 @@ fn assert_alone(
     entry: &Entry,
     wanted: &str,
 ) -> Result<(), Fail> {
-    let cite = CiteProperties::first(DisambiguateState::None);
-    let made = rendered(alloc, style, style.citation(), &cite, None, entry);
-    drop(cite);
+    let cite_props = CiteProperties::first(DisambiguateState::None);
+    let made = cite(alloc, style, entry, &cite_props);
+    drop(cite_props);
     let made = made?;
     let answer = assert_plain(rt, alloc, &made, wanted);
     drop(made);

@@ -4,17 +4,16 @@
 ghost use Rattle.std.specs.Prelude.{Some, None, codes};
 
 use crate::asserted::{assert_status, assert_text};
-use crate::blank::person;
-use crate::cited::rendered;
 use crate::cites::{THREE, VORTEX_HTML};
 use crate::words::{NATURE, Row, owned};
 use csl_answers::run::run;
-use csl_built_in::{TitleOnly, one_piece, title_style};
+use csl_built_in::{TitleOnly, title_style};
 use csl_context::Rendered;
 use csl_entry::{CiteProperties, DisambiguateState};
+use csl_render::cite;
 use csl_style::Style;
 use csl_tree::{BufWriteFormat, ElemChildren};
-use lit_model::{GrammarGender, NumberForm, Numeric, Ordinals, PageRanges};
+use lit_model::{ChunkedString, GrammarGender, NumberForm, Numeric, Ordinals, PageRanges, Person};
 use std::alloc::Global;
 use std::fmt::{self, Write};
 use std::process::Abort;
@@ -146,16 +145,16 @@ fn assert_content(rt: &impl Abort, alloc: Global, content: &ElemChildren) -> Res
 
 /// What a style makes of a title.
 fn titled(alloc: Global, style: &Style, title: &TitleOnly) -> Result<Rendered, Fail> {
-    let cite = CiteProperties::first(DisambiguateState::None);
-    let made = rendered(alloc, style, style.citation(), &cite, None, title);
-    drop(cite);
+    let cite_props = CiteProperties::first(DisambiguateState::None);
+    let made = cite(alloc, style, title, &cite_props);
+    drop(cite_props);
     Ok(made?)
 }
 
 /// The content of a title.
 fn content(alloc: Global) -> Result<Rendered, Fail> {
     let title = TitleOnly {
-        title: one_piece(alloc, "R&D")?,
+        title: ChunkedString::plain(alloc, "R&D")?,
     };
     let style = title_style(alloc)?;
     let made = titled(alloc, &style, &title);
@@ -226,14 +225,14 @@ fn refused_texts_of_numbers(rt: HostRuntime) -> Result<(), Fail> {
 
 /// Asserts what is written of the initials of a given name.
 fn assert_initials(rt: &impl Abort, alloc: Global, given: &str, wanted: &str) -> Result<(), Fail> {
-    let person = person(alloc, "x", Some(given))?;
+    let person = Person::new(alloc, "x", given)?;
     let initials = |w: &mut Few| person.initials(w, Some(". "), true);
     assert_written(rt, alloc, &initials, wanted)
 }
 
 /// Asserts what is written of a given name.
 fn assert_given(rt: &impl Abort, alloc: Global, given: &str, wanted: &str) -> Result<(), Fail> {
-    let person = person(alloc, "x", Some(given))?;
+    let person = Person::new(alloc, "x", given)?;
     let first = |w: &mut Few| person.first_name_with_delimiter(w, Some("."));
     assert_written(rt, alloc, &first, wanted)
 }

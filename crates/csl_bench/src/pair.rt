@@ -3,10 +3,10 @@
 use crate::entry::article;
 use crate::error::WorkError;
 use crate::render::style;
-use csl_context::{LeftState, RenderError};
+use csl_context::RenderError;
 use csl_entry::{CiteProperties, DisambiguateState, EntryLike};
-use csl_render::{Pair, render_pair};
-use csl_style::{Scope, Style, named_by};
+use csl_render::{Pair, cite_pair};
+use csl_style::{Style, named_by};
 use lit_model::Memory;
 use std::alloc::Global;
 
@@ -26,19 +26,15 @@ pub fn named(alloc: Global, size: usize) -> Result<usize, WorkError> {
     Ok(count?)
 }
 
-/// What the citation layout of a style makes of two entries.
+/// Cites two entries, each for the first time.
 fn paired<T: EntryLike>(
     alloc: Global,
     style: &Style,
     left: &T,
     right: &T,
 ) -> Result<Pair, RenderError> {
-    let cite = CiteProperties::first(DisambiguateState::None);
-    let start = LeftState::new(alloc);
-    let (layout, scope) = (style.citation(), Scope::Citation);
-    render_pair(
-        alloc, style, layout, scope, &cite, None, None, &start, left, right,
-    )
+    let cite_props = CiteProperties::first(DisambiguateState::None);
+    cite_pair(alloc, style, &cite_props, left, right)
 }
 
 /// How many bytes the HTML of both has.

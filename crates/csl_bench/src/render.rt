@@ -5,12 +5,11 @@ use crate::error::WorkError;
 use crate::literature::page_ranges;
 use crate::nodes::{bare_group, macro_text, title, variable_text};
 use crate::style::{alone, layout, put, with_layout};
-use csl_context::{Context, Rendered};
-use csl_entry::{CiteProperties, DisambiguateState, EntryLike, InstanceContext};
-use csl_render::RenderCsl;
+use csl_context::{RenderError, Rendered};
+use csl_entry::{CiteProperties, DisambiguateState, EntryLike};
+use csl_render::cite;
 use csl_style::{
-    CslMacro, LayoutRenderingElement, PageRangeFormat, PageVariable, Scope, Style, StyleSettings,
-    Variable,
+    CslMacro, LayoutRenderingElement, PageRangeFormat, PageVariable, Style, StyleSettings, Variable,
 };
 use csl_tree::BufWriteFormat;
 use lit_model::{Entry, MaybeTyped, Memory};
@@ -48,23 +47,14 @@ pub fn style(alloc: Global, size: usize) -> Result<Style, WorkError> {
     with_layout(alloc, StyleSettings::default(), macros, citation)
 }
 
-/// Renders the citation layout of a style for an entry.
-fn rendered<T: EntryLike>(alloc: Global, style: &Style, entry: &T) -> Result<Rendered, WorkError> {
-    let cite = CiteProperties::first(DisambiguateState::None);
-    let instance = InstanceContext {
-        entry,
-        cite_props: &cite,
-        sorting: None,
-        kind: None,
-    };
-    let mut ctx = Context::new(alloc, style, instance, Scope::Citation)?;
-    match style.citation().render(&mut ctx) {
-        Ok(()) => Ok(ctx.finish()?),
-        Err(error) => {
-            drop(ctx);
-            Err(error.into())
-        }
-    }
+/// Cites an entry for the first time.
+fn rendered<T: EntryLike>(
+    alloc: Global,
+    style: &Style,
+    entry: &T,
+) -> Result<Rendered, RenderError> {
+    let cite_props = CiteProperties::first(DisambiguateState::None);
+    cite(alloc, style, entry, &cite_props)
 }
 
 /// Renders the citation layout of a style for an entry, and counts the bytes of the plain text.

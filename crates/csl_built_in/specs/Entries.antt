@@ -9,16 +9,15 @@ use Rattle.url.specs.Parts as of_url
 use Rattle.lit_model.specs.declared.entry.Entry.{Entry, out-Entry}
 use Rattle.lit_model.specs.declared.entry_type.EntryType.{EntryType}
 use Rattle.lit_model.specs.declared.entry_type.EntryType.TheVariants.{Article, Book, Blog, Periodical}
-use Rattle.lit_model.specs.declared.text.ChunkKind.TheVariants.{Normal}
 use Rattle.lit_model.specs.Chunks.{text_of}
 use Rattle.lit_model.specs.Date.{Parts, date_parts}
 use Rattle.lit_model.specs.Entry.{parents_of}
 use Rattle.lit_model.specs.MaybeTyped.{MaybeView, typed}
 use Rattle.lit_model.specs.Numeric.{NumericView, one}
 use Rattle.lit_model.specs.Page.{PartView, range}
-use Rattle.lit_model.specs.Person.{Named}
+use Rattle.lit_model.specs.Person.{person_of}
 use Rattle.lit_model.specs.Source.{Address}
-use Rattle.lit_model.specs.Text.{Forms}
+use Rattle.lit_model.specs.Text.{plain_forms}
 use Rattle.lit_model.specs.Work.{Own, own_of}
 use Rattle.csl_style.specs.declared.taxonomy.Kind.{Kind}
 use Rattle.csl_entry.specs.CitationLabel.{LabelParts, label_from}
@@ -42,13 +41,6 @@ named_built_in key =
     else (if bytes_eq key (key_of Feminism) then Some Feminism else None)))
 
 -- ---- the parts of an entry
-
--- a text of one piece
-abbrev pub plain : List ℕ → Forms
-plain text = record { value = record { value = text; kind = Normal } ∷ []; short = None }
-
-abbrev pub person : List ℕ → List ℕ → Named
-person name given = record { name = name; given_name = Some given; prefix = None; suffix = None; alias = None; comma_suffix = false }
 
 abbrev pub bare_number : ℕ → NumericView
 bare_number n = record { value = one (pos n); prefix = None; suffix = None }
@@ -120,41 +112,41 @@ HasParent own e = (parent : Entry) × (parents_of e ≡ parent ∷ []) × Stands
 
 -- only a type and a title, without a key
 abbrev pub only_title : EntryType → List ℕ → Own
-only_title entry_type title = record (bare [] entry_type) { title = Some (plain title) }
+only_title entry_type title = record (bare [] entry_type) { title = Some (plain_forms title) }
 
 abbrev pub crazy_rich : Own
 crazy_rich = record (bare (key_of CrazyRich) Book) {
-  title = Some (plain (codes "Crazy Rich Asians"));
-  authors = Some (person (codes "Kwan") (codes "Kevin") ∷ []);
-  publisher = Some (record { name = Some (plain (codes "Anchor Books")); location = None });
-  location = Some (plain (codes "New York, NY, US"));
+  title = Some (plain_forms (codes "Crazy Rich Asians"));
+  authors = Some (person_of (codes "Kwan") (codes "Kevin") ∷ []);
+  publisher = Some (record { name = Some (plain_forms (codes "Anchor Books")); location = None });
+  location = Some (plain_forms (codes "New York, NY, US"));
 }
 
 abbrev pub quantized_vortex : Own
 quantized_vortex = record (bare (key_of QuantizedVortex) Article) {
-  title = Some (plain (codes "Structure of a Quantized Vortex in Boson Systems"));
-  authors = Some (person (codes "Gross") (codes "E. P.") ∷ []);
+  title = Some (plain_forms (codes "Structure of a Quantized Vortex in Boson Systems"));
+  authors = Some (person_of (codes "Gross") (codes "E. P.") ∷ []);
   page_range = Some (pages 454 477);
   serial_number = Some ((codes "doi", codes "10.1007/BF02731494") ∷ []);
 }
 
 abbrev pub nuovo_cimento : Own
 nuovo_cimento = record (bare [] Periodical) {
-  title = Some (plain (codes "Il Nuovo Cimento"));
+  title = Some (plain_forms (codes "Il Nuovo Cimento"));
   issue = Some (number 3);
   volume = Some (number 20);
 }
 
 abbrev pub dependence : Own
 dependence = record (bare (key_of Dependence) Article) {
-  title = Some (plain (codes "The program dependence graph and its use in optimization"));
-  authors = Some (person (codes "Ferrante") (codes "Jeanne") ∷ person (codes "Ottenstein") (codes "Karl J.") ∷ person (codes "Warren") (codes "Joe D.") ∷ []);
+  title = Some (plain_forms (codes "The program dependence graph and its use in optimization"));
+  authors = Some (person_of (codes "Ferrante") (codes "Jeanne") ∷ person_of (codes "Ottenstein") (codes "Karl J.") ∷ person_of (codes "Warren") (codes "Joe D.") ∷ []);
   serial_number = Some ((codes "doi", codes "10.1145/24039.24041") ∷ []);
 }
 
 abbrev pub transactions : Own
 transactions = record (bare [] Periodical) {
-  title = Some (plain (codes "ACM Transactions on Programming Languages and Systems"));
+  title = Some (plain_forms (codes "ACM Transactions on Programming Languages and Systems"));
   volume = Some (number 9);
   issue = Some (number 3);
 }
@@ -167,14 +159,14 @@ essay_address = address_from essay_text
 
 abbrev pub feminism : Own
 feminism = record (bare (key_of Feminism) Article) {
-  title = Some (plain (codes "She swoons to conquer"));
-  authors = Some (person (codes "Ungard-Sargon") (codes "Batya") ∷ []);
-  editors = Some (person (codes "Weintraub") (codes "Pam") ∷ []);
+  title = Some (plain_forms (codes "She swoons to conquer"));
+  authors = Some (person_of (codes "Ungard-Sargon") (codes "Batya") ∷ []);
+  editors = Some (person_of (codes "Weintraub") (codes "Pam") ∷ []);
   url = essay_address;
 }
 
 abbrev pub aeon : Own
-aeon = record (bare [] Blog) { title = Some (plain (codes "Aeon")) }
+aeon = record (bare [] Blog) { title = Some (plain_forms (codes "Aeon")) }
 
 abbrev pub IsBuiltIn : BuiltIn → Entry → Type 0
 IsBuiltIn CrazyRich e = Shows crazy_rich (Some (calendar_date 2014 None None)) e × (parents_of e ≡ [])

@@ -24,7 +24,6 @@ use Rattle.csl_style.specs.declared.names.NameAsSortOrder.{NameAsSortOrder}
 use Rattle.csl_style.specs.declared.names.NameAsSortOrder.TheVariants.{First}
 use Rattle.csl_style.specs.declared.names.NameForm.{NameForm}
 use Rattle.csl_style.specs.declared.names.NameForm.TheVariants as name_forms
-use Rattle.csl_style.specs.declared.number.LabelPluralize.TheVariants.{Contextual}
 use Rattle.csl_style.specs.declared.taxonomy.DateVariable.TheVariants.{Issued}
 use Rattle.csl_style.specs.declared.taxonomy.NameVariable.{NameVariable}
 use Rattle.csl_style.specs.declared.taxonomy.NameVariable.TheVariants.{Author, Editor}
@@ -35,15 +34,16 @@ use Rattle.csl_style.specs.declared.taxonomy.PageVariable.TheVariants as pages
 use Rattle.csl_style.specs.declared.taxonomy.StandardVariable.TheVariants.{Title, ContainerTitle, DOI}
 use Rattle.csl_style.specs.declared.taxonomy.Variable.{Variable}
 use Rattle.csl_style.specs.declared.taxonomy.Variable.TheVariants.{Standard, Page}
-use Rattle.csl_style.specs.declared.term.TermForm.TheVariants as forms
+use Rattle.csl_style.specs.Constructors.{italic, short_label_of, text_before, text_behind, texts_around, undressed}
 use Rattle.csl_style.specs.Dressing.{AffixTexts}
 use Rattle.csl_style.specs.NameOptions.{SetOptions}
-use Rattle.csl_style.specs.Names.{NameNode}
+use Rattle.csl_style.specs.Names.{NameNode, view_label}
+use Rattle.csl_style.specs.NamesParts.{default_name, plain}
 use Rattle.csl_style.specs.Node.{of_variable, DatePartNode, DateNode, Node, text, number, label, date, names, group, Nodes, no_nodes, node, LayoutNode}
 use Rattle.csl_style.specs.Style.{StyleParts, no_options, AreDefaults}
 use Rattle.csl_style.specs.View.{view_layout, Child, a_name, a_substitute, name_children, first_et_al, first_label, substitutes}
 use Rattle.csl_built_in.specs.English.{IsEnglish}
-use Rattle.csl_built_in.specs.Nodes.{no_formatting, italic, no_affixes, before, behind, around, undressed, affixed}
+use Rattle.csl_built_in.specs.Nodes.{no_affixes, affixed}
 use Rattle.csl_built_in.specs.declared.styles.BuiltInStyle.{BuiltInStyle}
 use Rattle.csl_built_in.specs.declared.styles.BuiltInStyle.TheVariants.{AuthorDate, Reference}
 
@@ -63,23 +63,17 @@ named_style name =
 -- a text of a variable
 abbrev pub variable_text : Variable → Formatting → AffixTexts → Bool → Node
 variable_text variable formatting affixes quotes = text (of_variable variable Long) (record {
-  dressing = record (undressed formatting) { affixes = affixes };
+  dressing = record undressed { formatting = formatting; affixes = affixes };
   quotes = quotes;
   strip_periods = false;
 })
 
 -- the short label of a number or of pages, in the plural beside several
 abbrev pub short_label : NumberOrPageVariable → Node
-short_label variable = label variable (record {
-  form = forms.Short;
-  plural = Contextual;
-  formatting = no_formatting;
-  affixes = no_affixes;
-  strip_periods = false;
-})
+short_label variable = label variable (view_label (short_label_of variable).label)
 
 abbrev pub date_part : DatePartName → Option DateAnyForm → DatePartNode
-date_part name form = record { name = name; form = form; formatting = no_formatting; affixes = no_affixes; strip_periods = false }
+date_part name form = record { name = name; form = form; formatting = plain; affixes = no_affixes; strip_periods = false }
 
 -- the date of issue, by these parts
 abbrev pub issued : List DatePartNode → Option (List ℕ) → DateNode
@@ -89,7 +83,7 @@ issued parts delimiter = record {
   parts = None;
   date_part = parts;
   delimiter = delimiter;
-  dressing = undressed no_formatting;
+  dressing = undressed;
 }
 
 -- persons of one variable, written by these children
@@ -98,7 +92,7 @@ persons_by variable children = names (record {
   variables = variable ∷ [];
   options = no_options;
   delimiter = None;
-  dressing = undressed no_formatting;
+  dressing = undressed;
   name_children = name_children children;
   et_al = first_et_al children;
   label = first_label false children;
@@ -109,7 +103,7 @@ abbrev pub joined_by_and : Option NameForm → Option NameAsSortOrder → SetOpt
 joined_by_and form order = record no_options { and = Some ands.Text; form = form; name_as_sort_order = order }
 
 abbrev pub name_by : SetOptions → NameNode
-name_by options = record { options = options; formatting = no_formatting; parts = [] }
+name_by options = record default_name { options = options }
 
 -- ---- author and date in parentheses
 
@@ -120,7 +114,7 @@ abbrev pub year : Node
 year = date (issued (date_part Year None ∷ []) None)
 
 abbrev pub author_date : Node
-author_date = group (Some (codes ", ")) (affixed (around (codes "(") (codes ")"))) (node short_authors (node year no_nodes))
+author_date = group (Some (codes ", ")) (affixed (texts_around (codes "(") (codes ")"))) (node short_authors (node year no_nodes))
 
 -- ---- a reference in full
 
@@ -133,23 +127,23 @@ abbrev pub authors : Node
 authors = persons_by Author (a_name (name_by (joined_by_and None (Some First))) ∷ a_substitute (node editors no_nodes) ∷ [])
 
 abbrev pub quoted_title : Node
-quoted_title = variable_text (Standard Title) no_formatting no_affixes true
+quoted_title = variable_text (Standard Title) plain no_affixes true
 
 abbrev pub container_title : Node
 container_title = variable_text (Standard ContainerTitle) italic no_affixes false
 
 -- a group of two nodes with a space between them
 abbrev pub spaced : Node → Node → Node
-spaced first second = group (Some (codes " ")) (undressed no_formatting) (node first (node second no_nodes))
+spaced first second = group (Some (codes " ")) undressed (node first (node second no_nodes))
 
 abbrev pub bare_volume : Node
-bare_volume = number (record { variable = counts.Number Volume; form = number_forms.Numeric; dressing = undressed no_formatting })
+bare_volume = number (record { variable = counts.Number Volume; form = number_forms.Numeric; dressing = undressed })
 
 abbrev pub volume : Node
 volume = spaced (short_label (counts.Number Volume)) bare_volume
 
 abbrev pub page : Node
-page = spaced (short_label (counts.Page pages.Page)) (variable_text (Page pages.Page) no_formatting no_affixes false)
+page = spaced (short_label (counts.Page pages.Page)) (variable_text (Page pages.Page) plain no_affixes false)
 
 abbrev pub month_and_year : Node
 month_and_year = date (issued (date_part Month (Some part_forms.Long) ∷ date_part Year None ∷ []) (Some (codes " ")))
@@ -159,13 +153,15 @@ described = node authors (node quoted_title (node container_title (node volume (
 
 -- the first group of a reference: its parts with commas between them, and a period
 abbrev pub description : Node
-description = group (Some (codes ", ")) (affixed (behind (codes "."))) described
+description = group (Some (codes ", ")) (affixed (text_behind (codes "."))) described
+
+-- the digital object identifier behind the address that resolves it
+abbrev pub link : Node
+link = variable_text (Standard DOI) plain (text_before (codes "https://doi.org/")) false
 
 -- the second group of a reference: the address of its digital object identifier, after a space
 abbrev pub address : Node
-address =
-    group None (affixed (before (codes " ")))
-    (node (variable_text (Standard DOI) no_formatting (before (codes "https://doi.org/")) false) no_nodes)
+address = group None (affixed (text_before (codes " "))) (node link no_nodes)
 
 -- ---- the styles
 
@@ -174,7 +170,7 @@ elements_of AuthorDate = node author_date no_nodes
 elements_of Reference = node description (node address no_nodes)
 
 abbrev pub built_in_layout : BuiltInStyle → LayoutNode
-built_in_layout style = record { delimiter = None; formatting = no_formatting; elements = elements_of style }
+built_in_layout style = record { delimiter = None; formatting = plain; elements = elements_of style }
 
 -- A style of one layout, that of a cite, in English. It has no macros and sets nothing.
 pub record IsBuiltInStyle (style : BuiltInStyle) (parts : StyleParts) : Type 0 where

@@ -1,18 +1,19 @@
 -- An entry that has a title and nothing else, and the style that it is cited in (`CitesTitles`): no
 -- macros, no locales, and a layout that is a group in parentheses, delimited by `: `, of the word
 -- `Title` and the title in italics.
-use Rattle.std.specs.Prelude.{◌≡◌, ℕ, List, [], ◌∷◌, Option, Some, None, false, codes}
+use Rattle.std.specs.Prelude.{◌≡◌, List, [], Option, Some, None, false, codes}
 use Rattle.lit_model.specs.Text.{Chunk}
-use Rattle.lit_model.specs.declared.text.ChunkKind.TheVariants.{Normal}
 use Rattle.csl_common.specs.declared.form.LongShortForm.TheVariants.{Long}
 use Rattle.csl_style.specs.declared.taxonomy.StandardVariable.{StandardVariable}
 use Rattle.csl_style.specs.declared.taxonomy.StandardVariable.TheVariants.{Title}
 use Rattle.csl_style.specs.declared.taxonomy.Variable.TheVariants.{Standard}
+use Rattle.csl_style.specs.Constructors.{italic, texts_around}
+use Rattle.csl_style.specs.NamesParts.{plain}
 use Rattle.csl_style.specs.Node.{of_variable, of_value, Node, text, group, Nodes, no_nodes, node, LayoutNode}
 use Rattle.csl_style.specs.Style.{StyleParts}
 use Rattle.csl_style.specs.View.{view_layout}
 use Rattle.csl_entry.specs.Answers.{Answers}
-use Rattle.csl_built_in.specs.Nodes.{no_formatting, italic, around, affixed, bare}
+use Rattle.csl_built_in.specs.Nodes.{affixed, bare}
 
 -- ---- the entry
 
@@ -30,15 +31,11 @@ title_answers title = record {
   kinds = λ _. false;
 }
 
--- a text in one piece
-abbrev pub one_piece : List ℕ → List Chunk
-one_piece bs = record { value = bs; kind = Normal } ∷ []
-
 -- ---- the style
 
 -- the word `Title`
 abbrev pub label : Node
-label = text (of_value (codes "Title")) (bare no_formatting)
+label = text (of_value (codes "Title")) (bare plain)
 
 -- the title in italics
 abbrev pub title_text : Node
@@ -49,10 +46,10 @@ label_and_title = node label (node title_text no_nodes)
 
 -- the label and the title in parentheses
 abbrev pub title_group : Node
-title_group = group (Some (codes ": ")) (affixed (around (codes "(") (codes ")"))) label_and_title
+title_group = group (Some (codes ": ")) (affixed (texts_around (codes "(") (codes ")"))) label_and_title
 
 abbrev pub title_layout : LayoutNode
-title_layout = record { delimiter = None; formatting = no_formatting; elements = node title_group no_nodes }
+title_layout = record { delimiter = None; formatting = plain; elements = node title_group no_nodes }
 
 pub record CitesTitles (style : StyleParts) : Type 0 where
   pub citation : view_layout style.citation ≡ title_layout

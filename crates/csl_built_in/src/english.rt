@@ -2,9 +2,9 @@
 
 ghost use Rattle.std.specs.Prelude.{◌≡◌, ◌++◌, IfOk, map};
 ghost use Rattle.csl_style.specs.Locale.{term_view, ordinal_view};
-ghost use Rattle.csl_built_in.specs.English.{IsEnglish, counted, word_of_row, ordinal_of_row};
+ghost use Rattle.csl_built_in.specs.English.{IsEnglish, word_of_row, ordinal_of_row};
 ghost use Rattle.csl_built_in.specs.English.{english_words, english_counted, english_ordinals};
-ghost use Rattle.csl_built_in.specs.English.{word, ordinal};
+ghost use Rattle.csl_built_in.specs.English.{ordinal};
 
 use csl_style::{
     Locale, NumberVariable, OrdinalSlot, OrdinalTerm, OtherTerm, PageVariable, Term, TermEntry,
@@ -58,49 +58,16 @@ fn ordinal_rows() -> &'static [(OrdinalSlot, &'static str)]
     &ORDINALS
 }
 
-/// A term that has one text, in its long form.
-fn word(alloc: Global, term: OtherTerm, text: &str) -> Result<TermEntry, Memory>
-    ensures { IfOk result (λ made. term_view made ≡ word term text.now) }
-{
-    Ok(TermEntry {
-        term: Term::Other(term),
-        form: TermForm::Long,
-        single: String::from_str(alloc, text)?,
-        multiple: None,
-        gender: None,
-    })
-}
-
 /// The terms that have one text.
 fn words(alloc: Global) -> Result<Vec<TermEntry>, Memory>
     ensures { IfOk result (λ made. map term_view made.items ≡ english_words) }
 {
     let mut terms = Vec::new(alloc);
     for row in word_rows() {
-        terms.push(word(alloc, row.0, row.1)?)?;
+        let term = Term::Other(row.0);
+        terms.push(TermEntry::new(alloc, term, TermForm::Long, row.1)?)?;
     }
     Ok(terms)
-}
-
-/// A term that has a text for one and one for several.
-fn counted(
-    alloc: Global,
-    term: Term,
-    form: TermForm,
-    one: &str,
-    several: &str,
-) -> Result<TermEntry, Memory>
-    ensures { IfOk result (λ made. term_view made ≡ counted term form one.now several.now) }
-{
-    let single = String::from_str(alloc, one)?;
-    let several = String::from_str(alloc, several)?;
-    Ok(TermEntry {
-        term,
-        form,
-        single,
-        multiple: Some(several),
-        gender: None,
-    })
 }
 
 /// What pages and volumes are called.
@@ -109,10 +76,10 @@ fn counted_terms(alloc: Global) -> Result<Vec<TermEntry>, Memory>
 {
     let page = Term::Page(PageVariable::Page);
     let volume = Term::Number(NumberVariable::Volume);
-    let pages = counted(alloc, page, TermForm::Long, "page", "pages")?;
-    let short_pages = counted(alloc, page, TermForm::Short, "p.", "pp.")?;
-    let volumes = counted(alloc, volume, TermForm::Long, "volume", "volumes")?;
-    let short_volumes = counted(alloc, volume, TermForm::Short, "vol.", "vols.")?;
+    let pages = TermEntry::counted(alloc, page, TermForm::Long, "page", "pages")?;
+    let short_pages = TermEntry::counted(alloc, page, TermForm::Short, "p.", "pp.")?;
+    let volumes = TermEntry::counted(alloc, volume, TermForm::Long, "volume", "volumes")?;
+    let short_volumes = TermEntry::counted(alloc, volume, TermForm::Short, "vol.", "vols.")?;
     let terms = vec![in alloc; pages, short_pages, volumes, short_volumes]?;
     Ok(terms)
 }
@@ -158,8 +125,7 @@ pub fn english(alloc: Global) -> Result<Locale, Memory>
     Ok(Locale {
         terms: terms(alloc)?,
         ordinals: ordinals(alloc)?,
-        dates: Vec::new(alloc),
         punctuation_in_quote: true,
-        limit_day_ordinals_to_day_1: false,
+        ..Locale::new(alloc)
     })
 }

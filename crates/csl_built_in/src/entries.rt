@@ -1,18 +1,16 @@
 //! The built-in entries.
 
 ghost use Rattle.std.specs.Prelude.{◌≡◌, ◌∷◌, [], Some, None, Err, IfOk, map, codes};
-ghost use Rattle.lit_model.specs.Person.{named};
+ghost use Rattle.lit_model.specs.Person.{named, person_of};
 ghost use Rattle.lit_model.specs.Source.{serials, address_of};
-ghost use Rattle.lit_model.specs.Text.{forms_of};
 ghost use Rattle.csl_built_in.specs.Entries.{IsBuiltIn, StandsAlone, named_built_in, only_title};
-ghost use Rattle.csl_built_in.specs.Entries.{plain, person, nuovo_cimento, transactions, dependence};
+ghost use Rattle.csl_built_in.specs.Entries.{nuovo_cimento, transactions, dependence};
 ghost use Rattle.csl_built_in.specs.Entries.{address_from, essay_address, essay_text};
 ghost use Rattle.csl_built_in.specs.declared.entries.AddressError.TheVariants as errors;
 
-use crate::lists::one;
 use lit_model::{
-    ChunkKind, ChunkedString, Date, Entry, EntryType, FormatString, MaybeTyped, Memory, Numeric,
-    PageRanges, PageRangesPart, Person, Publisher, QualifiedUrl, SerialNumber, StringChunk,
+    Date, Entry, EntryType, FormatString, MaybeTyped, Memory, Numeric, PageRanges, PageRangesPart,
+    Person, Publisher, QualifiedUrl, SerialNumber,
 };
 use std::alloc::Global;
 use std::collections::BTreeMap;
@@ -61,43 +59,12 @@ impl BuiltIn {
     }
 }
 
-/// A text of one piece.
-fn plain(alloc: Global, text: &str) -> Result<FormatString, Memory>
-    ensures { IfOk result (λ t. forms_of t ≡ plain text.now) }
-{
-    let value = String::from_str(alloc, text)?;
-    let chunk = StringChunk {
-        value,
-        kind: ChunkKind::Normal,
-    };
-    let chunks = one(alloc, chunk)?;
-    Ok(FormatString {
-        value: ChunkedString(chunks),
-        short: None,
-    })
-}
-
-/// A person with a given name.
-fn person(alloc: Global, name: &str, given: &str) -> Result<Person, Memory>
-    ensures { IfOk result (λ p. named p ≡ person name.now given.now) }
-{
-    let name = String::from_str(alloc, name)?;
-    let given = String::from_str(alloc, given)?;
-    Ok(Person {
-        name,
-        given_name: Some(given),
-        prefix: None,
-        suffix: None,
-        alias: None,
-        comma_suffix: false,
-    })
-}
-
 /// One person with a given name.
 fn one_person(alloc: Global, name: &str, given: &str) -> Result<Vec<Person>, Memory>
-    ensures { IfOk result (λ v. map named v.items ≡ person name.now given.now ∷ []) }
+    ensures { IfOk result (λ v. map named v.items ≡ person_of name.now given.now ∷ []) }
 {
-    one(alloc, person(alloc, name, given)?)
+    let person = Person::new(alloc, name, given)?;
+    Ok(vec![in alloc; person]?)
 }
 
 /// A digital object identifier.
@@ -141,14 +108,14 @@ fn address(alloc: Global, text: &str) -> Result<QualifiedUrl, AddressError>
 fn crazy_rich(alloc: Global) -> Result<Entry, Memory>
     ensures { IfOk result (IsBuiltIn BuiltIn.CrazyRich) }
 {
-    let title = plain(alloc, "Crazy Rich Asians")?;
+    let title = FormatString::plain(alloc, "Crazy Rich Asians")?;
     let authors = one_person(alloc, "Kwan", "Kevin")?;
-    let publisher = plain(alloc, "Anchor Books")?;
-    let location = plain(alloc, "New York, NY, US")?;
+    let publisher = FormatString::plain(alloc, "Anchor Books")?;
+    let location = FormatString::plain(alloc, "New York, NY, US")?;
     let mut entry = Entry::new(alloc, "crazy-rich", EntryType::Book)?;
     entry.title = Some(title);
     entry.authors = Some(authors);
-    entry.date = Date::new(2014, None, None, None, false);
+    entry.date = Some(Date::of_year(2014));
     entry.publisher = Some(Publisher {
         name: Some(publisher),
         location: None,
@@ -161,7 +128,7 @@ fn crazy_rich(alloc: Global) -> Result<Entry, Memory>
 fn parent(alloc: Global, entry_type: EntryType, title: &str) -> Result<Entry, Memory>
     ensures { IfOk result (StandsAlone (only_title entry_type title.now)) }
 {
-    let title = plain(alloc, title)?;
+    let title = FormatString::plain(alloc, title)?;
     let mut parent = Entry::new(alloc, "", entry_type)?;
     parent.title = Some(title);
     Ok(parent)
@@ -181,12 +148,13 @@ fn nuovo_cimento(alloc: Global) -> Result<Entry, Memory>
 fn quantized_vortex(alloc: Global) -> Result<Entry, Memory>
     ensures { IfOk result (IsBuiltIn BuiltIn.QuantizedVortex) }
 {
-    let title = plain(alloc, "Structure of a Quantized Vortex in Boson Systems")?;
+    let title = FormatString::plain(alloc, "Structure of a Quantized Vortex in Boson Systems")?;
     let authors = one_person(alloc, "Gross", "E. P.")?;
     let pages = PageRangesPart::Range(Numeric::new(454), Numeric::new(477));
-    let ranges = one(alloc, pages)?;
+    let ranges = vec![in alloc; pages]?;
     let numbers = doi(alloc, "10.1007/BF02731494")?;
-    let parents = one(alloc, nuovo_cimento(alloc)?)?;
+    let journal = nuovo_cimento(alloc)?;
+    let parents = vec![in alloc; journal]?;
     let mut entry = Entry::new(alloc, "quantized-vortex", EntryType::Article)?;
     entry.title = Some(title);
     entry.authors = Some(authors);
@@ -212,9 +180,9 @@ fn transactions(alloc: Global) -> Result<Entry, Memory>
 fn dependence_authors(alloc: Global) -> Result<Vec<Person>, Memory>
     ensures { IfOk result (λ v. Some (map named v.items) ≡ dependence.authors) }
 {
-    let ferrante = person(alloc, "Ferrante", "Jeanne")?;
-    let ottenstein = person(alloc, "Ottenstein", "Karl J.")?;
-    let warren = person(alloc, "Warren", "Joe D.")?;
+    let ferrante = Person::new(alloc, "Ferrante", "Jeanne")?;
+    let ottenstein = Person::new(alloc, "Ottenstein", "Karl J.")?;
+    let warren = Person::new(alloc, "Warren", "Joe D.")?;
     let authors = vec![in alloc; ferrante, ottenstein, warren]?;
     Ok(authors)
 }
@@ -224,10 +192,11 @@ fn dependence(alloc: Global) -> Result<Entry, Memory>
     ensures { IfOk result (IsBuiltIn BuiltIn.Dependence) }
 {
     let title = "The program dependence graph and its use in optimization";
-    let title = plain(alloc, title)?;
+    let title = FormatString::plain(alloc, title)?;
     let authors = dependence_authors(alloc)?;
     let numbers = doi(alloc, "10.1145/24039.24041")?;
-    let parents = one(alloc, transactions(alloc)?)?;
+    let journal = transactions(alloc)?;
+    let parents = vec![in alloc; journal]?;
     let mut entry = Entry::new(alloc, "dependence", EntryType::Article)?;
     entry.title = Some(title);
     entry.authors = Some(authors);
@@ -261,11 +230,12 @@ fn essay_address(alloc: Global) -> Result<QualifiedUrl, Memory>
 fn feminism(alloc: Global) -> Result<Entry, Memory>
     ensures { IfOk result (IsBuiltIn BuiltIn.Feminism) }
 {
-    let title = plain(alloc, "She swoons to conquer")?;
+    let title = FormatString::plain(alloc, "She swoons to conquer")?;
     let authors = one_person(alloc, "Ungard-Sargon", "Batya")?;
     let editors = one_person(alloc, "Weintraub", "Pam")?;
     let url = essay_address(alloc)?;
-    let parents = one(alloc, parent(alloc, EntryType::Blog, "Aeon")?)?;
+    let blog = parent(alloc, EntryType::Blog, "Aeon")?;
+    let parents = vec![in alloc; blog]?;
     let mut entry = Entry::new(alloc, "feminism", EntryType::Article)?;
     entry.title = Some(title);
     entry.authors = Some(authors);

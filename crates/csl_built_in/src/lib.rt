@@ -5,11 +5,9 @@
 mod english;
 mod entries;
 mod labels;
-mod lists;
-mod nodes;
 mod styles;
 mod title;
 
 pub use entries::BuiltIn;
 pub use styles::BuiltInStyle;
-pub use title::{TitleOnly, one_piece, title_style};
+pub use title::{TitleOnly, title_style};

@@ -1,23 +1,17 @@
 //! An entry that has a title and nothing else, and the style that it is cited in.
 
 ghost use Rattle.std.specs.Prelude.{◌≡◌, IfOk};
-ghost use Rattle.lit_model.specs.Text.{chunks};
-ghost use Rattle.csl_style.specs.View.{text_dressing, view, view_group, view_layout, views};
-ghost use Rattle.csl_built_in.specs.Nodes.{bare};
-ghost use Rattle.csl_built_in.specs.Title.{one_piece, label, title_text, label_and_title};
-ghost use Rattle.csl_built_in.specs.Title.{title_group, title_layout, CitesTitles};
+ghost use Rattle.csl_style.specs.View.{view, view_layout};
+ghost use Rattle.csl_built_in.specs.Title.{label, title_text, title_group, title_layout, CitesTitles};
 
-use crate::lists::{one, two};
-use crate::nodes::{around, italic, no_formatting};
 use csl_entry::EntryLike;
 use csl_style::{
     Affixes, DateVariable, Formatting, Group, Kind, Layout, LayoutRenderingElement, NameVariable,
     NumberVariable, PageVariable, StandardVariable, Style, StyleError, StyleSettings, Text,
-    TextTarget, Variable,
+    Variable,
 };
 use lit_model::{
-    ChunkKind, ChunkedString, Date, LongShortForm, MaybeTyped, Memory, Numeric, PageRanges, Person,
-    StringChunk,
+    ChunkedString, Date, LongShortForm, MaybeTyped, Memory, Numeric, PageRanges, Person,
 };
 use std::alloc::Global;
 use std::borrow::{Cow, CowStr};
@@ -96,76 +90,38 @@ impl EntryLike for TitleOnly {
     }
 }
 
-/// A title in one piece.
-///
-/// # Errors
-/// [`Memory`]: there was no memory left.
-pub fn one_piece(alloc: Global, title: &str) -> Result<ChunkedString, Memory>
-    ensures { IfOk result (λ made. chunks made ≡ one_piece title.now) }
-{
-    let chunk = StringChunk {
-        value: String::from_str(alloc, title)?,
-        kind: ChunkKind::Normal,
-    };
-    let chunks = one(alloc, chunk)?;
-    Ok(ChunkedString(chunks))
-}
-
-/// A text with a formatting and nothing else.
-fn bare_text(target: TextTarget, formatting: Formatting) -> Text
-    ensures target { result.target ≡ target }
-    ensures dressing { text_dressing result ≡ bare formatting }
-{
-    Text {
-        target,
-        formatting,
-        affixes: Affixes::default(),
-        display: None,
-        quotes: false,
-        strip_periods: false,
-    }
-}
-
 /// The word `Title`.
 fn label(alloc: Global) -> Result<LayoutRenderingElement, Memory>
     ensures { IfOk result (λ made. view made ≡ label) }
 {
-    let val = String::from_str(alloc, "Title")?;
-    let label = bare_text(TextTarget::Value { val }, no_formatting());
-    Ok(LayoutRenderingElement::Text(label))
+    Ok(Text::value(alloc, "Title")?.into())
 }
 
 /// The title in italics.
 fn title_text() -> LayoutRenderingElement
     ensures { view result ≡ title_text }
 {
-    let var = Variable::Standard(StandardVariable::Title);
-    let form = LongShortForm::Long;
-    LayoutRenderingElement::Text(bare_text(TextTarget::Variable { var, form }, italic()))
-}
-
-/// The word `Title` and the title in italics, in order.
-fn label_and_title(alloc: Global) -> Result<Vec<LayoutRenderingElement>, Memory>
-    ensures { IfOk result (λ children. views children.items ≡ label_and_title) }
-{
-    let label = label(alloc)?;
-    two(alloc, label, title_text())
+    let title = Variable::Standard(StandardVariable::Title);
+    Text {
+        formatting: Formatting::italic(),
+        ..Text::variable(title)
+    }
+    .into()
 }
 
 /// The word and the title in parentheses.
-fn title_group(alloc: Global) -> Result<Group, Memory>
-    ensures { IfOk result (λ group. view_group group ≡ title_group) }
+#[tactic(auto, using(csl_style::proofs::Rolled::group_made))]
+fn title_group(alloc: Global) -> Result<LayoutRenderingElement, Memory>
+    ensures { IfOk result (λ group. view group ≡ title_group) }
 {
-    let children = label_and_title(alloc)?;
-    let delimiter = String::from_str(alloc, ": ")?;
-    let affixes = around(alloc, "(", ")")?;
+    let label = label(alloc)?;
+    let children = vec![in alloc; label, title_text()]?;
+    let affixes = Affixes::around(alloc, "(", ")")?;
     Ok(Group {
-        children,
-        delimiter: Some(delimiter),
-        formatting: no_formatting(),
         affixes,
-        display: None,
-    })
+        ..Group::delimited(alloc, ": ", children)?
+    }
+    .into())
 }
 
 /// A layout of that group alone.
@@ -173,12 +129,8 @@ fn title_layout(alloc: Global) -> Result<Layout, Memory>
     ensures { IfOk result (λ layout. view_layout layout ≡ title_layout) }
 {
     let group = title_group(alloc)?;
-    let elements = one(alloc, LayoutRenderingElement::Group(group))?;
-    Ok(Layout {
-        elements,
-        delimiter: None,
-        formatting: no_formatting(),
-    })
+    let elements = vec![in alloc; group]?;
+    Ok(Layout::new(elements))
 }
 
 /// The style that titles are cited in: a layout of citations, and no macros and locales.

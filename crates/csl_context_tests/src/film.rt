@@ -107,24 +107,12 @@ impl EntryLike for Film {
     }
 }
 
-/// A person with a family name alone.
-fn person(alloc: Global, name: &str) -> Result<Person, Memory> {
-    Ok(Person {
-        name: String::from_str(alloc, name)?,
-        given_name: None,
-        prefix: None,
-        suffix: None,
-        alias: None,
-        comma_suffix: false,
-    })
-}
-
 /// Number 20, page 7, a title in three pieces, of Lang, in 1927.
 pub(crate) fn metropolis(alloc: Global) -> Result<Film, Fail> {
     let shown = Date::new(1927, None, None, None, false).ok_or("a year")?;
     let pages = PageRanges::parse(alloc, "7")?;
     let title = pieces(alloc, "a.+`b.+$c.")?;
-    let director = person(alloc, "Lang")?;
+    let director = Person::institution(alloc, "Lang")?;
     Ok(Film {
         number: Numeric::new(20),
         pages,

@@ -308,18 +308,10 @@ fn persons(alloc: Global, names: &str) -> Result<Vec<Person>, Fail> {
 
 /// A person of this name and, behind `/`, this given name.
 fn person(alloc: Global, name: &str) -> Result<Person, Fail> {
-    let (name, given) = match name.split_once('/') {
-        Some((name, given)) => (name, Some(String::from_str(alloc, given)?)),
-        None => (name, None),
-    };
-    Ok(Person {
-        name: String::from_str(alloc, name)?,
-        given_name: given,
-        prefix: None,
-        suffix: None,
-        alias: None,
-        comma_suffix: false,
-    })
+    match name.split_once('/') {
+        Some((name, given)) => Ok(Person::new(alloc, name, given)?),
+        None => Ok(Person::institution(alloc, name)?),
+    }
 }
 
 /// Adds a group of persons of that role.

@@ -5,6 +5,7 @@
 #![tactic(auto)]
 
 mod choose;
+mod cites;
 mod date;
 mod dry_run;
 mod element;
@@ -20,6 +21,7 @@ mod render;
 mod text;
 
 pub use choose::choose_children;
+pub use cites::{bibliography_entry, cite, cite_pair};
 pub use csl_leaves::{BranchConditionIter, BranchConditionPos, UsageInfo, full_sort_key};
 pub use pair::{Pair, render_pair};
 pub use render::RenderCsl;

@@ -45,4 +45,6 @@ mod said;
 #[cfg(test)]
 mod scene;
 #[cfg(test)]
+mod style_rows;
+#[cfg(test)]
 mod work;

@@ -4,8 +4,8 @@ use crate::date_nodes::date;
 use crate::name_nodes::name_options;
 use crate::nodes::{PAGE, alone, layout, nodes, put};
 use csl_style::{
-    CslMacro, Date, Locale, Locator, NameVariable, NumberVariable, OrdinalSlot, OrdinalTerm,
-    OtherTerm, PageRangeFormat, Style, StyleSettings, Term, TermEntry, TermForm,
+    CslMacro, Date, Layout, Locale, Locator, NameVariable, NumberVariable, OrdinalSlot,
+    OrdinalTerm, OtherTerm, PageRangeFormat, Style, StyleSettings, Term, TermEntry, TermForm,
 };
 use lit_model::{GrammarGender, Memory, Season};
 use std::alloc::{AllocError, Global};
@@ -190,6 +190,8 @@ pub(crate) struct Manner {
     pub(crate) date: Option<&'static str>,
     /// The words of its layout of citations.
     pub(crate) layout: &'static str,
+    /// The words of its layout of the bibliography, if it has one.
+    pub(crate) bibliography: Option<&'static str>,
     /// Only the first day of a month is an ordinal.
     pub(crate) is_limited: bool,
     /// Whether the style has terms for AD and BC.
@@ -205,6 +207,7 @@ pub(crate) const PLAIN: Manner = Manner {
     format: None,
     date: None,
     layout: "",
+    bibliography: None,
     is_limited: false,
     has_eras: false,
     is_merging: false,
@@ -232,14 +235,23 @@ fn locales(alloc: Global, manner: &Manner) -> Result<Vec<Locale>, Fail> {
     Ok(alone(alloc, locale)?)
 }
 
+/// The layout of the bibliography, if there is one.
+fn bibliography(alloc: Global, manner: &Manner) -> Result<Option<Layout>, Fail> {
+    match manner.bibliography {
+        Some(words) => Ok(Some(layout(alloc, words)?)),
+        None => Ok(None),
+    }
+}
+
 /// The style of these macros and this locale, of that manner.
 pub(crate) fn style(alloc: Global, manner: &Manner) -> Result<Style, Fail> {
     let names = name_options(alloc, manner.names)?;
     let macros = macros(alloc, &MACROS)?;
     let locales = locales(alloc, manner)?;
     let citation = layout(alloc, manner.layout)?;
+    let bibliography = bibliography(alloc, manner)?;
     let mut settings = StyleSettings::default();
     settings.page_range_format = manner.format;
     settings.names = names;
-    Ok(Style::new(alloc, settings, macros, citation, None, locales)?)
+    Ok(Style::new(alloc, settings, macros, citation, bibliography, locales)?)
 }

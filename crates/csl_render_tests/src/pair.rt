@@ -248,7 +248,8 @@ fn paired<T: EntryLike, U: EntryLike>(
     )
 }
 
-fn say_pair(pair: &Pair, said: &mut String) -> Result<(), Fail> {
+/// Says whether both are alike, and the HTML of both.
+pub(crate) fn say_pair(pair: &Pair, said: &mut String) -> Result<(), Fail> {
     let alike = if pair.alike { "alike" } else { "not alike" };
     let (left, right) = (pair.left_html.as_str(), pair.right_html.as_str());
     Ok(write!(said, "{alike}: {left}, {right}")?)

@@ -3,16 +3,16 @@
 use crate::error::WorkError;
 use crate::nodes::alone;
 use crate::refused::refusal;
-use csl_built_in::{BuiltIn, BuiltInStyle, TitleOnly, one_piece, title_style};
-use csl_context::{Context, LeftState, RenderError, Rendered};
+use csl_built_in::{BuiltIn, BuiltInStyle, TitleOnly, title_style};
+use csl_context::{Context, RenderError, Rendered};
 use csl_entry::{
     Alphanumerical, CiteProperties, DisambiguateState, DisambiguatedNameForm, EntryLike,
     InstanceContext, NameDisambiguationProperties, SpecialForm,
 };
-use csl_render::{Pair, RenderCsl, render_pair};
+use csl_render::{Pair, RenderCsl, cite_pair};
 use csl_style::{DateVariable, NameVariable, Scope, Style, Variable};
 use csl_tree::{BufWriteFormat, ElemChildren};
-use lit_model::{Entry, Memory};
+use lit_model::{ChunkedString, Entry, Memory};
 use std::alloc::Global;
 
 /// How a cite is asked for.
@@ -163,21 +163,16 @@ pub fn label(alloc: Global) -> Result<String, WorkError> {
     said
 }
 
-/// What the citation layout of a style makes of two entries.
+/// Cites two entries, each for the first time.
 fn paired(
     alloc: Global,
     style: &Style,
     left: &Entry,
     right: &TitleOnly,
 ) -> Result<Pair, RenderError> {
-    let cite = CiteProperties::first(DisambiguateState::None);
-    let start = LeftState::new(alloc);
-    let (layout, scope) = (style.citation(), Scope::Citation);
-    let pair = render_pair(
-        alloc, style, layout, scope, &cite, None, None, &start, left, right,
-    );
-    drop(start);
-    drop(cite);
+    let cite_props = CiteProperties::first(DisambiguateState::None);
+    let pair = cite_pair(alloc, style, &cite_props, left, right);
+    drop(cite_props);
     pair
 }
 
@@ -212,7 +207,7 @@ fn pair_of(
 
 /// What is said of the book and of a title of the same text in a style.
 fn pair_in(alloc: Global, style: &Style) -> Result<String, WorkError> {
-    let title = one_piece(alloc, "Crazy Rich Asians")?;
+    let title = ChunkedString::plain(alloc, "Crazy Rich Asians")?;
     let book = BuiltIn::CrazyRich.entry(alloc)?;
     let said = pair_of(alloc, style, &book, &TitleOnly { title });
     drop(book);

@@ -58,21 +58,9 @@ fn url(alloc: Global) -> Result<Option<QualifiedUrl>, Memory> {
     Ok(url)
 }
 
-/// A person with nothing but a name.
-fn person(alloc: Global) -> Result<Person, Memory> {
-    Ok(Person {
-        name: String::from_str(alloc, "Kwan")?,
-        given_name: None,
-        prefix: None,
-        suffix: None,
-        alias: None,
-        comma_suffix: false,
-    })
-}
-
 /// A person in a role that has no name of its own.
 fn adviser(alloc: Global) -> Result<PersonsWithRoles, Memory> {
-    let names = alone(alloc, person(alloc)?)?;
+    let names = alone(alloc, Person::institution(alloc, "Kwan")?)?;
     let name = String::from_str(alloc, "adviser")?;
     Ok(PersonsWithRoles {
         names,
@@ -361,7 +349,7 @@ pub fn left(alloc: Global) -> Result<String, WorkError> {
 
 /// An element of two texts, that names made.
 fn names_elem(alloc: Global) -> Result<Elem, Memory> {
-    let persons = alone(alloc, person(alloc)?)?;
+    let persons = alone(alloc, Person::institution(alloc, "Kwan")?)?;
     let names = alone(alloc, (persons, NameVariable::Author))?;
     Ok(Elem {
         children: ElemChildren(texts(alloc)?),

@@ -4,7 +4,7 @@ use crate::cites::{plain, text_of};
 use crate::error::WorkError;
 use crate::nodes::{alone, layout, letter};
 use crate::trees::{elem, texts};
-use csl_built_in::{TitleOnly, one_piece};
+use csl_built_in::TitleOnly;
 use csl_entry::{CiteProperties, DisambiguateState, InstanceContext};
 use csl_style::formatting::Formatting;
 use csl_style::{
@@ -12,7 +12,7 @@ use csl_style::{
     LayoutRenderingElement, Names, NamesChild, Style, StyleSettings, Substitute,
 };
 use csl_tree::{ElemChildren, simplify_fully};
-use lit_model::{Entry, EntryType, Memory};
+use lit_model::{ChunkedString, Entry, EntryType, Memory};
 use std::alloc::Global;
 
 /// The works, by name.
@@ -171,7 +171,7 @@ fn nodes(alloc: Global, name: &str, depth: usize) -> Result<Vec<LayoutRenderingE
 /// Renders a style for a title, and counts the bytes of the text.
 fn rendered(alloc: Global, style: &Style) -> Result<usize, WorkError> {
     let entry = TitleOnly {
-        title: one_piece(alloc, "a")?,
+        title: ChunkedString::plain(alloc, "a")?,
     };
     let cite = CiteProperties::first(DisambiguateState::None);
     let instance = InstanceContext {

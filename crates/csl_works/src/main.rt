@@ -11,6 +11,7 @@ mod cites;
 mod copies;
 mod deep;
 mod error;
+mod made;
 mod nodes;
 mod refused;
 mod styles;
@@ -24,9 +25,11 @@ use std::process::ExitCode;
 use std::rt::Env;
 
 /// The works, by name.
-static WORKS: [&'static str; 17] = [
+static WORKS: [&'static str; 19] = [
     "macros",
     "cycle",
+    "locale",
+    "constructed",
     "pair",
     "label",
     "whole",
@@ -52,6 +55,8 @@ fn said(alloc: Global, work: &str) -> Result<String, WorkError> {
     match work {
         "macros" => styles::style_of(alloc, &styles::CHAIN),
         "cycle" => styles::style_of(alloc, &styles::CYCLE),
+        "locale" => made::locale(alloc),
+        "constructed" => made::constructed(alloc),
         "pair" => cites::pair(alloc),
         "label" => cites::label(alloc),
         "whole" => cites::cite(alloc, Manner::Whole),

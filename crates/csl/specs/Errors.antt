@@ -1,0 +1,34 @@
+-- The one error above those of the crates: what each of theirs becomes, and the text of each. Being
+-- out of memory is the same error whoever says so. A context fails only where memory ran out, so a
+-- failed one says so too.
+use Rattle.std.specs.Prelude.{ℕ, List, codes, ◌++◌, string_bytes}
+use Rattle.csl_style.specs.Style.{refusal_text}
+use Rattle.csl_style.specs.declared.style.error.StyleError.{StyleError}
+use Rattle.csl_style.specs.declared.style.error.StyleError.TheVariants as style
+use Rattle.csl_tree.specs.declared.html_error.HtmlError.{HtmlError}
+use Rattle.csl_tree.specs.declared.html_error.HtmlError.TheVariants as html
+use Rattle.lit_model.specs.declared.numeric.error.NumericError.{NumericError}
+use Rattle.lit_model.specs.declared.numeric.error.NumericError.TheVariants as numeric
+use Rattle.csl.specs.declared.error.Error.{Error}
+use Rattle.csl.specs.declared.error.Error.TheVariants.{Memory, NotNumeric, NotHtml, NoSuchDay, Style, Refused}
+
+abbrev pub of_numeric : NumericError → Error
+of_numeric numeric.Memory = Memory
+of_numeric numeric.NotNumeric = NotNumeric
+
+abbrev pub of_html : HtmlError → Error
+of_html html.Memory = Memory
+of_html html.NotHtml = NotHtml
+
+abbrev pub of_style : StyleError → Error
+of_style style.Memory = Memory
+of_style (style.CyclicMacro name) = Style (style.CyclicMacro name)
+of_style style.ChicagoPageFormat = Style style.ChicagoPageFormat
+
+abbrev pub error_text : Error → List ℕ
+error_text Memory = codes "out of memory"
+error_text NotNumeric = codes "not numeric"
+error_text NotHtml = codes "not html"
+error_text NoSuchDay = codes "no such day"
+error_text (Style error) = refusal_text error
+error_text Refused = codes "a writer refused a text"

@@ -1,0 +1,124 @@
+//! One error above those of the crates.
+
+ghost use Rattle.std.specs.Prelude.{◌≡◌, Some};
+ghost use Rattle.csl.specs.Errors.{error_text, of_html, of_numeric, of_style};
+ghost use Rattle.csl.specs.declared.error.Error.TheVariants as errors;
+
+use csl_context::RenderError;
+use csl_style::StyleError;
+use csl_tree::HtmlError;
+use lit_model::{Memory as OutOfMemory, NumericError};
+use std::alloc::{AllocError, AllocFailed};
+use std::{error, fmt};
+
+/// Why a call failed, whichever it was.
+#[derive(Debug, Drop)]
+pub enum Error {
+    /// Out of memory, in a call or in an entry that it asked.
+    Memory,
+    /// A text is no number, or no pages.
+    NotNumeric,
+    /// A text is not HTML as `write_buf` writes it.
+    NotHtml,
+    /// A date is not on the calendar. No call returns it: it is for a caller whose `Date::new`
+    /// returned `None`.
+    NoSuchDay,
+    /// A style is rejected, for a macro or its page format.
+    Style(StyleError),
+    /// A writer refused a text. A `String` does so if memory runs out.
+    Refused,
+}
+
+impl fmt::Display for Error {
+    ghost output = { λ e. Some (error_text e) };
+
+    fn fmt<W: fmt::Write>(&self, f: &mut fmt::Formatter<W>) -> fmt::Result {
+        match self {
+            Error::Memory => f.write_str("out of memory"),
+            Error::NotNumeric => f.write_str("not numeric"),
+            Error::NotHtml => f.write_str("not html"),
+            Error::NoSuchDay => f.write_str("no such day"),
+            Error::Style(error) => write!(f, "{}", error),
+            Error::Refused => f.write_str("a writer refused a text"),
+        }
+    }
+}
+
+impl error::Error for Error {}
+
+impl From<OutOfMemory> for Error {
+    ghost from_gives = { λ _ e. e ≡ errors.Memory };
+
+    fn from(_error: OutOfMemory) -> Error {
+        Error::Memory
+    }
+}
+
+impl From<AllocError> for Error {
+    ghost from_gives = { λ _ e. e ≡ errors.Memory };
+
+    fn from(_error: AllocError) -> Error {
+        Error::Memory
+    }
+}
+
+impl<T: Drop> From<AllocFailed<T>> for Error {
+    ghost from_gives = { λ _ e. e ≡ errors.Memory };
+
+    fn from(_error: AllocFailed<T>) -> Error {
+        Error::Memory
+    }
+}
+
+impl From<NumericError> for Error {
+    ghost from_gives = { λ error e. e ≡ of_numeric error };
+
+    fn from(error: NumericError) -> Error {
+        match error {
+            NumericError::Memory => Error::Memory,
+            NumericError::NotNumeric => Error::NotNumeric,
+        }
+    }
+}
+
+impl From<HtmlError> for Error {
+    ghost from_gives = { λ error e. e ≡ of_html error };
+
+    fn from(error: HtmlError) -> Error {
+        match error {
+            HtmlError::Memory => Error::Memory,
+            HtmlError::NotHtml => Error::NotHtml,
+        }
+    }
+}
+
+impl From<StyleError> for Error {
+    ghost from_gives = { λ error e. e ≡ of_style error };
+
+    fn from(error: StyleError) -> Error {
+        match error {
+            StyleError::Memory => Error::Memory,
+            StyleError::CyclicMacro(name) => Error::Style(StyleError::CyclicMacro(name)),
+            StyleError::ChicagoPageFormat => Error::Style(StyleError::ChicagoPageFormat),
+        }
+    }
+}
+
+impl From<RenderError> for Error {
+    ghost from_gives = { λ _ e. e ≡ errors.Memory };
+
+    fn from(error: RenderError) -> Error {
+        match error {
+            // A context fails only if memory runs out.
+            RenderError::Memory | RenderError::Failed => Error::Memory,
+        }
+    }
+}
+
+impl From<fmt::Error> for Error {
+    ghost from_gives = { λ _ e. e ≡ errors.Refused };
+
+    fn from(_error: fmt::Error) -> Error {
+        Error::Refused
+    }
+}

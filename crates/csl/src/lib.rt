@@ -1,0 +1,30 @@
+//! Sulleqti as one crate to import from: cites and reference lists by CSL 1.0.2.
+//!
+//! A style and its locale are values: nodes, options and terms are in [`style`], a work and its
+//! parts in [`literature`], the output tree in [`tree`]. [`cite`] and [`bibliography_entry`] render
+//! an entry of any type that implements [`EntryLike`]; [`english`] is a locale to begin with;
+//! [`Error`] takes in all that the calls answer. `docs/CALLING.md` has a whole program.
+#![tactic(auto)]
+
+mod error;
+mod locale;
+mod words;
+
+pub use csl_context::{Context, LeftState, RenderError, Rendered};
+pub use csl_entry as entry;
+pub use csl_entry::{
+    Alphanumerical, CitationNumber, CiteProperties, DisambiguateState, DisambiguatedNameForm,
+    EntryLike, InstanceContext, NameDisambiguationProperties, NoteNumber, same_answers,
+};
+pub use csl_names::{write_name, write_name_list};
+pub use csl_render::{
+    Pair, RenderCsl, bibliography_entry, choose_children, cite, cite_pair, render_pair,
+};
+pub use csl_style as style;
+pub use csl_style::{Locale, Scope, Style, StyleError, named_by};
+pub use csl_tree as tree;
+pub use csl_tree::{BufWriteFormat, ElemChildren, HtmlError, leaf_text_of_html};
+pub use error::Error;
+pub use lit_model as literature;
+pub use lit_model::{Entry, Memory, NumericError, is_web_address};
+pub use locale::english;

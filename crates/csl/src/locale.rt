@@ -1,0 +1,145 @@
+//! The locale of English (CSL 1.0.2, Locale).
+
+ghost use Rattle.std.specs.Prelude.{◌≡◌, false, true, IfOk, map};
+ghost use Rattle.csl_style.specs.Locale.{term_view};
+ghost use Rattle.csl.specs.English.{term_of_row};
+
+use crate::words::{LOCATORS, NUMBERS, OTHER, PEOPLE, Row};
+use csl_style::{
+    Affixes, Date, DateAnyForm, DateForm, DatePart, DatePartName, Locale, OrdinalSlot, OrdinalTerm,
+    TermEntry,
+};
+use lit_model::Memory;
+use std::alloc::Global;
+
+/// What stands after a number, and the words for the first ten.
+static ORDINALS: [(OrdinalSlot, &str); 17] = [
+    (OrdinalSlot::Default, "th"),
+    (OrdinalSlot::Two(1), "st"),
+    (OrdinalSlot::Two(2), "nd"),
+    (OrdinalSlot::Two(3), "rd"),
+    (OrdinalSlot::Two(11), "th"),
+    (OrdinalSlot::Two(12), "th"),
+    (OrdinalSlot::Two(13), "th"),
+    (OrdinalSlot::Long(1), "first"),
+    (OrdinalSlot::Long(2), "second"),
+    (OrdinalSlot::Long(3), "third"),
+    (OrdinalSlot::Long(4), "fourth"),
+    (OrdinalSlot::Long(5), "fifth"),
+    (OrdinalSlot::Long(6), "sixth"),
+    (OrdinalSlot::Long(7), "seventh"),
+    (OrdinalSlot::Long(8), "eighth"),
+    (OrdinalSlot::Long(9), "ninth"),
+    (OrdinalSlot::Long(10), "tenth"),
+];
+
+/// The term of a row.
+fn term(alloc: Global, row: &Row) -> Result<TermEntry, Memory>
+    ensures { IfOk result (λ made. term_view made ≡ term_of_row row.now) }
+{
+    match row.3 {
+        Some(several) => TermEntry::counted(alloc, row.0, row.1, row.2, several),
+        None => TermEntry::new(alloc, row.0, row.1, row.2),
+    }
+}
+
+/// The terms of rows.
+fn terms_of(alloc: Global, rows: &[Row]) -> Result<Vec<TermEntry>, Memory>
+    ensures { IfOk result (λ made. map term_view made.items ≡ map term_of_row rows.now) }
+{
+    let mut terms = Vec::new(alloc);
+    for row in rows {
+        terms.push(term(alloc, row)?)?;
+    }
+    Ok(terms)
+}
+
+/// The terms of all rows.
+fn terms(alloc: Global) -> Result<Vec<TermEntry>, Memory> {
+    let mut terms = terms_of(alloc, &OTHER)?;
+    terms.append(&mut terms_of(alloc, &PEOPLE)?)?;
+    terms.append(&mut terms_of(alloc, &NUMBERS)?)?;
+    terms.append(&mut terms_of(alloc, &LOCATORS)?)?;
+    Ok(terms)
+}
+
+/// The ordinals, of no gender.
+fn ordinals(alloc: Global) -> Result<Vec<OrdinalTerm>, Memory> {
+    let mut ordinals = Vec::new(alloc);
+    for row in &ORDINALS {
+        ordinals.push(OrdinalTerm {
+            slot: row.0,
+            matching: None,
+            gender: None,
+            text: String::from_str(alloc, row.1)?,
+        })?;
+    }
+    Ok(ordinals)
+}
+
+/// The date in numbers, as 1/5/2026.
+fn numeric_date(alloc: Global) -> Result<Date, Memory> {
+    let delimiter = String::from_str(alloc, "/")?;
+    let month = DatePart {
+        form: Some(DateAnyForm::Numeric),
+        ..DatePart::new(DatePartName::Month)
+    };
+    let day = DatePart::new(DatePartName::Day);
+    let year = DatePart::new(DatePartName::Year);
+    Ok(Date {
+        variable: None,
+        form: Some(DateForm::Numeric),
+        parts: None,
+        date_part: vec![in alloc; month, day, year]?,
+        delimiter: Some(delimiter),
+        formatting: Default::default(),
+        affixes: Affixes::default(),
+        display: None,
+    })
+}
+
+/// The date in words, as January 5, 2026.
+fn text_date(alloc: Global) -> Result<Date, Memory> {
+    let month = DatePart {
+        affixes: Affixes::behind(alloc, " ")?,
+        ..DatePart::new(DatePartName::Month)
+    };
+    let day = DatePart {
+        affixes: Affixes::behind(alloc, ", ")?,
+        ..DatePart::new(DatePartName::Day)
+    };
+    let year = DatePart::new(DatePartName::Year);
+    Ok(Date {
+        variable: None,
+        form: Some(DateForm::Text),
+        parts: None,
+        date_part: vec![in alloc; month, day, year]?,
+        delimiter: None,
+        formatting: Default::default(),
+        affixes: Affixes::default(),
+        display: None,
+    })
+}
+
+/// The locale of English: each term in the long form, and in the short, verb and symbol forms that
+/// English has (CSL 1.0.2, Terms; Appendix II), ordinals to `tenth` (Ordinals), and both localized
+/// dates (Localized Date Formats). Commas and periods go before a closing quote.
+///
+/// # Errors
+/// [`Memory`]: out of memory.
+pub fn english(alloc: Global) -> Result<Locale, Memory>
+    ensures quote { IfOk result (λ locale. locale.punctuation_in_quote ≡ true) }
+    ensures days { IfOk result (λ locale. locale.limit_day_ordinals_to_day_1 ≡ false) }
+{
+    let terms = terms(alloc)?;
+    let ordinals = ordinals(alloc)?;
+    let numeric = numeric_date(alloc)?;
+    let text = text_date(alloc)?;
+    Ok(Locale {
+        terms,
+        ordinals,
+        dates: vec![in alloc; numeric, text]?,
+        punctuation_in_quote: true,
+        limit_day_ordinals_to_day_1: false,
+    })
+}

@@ -1,0 +1,16 @@
+//! The words of the English locale, as rows (CSL 1.0.2, Appendix II: Terms).
+
+use csl_style::{Term, TermForm};
+
+mod locators;
+mod numbers;
+mod other;
+mod people;
+
+pub(crate) use locators::LOCATORS;
+pub(crate) use numbers::NUMBERS;
+pub(crate) use other::OTHER;
+pub(crate) use people::PEOPLE;
+
+/// A term, its form, its text for one, and that for several where it differs.
+pub(crate) type Row = (Term, TermForm, &'static str, Option<&'static str>);

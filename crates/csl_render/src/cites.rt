@@ -1,0 +1,145 @@
+//! What a style makes of an entry that is cited, and of two of them.
+
+ghost use Rattle.std.specs.Prelude.{◌≡◌, true, IfOk, IfErr, option_map, string_bytes};
+ghost use Rattle.std.specs.Bool.{Decides};
+ghost use Rattle.csl_style.specs.declared.style.settings.Scope.TheVariants as scopes;
+ghost use Rattle.csl_style.specs.Named.{of_fulls};
+ghost use Rattle.csl_style.specs.Node.{fill_layout};
+ghost use Rattle.csl_style.specs.Reached.{env};
+ghost use Rattle.csl_style.specs.View.{view_layout};
+ghost use Rattle.csl_entry.specs.Alike.{Alike};
+ghost use Rattle.csl_entry.specs.Cite.{cite_state};
+ghost use Rattle.csl_context.specs.Left.{state_left};
+ghost use Rattle.csl_render.specs.Cited.{whole_cite};
+ghost use Rattle.csl_render.specs.Printed.{citing, printed_from, made_of, Prints, PrintsSame};
+
+use crate::pair::{Pair, render_pair};
+use crate::render::RenderCsl;
+use csl_context::{Context, LeftState, RenderError, Rendered};
+use csl_entry::{CiteProperties, EntryLike, InstanceContext};
+use csl_style::{Layout, Scope, Style};
+use std::alloc::Global;
+
+/// What a layout makes of a cite that begins with what another rendering left.
+#[tactic(auto, using(crate::proofs::Pairs::rendering_wants_memory, crate::proofs::Pairs::end_wants_memory))]
+pub(crate) fn render_from<'s, T: EntryLike>(
+    alloc: Global,
+    style: &'s Style,
+    layout: &'s Layout,
+    instance: InstanceContext<'s, T>,
+    scope: Scope,
+    start: &LeftState,
+) -> Result<Rendered, RenderError>
+    ensures ok { IfOk result (λ r. made_of r ≡ printed_from (state_left start.now)
+        (citing style.now scope (cite_state instance.entry.cite_props.now) instance.entry.sorting
+        instance.entry.kind (T.answers instance.entry.entry.now)) layout.now) }
+    ensures err { IfErr result (λ e. e ≡ RenderError.Memory) }
+{
+    let mut ctx = Context::resume(alloc, style, instance, scope, start)?;
+    layout.render(&mut ctx)?;
+    ctx.finish()
+}
+
+/// What a layout makes of a whole cite that is not sorted.
+fn render_whole<T: EntryLike>(
+    alloc: Global,
+    style: &Style,
+    layout: &Layout,
+    scope: Scope,
+    entry: &T,
+    cite_props: &CiteProperties<'_>,
+) -> Result<Rendered, RenderError>
+    ensures ok { IfOk result (λ r. made_of r ≡ whole_cite style.now scope
+        (cite_state cite_props.now) (T.answers entry.now) layout.now) }
+    ensures err { IfErr result (λ e. e ≡ RenderError.Memory) }
+{
+    let instance = InstanceContext {
+        entry,
+        cite_props,
+        sorting: None,
+        kind: None,
+    };
+    let start = LeftState::new(alloc);
+    render_from(alloc, style, layout, instance, scope, &start)
+}
+
+/// What a style makes of one cite of an entry: the content and the state that its citation layout
+/// makes in a new context (CSL 1.0.2, Citation; Layout). The whole cite is shown, and it is not
+/// rendered to be sorted.
+///
+/// # Errors
+/// [`RenderError::Memory`]: there was no memory left, or the entry said so.
+pub fn cite<T: EntryLike>(
+    alloc: Global,
+    style: &Style,
+    entry: &T,
+    cite_props: &CiteProperties<'_>,
+) -> Result<Rendered, RenderError>
+    ensures ok { IfOk result (λ r. made_of r ≡ whole_cite style.now scopes.Citation
+        (cite_state cite_props.now) (T.answers entry.now) style.now.citation) }
+    ensures err { IfErr result (λ e. e ≡ RenderError.Memory) }
+{
+    let layout = style.citation();
+    render_whole(alloc, style, layout, Scope::Citation, entry, cite_props)
+}
+
+/// What a style makes of an entry in its bibliography: the content and the state that its
+/// bibliography layout makes in a new context (CSL 1.0.2, Bibliography; Layout), or nothing where
+/// the style has no bibliography. The whole entry is shown, and it is not rendered to be sorted.
+///
+/// # Errors
+/// [`RenderError::Memory`]: there was no memory left, or the entry said so.
+pub fn bibliography_entry<T: EntryLike>(
+    alloc: Global,
+    style: &Style,
+    entry: &T,
+    cite_props: &CiteProperties<'_>,
+) -> Result<Option<Rendered>, RenderError>
+    ensures ok { IfOk result (λ found. option_map made_of found
+        ≡ option_map (whole_cite style.now scopes.Bibliography (cite_state cite_props.now)
+        (T.answers entry.now)) style.now.bibliography) }
+    ensures err { IfErr result (λ e. e ≡ RenderError.Memory) }
+{
+    let Some(layout) = style.bibliography() else {
+        return Ok(None);
+    };
+    let scope = Scope::Bibliography;
+    let rendered = render_whole(alloc, style, layout, scope, entry, cite_props)?;
+    Ok(Some(rendered))
+}
+
+/// What a style makes of one cite of each of two entries, of whatever types, as [`cite`] makes it
+/// of each, and whether they are *alike* for the citation layout: both answer alike all the
+/// variables and kinds that the layout and the macros it reaches name. Where they are, both cites
+/// have the same content, state and HTML, so whoever has rendered the one need not render the other.
+/// Entries that are not alike may have the same cite too.
+///
+/// # Errors
+/// [`RenderError::Memory`]: there was no memory left, or an entry said so.
+pub fn cite_pair<T: EntryLike, U: EntryLike>(
+    alloc: Global,
+    style: &Style,
+    cite_props: &CiteProperties<'_>,
+    left: &T,
+    right: &U,
+) -> Result<Pair, RenderError>
+    ensures left { IfOk result (λ p. Prints (whole_cite style.now scopes.Citation
+        (cite_state cite_props.now) (T.answers left.now) style.now.citation)
+        p.left (string_bytes p.left_html)) }
+    ensures right { IfOk result (λ p. Prints (whole_cite style.now scopes.Citation
+        (cite_state cite_props.now) (U.answers right.now) style.now.citation)
+        p.right (string_bytes p.right_html)) }
+    ensures alike { IfOk result (λ p. Decides p.alike (Alike
+        (of_fulls (fill_layout (env style.now) (view_layout style.now.citation)).elements)
+        (T.answers left.now) (U.answers right.now))) }
+    ensures same { IfOk result (λ p. p.alike ≡ true
+        → PrintsSame p.left (string_bytes p.left_html) p.right (string_bytes p.right_html)) }
+    ensures err { IfErr result (λ e. e ≡ RenderError.Memory) }
+{
+    let start = LeftState::new(alloc);
+    let (layout, scope) = (style.citation(), Scope::Citation);
+    let pair = render_pair(
+        alloc, style, layout, scope, cite_props, None, None, &start, left, right,
+    )?;
+    Ok(pair)
+}

@@ -1,0 +1,253 @@
+//! Each term that there is, the ordinals and the dates of English.
+
+use crate::asserted::{assert_same, assert_text};
+use csl::literature::Season;
+use csl::style::{
+    DateForm, Layout, Locator, NameVariable, NumberVariable, OtherTerm, PageVariable,
+    StyleSettings, Term, TermForm,
+};
+use csl::{Error, Style, english};
+use std::alloc::Global;
+use std::process::Abort;
+use std::test::Fail;
+
+static PERSONS: [NameVariable; 27] = [
+    NameVariable::Author,
+    NameVariable::Chair,
+    NameVariable::CollectionEditor,
+    NameVariable::Compiler,
+    NameVariable::Composer,
+    NameVariable::ContainerAuthor,
+    NameVariable::Contributor,
+    NameVariable::Curator,
+    NameVariable::Director,
+    NameVariable::Editor,
+    NameVariable::EditorialDirector,
+    NameVariable::EditorTranslator,
+    NameVariable::ExecutiveProducer,
+    NameVariable::Guest,
+    NameVariable::Host,
+    NameVariable::Illustrator,
+    NameVariable::Interviewer,
+    NameVariable::Narrator,
+    NameVariable::Organizer,
+    NameVariable::OriginalAuthor,
+    NameVariable::Performer,
+    NameVariable::Producer,
+    NameVariable::Recipient,
+    NameVariable::ReviewedAuthor,
+    NameVariable::ScriptWriter,
+    NameVariable::SeriesCreator,
+    NameVariable::Translator,
+];
+
+static NUMBERS: [NumberVariable; 17] = [
+    NumberVariable::ChapterNumber,
+    NumberVariable::CitationNumber,
+    NumberVariable::CollectionNumber,
+    NumberVariable::Edition,
+    NumberVariable::FirstReferenceNoteNumber,
+    NumberVariable::Issue,
+    NumberVariable::Locator,
+    NumberVariable::Number,
+    NumberVariable::NumberOfPages,
+    NumberVariable::NumberOfVolumes,
+    NumberVariable::PageFirst,
+    NumberVariable::PartNumber,
+    NumberVariable::PrintingNumber,
+    NumberVariable::Section,
+    NumberVariable::SupplementNumber,
+    NumberVariable::Version,
+    NumberVariable::Volume,
+];
+
+/// All but the custom one, which has no name of its own.
+static LOCATORS: [Locator; 27] = [
+    Locator::Act,
+    Locator::Appendix,
+    Locator::Book,
+    Locator::Canon,
+    Locator::Chapter,
+    Locator::Column,
+    Locator::Equation,
+    Locator::Figure,
+    Locator::Folio,
+    Locator::Issue,
+    Locator::Line,
+    Locator::Note,
+    Locator::Number,
+    Locator::Opus,
+    Locator::Page,
+    Locator::Paragraph,
+    Locator::Part,
+    Locator::Rule,
+    Locator::Scene,
+    Locator::Section,
+    Locator::SubVerbo,
+    Locator::Supplement,
+    Locator::Table,
+    Locator::Timestamp,
+    Locator::Verse,
+    Locator::Version,
+    Locator::Volume,
+];
+
+static OTHERS: [OtherTerm; 48] = [
+    OtherTerm::And,
+    OtherTerm::EtAl,
+    OtherTerm::Ad,
+    OtherTerm::Bc,
+    OtherTerm::PageRangeDelimiter,
+    OtherTerm::OpenQuote,
+    OtherTerm::CloseQuote,
+    OtherTerm::OpenInnerQuote,
+    OtherTerm::CloseInnerQuote,
+    OtherTerm::Month(0),
+    OtherTerm::Month(1),
+    OtherTerm::Month(2),
+    OtherTerm::Month(3),
+    OtherTerm::Month(4),
+    OtherTerm::Month(5),
+    OtherTerm::Month(6),
+    OtherTerm::Month(7),
+    OtherTerm::Month(8),
+    OtherTerm::Month(9),
+    OtherTerm::Month(10),
+    OtherTerm::Month(11),
+    OtherTerm::Season(Season::Spring),
+    OtherTerm::Season(Season::Summer),
+    OtherTerm::Season(Season::Autumn),
+    OtherTerm::Season(Season::Winter),
+    OtherTerm::Accessed,
+    OtherTerm::AndOthers,
+    OtherTerm::Anonymous,
+    OtherTerm::At,
+    OtherTerm::AvailableAt,
+    OtherTerm::By,
+    OtherTerm::Circa,
+    OtherTerm::Cited,
+    OtherTerm::Forthcoming,
+    OtherTerm::From,
+    OtherTerm::Ibid,
+    OtherTerm::In,
+    OtherTerm::InPress,
+    OtherTerm::Internet,
+    OtherTerm::Interview,
+    OtherTerm::Letter,
+    OtherTerm::NoDate,
+    OtherTerm::Online,
+    OtherTerm::PresentedAt,
+    OtherTerm::Reference,
+    OtherTerm::Retrieved,
+    OtherTerm::Scale,
+    OtherTerm::Version,
+];
+
+/// A number, what stands after it, and the word for it where it is at most ten.
+static ORDINALS: [(i32, &str, &str); 16] = [
+    (1, "st", "first"),
+    (2, "nd", "second"),
+    (3, "rd", "third"),
+    (4, "th", "fourth"),
+    (5, "th", "fifth"),
+    (6, "th", "sixth"),
+    (7, "th", "seventh"),
+    (8, "th", "eighth"),
+    (9, "th", "ninth"),
+    (10, "th", "tenth"),
+    (11, "th", ""),
+    (12, "th", ""),
+    (13, "th", ""),
+    (21, "st", ""),
+    (111, "th", ""),
+    (122, "nd", ""),
+];
+
+/// A style of nothing but the locale.
+pub(crate) fn style(alloc: Global) -> Result<Style, Error> {
+    let locales = vec![in alloc; english(alloc)?]?;
+    let citation = Layout::new(Vec::new(alloc));
+    let settings = StyleSettings::default();
+    Ok(Style::new(alloc, settings, Vec::new(alloc), citation, None, locales)?)
+}
+
+/// The term has a text in the long form, and one for several.
+fn assert_known(rt: &impl Abort, style: &Style, term: Term) {
+    let one = style.term(term, TermForm::Long, false);
+    let several = style.term(term, TermForm::Long, true);
+    assert_same(rt, &(one.is_some(), several.is_some()), &(true, true));
+}
+
+fn assert_persons(rt: &impl Abort, style: &Style) {
+    for variable in &PERSONS {
+        assert_known(rt, style, Term::Name(*variable));
+    }
+}
+
+fn assert_numbers(rt: &impl Abort, style: &Style) {
+    for variable in &NUMBERS {
+        assert_known(rt, style, Term::Number(*variable));
+    }
+    assert_known(rt, style, Term::Page(PageVariable::Page));
+}
+
+fn assert_locators(rt: &impl Abort, style: &Style) {
+    for locator in &LOCATORS {
+        assert_known(rt, style, Term::Locator(*locator));
+    }
+}
+
+fn assert_others(rt: &impl Abort, style: &Style) {
+    for term in &OTHERS {
+        assert_known(rt, style, Term::Other(*term));
+    }
+}
+
+#[test]
+fn each_term_has_a_long_form(rt: HostRuntime) -> Result<(), Fail> {
+    let style = style(rt.alloc())?;
+    assert_persons(&rt, &style);
+    assert_numbers(&rt, &style);
+    assert_locators(&rt, &style);
+    assert_others(&rt, &style);
+    drop(style);
+    Ok(())
+}
+
+/// What stands after a number, and the word for it.
+fn assert_ordinal(rt: &impl Abort, style: &Style, &(number, suffix, word): &(i32, &str, &str)) {
+    assert_text(rt, style.ordinals().suffix(number, None), Some(suffix));
+    let wanted = if word.is_empty() { None } else { Some(word) };
+    assert_text(rt, style.ordinals().word(number, None), wanted);
+}
+
+#[test]
+fn ordinals_and_words_for_the_first_ten(rt: HostRuntime) -> Result<(), Fail> {
+    let style = style(rt.alloc())?;
+    for row in &ORDINALS {
+        assert_ordinal(&rt, &style, row);
+    }
+    drop(style);
+    Ok(())
+}
+
+/// Both localized dates are there, and punctuation goes into quotes.
+fn assert_settings(rt: &impl Abort, style: &Style) {
+    let numeric = style.localized_date(DateForm::Numeric).is_some();
+    let text = style.localized_date(DateForm::Text).is_some();
+    assert_same(rt, &(numeric, text), &(true, true));
+    let limited = style.are_day_ordinals_limited();
+    assert_same(
+        rt,
+        &(style.is_punctuation_in_quote(), limited),
+        &(true, false),
+    );
+}
+
+#[test]
+fn both_dates_and_the_settings(rt: HostRuntime) -> Result<(), Fail> {
+    let style = style(rt.alloc())?;
+    assert_settings(&rt, &style);
+    drop(style);
+    Ok(())
+}

@@ -1,0 +1,15 @@
+//! The tests of `csl`: its locale, its error, and a cite through it alone.
+#![tactic(auto)]
+
+#[cfg(test)]
+mod asserted;
+#[cfg(test)]
+mod cites;
+#[cfg(test)]
+mod dates;
+#[cfg(test)]
+mod english;
+#[cfg(test)]
+mod errors;
+#[cfg(test)]
+mod terms;

@@ -1,0 +1,57 @@
+//! The terms of English, each asked once.
+
+use crate::asserted::assert_text;
+use crate::english::style;
+use csl::Style;
+use csl::style::{Term, TermForm};
+use std::alloc::Global;
+use std::process::Abort;
+use std::test::Fail;
+
+mod locators;
+mod numbers;
+mod other;
+mod people;
+
+use locators::LOCATORS;
+use numbers::NUMBERS;
+use other::OTHER;
+use people::PEOPLE;
+
+/// A term, its form, and what it is called where there is one and where there are several.
+pub(crate) type Row = (Term, TermForm, &'static str, &'static str);
+
+/// The text of a term for one, and that for several.
+fn assert_term(rt: &impl Abort, style: &Style, &(term, form, one, several): &Row) {
+    assert_text(rt, style.term(term, form, false), Some(one));
+    assert_text(rt, style.term(term, form, true), Some(several));
+}
+
+fn assert_terms(rt: &impl Abort, alloc: Global, rows: &[Row]) -> Result<(), Fail> {
+    let style = style(alloc)?;
+    for row in rows {
+        assert_term(rt, &style, row);
+    }
+    drop(style);
+    Ok(())
+}
+
+#[test]
+fn terms_that_name_no_variable(rt: HostRuntime) -> Result<(), Fail> {
+    assert_terms(&rt, rt.alloc(), &OTHER)
+}
+
+#[test]
+fn what_persons_are_called(rt: HostRuntime) -> Result<(), Fail> {
+    assert_terms(&rt, rt.alloc(), &PEOPLE)
+}
+
+#[test]
+fn what_numbers_and_pages_are_called(rt: HostRuntime) -> Result<(), Fail> {
+    assert_terms(&rt, rt.alloc(), &NUMBERS)
+}
+
+#[test]
+fn what_locators_are_called(rt: HostRuntime) -> Result<(), Fail> {
+    assert_terms(&rt, rt.alloc(), &LOCATORS)
+}
