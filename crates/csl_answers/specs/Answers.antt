@@ -1,13 +1,13 @@
--- What the program writes for its words: the content of a cite in its format, the label with three
--- letters, `true` or `false`, or the leaf text, and a newline. A missing word, an unknown word and
--- a text that is not HTML are refused, with a line of their own.
+-- What the program writes for its words: the text of a title or the content of a cite, in a format,
+-- the label with three letters, `true` or `false`, or the leaf text, and a newline. A missing word,
+-- an unknown word and a text that is not HTML are refused, with a line of their own.
 use Rattle.std.specs.Prelude.{◌≡◌, ◌⊎◌, ℕ, Bool, true, false, List, ◌++◌, Option, Some, None, IsSomeAnd, codes, string_bytes}
 use Rattle.std.specs.Fmt.{WritesInCalls}
 use Rattle.csl_tree.specs.Html.{IsHtmlOf, IsNotHtml}
 use Rattle.csl_tree.specs.Tokens.{Token, tokens}
 use Rattle.csl_tree.specs.Writing.{written}
 use Rattle.csl_built_in.specs.Entries.{label_text, is_built_in_kind}
-use Rattle.csl_answers.specs.Cites.{IsTitleContent, IsEntryContent}
+use Rattle.csl_answers.specs.Cites.{title_text, IsEntryContent}
 use Rattle.csl_answers.specs.Words.{Verdict, title_in, cite_in, label_of, kind_of, leaf_of, missing, unknown}
 use Rattle.csl_answers.specs.declared.answers.Answer.{Answer}
 use Rattle.csl_answers.specs.declared.answers.Answer.TheVariants.{Content, Text, Truth}
@@ -22,11 +22,11 @@ abbrev pub truth_text : Bool → List ℕ
 truth_text true = codes "true"
 truth_text false = codes "false"
 
--- The text answers the words: the cite of the title or of the built-in entry in the style of the
--- command, as it is written; the label of the built-in entry, with three letters; whether that
+-- The text answers the words: the text of the title; the cite of the built-in entry in the style of
+-- the command, as it is written; the label of the built-in entry, with three letters; whether that
 -- entry is of the kind; the leaf text of the HTML.
 abbrev pub IsAnswer : Verdict → List ℕ → Type 0
-IsAnswer (title_in title format) text = (content : List Token) × IsTitleContent title content × (text ≡ written format content)
+IsAnswer (title_in title format) text = text ≡ title_text title format
 IsAnswer (cite_in entry style format) text = (content : List Token) × IsEntryContent entry style content × (text ≡ written format content)
 IsAnswer (label_of entry) text = text ≡ label_text entry
 IsAnswer (kind_of entry kind) text = text ≡ truth_text (is_built_in_kind kind entry)

@@ -27,6 +27,7 @@ pub enum Answer {
 /// # Errors
 /// - [`HtmlError::NotHtml`]: the command is for the leaf text of what is not HTML.
 /// - [`HtmlError::Memory`]: out of memory.
+#[tactic(auto, using(crate::proofs::Titles::title_is_written))]
 pub fn answer_to(alloc: Global, command: Command<'_>) -> Result<Answer, HtmlError>
     ensures ok { IfOk result (λ answer. IsAnswer (command_verdict command.entry) (text_of answer)) }
     ensures not_html { IsErrOf result HtmlError.NotHtml → IsRefused (command_verdict command.entry) }

@@ -1,1 +1,2 @@
 pub mod Affixes
+pub mod Contents

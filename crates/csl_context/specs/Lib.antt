@@ -1,6 +1,7 @@
 -- The definitions that the contracts of `csl_context` cite: what a rendering reads, and what it
 -- writes.
 pub mod Errors
+pub mod Contents
 pub mod State
 pub mod World
 pub mod Texts

@@ -11,10 +11,10 @@
 --   white space (`with_space`).
 -- - A call ends as its clause states, or it fails, and one clause says both (`Runs`; `Reads` where a
 --   value is read and nothing changes; `Looks` for such a look into a shared context). On `Ok` the
---   context had not failed and is as stated (`Leaves`). `Memory`: it had not failed and has now.
---   `Failed`: it had failed, and nothing changes (`FailsAs`). A shared look that returns `Memory`
---   leaves the context as it was. Pops and `discard_elem` return nothing, and do not change a failed
---   context.
+--   context had not failed and is as stated (`Leaves`). `Memory`: it had not failed and has now, and
+--   what never changes is as it was (`Frame`); the rest may be anything. `Failed`: it had failed, and
+--   nothing changes (`FailsAs`). A shared look that returns `Memory` leaves the context as it was.
+--   Pops and `discard_elem` return nothing, and do not change a failed context.
 use Rattle.std.specs.Prelude.{◌≡◌, ℕ, ◌+◌, Bool, true, false, not, List, [], ◌∷◌, length, Option, Some, None, Result, IfOk, MatchResult}
 use Rattle.std.specs.Bool.{OnFalse}
 use Rattle.std.specs.Option.{option_or}
@@ -38,7 +38,6 @@ use Rattle.csl_context.specs.State.{State, Inherited, looked}
 use Rattle.csl_context.specs.Quotes.{quoted_in}
 use Rattle.csl_context.specs.Texts.{text_in, gap_after}
 use Rattle.csl_context.specs.World.{World}
-use Rattle.csl_context.specs.declared.mark.Mark.{Mark}
 use Rattle.csl_context.specs.declared.error.RenderError.{RenderError}
 use Rattle.csl_context.specs.declared.error.RenderError.TheVariants.{Memory, Failed}
 
@@ -107,10 +106,29 @@ begun style scope entry cite sorting special state = record {
 
 -- ---- how a call ends
 
--- A call failed: out of memory, which fails the context, or because the context had failed, which
--- changes nothing.
+-- what a context is made with, which no call changes
+pub record Frame (T : Type 0) : Type 0 where
+  pub style : StyleParts
+  pub scope : Scope
+  pub entry : T
+  pub cite : CiteState
+  pub sorting : Option Sorting
+  pub special : Option SpecialForm
+
+abbrev pub frame : {T : Type 0} → Now T → Frame T
+frame now = record {
+  style = now.style;
+  scope = now.scope;
+  entry = now.entry;
+  cite = now.cite;
+  sorting = now.sorting;
+  special = now.special;
+}
+
+-- A call failed: out of memory, which fails the context and keeps its frame, or because the context
+-- had failed, which changes nothing.
 abbrev pub FailsAs : {T : Type 0} → RenderError → Now T → Now T → Type 0
-FailsAs Memory old new = (old.failed ≡ false) × (new.failed ≡ true)
+FailsAs Memory old new = (old.failed ≡ false) × (new.failed ≡ true) × (frame new ≡ frame old)
 FailsAs Failed old new = (old.failed ≡ true) × (new ≡ old)
 
 -- A call on a context that had not failed left it as wanted.
@@ -148,9 +166,10 @@ Looks view result wanted now = MatchResult result (λ answer. ReadsAs view answe
 abbrev pub IsSilent : {R T : Type 0} → Result R RenderError → Now T → Type 0
 IsSilent outcome now = MatchResult outcome (λ _. now.failed ≡ false) (λ e. FailsSilently e now)
 
--- The mark is that of the innermost open part, or the context has failed.
-abbrev pub IsInnermost : {T : Type 0} → Mark → Now T → Type 0
-IsInnermost mark now = OnFalse now.failed (length now.outer ≡ mark.depth + 1)
+-- The mark, the number of open parts around the one that it marks, is that of the innermost open
+-- part, or the context has failed.
+abbrev pub IsInnermost : {T : Type 0} → ℕ → Now T → Type 0
+IsInnermost mark now = OnFalse now.failed (length now.outer ≡ mark + 1)
 
 -- ---- what is written
 

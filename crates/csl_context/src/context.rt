@@ -3,6 +3,7 @@
 ghost use Rattle.std.specs.Prelude.{◌≡◌, ◌↔◌, [], false, true, IfOk, OnOk, IfErr, option_map};
 ghost use Rattle.std.specs.Bool.{OnFalse};
 ghost use Rattle.csl_style.specs.NameOptions.{inherited_options};
+ghost use Rattle.csl_tree.specs.Content.{IsContent};
 ghost use Rattle.csl_tree.specs.Tokens.{tokens};
 ghost use Rattle.csl_entry.specs.Cite.{cite_state};
 ghost use Rattle.csl_entry.specs.NameProperties.{name_properties};
@@ -52,6 +53,7 @@ impl<'s, T> Model for Context<'s, T> {
     ghost use Rattle.csl_style.specs.contracts.element.Layout as of_layout;
     ghost use Rattle.csl_style.specs.NameOptions.{inherited_options};
     ghost use Rattle.csl_entry.specs.Cite.{cite_state};
+    ghost use Rattle.csl_context.specs.Contents.{HasContents};
     ghost use Rattle.csl_context.specs.Left.{state_left};
     ghost use Rattle.csl_context.specs.Now.{Now};
 
@@ -81,6 +83,8 @@ impl<'s, T> Model for Context<'s, T> {
       state = state_left c.writing.state;
       failed = c.writing.failed;
     } };
+
+    ghost invariant = { λ c. HasContents c.writing.content };
 }
 
 /// What a rendering leaves for the next one, beside its content.
@@ -221,7 +225,8 @@ impl<'s, T> Context<'s, T> {
         Ok(begin(alloc, style, instance, scope, state))
     }
 
-    /// What was written, once only the root is open.
+    /// What was written, once only the root is open. No text, markup or link in it is empty, and no
+    /// element is without children.
     ///
     /// # Errors
     /// [`RenderError::Memory`]: there was no memory left. It never comes from a context that had
@@ -231,6 +236,7 @@ impl<'s, T> Context<'s, T> {
         requires closed { OnFalse self.failed (self.outer ≡ []) }
         ensures sound { OnOk result (self.entry.failed ≡ false) }
         ensures content { IfOk result (λ r. tokens r.content ≡ self.entry.inner) }
+        ensures whole { IfOk result (λ r. IsContent (tokens r.content)) }
         ensures state { IfOk result (λ r. state_left r.state ≡ self.entry.state) }
         ensures err { IfErr result (λ e. (e ≡ RenderError.Failed) ↔ (self.entry.failed ≡ true)) }
     {

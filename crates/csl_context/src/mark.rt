@@ -1,7 +1,32 @@
 //! Marks of open parts.
 
-/// An open part of a context. A call that closes a part takes the mark of the innermost one.
+ghost use Rattle.std.specs.Prelude.{◌≡◌, ℕ};
+
+use std::marker::Model;
+
+/// An open part of a context, which the call that opens it returns and a call that closes it takes.
+/// Contracts see a mark as the number of open parts around the one that it marks: the root has
+/// none, so a part that is opened in the root alone has one. A part can be closed while its mark is
+/// that of the innermost one.
 #[derive(Clone, Copy, Debug)]
 pub struct Mark {
-    pub(crate) depth: usize,
+    depth: usize,
+}
+
+/// As many as are open around the part, without the root.
+impl Model for Mark {
+    ghost Value = { ℕ };
+
+    ghost view = { λ m. m.depth };
+
+    ghost inverse = { λ d. record { depth = d } };
+}
+
+impl Mark {
+    /// The mark of the part that this many stand around.
+    pub(crate) fn new(depth: usize) -> Mark
+        ensures { result ≡ depth }
+    {
+        Mark { depth }
+    }
 }

@@ -71,7 +71,7 @@ impl<'s, T> Context<'s, T> {
     /// [`RenderError::Failed`]: the context had failed.
     pub fn apply_prefix(&mut self) -> Result<Mark, RenderError>
         ensures after { Runs with_part result self.old self.new }
-        ensures mark { IfOk result (λ mark. length self.new.outer ≡ mark.depth + 1) }
+        ensures mark { IfOk result (λ mark. length self.new.outer ≡ mark + 1) }
     {
         self.push_elem()
     }
@@ -240,7 +240,7 @@ impl<'s, T> Context<'s, T> {
     /// [`RenderError::Failed`]: the context had failed.
     pub fn push_quotes(&mut self) -> Result<Mark, RenderError>
         ensures after { Runs (λ now. with_part (turned now)) result self.old self.new }
-        ensures mark { IfOk result (λ mark. length self.new.outer ≡ mark.depth + 1) }
+        ensures mark { IfOk result (λ mark. length self.new.outer ≡ mark + 1) }
     {
         let mark = self.push_elem()?;
         self.writing.in_quotes = !self.writing.in_quotes;

@@ -1,6 +1,6 @@
 //! Texts, markups and links behind what is written (CSL 1.0.2, Formatting, Strip-periods).
 
-ghost use Rattle.std.specs.Prelude.{◌≡◌, [], ◌∷◌, ◌++◌, string_bytes, option_map, IfOk, OnOk};
+ghost use Rattle.std.specs.Prelude.{◌≡◌, [], ◌∷◌, ◌++◌, string_bytes, option_map, IfOk, OnOk, OnErr};
 ghost use Rattle.csl_tree.specs.Content.{◌++>◌, markup_content, link_content};
 ghost use Rattle.csl_tree.specs.Flat.{with_tokens, affix_content};
 ghost use Rattle.csl_tree.specs.Tokens.{solid, transparent};
@@ -29,8 +29,9 @@ pub(crate) struct Pen {
 impl Pen {
     /// Writes a text into the innermost part.
     pub(crate) fn write(self, parts: &mut FlatTree, text: &str) -> Result<(), Memory>
-        ensures { OnOk result (parts.new
+        ensures ok { OnOk result (parts.new
             ≡ with_tokens (text_of self.stripping self.formatting text.now) parts.old) }
+        ensures err { OnErr result (parts.new ≡ parts.old) }
     {
         if self.stripping {
             let text = without_periods(self.alloc, text)?;
@@ -120,7 +121,8 @@ impl Pen {
 impl Pen {
     /// Writes a markup into the innermost part, unless it is empty.
     pub(crate) fn write_markup(self, parts: &mut FlatTree, text: &str) -> Result<(), Memory>
-        ensures { OnOk result (parts.new ≡ with_tokens (markup_content text.now) parts.old) }
+        ensures ok { OnOk result (parts.new ≡ with_tokens (markup_content text.now) parts.old) }
+        ensures err { OnErr result (parts.new ≡ parts.old) }
     {
         let markup = String::from_str(self.alloc, text)?;
         parts.push(ElemChild::Markup(markup))
@@ -133,8 +135,9 @@ impl Pen {
         text: &str,
         url: &str,
     ) -> Result<(), Memory>
-        ensures { OnOk result (parts.new
+        ensures ok { OnOk result (parts.new
             ≡ with_tokens (link_content text.now self.formatting url.now) parts.old) }
+        ensures err { OnErr result (parts.new ≡ parts.old) }
     {
         let text = String::from_str(self.alloc, text)?;
         let text = self.formatting.add_text(text);
@@ -148,8 +151,9 @@ impl Pen {
         parts: &mut FlatTree,
         cite_idx: usize,
     ) -> Result<(), Memory>
-        ensures { OnOk result (parts.new
+        ensures ok { OnOk result (parts.new
             ≡ with_tokens (solid (transparent cite_idx self.formatting) ∷ []) parts.old) }
+        ensures err { OnErr result (parts.new ≡ parts.old) }
     {
         let format = self.formatting;
         parts.push(ElemChild::Transparent { cite_idx, format })

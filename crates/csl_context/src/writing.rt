@@ -1,10 +1,10 @@
 //! What is written into the open parts of a context.
 
-ghost use Rattle.std.specs.Prelude.{◌≡◌, ◌+◌, ◌<◌, not, [], length, false, true, IfOk, OnOk, IfErr, IsOk};
+ghost use Rattle.std.specs.Prelude.{◌≡◌, ◌+◌, ◌<◌, not, [], length, false, true, IfOk, OnOk, IfErr, OnErr, IsOk};
 ghost use Rattle.lit_model.specs.Text.{chunk_of, chunks};
 ghost use Rattle.csl_tree.specs.Content.{boxed, text_content, markup_content};
 ghost use Rattle.csl_tree.specs.Flat.{closed_as};
-ghost use Rattle.csl_tree.specs.Tokens.{optional_meta, has_text, has_children};
+ghost use Rattle.csl_tree.specs.Tokens.{optional_meta, has_text, has_children, is_empty};
 ghost use Rattle.csl_context.specs.Texts.{text_in, gap_after, chunk_in, chunks_in, link_in, transparent_in};
 ghost use Rattle.csl_context.specs.Now.{Runs, IsSilent, IsInnermost, same, with_content, with_space, with_part, closed_by, dropped};
 
@@ -19,7 +19,8 @@ use lit_model::{ChunkKind, ChunkedString, Memory, StringChunk};
 /// Closes the innermost part, and leaves what stands in it in the part around it.
 fn splice_part(parts: &mut FlatTree) -> Result<(), Memory>
     requires is_open { 0 < length parts.old.outer }
-    ensures { OnOk result (parts.new ≡ closed_as parts.old.inner parts.old) }
+    ensures ok { OnOk result (parts.new ≡ closed_as parts.old.inner parts.old) }
+    ensures err { OnErr result (parts.new ≡ parts.old) }
 {
     parts.close_spliced(None, None)?;
     Ok(())
@@ -254,16 +255,17 @@ impl<'s, T> Context<'s, T> {
     /// [`RenderError::Failed`]: the context had failed.
     pub fn push_elem(&mut self) -> Result<Mark, RenderError>
         ensures after { Runs with_part result self.old self.new }
-        ensures mark { IfOk result (λ mark. length self.new.outer ≡ mark.depth + 1) }
+        ensures mark { IfOk result (λ mark. length self.new.outer ≡ mark + 1) }
     {
         self.ensure_live()?;
         let depth = self.writing.content.depth() - 1;
         let opened = self.writing.content.open();
         self.or_fail(opened)?;
-        Ok(Mark { depth })
+        Ok(Mark::new(depth))
     }
 
-    /// Closes an element (CSL 1.0.2, Display). It is dropped where nothing was written in it.
+    /// Closes an element (CSL 1.0.2, Display). It is dropped where nothing was written in it. What
+    /// is written in a part is empty, as [`csl_tree::ElemChildren::is_empty`] says, only then.
     ///
     /// # Errors
     /// [`RenderError::Memory`]: there was no memory left. The context has failed.
@@ -275,8 +277,9 @@ impl<'s, T> Context<'s, T> {
         meta: Option<ElemMeta>,
     ) -> Result<(), RenderError>
         requires innermost { IsInnermost mark self.old }
-        ensures { Runs (closed_by (λ _ c. boxed display (optional_meta meta) c))
+        ensures after { Runs (closed_by (λ _ c. boxed display (optional_meta meta) c))
             result self.old self.new }
+        ensures empty { is_empty self.old.inner ≡ not (has_children self.old.inner) }
     {
         self.ensure_live()?;
         let written = self.writing.content.close_elem(display, meta);

@@ -1,5 +1,7 @@
 -- A form of a name as a mutable reference. A value written there replaces the form that was read
 -- (`with_form` of `NameProperties`), and nothing else changes.
+-- `FormList`, `list_row`, `lends_list` and `lends_shown` are the code's own: private contracts
+-- alone cite them.
 use Rattle.std.specs.Prelude.{◌≡◌, ℕ, Option, Some, OnSome}
 use Rattle.std.specs.Vec.{with_item}
 use Rattle.std.specs.Borrow.{Fml, MutBor, Lends, LendsSo}

@@ -1,5 +1,7 @@
 -- The conditions of a branch that an iterator has not read yet, and one reading of it: the next
 -- condition, or an error, after which nothing is left.
+-- `arm_behind`, `behind_first`, `behind_deciding` and `ReadsAt` are the code's own: private
+-- contracts alone cite them.
 use Rattle.std.specs.Prelude.{◌≡◌, ℕ, Bool, true, false, not, List, [], ◌∷◌, ◌++◌, drop, Option, Some, None, option_map, Result, MatchOption, MatchResult, if◌then◌else◌}
 use Rattle.csl_style.specs.Node.{Tests}
 use Rattle.csl_style.specs.declared.element.ChooseMatch.{ChooseMatch}

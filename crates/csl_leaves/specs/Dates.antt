@@ -2,7 +2,7 @@
 -- `disambiguate-add-year-suffix`): the dry run of a date, the variables that it shows, its content
 -- and the state that it leaves (`date_info`, `date_shows`, `date_tree`). The texts of its parts are
 -- in `DateText`, and its sort keys in `DateKey`.
-use Rattle.std.specs.Prelude.{ℕ, Bool, true, false, not, ◌&&◌, List, [], ◌∷◌, ◌++◌, map, Option, Some, None, option_map, is_some, unwrap_or, find, if◌then◌else◌}
+use Rattle.std.specs.Prelude.{ℕ, Bool, true, false, not, ◌&&◌, List, [], ◌∷◌, ◌++◌, map, filter, Option, Some, None, option_map, is_some, unwrap_or, find, if◌then◌else◌}
 use Rattle.std.specs.Option.{option_or}
 use denote.Enum.Bare.{sameb}
 use Rattle.csl_common.specs.declared.form.LongShortForm.TheVariants as text_form
@@ -32,7 +32,7 @@ use Rattle.csl_entry.specs.declared.cite.Sorting.{Sorting}
 use Rattle.csl_entry.specs.declared.cite.SpecialForm.{SpecialForm}
 use Rattle.csl_entry.specs.declared.cite.SpecialForm.TheVariants.{VarOnly, OnlyFirstDate, OnlyYearSuffix, SuppressAuthor}
 use Rattle.csl_context.specs.State.{State, Inherited, looked}
-use Rattle.csl_context.specs.Texts.{text_in, between_in}
+use Rattle.csl_context.specs.Texts.{text_in, text_in_if}
 use Rattle.csl_context.specs.World.{World, standard_look, date_look, localized}
 use Rattle.csl_leaves.specs.Boxes.{in_plain, plain_between, plain_box}
 use Rattle.csl_leaves.specs.DateText.{is_written, part_text}
@@ -204,19 +204,20 @@ part_content w parts suffix d inh p =
 -- ---- the parts that print something, in order, with the delimiter between them, in the date's
 -- formatting
 
-abbrev pub behind_delimiter : Inherited → Option (List ℕ) → Bool → List Token → List Token
-behind_delimiter inh delimiter true c = c
-behind_delimiter inh delimiter false c = between_in inh delimiter None c
+-- contents in a row, each behind a delimiter
+abbrev pub each_behind : List Token → List (List Token) → List Token
+each_behind delimiter [] = []
+each_behind delimiter (c ∷ cs) = delimiter ++> (c ++> each_behind delimiter cs)
 
--- `first` until one prints something
-abbrev pub joined_parts : Inherited → Option (List ℕ) → Bool → List (List Token) → List Token
-joined_parts inh delimiter first [] = []
-joined_parts inh delimiter first (c ∷ cs) =
-    behind_delimiter inh delimiter first c ++> joined_parts inh delimiter (first && not (has_children c)) cs
+-- contents in a row, with a delimiter between two
+abbrev pub joined_by : List Token → List (List Token) → List Token
+joined_by delimiter [] = []
+joined_by delimiter (c ∷ cs) = c ++> each_behind delimiter cs
 
 abbrev pub date_body : World → DateNode → List ℕ → Parts → Inherited → List Token
 date_body w n suffix d inh =
-    joined_parts inh n.delimiter true (map (part_content w (unwrap_or n.parts YearMonthDay) suffix d inh) n.date_part)
+    joined_by (text_in_if inh n.delimiter)
+    (filter has_children (map (part_content w (unwrap_or n.parts YearMonthDay) suffix d inh) n.date_part))
 
 -- ---- rendering
 -- A date without a variable, or one that does not show it, is nothing. Any other date looks its

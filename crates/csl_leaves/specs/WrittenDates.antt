@@ -1,4 +1,5 @@
 -- A date as the code holds it: the node, and the localized date that it is over, if any.
+-- The definitions of this file are the code's own: private contracts alone cite them.
 use Rattle.std.specs.Prelude.{List, [], map, Option, Some, None, option_map}
 use Rattle.std.specs.Borrow.{Bor}
 use Rattle.csl_style.specs.declared.date.Date.{Date}

@@ -1,15 +1,15 @@
 //! The parts of a date (CSL 1.0.2, Date-part; Localized Date Formats; Affixes, Delimiter).
 
-ghost use Rattle.std.specs.Prelude.{◌≡◌, ◌&&◌, not, map, unwrap_or, option_map, IfOk, string_bytes};
+ghost use Rattle.std.specs.Prelude.{◌≡◌, ◌&&◌, not, map, unwrap_or, option_map, IfOk, string_bytes, None, if◌then◌else◌};
 ghost use Rattle.lit_model.specs.Date.{date_parts};
 ghost use Rattle.csl_style.specs.declared.date.DateParts.TheVariants.{YearMonthDay};
 ghost use Rattle.csl_style.specs.Dressing.{dressing_of};
 ghost use Rattle.csl_style.specs.View.{view_date_part};
 ghost use Rattle.csl_tree.specs.Tokens.{has_children};
 ghost use Rattle.csl_context.specs.Now.{Runs, world, with_content};
-ghost use Rattle.csl_context.specs.Texts.{text_in};
+ghost use Rattle.csl_context.specs.Texts.{text_in, between_in};
 ghost use Rattle.csl_leaves.specs.Boxes.{in_plain, plain_between};
-ghost use Rattle.csl_leaves.specs.Dates.{is_suffix_alone, own_part, form_over, formatting_over, part_over, suffix_with, part_value, is_stripped, part_content, behind_delimiter, date_body};
+ghost use Rattle.csl_leaves.specs.Dates.{is_suffix_alone, own_part, form_over, formatting_over, part_over, suffix_with, part_value, is_stripped, part_content, date_body};
 ghost use Rattle.csl_leaves.specs.WrittenDates.{written_node, own_parts};
 
 use crate::boxes::Around;
@@ -231,11 +231,13 @@ fn render_behind<'s, T: EntryLike>(
         (world T.answers ctx.old) (unwrap_or (written_node written.entry).parts YearMonthDay)
         found.entry.suffix.now (date_parts found.entry.date.now) ctx.old.inherited (part_over
         (own_parts written.entry) (view_date_part part.now)))))) }
-    ensures after { Runs (λ now. with_content (λ inh. behind_delimiter inh
-        (written_node written.entry).delimiter first (part_content (world T.answers now)
+    ensures after { Runs (λ now. with_content (λ inh.
+        let part = part_content (world T.answers now)
         (unwrap_or (written_node written.entry).parts YearMonthDay) found.entry.suffix.now
         (date_parts found.entry.date.now) inh (part_over (own_parts written.entry)
-        (view_date_part part.now)))) now) result ctx.old ctx.new }
+        (view_date_part part.now)) in
+        if first then part else between_in inh (written_node written.entry).delimiter None part)
+        now) result ctx.old ctx.new }
 {
     let mark = ctx.push_elem()?;
     render_part(written, ctx, found, part)?;

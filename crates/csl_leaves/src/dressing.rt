@@ -35,7 +35,7 @@ pub fn open_quotes<'s, T: EntryLike>(
     quotes: bool,
 ) -> Result<Mark, RenderError>
     ensures after { Runs (λ now. with_part (turned_if quotes now)) result ctx.old ctx.new }
-    ensures mark { IfOk result (λ mark. length ctx.new.outer ≡ mark.depth + 1) }
+    ensures mark { IfOk result (λ mark. length ctx.new.outer ≡ mark + 1) }
 {
     if quotes {
         ctx.push_quotes()

@@ -4,6 +4,7 @@
 -- formattings and affixes, the separator, the text after initials, whether these keep a hyphen,
 -- whether a particle is demoted, and whether a sort key is made. `name_content` is the content of
 -- these pieces alone, so its gaps see only this name.
+-- `part_how` and `name_how` are the code's own: private contracts alone cite them.
 use Rattle.std.specs.Prelude.{ℕ, Bool, true, false, ◌||◌, List, [], ◌∷◌, ◌++◌, Option, Some, None, option_map, if◌then◌else◌}
 use Rattle.lit_model.specs.Person.{Named}
 use Rattle.lit_model.specs.Name.{is_institutional, is_cjk, name_particle, name_without_particle, name_without_article}

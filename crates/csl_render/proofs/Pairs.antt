@@ -32,7 +32,6 @@ module _ (s : State) (w : World) (l : Layout) (a b : Answers) (alike : Alike (of
 
   pub printed_same : (r : Rendered) (html : List ℕ) (q : Rendered) (other : List ℕ) → Prints (printed_from s (answered_by a w) l) r html → Prints (printed_from s (answered_by b w) l) q other → PrintsSame r html q other
   printed_same r html q other one two = record {
-    content = one.content ∙ ap (λ m. m.content) printed_alike ∙ sym two.content;
-    state = one.state ∙ ap (λ m. m.state) printed_alike ∙ sym two.state;
+    rendering = one.rendering ∙ printed_alike ∙ sym two.rendering;
     html = one.html ∙ ap (λ m. written Html m.content) printed_alike ∙ sym two.html;
   }

@@ -1,25 +1,24 @@
--- A style's rendering of a first cite without disambiguation (`cited`): the content of its citation
--- layout in a new context. The cite is not sorted, and the whole of it is shown.
+-- What a style makes of an entry that is cited, from the state of a new context (CSL 1.0.2,
+-- Citation; Bibliography; Layout). The cite is whole and is not sorted (`whole_cite`). Its citation
+-- layout makes what stands in a note or a text, and its bibliography layout what stands in the
+-- bibliography, if it has one.
+-- A first cite without disambiguation has a content of its own name (`cited`).
 use Rattle.std.specs.Prelude.{List, None}
+use Rattle.csl_style.specs.declared.element.Layout.{Layout}
+use Rattle.csl_style.specs.declared.style.settings.Scope.{Scope}
 use Rattle.csl_style.specs.declared.style.settings.Scope.TheVariants.{Citation}
-use Rattle.csl_style.specs.Node.{fill_layout}
 use Rattle.csl_style.specs.Style.{StyleParts}
-use Rattle.csl_style.specs.View.{view_layout}
 use Rattle.csl_tree.specs.Tokens.{Token}
 use Rattle.csl_entry.specs.Answers.{Answers}
-use Rattle.csl_entry.specs.Cite.{first_cite, nothing}
-use Rattle.csl_context.specs.Now.{base_inherited, no_state}
-use Rattle.csl_context.specs.World.{World, env}
-use Rattle.csl_render.specs.Tree.{layout_tree}
+use Rattle.csl_entry.specs.Cite.{CiteState, first_cite, nothing}
+use Rattle.csl_context.specs.Now.{no_state}
+use Rattle.csl_leaves.specs.Text.{Made}
+use Rattle.csl_render.specs.Printed.{citing, printed_from}
 
-abbrev pub first_world : StyleParts → Answers → World
-first_world style answers = record {
-  style = style;
-  scope = Citation;
-  instance = record { answers = answers; cite = first_cite nothing; sorting = None; special = None };
-}
+-- the content and the state that a layout makes of a whole cite
+abbrev pub whole_cite : StyleParts → Scope → CiteState → Answers → Layout → Made
+whole_cite style scope cite answers layout = printed_from no_state (citing style scope cite None None answers) layout
 
--- the content of the citation layout in a new context
+-- the content of a first cite without disambiguation
 abbrev pub cited : StyleParts → Answers → List Token
-cited style answers =
-    (layout_tree (first_world style answers) (fill_layout (env style) (view_layout style.citation)) (base_inherited style Citation) no_state).content
+cited style answers = (whole_cite style Citation (first_cite nothing) answers style.citation).content

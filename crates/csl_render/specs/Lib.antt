@@ -5,5 +5,6 @@ pub mod Tree
 pub mod DryRun
 pub mod Plan
 pub mod Rendering
-pub mod Cited
 pub mod Printed
+pub mod Keeps
+pub mod Cited

@@ -3,6 +3,7 @@
 -- made, and for each state of which dry runs read the same (`dry`): the suppressed variables, and
 -- under two special forms whether a date was rendered.
 -- A list of results may break off: the nodes after its end have no plan.
+-- All but `asks_for_dates` is the code's own: private contracts alone cite it.
 use Rattle.std.specs.Prelude.{◌≡◌, ⊤, Bool, true, false, ◌&&◌, List, [], ◌∷◌, Option, Some, None}
 use Rattle.std.specs.Bool.{MatchBool}
 use Rattle.csl_style.specs.Node.{Full, printed, called, lacking, numbered, labelled, dated, named, shorthand, chosen, grouped, Fulls, none, more, Cases, no_cases, else_case, case}

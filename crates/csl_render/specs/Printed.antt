@@ -22,7 +22,7 @@ use Rattle.csl_context.specs.Left.{state_left}
 use Rattle.csl_context.specs.Now.{base_inherited}
 use Rattle.csl_context.specs.State.{State}
 use Rattle.csl_context.specs.World.{World, env}
-use Rattle.csl_leaves.specs.Text.{Made}
+use Rattle.csl_leaves.specs.Text.{Made, made}
 use Rattle.csl_render.specs.Tree.{layout_tree}
 
 -- the world of a cite of an entry with these answers
@@ -40,14 +40,16 @@ answered_by answers w = record w { instance = record w.instance { answers = answ
 abbrev pub printed_from : State → World → Layout → Made
 printed_from s w l = layout_tree w (fill_layout (env w.style) (view_layout l)) (base_inherited w.style w.scope) s
 
+-- what a finished rendering is: its content and its state
+abbrev pub made_of : Rendered → Made
+made_of r = made (tokens r.content) (state_left r.state)
+
 -- a rendering of that content and that state, with its HTML
 pub record Prints (m : Made) (r : Rendered) (bytes : List ℕ) : Type 0 where
-  pub content : tokens r.content ≡ m.content
-  pub state : state_left r.state ≡ m.state
+  pub rendering : made_of r ≡ m
   pub html : bytes ≡ written Html m.content
 
 -- two renderings, each with its HTML, that are the same in all three
 pub record PrintsSame (r : Rendered) (bytes : List ℕ) (other : Rendered) (others : List ℕ) : Type 0 where
-  pub content : tokens r.content ≡ tokens other.content
-  pub state : state_left r.state ≡ state_left other.state
+  pub rendering : made_of r ≡ made_of other
   pub html : bytes ≡ others

@@ -7,6 +7,8 @@
 -- print, has no flags and shows nothing.
 -- A layout is what its elements make one after another, in its formatting (`layout_tree`). No
 -- delimiter is between them: that of the layout is inherited by a choice directly in it.
+-- `choice_info`, `choice_shows`, `choice_tree` and `tries_tree` are the code's own: private
+-- contracts alone cite them.
 use Rattle.std.specs.Prelude.{ℕ, Bool, true, false, ◌||◌, List, [], Option, Some, None, if◌then◌else◌}
 use Rattle.csl_style.specs.declared.taxonomy.Variable.{Variable}
 use Rattle.csl_style.specs.Dressing.{AffixTexts, Dressing, TextDressing}

@@ -6,19 +6,22 @@ ghost use Rattle.csl_style.specs.Named.{of_fulls};
 ghost use Rattle.csl_style.specs.Node.{fill_layout};
 ghost use Rattle.csl_style.specs.Reached.{env};
 ghost use Rattle.csl_style.specs.View.{view_layout};
-ghost use Rattle.csl_tree.specs.Tokens.{tokens};
-ghost use Rattle.csl_tree.specs.Writing.{written};
-ghost use Rattle.csl_tree.specs.declared.elem.BufWriteFormat.TheVariants.{Html};
 ghost use Rattle.csl_entry.specs.Alike.{Alike};
+ghost use Rattle.csl_entry.specs.Answers.{Answers};
 ghost use Rattle.csl_entry.specs.Cite.{cite_state};
 ghost use Rattle.csl_context.specs.Left.{state_left};
+ghost use Rattle.csl_context.specs.State.{Inherited, State};
+ghost use Rattle.csl_context.specs.World.{World};
+ghost use Rattle.csl_render.specs.Keeps.{Keeps};
 ghost use Rattle.csl_render.specs.Printed.{citing, printed_from, Prints, PrintsSame};
+ghost use Rattle.csl_render.specs.Rendering.{Rendering, tree_in};
+ghost use Rattle.csl_render.specs.Tree.{layout_tree};
 
-use crate::render::RenderCsl;
-use csl_context::{Context, LeftState, RenderError, Rendered};
+use crate::cites::render_from;
+use csl_context::{LeftState, RenderError, Rendered};
 use csl_entry::{CiteProperties, EntryLike, InstanceContext, Sorting, SpecialForm, same_answers};
 use csl_style::{Layout, Scope, Style, named_by};
-use csl_tree::{BufWriteFormat, ElemChildren};
+use csl_tree::BufWriteFormat;
 use std::alloc::Global;
 
 /// What a layout makes of two entries.
@@ -36,20 +39,7 @@ pub struct Pair {
     pub alike: bool,
 }
 
-/// The HTML of a content.
-fn html(alloc: Global, content: &ElemChildren) -> Result<String, RenderError>
-    ensures ok { IfOk result (λ text. string_bytes text ≡ written Html (tokens content.now)) }
-    ensures err { IfErr result (λ e. e ≡ RenderError.Memory) }
-{
-    let mut text = String::new(alloc);
-    match content.write_buf(&mut text, BufWriteFormat::Html) {
-        Ok(()) => Ok(text),
-        Err(_) => Err(RenderError::Memory),
-    }
-}
-
 /// What the layout makes of a cite that begins with what another rendering left, and its HTML.
-#[tactic(auto, using(crate::proofs::Pairs::rendering_wants_memory, crate::proofs::Pairs::end_wants_memory))]
 fn print_from<'s, T: EntryLike>(
     alloc: Global,
     style: &'s Style,
@@ -64,13 +54,9 @@ fn print_from<'s, T: EntryLike>(
         p.0 (string_bytes p.1)) }
     ensures err { IfErr result (λ e. e ≡ RenderError.Memory) }
 {
-    let Ok(mut ctx) = Context::resume(alloc, style, instance, scope, start) else {
-        return Err(RenderError::Memory);
-    };
-    layout.render(&mut ctx)?;
-    let rendered = ctx.finish()?;
-    let text = html(alloc, &rendered.content)?;
-    Ok((rendered, text))
+    let rendered = render_from(alloc, style, layout, instance, scope, start)?;
+    let html = rendered.content.to_text(alloc, BufWriteFormat::Html)?;
+    Ok((rendered, html))
 }
 
 /// Whether both answer alike all that the layout names.
@@ -97,10 +83,13 @@ fn are_alike<T: EntryLike, U: EntryLike>(
 
 /// What the layout makes of two entries, of whatever types, in the same cite and from the same
 /// state, and whether they answer alike all the variables and kinds that the layout and the macros
-/// it reaches name. Where they do, it makes the same of both.
+/// it reaches name. Where they do, it makes the same of both. No rendering undoes what the
+/// state before it holds: suppressed variables, a first date and first names stay (CSL 1.0.2,
+/// Substitute; Disambiguation), and lookups after it suppress exactly if those before it did.
 ///
 /// # Errors
 /// [`RenderError::Memory`]: there was no memory left, or an entry said so.
+#[tactic(auto, using(crate::proofs::KeepsNodes::rendering_keeps))]
 pub fn render_pair<'s, T: EntryLike, U: EntryLike>(
     alloc: Global,
     style: &'s Style,
@@ -124,7 +113,16 @@ pub fn render_pair<'s, T: EntryLike, U: EntryLike>(
         (T.answers left.now) (U.answers right.now))) }
     ensures same { IfOk result (λ p. p.alike ≡ true
         → PrintsSame p.left (string_bytes p.left_html) p.right (string_bytes p.right_html)) }
+    // What the state left by any node or layout keeps of the one before, in every world.
+    ensures keeps { (w : World) (r : Rendering) (inherited : Inherited) (s : State)
+        → Keeps s (tree_in w r inherited s).state }
     ensures err { IfErr result (λ e. e ≡ RenderError.Memory) }
+    ensures alike_make_the_same { (a b : Answers) (inherited : Inherited) (s : State)
+        → Alike (of_fulls (fill_layout (env style.now) (view_layout layout.now)).elements) a b
+        → layout_tree (citing style.now scope (cite_state cite_props.now) sorting kind a)
+        (fill_layout (env style.now) (view_layout layout.now)) inherited s
+        ≡ layout_tree (citing style.now scope (cite_state cite_props.now) sorting kind b)
+        (fill_layout (env style.now) (view_layout layout.now)) inherited s }
 {
     let alike = are_alike(alloc, style, layout, left, right)?;
     let one = InstanceContext {

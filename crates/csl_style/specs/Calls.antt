@@ -1,5 +1,7 @@
 -- The calls between the macros of a style, as a graph: the places of the macros, with an edge for
 -- each call, as often as it occurs. Cycles are searched in this graph (CSL 1.0.2, Macro).
+-- `calls_in`, `calls_in_all`, `calls_in_branches`, `calls_in_substitutes`, `name_at`, `children_at`
+-- and `IsCallGraph` are the code's own: private contracts alone cite them.
 use Rattle.std.specs.Prelude.{◌≡◌, ℕ, zero, suc, ◌<◌, List, [], ◌∷◌, ◌++◌, length, String}
 use Rattle.std.specs.Option.{option_to_list}
 use Rattle.std.specs.HashMap.{HashMap, get_by_text}

@@ -7,6 +7,7 @@
 -- in a substitute names its own variables and those of the node that is rendered in its place. A
 -- macro that the style lacks names nothing. The four variables of the citation (`OfCitation`) are
 -- not named. A set is a function from variables and kinds to a boolean (`NamedSet`).
+-- `of_child` and `of_part` are the code's own: private contracts alone cite them.
 use Rattle.std.specs.Prelude.{ℕ, Bool, false, not, ◌&&◌, ◌||◌, List, [], ◌∷◌, Option, Some, None}
 use Rattle.std.specs.BTreeMap.{is_at}
 use Rattle.csl_style.specs.declared.taxonomy.Variable.{Variable}

@@ -1,6 +1,8 @@
 -- HTML is read as *pieces*: start tags, end tags and the escaped bytes of texts. Its first bytes
 -- decide the first piece, so it is one list of pieces at most. A mark is what the reader takes at
 -- once: a start tag, an end tag or a text.
+-- `BeginsNoStart`, `IsAfterAnchor`, `byte_at`, `IsAfterText`, `rest_found`, `texts_found` and
+-- `as_text` are the code's own: private contracts alone cite them.
 use Rattle.std.specs.Prelude.{◌≡◌, ℕ, ◌<◌, ◌==◌, List, [], ◌∷◌, ◌++◌, length, Option, Some, None, option_map, option_and_then, unwrap_or, codes, if◌then◌else◌}
 use denote.Ref.{Bor}
 use Rattle.csl_tree.specs.Escapes.{escape, escaped, is_plain, ampersand, less_than, greater_than, quotation_mark}

@@ -1,6 +1,10 @@
 -- The place of the first element, in preorder, that a `cs:names` made, and that element as a
 -- mutable reference. When the reference ends, the tree has the last value that was written there,
 -- and is otherwise as it was.
+-- `find_of_child`, `find_at`, `head`, `names_index`, `names_items`, `put_names_items`,
+-- `lends_names_items`, `lends_names_child`, `is_found`, `is_here`, `more_here`, `here_index`,
+-- `elem_at`, `first_names`, `lends_elem` and `lends_that_names` are the code's own: private
+-- contracts alone cite them.
 use Rattle.std.specs.Prelude.{ℕ, ◌+◌, Bool, true, false, List, [], ◌∷◌, Option, Some, None, ◌||◌, if◌then◌else◌}
 use Rattle.std.specs.Borrow.{Fml, MutBor, Lends, LendsIf}
 use Rattle.std.specs.declared.vec.Vec.{Vec}

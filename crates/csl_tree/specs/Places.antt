@@ -1,6 +1,9 @@
 -- A place in a tree is a path of indices. When a mutable reference to a place ends, the tree has
 -- the last value that was written there, and is otherwise as it was. The tree ends at the path that
 -- goes down the last child as long as that is an element.
+-- `layer_text`, `text_of_child`, `last_path_of_child`, `last_items`, `put_last_items`, `items_row`,
+-- `lends_items`, `lends_last_items`, `lends_children`, `lends_last_child`, `lends_text` and
+-- `lends_that_text` are the code's own: private contracts alone cite them.
 use Rattle.std.specs.Prelude.{ℕ, ◌-◌, Bool, List, [], ◌∷◌, Option, Some, None, length, is_some, unwrap_or, slice_index_or}
 use Rattle.std.specs.Vec.{with_item}
 use Rattle.std.specs.Borrow.{Fml, MutBor, Lends, LendsIf}

@@ -3,6 +3,8 @@
 -- the last child if that is a text, the last text inside it if it is an element, else none.
 -- `remove_any_meta` takes out tokens that open with the first element that has a meta. The tokens
 -- before and after them stay, and meet (`TakenOut`).
+-- `child_preorder`, `layer_elem`, `elem_of`, `last_text_of`, `layer_has_meta` and `child_has_meta`
+-- are the code's own: private contracts alone cite them.
 use Rattle.std.specs.Prelude.{◌≡◌, ◌⊎◌, Bool, true, false, List, [], ◌∷◌, ◌++◌, Option, Some, None, is_some, flat_map}
 use Rattle.std.specs.Borrow.{Bor}
 use Rattle.std.specs.List.{list_any}

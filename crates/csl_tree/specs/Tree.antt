@@ -1,6 +1,7 @@
 -- An output tree as nested nodes: texts with their formatting, leaves (markup, links and
 -- transparents), and elements around nodes (`tree`). Its tokens are those of the nodes, in order.
 -- It forgets how texts are stored, and nothing else. CSL has no section on this.
+-- `child_tree` and `row` are the code's own: private contracts alone cite them.
 use Rattle.std.specs.Prelude.{ℕ, List, [], ◌∷◌, ◌++◌, map, Option, string_bytes}
 use Rattle.csl_style.specs.declared.formatting.Display.{Display}
 use Rattle.csl_tree.specs.declared.formatting.Formatting.{Formatting}

@@ -1,5 +1,6 @@
 -- A page and an item as the parser finds them: numbers, and slices of the text that is read. Each
 -- stands for a page or an item of `Page`.
+-- Both definitions are the code's own: private contracts alone cite them.
 use Rattle.lit_model.specs.declared.page.parse.PageShape.{PageShape}
 use Rattle.lit_model.specs.declared.page.parse.ItemShape.{ItemShape}
 use Rattle.lit_model.specs.declared.page.parse.ItemShape.TheVariants.{Single, Pair}

@@ -4,4 +4,7 @@ use Rattle.csl_context.proofs.Affixes.{bare}
 use Rattle.csl_context.proofs.writing.splice_part.Goals as goal
 
 pub returns : goal.returns
-returns c = c.in_ok-close_spliced.ensures.ok ∙ ap (λ l. closed_as l c.args.parts.now) (bare c.args.parts.now.inner)
+returns c = record {
+  ok = c.in_ok-close_spliced.ensures.ok ∙ ap (λ l. closed_as l c.args.parts.now) (bare c.args.parts.now.inner);
+  err = tt;
+}

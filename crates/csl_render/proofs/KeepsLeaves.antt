@@ -1,0 +1,152 @@
+-- What nodes without children keep of the state: a lookup only adds to the suppressed variables, a
+-- date only sets its mark, and names fill the place of the first names only where it is empty.
+use Rattle.std.proofs.Common.{◌≡◌, Bool, true, false, List, [], ◌∷◌, Option, Some, None, refl, ap, ◌∙◌}
+use Rattle.std.specs.Prelude.{◌||◌, is_some, if◌then◌else◌}
+use Rattle.std.specs.BTreeMap.{is_at}
+use Rattle.std.specs.BTreeSet.{insert_key}
+use Rattle.std.specs.List.{list_any}
+use Rattle.std.specs.Option.{option_or}
+use Rattle.std.specs.Ordering.{match_ordering}
+use Rattle.std.specs.declared.cmp.Ordering.{Ordering}
+use Rattle.std.specs.declared.cmp.Ordering.TheVariants.{Less, Equal, Greater}
+use Rattle.lit_model.specs.Date.{Parts}
+use Rattle.csl_style.specs.declared.names.NameForm.{NameForm}
+use Rattle.csl_style.specs.declared.names.NameForm.TheVariants.{Count, Short, Long}
+use Rattle.csl_style.specs.declared.taxonomy.DateVariable.{DateVariable}
+use Rattle.csl_style.specs.declared.taxonomy.NameVariable.{NameVariable}
+use Rattle.csl_style.specs.declared.taxonomy.NameVariable.TheVariants.{Editor, Translator}
+use Rattle.csl_style.specs.declared.taxonomy.Variable.{Variable}
+use Rattle.csl_style.specs.declared.taxonomy.Variable.TheVariants as variable
+use Rattle.csl_style.specs.Names.{NamesNode}
+use Rattle.csl_style.specs.Node.{Target, of_variable, of_term, of_value, NumberNode, DateNode}
+use Rattle.csl_style.specs.Taxonomy.{variable_of}
+use Rattle.csl_style.proofs.Sets.{or_right}
+use Rattle.csl_entry.specs.NameProperties.{NameProperties}
+use Rattle.csl_entry.specs.declared.cite.Sorting.{Sorting}
+use Rattle.csl_context.specs.State.{State, Inherited, looked, variable_cmp}
+use Rattle.csl_context.specs.World.{World, date_look}
+use Rattle.csl_names.specs.KeptForms.{keeping, keeping_by}
+use Rattle.csl_names.specs.NamesLists.{Lists, merges, all_empty, all_looked, lists_state}
+use Rattle.csl_leaves.specs.Dates.{shows_date, printed_date, date_or_key, found_date, variable_tree, written_as}
+use Rattle.csl_leaves.specs.Numbers.{shows_own, number_tree}
+use Rattle.csl_leaves.specs.Text.{Made, made, shows_variable, state_after_look, target_state}
+use Rattle.csl_render.specs.Names.{suppressing_from, substitute_made, own_made, names_made}
+use Rattle.csl_render.specs.Keeps.{Keeps}
+
+-- ---- steps
+
+pub keeps_itself : (s : State) → Keeps s s
+keeps_itself s = record { switch = refl; suppressed = λ v h. h; date = λ h. h; names = λ h. refl }
+
+pub keeps_through : (s t u : State) → Keeps s t → Keeps t u → Keeps s u
+keeps_through s t u a b = record {
+  switch = b.switch ∙ a.switch;
+  suppressed = λ v h. b.suppressed v (a.suppressed v h);
+  date = λ h. b.date (a.date h);
+  names = λ h. b.names (ap (λ (o : Option NameProperties). is_some o) (a.names h) ∙ h) ∙ a.names h;
+}
+
+pub either_keeps : (s : State) (b : Bool) (m n : Made) → Keeps s m.state → Keeps s n.state → Keeps s (if b then m else n).state
+either_keeps s true m n a c = a
+either_keeps s false m n a c = c
+
+if_keeps : (s : State) (b : Bool) (t u : State) → Keeps s t → Keeps s u → Keeps s (if b then t else u)
+if_keeps s true t u a c = a
+if_keeps s false t u a c = c
+
+-- ---- looks
+
+-- what some key of a list passes, some key passes after one more was put in
+module _ {K : Type 0} (cmp : K → K → Ordering) (p : K → Bool) (k : K) where
+  or_more : (a b c : Bool) → (b ≡ true → c ≡ true) → (a || b) ≡ true → (a || c) ≡ true
+  or_more true b c f h = refl
+  or_more false b c f h = f h
+
+  any_at : (o : Ordering) (x : K) (xs ys : List K) → (list_any p xs ≡ true → list_any p ys ≡ true) → list_any p (x ∷ xs) ≡ true → list_any p (match_ordering o (k ∷ x ∷ xs) (x ∷ xs) (x ∷ ys)) ≡ true
+  any_at Less x xs ys f h = or_right (p k) (list_any p (x ∷ xs)) h
+  any_at Equal x xs ys f h = h
+  any_at Greater x xs ys f h = or_more (p x) (list_any p xs) (list_any p ys) f h
+
+  any_after : (ks : List K) → list_any p ks ≡ true → list_any p (insert_key cmp ks k) ≡ true
+  any_after [] h = absurd (cc)
+  any_after (x ∷ xs) h = any_at (cmp k x) x xs (insert_key cmp xs k) (any_after xs) h
+
+any_if : (b : Bool) (p : Variable → Bool) (v : Variable) (vs : List Variable) → list_any p vs ≡ true → list_any p (if b then insert_key variable_cmp vs v else vs) ≡ true
+any_if true p v vs h = any_after variable_cmp p v vs h
+any_if false p v vs h = h
+
+look_keeps : (v : Variable) (s : State) → Keeps s (looked v s)
+look_keeps v s = record { switch = refl; suppressed = λ u h. any_if s.suppressing (is_at (variable_cmp u)) v s.suppressed h; date = λ h. h; names = λ h. refl }
+
+looks_keep : (w : World) (vs : List NameVariable) (s : State) → Keeps s (all_looked w s vs)
+looks_keep w [] s = keeps_itself s
+looks_keep w (v ∷ vs) s = keeps_through s (looked (variable.Name v) s) (all_looked w (looked (variable.Name v) s) vs) (look_keeps (variable.Name v) s) (looks_keep w vs (looked (variable.Name v) s))
+
+-- ---- names that are printed first
+
+option_stays : (o : Option NameProperties) (p : NameProperties) → is_some o ≡ true → option_or o (Some p) ≡ o
+option_stays None p h = absurd (cc)
+option_stays (Some x) p h = refl
+
+forms_keep : (p : NameProperties) (s : State) → Keeps s (keeping p s)
+forms_keep p s = record { switch = refl; suppressed = λ v h. h; date = λ h. h; names = λ h. option_stays s.first_names p h }
+
+form_keeps : (f : NameForm) (p : NameProperties) (s : State) → Keeps s (keeping_by f p s)
+form_keeps Count p s = keeps_itself s
+form_keeps Short p s = forms_keep p s
+form_keeps Long p s = forms_keep p s
+
+-- looks suppress as they did before the substitute
+substitute_keeps : (s t : State) → Keeps (suppressing_from s) t → Keeps s (record t { suppressing = s.suppressing })
+substitute_keeps s t k = record { switch = refl; suppressed = k.suppressed; date = k.date; names = k.names }
+
+-- ---- nodes
+
+module _ (w : World) where
+  pub lists_keep : (vs : List NameVariable) (s : State) → Keeps s (lists_state w s vs)
+  lists_keep vs s =
+      let e = variable.Name Editor in
+      let t = variable.Name Translator in
+      if_keeps s (merges w.style vs) (looked t (looked e s)) (all_looked w s vs)
+      (keeps_through s (looked e s) (looked t (looked e s)) (look_keeps e s) (look_keeps t (looked e s))) (looks_keep w vs s)
+
+  after_look : (v : Variable) (s : State) → Keeps s (state_after_look v s)
+  after_look (variable.Standard v) s = look_keeps (variable.Standard v) s
+  after_look (variable.Number v) s = look_keeps (variable.Number v) s
+  after_look (variable.Page v) s = look_keeps (variable.Page v) s
+  after_look (variable.Name v) s = keeps_itself s
+  after_look (variable.Date v) s = keeps_itself s
+
+  pub target_keeps : (t : Target) (s : State) → Keeps s (target_state w t s)
+  target_keeps (of_variable v form) s = if_keeps s (shows_variable w.instance.special v) (state_after_look v s) s (after_look v s) (keeps_itself s)
+  target_keeps (of_term t form plural) s = keeps_itself s
+  target_keeps (of_value bs) s = keeps_itself s
+
+  pub number_keeps : (n : NumberNode) (inh : Inherited) (s : State) → Keeps s (number_tree w n inh s).state
+  number_keeps n inh s = either_keeps s (shows_own w n) (made _ (looked (variable_of n.variable) s)) (made [] s) (look_keeps (variable_of n.variable) s) (keeps_itself s)
+
+  printed_keeps : (o : Option DateNode) (d : Parts) (inh : Inherited) (s : State) → Keeps s (printed_date w o d inh s).state
+  printed_keeps None d inh s = keeps_itself s
+  printed_keeps (Some n) d inh s = record { switch = refl; suppressed = λ v h. h; date = λ h. refl; names = λ h. refl }
+
+  key_keeps : (n : DateNode) (o : Option Sorting) (d : Parts) (inh : Inherited) (s : State) → Keeps s (date_or_key w n o d inh s).state
+  key_keeps n None d inh s = printed_keeps (written_as w.style n n.form) d inh s
+  key_keeps n (Some sorting) d inh s = keeps_itself s
+
+  found_keeps : (n : DateNode) (o : Option Parts) (inh : Inherited) (s : State) → Keeps s (found_date w n o inh s).state
+  found_keeps n None inh s = keeps_itself s
+  found_keeps n (Some d) inh s = key_keeps n w.instance.sorting d inh s
+
+  pub date_keeps : (n : DateNode) (o : Option DateVariable) (inh : Inherited) (s : State) → Keeps s (variable_tree w n o inh s).state
+  date_keeps n None inh s = keeps_itself s
+  date_keeps n (Some v) inh s =
+      let t = looked (variable.Date v) s in
+      either_keeps s (shows_date w s v) (found_date w n (date_look w s v) inh t) (made [] s)
+      (keeps_through s t (found_date w n (date_look w s v) inh t).state (look_keeps (variable.Date v) s) (found_keeps n (date_look w s v) inh t)) (keeps_itself s)
+
+  -- names, whose looks leave t, where the substitute keeps what is in it
+  pub names_keep : (n : NamesNode) (ls : Lists) (refused : Bool) (inh : Inherited) (sub : Made) (s t : State) → Keeps s t → Keeps (suppressing_from t) sub.state → Keeps s (names_made w n ls refused inh sub t).state
+  names_keep n ls refused inh sub s t a b =
+      either_keeps s refused (made [] t) (if all_empty ls then substitute_made n ls sub t else own_made w n ls inh t) a
+      (either_keeps s (all_empty ls) (substitute_made n ls sub t) (own_made w n ls inh t)
+      (keeps_through s t (substitute_made n ls sub t).state a (substitute_keeps t sub.state b)) (keeps_through s t (own_made w n ls inh t).state a (form_keeps _ _ t)))
