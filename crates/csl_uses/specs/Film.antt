@@ -1,20 +1,19 @@
 -- A film of the examples: its answers to a style, and the one that is made.
 use Rattle.std.specs.Prelude.{◌≡◌, ℕ, pos, List, [], ◌∷◌, Option, Some, None, Bool, true, false, codes}
-use Rattle.lit_model.specs.Chunks.{text_of}
-use Rattle.lit_model.specs.Date.{Parts, date_parts}
-use Rattle.lit_model.specs.Person.{Named, named}
-use Rattle.lit_model.specs.Text.{Chunk, chunks}
-use Rattle.csl_common.specs.declared.form.LongShortForm.TheVariants.{Long}
-use Rattle.csl_style.specs.declared.taxonomy.DateVariable.{DateVariable}
-use Rattle.csl_style.specs.declared.taxonomy.DateVariable.TheVariants.{Issued}
-use Rattle.csl_style.specs.declared.taxonomy.Kind.{Kind}
-use Rattle.csl_style.specs.declared.taxonomy.Kind.TheVariants.{MotionPicture}
-use Rattle.csl_style.specs.declared.taxonomy.NameVariable.{NameVariable}
-use Rattle.csl_style.specs.declared.taxonomy.NameVariable.TheVariants.{Director}
-use Rattle.csl_style.specs.declared.taxonomy.StandardVariable.{StandardVariable}
-use Rattle.csl_style.specs.declared.taxonomy.StandardVariable.TheVariants.{Title}
-use Rattle.csl_entry.specs.Answers.{Answers}
-use Rattle.csl_uses.specs.Book.{one_piece, person_of}
+use Rattle.csl.specs.Literature.Chunks.{text_of}
+use Rattle.csl.specs.Literature.Date.{Parts, date_parts}
+use Rattle.csl.specs.Literature.Person.{Named, named, person_of}
+use Rattle.csl.specs.Literature.Text.{Chunk, chunks, in_one_piece}
+use Rattle.csl.specs.Common.declared.form.LongShortForm.TheVariants.{Long}
+use Rattle.csl.specs.Style.declared.taxonomy.DateVariable.{DateVariable}
+use Rattle.csl.specs.Style.declared.taxonomy.DateVariable.TheVariants.{Issued}
+use Rattle.csl.specs.Style.declared.taxonomy.Kind.{Kind}
+use Rattle.csl.specs.Style.declared.taxonomy.Kind.TheVariants.{MotionPicture}
+use Rattle.csl.specs.Style.declared.taxonomy.NameVariable.{NameVariable}
+use Rattle.csl.specs.Style.declared.taxonomy.NameVariable.TheVariants.{Director}
+use Rattle.csl.specs.Style.declared.taxonomy.StandardVariable.{StandardVariable}
+use Rattle.csl.specs.Style.declared.taxonomy.StandardVariable.TheVariants.{Title}
+use Rattle.csl.specs.Entry.Answers.{Answers}
 use Rattle.csl_uses.specs.declared.film.Film.{Film}
 
 abbrev pub standard_of : Film → StandardVariable → Option (List Chunk)
@@ -55,6 +54,6 @@ abbrev pub january_10_1927 : Parts
 january_10_1927 = record { year = pos 1927; month = Some 0; day = Some 9; season = None; approximate = false }
 
 pub record IsMetropolis (film : Film) : Type 0 where
-  pub title_is : chunks film.title ≡ (one_piece (codes "Metropolis")).value
+  pub title_is : chunks film.title ≡ in_one_piece (codes "Metropolis")
   pub director_is : named film.director ≡ person_of (codes "Lang") (codes "Fritz")
   pub date_is : date_parts film.shown ≡ january_10_1927

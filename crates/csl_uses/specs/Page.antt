@@ -1,15 +1,51 @@
--- The page of the examples: its tokens, and its HTML.
-use Rattle.std.specs.Prelude.{ℕ, List, [], ◌∷◌, Some, codes}
-use Rattle.csl_style.specs.declared.formatting.Display.TheVariants.{Block}
-use Rattle.csl_style.specs.declared.formatting.FontStyle.TheVariants.{Italic}
-use Rattle.csl_tree.specs.Formatting.{default_formatting}
-use Rattle.csl_tree.specs.Tokens.{Token, text, around, of_text}
+-- A web page of the examples, as an entry: its answers to a style; and a line of a numbered list.
+use Rattle.std.specs.Prelude.{ℕ, List, [], ◌∷◌, Option, Some, None, Bool, true, false, option_map, unwrap_or}
+use Rattle.csl.specs.Literature.Person.{Named, named}
+use Rattle.csl.specs.Literature.Text.{Chunk, chunks}
+use Rattle.csl.specs.Style.declared.taxonomy.Kind.{Kind}
+use Rattle.csl.specs.Style.declared.taxonomy.Kind.TheVariants.{Webpage}
+use Rattle.csl.specs.Style.declared.taxonomy.NameVariable.{NameVariable}
+use Rattle.csl.specs.Style.declared.taxonomy.NameVariable.TheVariants.{Author}
+use Rattle.csl.specs.Style.declared.taxonomy.StandardVariable.{StandardVariable}
+use Rattle.csl.specs.Style.declared.taxonomy.StandardVariable.TheVariants.{Title, URL}
+use Rattle.csl.specs.Style.declared.style.settings.Scope.TheVariants.{Bibliography}
+use Rattle.csl.specs.Style.Style.{StyleParts}
+use Rattle.csl.specs.Tree.Tokens.{Token}
+use Rattle.csl.specs.Entry.Answers.{Answers}
+use Rattle.csl.specs.Entry.Cite.{CiteState, first_cite, nothing}
+use Rattle.csl.specs.Render.Cited.{whole_cite}
+use Rattle.csl_uses.specs.declared.page.WebPage.{WebPage}
 
--- two names, and below them a title in italics
-abbrev pub page_tokens : List Token
-page_tokens =
-    text (codes "Kernighan and Ritchie") default_formatting
-    ∷ around (Some Block) (Some of_text) (text (codes "The C Programming Language") (record default_formatting { font_style = Italic }) ∷ [])
+abbrev pub standard_of : WebPage → StandardVariable → Option (List Chunk)
+standard_of page Title = Some (chunks page.title)
+standard_of page URL = Some (chunks page.address)
+standard_of page _ = None
 
-abbrev pub page_html : List ℕ
-page_html = codes "Kernighan and Ritchie<div><span style=\"font-style: italic;\">The C Programming Language</span></div>"
+abbrev pub persons_of : WebPage → NameVariable → List Named
+persons_of page Author = named page.author ∷ []
+persons_of page _ = []
+
+abbrev pub is_web_page : Kind → Bool
+is_web_page Webpage = true
+is_web_page _ = false
+
+abbrev pub answers_of : WebPage → Answers
+answers_of page = record {
+  numbers = λ _. None;
+  pages = λ _. None;
+  standards = λ _ variable. standard_of page variable;
+  names = persons_of page;
+  dates = λ _. None;
+  kinds = is_web_page;
+}
+
+-- ---- the list
+
+-- the state of a first cite of this citation number
+abbrev pub numbered_cite : ℕ → CiteState
+numbered_cite number = record (first_cite nothing) { citation_number = number }
+
+-- the content of an entry in the bibliography, nothing where the style has none
+abbrev pub numbered_line : StyleParts → ℕ → Answers → List Token
+numbered_line style number answers =
+    unwrap_or (option_map (λ layout. (whole_cite style Bibliography (numbered_cite number) answers layout).content) style.bibliography) []

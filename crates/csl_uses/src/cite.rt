@@ -1,101 +1,232 @@
-//! A style that is made as a value, and the cite that it makes of an entry of any type.
+//! A style of one's own, and what it makes of an entry of any type: a cite, a cite of a page, and
+//! a line of the bibliography.
 
-ghost use Rattle.std.specs.Prelude.{◌≡◌, IfOk};
-ghost use Rattle.csl_style.specs.View.{view};
-ghost use Rattle.csl_tree.specs.Tokens.{tokens};
-ghost use Rattle.csl_render.specs.Cited.{cited};
-ghost use Rattle.csl_uses.specs.Cite.{variable_text, publisher_group, IsHouseStyle};
+ghost use Rattle.std.specs.Prelude.{◌≡◌, IfOk, option_map};
+ghost use Rattle.csl.specs.Style.declared.style.settings.Scope.TheVariants as scopes;
+ghost use Rattle.csl.specs.Tree.Tokens.{tokens};
+ghost use Rattle.csl.specs.Entry.Cite.{first_cite, nothing};
+ghost use Rattle.csl.specs.Render.Cited.{cited, whole_cite};
+ghost use Rattle.csl_uses.specs.Cite.{cite_of_page};
 
-use crate::error::UseError;
-use csl_context::Context;
-use csl_entry::{CiteProperties, DisambiguateState, EntryLike, InstanceContext};
-use csl_render::RenderCsl;
-use csl_style::{
-    Affixes, FontStyle, Formatting, Group, Layout, LayoutRenderingElement, LongShortForm, Scope,
-    StandardVariable, Style, StyleSettings, Text, TextTarget, Variable,
+use csl::entry::{LocatorPayload, SpecificLocator};
+use csl::literature::{self, Entry, EntryType, FormatString, Person};
+use csl::style::{
+    Affixes, Choose, ChooseBranch, CslMacro, Date, DatePart, DatePartName, DateVariable, EtAl,
+    Formatting, Group, InheritableNameOptions, Kind, Label, Layout, LayoutRenderingElement,
+    Locator, Name, NameAnd, NameAsSortOrder, NameForm, NameVariable, Names, NumberVariable,
+    OtherTerm, StandardVariable, Style, StyleSettings, Substitute, TermForm, Text, TextTarget,
 };
-use csl_tree::ElemChildren;
-use lit_model::Memory;
+use csl::{CiteProperties, DisambiguateState, ElemChildren, EntryLike, Error, english};
 use std::alloc::Global;
 
-/// A text of a variable, in a formatting.
-fn variable_text(variable: StandardVariable, formatting: Formatting) -> LayoutRenderingElement
-    ensures { view result ≡ variable_text variable formatting }
-{
-    LayoutRenderingElement::Text(Text {
-        target: TextTarget::Variable {
-            var: Variable::Standard(variable),
-            form: LongShortForm::Long,
-        },
-        formatting,
-        affixes: Affixes::default(),
-        display: None,
-        quotes: false,
-        strip_periods: false,
-    })
-}
-
-/// The publisher in parentheses. The whole group is left out where there is none.
-fn publisher_group(alloc: Global) -> Result<LayoutRenderingElement, Memory>
-    ensures { IfOk result (λ made. view made ≡ publisher_group) }
-{
-    let plain = Formatting::default();
-    let publisher = variable_text(StandardVariable::Publisher, plain);
-    Ok(LayoutRenderingElement::Group(Group {
-        children: vec![in alloc; publisher]?,
-        delimiter: None,
-        formatting: plain,
-        affixes: Affixes {
-            prefix: Some(String::from_str(alloc, " (")?),
-            suffix: Some(String::from_str(alloc, ")")?),
-        },
-        display: None,
-    }))
-}
-
-/// A style that cites by the title in italics and the publisher, as a parsed style file would be.
+/// A book of three authors.
 ///
 /// # Errors
-/// [`UseError::Memory`]: there was no memory left.
-/// [`UseError::Style`]: the style is refused.
-pub fn house_style(alloc: Global) -> Result<Style, UseError>
-    ensures { IfOk result IsHouseStyle }
-{
-    let plain = Formatting::default();
-    let italic = Formatting {
-        font_style: Some(FontStyle::Italic),
-        ..plain
-    };
-    let publisher = publisher_group(alloc)?;
-    let title = variable_text(StandardVariable::Title, italic);
-    let citation = Layout {
-        elements: vec![in alloc; title, publisher]?,
-        delimiter: None,
-        formatting: plain,
-    };
-    let settings = StyleSettings::default();
-    let macros = Vec::new(alloc);
-    let locales = Vec::new(alloc);
-    let style = Style::new(alloc, settings, macros, citation, None, locales)?;
-    Ok(style)
+/// [`Error::Memory`]: there was no memory left.
+pub fn the_compilers_book(alloc: Global) -> Result<Entry, Error> {
+    let aho = Person::new(alloc, "Aho", "Alfred V.")?;
+    let sethi = Person::new(alloc, "Sethi", "Ravi")?;
+    let ullman = Person::new(alloc, "Ullman", "Jeffrey D.")?;
+    let authors = vec![in alloc; aho, sethi, ullman]?;
+    let title = FormatString::plain(alloc, "Compilers: Principles, Techniques, and Tools")?;
+    let mut book = Entry::new(alloc, "compilers", EntryType::Book)?;
+    book.authors = Some(authors);
+    book.title = Some(title);
+    book.date = Some(literature::Date::of_year(1986));
+    Ok(book)
 }
 
-/// What the citation layout of a style makes of an entry that is cited for the first time.
+/// How names are written: of three or more the first and `et al.`, in cites the family names
+/// alone, and in the bibliography the first of them with the family name first.
+fn settings() -> StyleSettings {
+    let names = InheritableNameOptions {
+        and: Some(NameAnd::Text),
+        et_al_min: Some(3),
+        et_al_use_first: Some(1),
+        ..InheritableNameOptions::default()
+    };
+    let citation_names = InheritableNameOptions {
+        form: Some(NameForm::Short),
+        ..InheritableNameOptions::default()
+    };
+    let bibliography_names = InheritableNameOptions {
+        name_as_sort_order: Some(NameAsSortOrder::First),
+        ..InheritableNameOptions::default()
+    };
+    StyleSettings {
+        names,
+        citation_names,
+        bibliography_names,
+        ..StyleSettings::default()
+    }
+}
+
+/// The macro `creators`: the authors, or where there are none the directors.
+fn creators(alloc: Global) -> Result<CslMacro, Error> {
+    let directors = vec![in alloc; NameVariable::Director]?;
+    let directors = vec![in alloc; Names::new(alloc, directors).into()]?;
+    let instead = Substitute {
+        children: directors,
+    };
+    let et_al = EtAl {
+        formatting: Formatting::italic(),
+        ..EtAl::default()
+    };
+    let children = vec![in alloc; Name::new(alloc).into(), et_al.into(), instead.into()]?;
+    let authors = vec![in alloc; NameVariable::Author]?;
+    let authors = Names {
+        children,
+        ..Names::new(alloc, authors)
+    };
+    let children = vec![in alloc; authors.into()]?;
+    Ok(CslMacro::new(alloc, "creators", children)?)
+}
+
+/// The year of issue, or where no date is known `n.d.`.
+fn year(alloc: Global) -> Result<LayoutRenderingElement, Error> {
+    let parts = vec![in alloc; DatePart::new(DatePartName::Year)]?;
+    let date = vec![in alloc; Date::new(DateVariable::Issued, parts).into()]?;
+    let is_known = ChooseBranch {
+        variable: Some(vec![in alloc; DateVariable::Issued.into()]?),
+        ..ChooseBranch::new(date)
+    };
+    let no_date = Text::new(TextTarget::Term {
+        term: OtherTerm::NoDate.into(),
+        form: TermForm::Short,
+        plural: false,
+    });
+    let choice = Choose {
+        otherwise: Some(vec![in alloc; no_date.into()]?),
+        ..Choose::new(alloc, is_known)
+    };
+    Ok(choice.into())
+}
+
+/// The title of a book in italics, and any other title in quotes.
+fn title(alloc: Global) -> Result<LayoutRenderingElement, Error> {
+    let italic = Text {
+        formatting: Formatting::italic(),
+        ..Text::variable(StandardVariable::Title.into())
+    };
+    let quoted = Text {
+        quotes: true,
+        ..Text::variable(StandardVariable::Title.into())
+    };
+    let italic = vec![in alloc; italic.into()]?;
+    let quoted = vec![in alloc; quoted.into()]?;
+    let is_book = ChooseBranch {
+        type_: Some(vec![in alloc; Kind::Book]?),
+        ..ChooseBranch::new(italic)
+    };
+    let choice = Choose {
+        otherwise: Some(quoted),
+        ..Choose::new(alloc, is_book)
+    };
+    Ok(choice.into())
+}
+
+/// What a cite points at, with its label, as `p. 5`. Without a locator it is left out.
+fn locator(alloc: Global) -> Result<LayoutRenderingElement, Error> {
+    let label = Label::short(NumberVariable::Locator.into());
+    let text = Text::variable(NumberVariable::Locator.into());
+    let parts = vec![in alloc; label.into(), text.into()]?;
+    Ok(Group::delimited(alloc, " ", parts)?.into())
+}
+
+/// The layout of cites, as `(Kernighan and Ritchie, 1978, p. 5)`.
+fn citation(alloc: Global) -> Result<Layout, Error> {
+    let creators = Text::macro_call(alloc, "creators")?;
+    let year = year(alloc)?;
+    let locator = locator(alloc)?;
+    let parts = vec![in alloc; creators.into(), year, locator]?;
+    let cite = Group {
+        affixes: Affixes::around(alloc, "(", ")")?,
+        ..Group::delimited(alloc, ", ", parts)?
+    };
+    Ok(Layout::new(vec![in alloc; cite.into()]?))
+}
+
+/// The layout of the bibliography: the creators, the year, the title and the publisher.
+fn bibliography(alloc: Global) -> Result<Layout, Error> {
+    let creators = Text::macro_call(alloc, "creators")?;
+    let publisher = Text::variable(StandardVariable::Publisher.into());
+    let year = year(alloc)?;
+    let title = title(alloc)?;
+    let parts = vec![in alloc; creators.into(), year, title, publisher.into()]?;
+    let line = Group {
+        affixes: Affixes::behind(alloc, ".")?,
+        ..Group::delimited(alloc, ", ", parts)?
+    };
+    Ok(Layout::new(vec![in alloc; line.into()]?))
+}
+
+/// A style as a parsed style file would be: settings, a macro, two layouts and a locale.
 ///
 /// # Errors
-/// [`UseError::Memory`]: there was no memory left, or the entry said so.
-pub fn cite<T: EntryLike>(alloc: Global, style: &Style, entry: &T) -> Result<ElemChildren, UseError>
+/// [`Error::Memory`]: there was no memory left.
+/// [`Error::Style`]: the style is rejected.
+pub fn house_style(alloc: Global) -> Result<Style, Error> {
+    let macros = vec![in alloc; creators(alloc)?]?;
+    let locales = vec![in alloc; english(alloc)?]?;
+    let citation = citation(alloc)?;
+    let bibliography = bibliography(alloc)?;
+    Ok(Style::new(
+        alloc,
+        settings(),
+        macros,
+        citation,
+        Some(bibliography),
+        locales,
+    )?)
+}
+
+/// The cite of an entry that no cite stands before.
+///
+/// # Errors
+/// [`Error::Memory`]: there was no memory left, or the entry said so.
+pub fn cite<T: EntryLike>(alloc: Global, style: &Style, entry: &T) -> Result<ElemChildren, Error>
     ensures { IfOk result (λ content. tokens content ≡ cited style.now (T.answers entry.now)) }
 {
-    let cite = CiteProperties::first(DisambiguateState::None);
-    let instance = InstanceContext {
-        entry,
-        cite_props: &cite,
-        sorting: None,
-        kind: None,
-    };
-    let mut ctx = Context::new(alloc, style, instance, Scope::Citation)?;
-    style.citation().render(&mut ctx)?;
-    let rendered = ctx.finish()?;
+    let first = CiteProperties::first(DisambiguateState::None);
+    let rendered = csl::cite(alloc, style, entry, &first)?;
     Ok(rendered.content)
+}
+
+/// The cite of a page of an entry.
+///
+/// # Errors
+/// [`Error::Memory`]: there was no memory left, or the entry said so.
+pub fn page_cite<T: EntryLike>(
+    alloc: Global,
+    style: &Style,
+    entry: &T,
+    page: &str,
+) -> Result<ElemChildren, Error>
+    ensures { IfOk result (λ content. tokens content ≡ (whole_cite style.now scopes.Citation
+        (cite_of_page page.now) (T.answers entry.now) style.now.citation).content) }
+{
+    let mut cite = CiteProperties::first(DisambiguateState::None);
+    cite.speculative.locator = Some(SpecificLocator(Locator::Page, LocatorPayload::Str(page)));
+    let rendered = csl::cite(alloc, style, entry, &cite)?;
+    Ok(rendered.content)
+}
+
+/// The line of an entry in the bibliography, if the style has one.
+///
+/// # Errors
+/// [`Error::Memory`]: there was no memory left, or the entry said so.
+pub fn bibliography_line<T: EntryLike>(
+    alloc: Global,
+    style: &Style,
+    entry: &T,
+) -> Result<Option<ElemChildren>, Error>
+    ensures { IfOk result (λ line. option_map tokens line
+        ≡ option_map (λ layout. (whole_cite style.now scopes.Bibliography (first_cite nothing)
+        (T.answers entry.now) layout).content) style.now.bibliography) }
+{
+    let props = CiteProperties::first(DisambiguateState::None);
+    match csl::bibliography_entry(alloc, style, entry, &props)? {
+        Some(rendered) => Ok(Some(rendered.content)),
+        None => Ok(None),
+    }
 }

@@ -3,13 +3,13 @@
 ghost use Rattle.std.specs.Prelude.{◌≡◌, IfOk, string_bytes};
 ghost use Rattle.csl_uses.specs.Film.{IsMetropolis, answers_of, title_of};
 
-use crate::book::{person, text};
-use crate::error::UseError;
-use csl_entry::EntryLike;
-use csl_style::{DateVariable, Kind, NameVariable, NumberVariable, PageVariable, StandardVariable};
-use lit_model::{
-    ChunkedString, Date, LongShortForm, MaybeTyped, Memory, Numeric, PageRanges, Person,
+use csl::literature::{
+    ChunkedString, Date, LongShortForm, MaybeTyped, Numeric, PageRanges, Person,
 };
+use csl::style::{
+    DateVariable, Kind, NameVariable, NumberVariable, PageVariable, StandardVariable,
+};
+use csl::{EntryLike, Error, Memory};
 use std::alloc::Global;
 use std::borrow::{Cow, CowStr};
 
@@ -105,17 +105,17 @@ impl EntryLike for Film {
 /// `Metropolis`.
 ///
 /// # Errors
-/// [`UseError::Memory`]: there was no memory left.
-/// [`UseError::NoSuchDay`]: the date is not on the calendar.
-pub fn metropolis(alloc: Global) -> Result<Film, UseError>
+/// [`Error::Memory`]: there was no memory left.
+/// [`Error::NoSuchDay`]: the date is not on the calendar.
+pub fn metropolis(alloc: Global) -> Result<Film, Error>
     ensures { IfOk result IsMetropolis }
 {
     // Months and days count from 0: this is the tenth of January.
-    let shown = Date::new(1927, Some(0), Some(9), None, false).ok_or(UseError::NoSuchDay)?;
+    let shown = Date::new(1927, Some(0), Some(9), None, false).ok_or(Error::NoSuchDay)?;
     Ok(Film {
         key: String::from_str(alloc, "metropolis")?,
-        title: text(alloc, "Metropolis")?.value,
-        director: person(alloc, "Lang", "Fritz")?,
+        title: ChunkedString::plain(alloc, "Metropolis")?,
+        director: Person::new(alloc, "Lang", "Fritz")?,
         shown,
     })
 }

@@ -1,134 +1,214 @@
-//! The program `csl_uses`: five uses of these crates, each to be read and copied.
+//! The program `csl_uses`: uses of the crate `csl`, each to be read and copied.
 //!
 //! - `book`: an entry that is made field by field, and its label;
-//! - `page`: a tree of content that is written as HTML;
 //! - `film`: a type of one's own as an entry;
-//! - `cite`: a style that is made as a value, and the cite that it makes of an entry of any type;
-//! - `pair`: two entries of two types that the style cannot tell apart.
+//! - `cite`: a style that is made as a value, and the cites and the bibliography that it makes;
+//! - `namesakes`: cites that are told apart by more of their names;
+//! - `pair`: two entries of two types that a style cannot tell apart;
+//! - `page`: a reference list as a whole web page.
 //!
-//! `main` prints what each of them makes.
+//! `csl_uses` prints what each of them makes, and `csl_uses page` the web page alone.
 #![tactic(auto)]
 
 mod book;
 mod cite;
-mod error;
 mod film;
+mod namesakes;
 mod page;
 mod pair;
 
-use book::{book_label, the_c_book};
-use cite::{cite, house_style};
-use csl_entry::EntryLike;
-use csl_render::Pair;
-use csl_style::Style;
-use csl_tree::BufWriteFormat;
-use error::UseError;
-use film::{Film, metropolis, title_of};
-use lit_model::Entry;
-use page::write_page;
-use pair::{compare, metropolis_on_video};
-use std::alloc::Global;
+use csl::literature::Entry;
+use csl::style::Style;
+use csl::{BufWriteFormat, EntryLike, Error};
+use film::Film;
+use std::rt::Env;
+use std::{env, io};
 
-fn alike(pair: &Pair) -> &'static str {
-    if pair.alike { "alike" } else { "not alike" }
+/// Why the program ends early.
+#[derive(Debug, Drop, thiserror::Error)]
+pub enum UseError {
+    /// A call of `csl` failed.
+    #[error("{0}")]
+    Csl(#[from] Error),
+    /// A stream refused a text, or the words could not be read.
+    #[error("{0}")]
+    Stream(#[from] io::Error),
+    /// The program knows no other words.
+    #[error("csl_uses, or csl_uses page")]
+    Words,
 }
 
-/// Whether a style can tell two entries apart, in words.
-fn likeness<T: EntryLike, U: EntryLike>(
-    alloc: Global,
-    style: &Style,
-    left: &T,
-    right: &U,
-) -> Result<&'static str, UseError> {
-    let pair = compare(alloc, style, left, right)?;
-    let answer = alike(&pair);
-    drop(pair);
-    Ok(answer)
-}
-
-/// Prints the label of the book, a tree, and both titles.
+/// Prints the label of the book and both titles.
 fn show_texts(rt: &(impl Print + AllocGlobal), book: &Entry, film: &Film) -> Result<(), UseError> {
     let alloc = rt.alloc();
-    println!(rt; "label: {}", book_label(alloc, book)?)?;
-
-    let mut html = String::new(alloc);
-    write_page(alloc, &mut html)?;
-    println!(rt; "HTML: {html}")?;
-
-    println!(rt;
-        "titles: {}, {}",
-        title_of(alloc, book)?,
-        title_of(alloc, film)?
-    )?;
+    let label = book::book_label(alloc, book).map_err(Error::from)?;
+    let book_title = film::title_of(alloc, book).map_err(Error::from)?;
+    let film_title = film::title_of(alloc, film).map_err(Error::from)?;
+    println!(rt; "label: {label}")?;
+    println!(rt; "titles: {book_title}, {film_title}")?;
     Ok(())
 }
 
-/// Prints the cites of both.
-fn show_cites(
+/// Prints the cite of an entry, and its line in the bibliography.
+fn show_cites<T: EntryLike>(
     rt: &(impl Print + AllocGlobal),
     style: &Style,
-    book: &Entry,
-    film: &Film,
+    entry: &T,
 ) -> Result<(), UseError> {
     let alloc = rt.alloc();
-    let cited = cite(alloc, style, book)?;
-    let mut html = String::new(alloc);
-    cited.write_buf(&mut html, BufWriteFormat::Html)?;
-    println!(rt; "cite: {cited}")?;
-    println!(rt; "cite as HTML: {html}")?;
-    println!(rt; "cite: {}", cite(alloc, style, film)?)?;
+    println!(rt; "cite: {}", cite::cite(alloc, style, entry)?)?;
+    let Some(line) = cite::bibliography_line(alloc, style, entry)? else {
+        return Ok(());
+    };
+    let html = line
+        .to_text(alloc, BufWriteFormat::Html)
+        .map_err(Error::from)?;
+    println!(rt; "bibliography: {line}")?;
+    println!(rt; "as HTML: {html}")?;
     Ok(())
 }
 
-/// Prints whether the film can be told from another entry, which is so called.
-fn show_likeness(
-    rt: &(impl Print + AllocGlobal),
-    style: &Style,
-    film: &Film,
-    name: &str,
-    other: &Entry,
-) -> Result<(), UseError> {
-    let answer = likeness(rt.alloc(), style, film, other)?;
-    println!(rt; "film and {name}: {answer}")?;
-    Ok(())
-}
-
-/// Prints whether the film can be told from a video of it.
-fn show_video(rt: &(impl Print + AllocGlobal), style: &Style, film: &Film) -> Result<(), UseError> {
-    let video = metropolis_on_video(rt.alloc())?;
-    let shown = show_likeness(rt, style, film, "video", &video);
-    drop(video);
-    shown
-}
-
-/// Prints what a style makes of the book and the film.
+/// Prints the cites of the book, of a page of it, of the film, and of a book of three authors.
 fn show_styled(
     rt: &(impl Print + AllocGlobal),
     style: &Style,
     book: &Entry,
     film: &Film,
 ) -> Result<(), UseError> {
-    show_cites(rt, style, book, film)?;
-    show_video(rt, style, film)?;
-    show_likeness(rt, style, film, "book", book)
+    show_cites(rt, style, book)?;
+    println!(rt;
+        "cite of a page: {}",
+        cite::page_cite(rt.alloc(), style, book, "5")?
+    )?;
+    show_cites(rt, style, film)?;
+    let compilers = cite::the_compilers_book(rt.alloc())?;
+    let shown = show_cites(rt, style, &compilers);
+    // Dropped by name, and not by its scope, an entry costs the prover little (`docs/PROOFS.md`).
+    drop(compilers);
+    shown
 }
 
-/// Prints what is made of the book and the film.
-fn show(rt: &(impl Print + AllocGlobal), book: &Entry, film: &Film) -> Result<(), UseError> {
-    show_texts(rt, book, film)?;
-    let style = house_style(rt.alloc())?;
-    let shown = show_styled(rt, &style, book, film);
+/// Prints the cites of a book by a Miller, and of one by a Miller of this given name.
+fn show_beside(
+    rt: &(impl Print + AllocGlobal),
+    style: &Style,
+    book: &Entry,
+    given_name: &str,
+) -> Result<(), UseError> {
+    let other = namesakes::book_by_miller(rt.alloc(), given_name)?;
+    let cites = namesakes::cites_apart(rt.alloc(), style, book, &other);
+    drop(other);
+    let (one, other) = cites?;
+    println!(rt; "told apart: {} {}", one.text, other.text)?;
+    Ok(())
+}
+
+/// Prints cites that an initial tells apart, and cites that a given name tells apart.
+fn show_millers(rt: &(impl Print + AllocGlobal), style: &Style) -> Result<(), UseError> {
+    let book = namesakes::book_by_miller(rt.alloc(), "Anna")?;
+    let by_initial = show_beside(rt, style, &book, "Berta");
+    let by_name = show_beside(rt, style, &book, "Alma");
+    drop(book);
+    by_initial?;
+    by_name
+}
+
+/// Prints cites that are told apart.
+fn show_namesakes(rt: &(impl Print + AllocGlobal)) -> Result<(), UseError> {
+    let style = namesakes::short_style(rt.alloc())?;
+    let shown = show_millers(rt, &style);
     drop(style);
     shown
 }
 
-fn run(rt: &(impl Print + AllocGlobal)) -> Result<(), UseError> {
-    let film = metropolis(rt.alloc())?;
-    let book = the_c_book(rt.alloc())?;
-    let shown = show(rt, &book, &film);
-    // Dropped by name, and not by its scope, an entry costs the prover little (`docs/CALLING.md`).
+/// Prints the cites of two entries, and whether the entries are alike for the style.
+fn show_pair<T: EntryLike, U: EntryLike>(
+    rt: &(impl Print + AllocGlobal),
+    style: &Style,
+    left: &T,
+    right: &U,
+) -> Result<(), UseError> {
+    let pair = pair::pair_of(rt.alloc(), style, left, right)?;
+    let answer = if pair.alike { "alike" } else { "not alike" };
+    println!(rt;
+        "{} and {}: {answer}",
+        pair.left.content, pair.right.content
+    )?;
+    Ok(())
+}
+
+/// Prints whether a style tells the film from the novel.
+fn show_likeness(
+    rt: &(impl Print + AllocGlobal),
+    style: &Style,
+    film: &Film,
+) -> Result<(), UseError> {
+    let novel = pair::the_novel(rt.alloc())?;
+    let shown = show_pair(rt, style, film, &novel);
+    drop(novel);
+    shown
+}
+
+/// Prints whether a style that names the title alone tells the film from the novel.
+fn show_titles(rt: &(impl Print + AllocGlobal), film: &Film) -> Result<(), UseError> {
+    let style = pair::title_style(rt.alloc())?;
+    let shown = show_likeness(rt, &style, film);
+    drop(style);
+    shown
+}
+
+/// Prints the web page.
+fn show_page(rt: &(impl Print + AllocGlobal)) -> Result<(), UseError> {
+    let pages = page::web_pages(rt.alloc())?;
+    let style = page::number_style(rt.alloc())?;
+    let html = page::page(rt.alloc(), &style, &pages);
+    drop(style);
+    rt.print(html?.as_str())?;
+    Ok(())
+}
+
+/// Prints what each use makes, where the style of one's own is this one.
+fn show_uses(
+    rt: &(impl Print + AllocGlobal),
+    style: &Style,
+    book: &Entry,
+    film: &Film,
+) -> Result<(), UseError> {
+    show_texts(rt, book, film)?;
+    show_styled(rt, style, book, film)?;
+    show_namesakes(rt)?;
+    show_titles(rt, film)?;
+    show_likeness(rt, style, film)?;
+    show_page(rt)
+}
+
+/// Prints what each use makes of the film and of this book.
+fn show_book(rt: &(impl Print + AllocGlobal), book: &Entry) -> Result<(), UseError> {
+    let film = film::metropolis(rt.alloc())?;
+    let style = cite::house_style(rt.alloc())?;
+    let shown = show_uses(rt, &style, book, &film);
+    drop(style);
+    shown
+}
+
+/// Prints what each use makes.
+fn show_all(rt: &(impl Print + AllocGlobal)) -> Result<(), UseError> {
+    let book = book::the_c_book(rt.alloc())?;
+    let shown = show_book(rt, &book);
     drop(book);
     shown
+}
+
+/// Prints what the words ask for.
+fn run(rt: &(impl Env + Print + AllocGlobal)) -> Result<(), UseError> {
+    let mut words = env::args(rt)?;
+    let _name = words.next();
+    let words: Vec<String> = words.collect(rt.alloc()).map_err(Error::from)?;
+    match words.as_slice() {
+        [] => show_all(rt),
+        [word] if word.as_str() == "page" => show_page(rt),
+        _ => Err(UseError::Words),
+    }
 }
 
 fn main(rt: HostRuntime) -> Result<(), UseError> {

@@ -1,44 +1,258 @@
-//! A tree of content that is written as HTML.
+//! A reference list as a whole web page: texts are escaped, and only web addresses are links.
 
-ghost use Rattle.std.specs.Prelude.{◌≡◌, IfOk, OnOk};
-ghost use Rattle.std.specs.Fmt.{WritesInCalls};
-ghost use Rattle.csl_tree.specs.Tokens.{tokens};
-ghost use Rattle.csl_uses.specs.Page.{page_tokens, page_html};
+ghost use Rattle.std.specs.Prelude.{◌≡◌, IfOk, string_bytes};
+ghost use Rattle.csl.specs.Tree.Tokens.{tokens, leaf_text};
+ghost use Rattle.csl_uses.specs.Page.{answers_of, numbered_line};
 
-use crate::error::UseError;
-use csl_style::{Display, FontStyle};
-use csl_tree::{BufWriteFormat, ElemChildren, ElemMeta, Formatting};
-use lit_model::Memory;
+use csl::literature::{
+    ChunkedString, Date, LongShortForm, MaybeTyped, Numeric, PageRanges, Person,
+};
+use csl::style::{
+    Affixes, DateVariable, Display, Group, Kind, Layout, LayoutRenderingElement, NameVariable,
+    Names, Number, NumberVariable, PageVariable, StandardVariable, Style, StyleSettings, Text,
+};
+use csl::{
+    BufWriteFormat, CitationNumber, CiteProperties, DisambiguateState, ElemChildren, EntryLike,
+    Error, Memory, english, is_web_address,
+};
 use std::alloc::Global;
-use std::fmt;
+use std::borrow::{Cow, CowStr};
 
-/// Two names, and below them a title in italics.
-fn page(alloc: Global) -> Result<ElemChildren, Memory>
-    ensures { IfOk result (λ page. tokens page ≡ page_tokens) }
-{
-    let upright = Formatting::default();
-    let italic = Formatting {
-        font_style: FontStyle::Italic,
-        ..upright
-    };
-    let mut title = ElemChildren::new(alloc);
-    title.push_text(alloc, "The C Programming Language", italic)?;
-    let mut page = ElemChildren::new(alloc);
-    page.push_text(alloc, "Kernighan and Ritchie", upright)?;
-    page.push_box(title, Some(Display::Block), Some(ElemMeta::Text))?;
-    Ok(page)
+/// What stands before the list. In a flex box floats do not count, so each number stands beside
+/// its entry.
+const HEAD: &str = r#"<!doctype html>
+<html lang="en">
+<head>
+<meta charset="utf-8">
+<title>References</title>
+<style>
+.entry { display: flex; gap: 1em; margin: 0.5em 0; }
+</style>
+</head>
+<body>
+<h1>References</h1>
+"#;
+
+/// What stands behind the list.
+const TAIL: &str = "</body>\n</html>\n";
+
+/// A web page as somebody described it: its title and its address may be any text.
+#[derive(Drop)]
+pub struct WebPage {
+    /// What it is cited by.
+    pub key: String,
+    /// Who wrote it.
+    pub author: Person,
+    /// The title.
+    pub title: ChunkedString,
+    /// The address.
+    pub address: ChunkedString,
 }
 
-/// Writes the page as HTML to any writer. Where the writer refuses a text, what it holds is left
-/// open.
+impl EntryLike for WebPage {
+    ghost use Rattle.std.specs.Prelude.{None};
+
+    ghost answers = { answers_of };
+
+    ghost key_text = { λ page. string_bytes page.key };
+
+    ghost english = { λ _. None };
+
+    fn resolve_number_variable(
+        &self,
+        _alloc: Global,
+        _variable: NumberVariable,
+    ) -> Result<Option<MaybeTyped<Cow<'_, Numeric>>>, Memory> {
+        Ok(None)
+    }
+
+    fn resolve_page_variable(
+        &self,
+        _alloc: Global,
+        _variable: PageVariable,
+    ) -> Result<Option<MaybeTyped<PageRanges>>, Memory> {
+        Ok(None)
+    }
+
+    fn resolve_standard_variable(
+        &self,
+        _alloc: Global,
+        _form: LongShortForm,
+        variable: StandardVariable,
+    ) -> Result<Option<Cow<'_, ChunkedString>>, Memory> {
+        match variable {
+            StandardVariable::Title => Ok(Some(Cow::Borrowed(&self.title))),
+            StandardVariable::URL => Ok(Some(Cow::Borrowed(&self.address))),
+            _ => Ok(None),
+        }
+    }
+
+    fn resolve_name_variable(
+        &self,
+        alloc: Global,
+        variable: NameVariable,
+    ) -> Result<Vec<Cow<'_, Person>>, Memory> {
+        match variable {
+            NameVariable::Author => {
+                let persons = vec![in alloc; Cow::Borrowed(&self.author)]?;
+                Ok(persons)
+            }
+            _ => Ok(Vec::new(alloc)),
+        }
+    }
+
+    fn resolve_date_variable(
+        &self,
+        _alloc: Global,
+        _variable: DateVariable,
+    ) -> Result<Option<Cow<'_, Date>>, Memory> {
+        Ok(None)
+    }
+
+    fn matches_entry_type(&self, kind: Kind) -> bool {
+        matches!(kind, Kind::Webpage)
+    }
+
+    fn is_english(&self) -> Option<bool> {
+        None
+    }
+
+    fn key(&self) -> CowStr<'_, Global> {
+        CowStr::Borrowed(self.key.as_str())
+    }
+}
+
+/// A web page of this author, title and address, which is cited by its address.
+fn web_page(alloc: Global, author: Person, title: &str, address: &str) -> Result<WebPage, Error> {
+    let key = String::from_str(alloc, address)?;
+    let title = ChunkedString::plain(alloc, title)?;
+    let address = ChunkedString::plain(alloc, address)?;
+    Ok(WebPage {
+        key,
+        author,
+        title,
+        address,
+    })
+}
+
+/// Three web pages. The title of the second is a script, and so is the address of the third.
 ///
 /// # Errors
-/// [`UseError::Memory`]: there was no memory left.
-/// [`UseError::Refused`]: the writer refused a text.
-pub fn write_page<W: fmt::Write>(alloc: Global, w: &mut W) -> Result<(), UseError>
-    ensures { OnOk result (WritesInCalls W.write_str_gives w.old page_html w.new) }
+/// [`Error::Memory`]: there was no memory left.
+pub fn web_pages(alloc: Global) -> Result<Vec<WebPage>, Error> {
+    let mut pages = Vec::with_capacity(alloc, 3)?;
+
+    let author = Person::new(alloc, "Berners-Lee", "Tim")?;
+    let title = "Cool URIs don't change";
+    let address = "https://www.w3.org/Provider/Style/URI";
+    pages.push(web_page(alloc, author, title, address)?)?;
+
+    let author = Person::institution(alloc, "Mallory & Sons")?;
+    let title = "Cats & dogs <script>alert(1)</script>";
+    let address = "https://example.org/?cats=1&dogs=2";
+    pages.push(web_page(alloc, author, title, address)?)?;
+
+    let author = Person::institution(alloc, "Mallory & Sons")?;
+    let address = "javascript:alert(2)";
+    pages.push(web_page(alloc, author, "A prize", address)?)?;
+    Ok(pages)
+}
+
+/// The number of an entry in brackets, in the left margin.
+fn number(alloc: Global) -> Result<LayoutRenderingElement, Error> {
+    let number = Number {
+        affixes: Affixes::around(alloc, "[", "]")?,
+        display: Some(Display::LeftMargin),
+        ..Number::new(NumberVariable::CitationNumber.into())
+    };
+    Ok(number.into())
+}
+
+/// The authors, the title in quotes and the address, to the right of the number.
+fn description(alloc: Global) -> Result<LayoutRenderingElement, Error> {
+    let authors = vec![in alloc; NameVariable::Author]?;
+    let authors = Names::new(alloc, authors);
+    let title = Text {
+        quotes: true,
+        ..Text::variable(StandardVariable::Title.into())
+    };
+    let address = Text::variable(StandardVariable::URL.into());
+    let parts = vec![in alloc; authors.into(), title.into(), address.into()]?;
+    let affixes = Affixes::behind(alloc, ".")?;
+    let description = Group {
+        affixes,
+        display: Some(Display::RightInline),
+        ..Group::delimited(alloc, ", ", parts)?
+    };
+    Ok(description.into())
+}
+
+/// A style of numbers: `[1]` in a cite, and before each line of the bibliography.
+///
+/// # Errors
+/// [`Error::Memory`]: there was no memory left.
+/// [`Error::Style`]: the style is rejected.
+pub fn number_style(alloc: Global) -> Result<Style, Error> {
+    let citation = vec![in alloc; number(alloc)?]?;
+    let bibliography = vec![in alloc; number(alloc)?, description(alloc)?]?;
+    let locales = vec![in alloc; english(alloc)?]?;
+    let settings = StyleSettings::default();
+    Ok(Style::new(
+        alloc,
+        settings,
+        Vec::new(alloc),
+        Layout::new(citation),
+        Some(Layout::new(bibliography)),
+        locales,
+    )?)
+}
+
+/// The content, where a link stays a link only if it leads to `http` or `https`. If memory runs
+/// out, it may become its text too.
+fn with_web_links(alloc: Global, rendered: ElemChildren) -> ElemChildren
+    ensures { leaf_text (tokens result) ≡ leaf_text (tokens rendered) }
 {
-    let page = page(alloc)?;
-    page.write_buf(w, BufWriteFormat::Html)?;
-    Ok(())
+    let mut content = rendered;
+    content.keep_links(|address: &str| is_web_address(alloc, address).unwrap_or(false));
+    content
+}
+
+/// The line of the entry at this place of the list. It is empty if the style has no bibliography.
+fn list_line<T: EntryLike>(
+    alloc: Global,
+    style: &Style,
+    entry: &T,
+    place: usize,
+) -> Result<ElemChildren, Error>
+    ensures { IfOk result (λ line. leaf_text (tokens line)
+        ≡ leaf_text (numbered_line style.now place (T.answers entry.now))) }
+{
+    let Ok(place) = u32::try_from(place) else {
+        return Err(Error::NotNumeric);
+    };
+    let Some(number) = CitationNumber::new(place) else {
+        return Err(Error::NotNumeric);
+    };
+    let mut cite = CiteProperties::first(DisambiguateState::None);
+    cite.speculative.citation_number = number;
+    match csl::bibliography_entry(alloc, style, entry, &cite)? {
+        Some(rendered) => Ok(with_web_links(alloc, rendered.content)),
+        None => Ok(ElemChildren::new(alloc)),
+    }
+}
+
+/// A whole page of HTML: the bibliography of these entries in their order, numbered from 1.
+///
+/// # Errors
+/// [`Error::Memory`]: there was no memory left, or an entry said so.
+/// [`Error::NotNumeric`]: there are more entries than citation numbers.
+pub fn page<T: EntryLike>(alloc: Global, style: &Style, entries: &[T]) -> Result<String, Error> {
+    let mut html = String::from_str(alloc, HEAD)?;
+    for (place, entry) in entries.iter().enumerate() {
+        let line = list_line(alloc, style, entry, place)?;
+        let line = line.to_text(alloc, BufWriteFormat::Html)?;
+        writeln!(&mut html, "<div class=\"entry\">{line}</div>")?;
+    }
+    html.push_str(TAIL)?;
+    Ok(html)
 }

@@ -1,48 +1,61 @@
-//! Two entries of two types that a style cannot tell apart.
+//! Two entries of any two types that a style may not tell apart.
 
 ghost use Rattle.std.specs.Prelude.{◌≡◌, true, IfOk, string_bytes};
 ghost use Rattle.std.specs.Bool.{Decides};
-ghost use Rattle.csl_style.specs.Named.{of_fulls};
-ghost use Rattle.csl_style.specs.Node.{fill_layout};
-ghost use Rattle.csl_style.specs.Reached.{env};
-ghost use Rattle.csl_style.specs.View.{view_layout};
-ghost use Rattle.csl_tree.specs.Tokens.{tokens};
-ghost use Rattle.csl_entry.specs.Alike.{Alike};
-ghost use Rattle.csl_render.specs.Cited.{cited};
-ghost use Rattle.csl_render.specs.Printed.{PrintsSame};
+ghost use Rattle.csl.specs.Style.Named.{of_fulls};
+ghost use Rattle.csl.specs.Style.Node.{fill_layout};
+ghost use Rattle.csl.specs.Style.Reached.{env};
+ghost use Rattle.csl.specs.Style.View.{view_layout};
+ghost use Rattle.csl.specs.Tree.Tokens.{tokens};
+ghost use Rattle.csl.specs.Entry.Alike.{Alike};
+ghost use Rattle.csl.specs.Render.Cited.{cited};
+ghost use Rattle.csl.specs.Render.Printed.{PrintsSame};
 
-use crate::book::text;
-use crate::error::UseError;
-use csl_context::LeftState;
-use csl_entry::{CiteProperties, DisambiguateState, EntryLike};
-use csl_render::{Pair, render_pair};
-use csl_style::{Scope, Style};
-use lit_model::{Entry, EntryType, Memory};
+use csl::literature::{Entry, EntryType, FormatString, Person};
+use csl::style::{Formatting, Layout, StandardVariable, Style, StyleSettings, Text};
+use csl::{CiteProperties, DisambiguateState, EntryLike, Error, Pair};
 use std::alloc::Global;
 
-/// `Metropolis` on video: an entry of which the title alone is known.
+/// The novel `Metropolis`.
 ///
 /// # Errors
-/// [`Memory`]: there was no memory left.
-pub fn metropolis_on_video(alloc: Global) -> Result<Entry, Memory> {
-    let title = text(alloc, "Metropolis")?;
-    let mut video = Entry::new(alloc, "metropolis-video", EntryType::Video)?;
-    video.title = Some(title);
-    Ok(video)
+/// [`Error::Memory`]: there was no memory left.
+pub fn the_novel(alloc: Global) -> Result<Entry, Error> {
+    let authors = vec![in alloc; Person::new(alloc, "von Harbou", "Thea")?]?;
+    let title = FormatString::plain(alloc, "Metropolis")?;
+    let mut novel = Entry::new(alloc, "metropolis-novel", EntryType::Book)?;
+    novel.authors = Some(authors);
+    novel.title = Some(title);
+    Ok(novel)
 }
 
-/// What the citation layout of a style makes of two entries, each cited for the first time, and
-/// whether both answer alike all that the layout and the macros it reaches name. Where they do,
-/// whoever has rendered the one need not render the other.
+/// A style that cites by the title alone, in italics.
 ///
 /// # Errors
-/// [`UseError::Memory`]: there was no memory left, or an entry said so.
-pub fn compare<T: EntryLike, U: EntryLike>(
+/// [`Error::Memory`]: there was no memory left.
+/// [`Error::Style`]: the style is rejected.
+pub fn title_style(alloc: Global) -> Result<Style, Error> {
+    let title = Text {
+        formatting: Formatting::italic(),
+        ..Text::variable(StandardVariable::Title.into())
+    };
+    let citation = Layout::new(vec![in alloc; title.into()]?);
+    let settings = StyleSettings::default();
+    let (macros, locales) = (Vec::new(alloc), Vec::new(alloc));
+    Ok(Style::new(alloc, settings, macros, citation, None, locales)?)
+}
+
+/// The cites of two entries, and whether both answer alike all that the citation layout and the
+/// macros it reaches name. Where they do, whoever has rendered the one need not render the other.
+///
+/// # Errors
+/// [`Error::Memory`]: there was no memory left, or an entry said so.
+pub fn pair_of<T: EntryLike, U: EntryLike>(
     alloc: Global,
     style: &Style,
     left: &T,
     right: &U,
-) -> Result<Pair, UseError>
+) -> Result<Pair, Error>
     ensures left { IfOk result (λ p. tokens p.left.content ≡ cited style.now (T.answers left.now)) }
     ensures right { IfOk result (λ p. tokens p.right.content
         ≡ cited style.now (U.answers right.now)) }
@@ -52,11 +65,6 @@ pub fn compare<T: EntryLike, U: EntryLike>(
     ensures same { IfOk result (λ p. p.alike ≡ true
         → PrintsSame p.left (string_bytes p.left_html) p.right (string_bytes p.right_html)) }
 {
-    let cite = CiteProperties::first(DisambiguateState::None);
-    let start = LeftState::new(alloc);
-    let (layout, scope) = (style.citation(), Scope::Citation);
-    let pair = render_pair(
-        alloc, style, layout, scope, &cite, None, None, &start, left, right,
-    )?;
-    Ok(pair)
+    let first = CiteProperties::first(DisambiguateState::None);
+    Ok(csl::cite_pair(alloc, style, &first, left, right)?)
 }

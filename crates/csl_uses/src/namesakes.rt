@@ -1,0 +1,154 @@
+//! Two persons of one family name: the cites of their works are told apart by their given names.
+
+ghost use Rattle.std.specs.Prelude.{◌≡◌, IfOk, string_bytes};
+ghost use Rattle.csl.specs.Style.declared.style.settings.Scope.TheVariants as scopes;
+ghost use Rattle.csl.specs.Tree.declared.elem.BufWriteFormat.TheVariants as formats;
+ghost use Rattle.csl.specs.Tree.Writing.{written};
+ghost use Rattle.csl.specs.Entry.Cite.{first_cite, disambiguation_of};
+ghost use Rattle.csl.specs.Render.Cited.{whole_cite};
+
+use csl::literature::{self, Entry, EntryType, Person};
+use csl::style::{
+    Affixes, Date, DatePart, DatePartName, DateVariable, Group, InheritableNameOptions, Layout,
+    LayoutRenderingElement, Name, NameForm, NameVariable, Names, Style, StyleSettings,
+};
+use csl::{
+    BufWriteFormat, CiteProperties, DisambiguateState, EntryLike, Error,
+    NameDisambiguationProperties, Rendered, english,
+};
+use std::alloc::Global;
+
+/// A book of 2014 by a Miller of this given name, which is its key.
+///
+/// # Errors
+/// [`Error::Memory`]: there was no memory left.
+pub fn book_by_miller(alloc: Global, given_name: &str) -> Result<Entry, Error> {
+    let authors = vec![in alloc; Person::new(alloc, "Miller", given_name)?]?;
+    let mut book = Entry::new(alloc, given_name, EntryType::Book)?;
+    book.authors = Some(authors);
+    book.date = Some(literature::Date::of_year(2014));
+    Ok(book)
+}
+
+/// The family names of the authors. Where a given name is shown too, it is first an initial.
+fn short_names(alloc: Global) -> Result<LayoutRenderingElement, Error> {
+    let authors = vec![in alloc; NameVariable::Author]?;
+    let initial = String::from_str(alloc, ". ")?;
+    let options = InheritableNameOptions {
+        form: Some(NameForm::Short),
+        initialize_with: Some(initial),
+        ..InheritableNameOptions::default()
+    };
+    let name = Name {
+        options,
+        ..Name::new(alloc)
+    };
+    let children = vec![in alloc; name.into()]?;
+    let names = Names {
+        children,
+        ..Names::new(alloc, authors)
+    };
+    Ok(names.into())
+}
+
+/// The names and the year of issue, in parentheses.
+fn names_and_year(alloc: Global) -> Result<LayoutRenderingElement, Error> {
+    let year = vec![in alloc; DatePart::new(DatePartName::Year)]?;
+    let names = short_names(alloc)?;
+    let parts = vec![in alloc; names, Date::new(DateVariable::Issued, year).into()]?;
+    let affixes = Affixes::around(alloc, "(", ")")?;
+    let cite = Group {
+        affixes,
+        ..Group::delimited(alloc, ", ", parts)?
+    };
+    Ok(cite.into())
+}
+
+/// A style that cites as `(Miller, 2014)`, or once that has to be told apart as `(A. Miller, 2014)`
+/// and `(Anna Miller, 2014)`.
+///
+/// # Errors
+/// [`Error::Memory`]: there was no memory left.
+/// [`Error::Style`]: the style is rejected.
+pub fn short_style(alloc: Global) -> Result<Style, Error> {
+    let citation = vec![in alloc; names_and_year(alloc)?]?;
+    let locales = vec![in alloc; english(alloc)?]?;
+    let settings = StyleSettings::default();
+    Ok(Style::new(
+        alloc,
+        settings,
+        Vec::new(alloc),
+        Layout::new(citation),
+        None,
+        locales,
+    )?)
+}
+
+/// The text of a cite, and the forms in which it shows the names that it printed first.
+#[derive(Drop)]
+pub struct Cite {
+    /// The text.
+    pub text: String,
+    /// The forms of the names, where it printed any.
+    pub names: Option<NameDisambiguationProperties>,
+}
+
+/// The cite of an entry, told apart so.
+fn cite_by<T: EntryLike>(
+    alloc: Global,
+    style: &Style,
+    entry: &T,
+    told_apart: DisambiguateState,
+) -> Result<Cite, Error>
+    ensures { IfOk result (λ cite. string_bytes cite.text ≡ written formats.Plain
+        (whole_cite style.now scopes.Citation (first_cite (disambiguation_of told_apart))
+        (T.answers entry.now) style.now.citation).content) }
+{
+    let first = CiteProperties::first(told_apart);
+    let Rendered { content, state } = csl::cite(alloc, style, entry, &first)?;
+    Ok(Cite {
+        text: content.to_text(alloc, BufWriteFormat::Plain)?,
+        names: state.first_names,
+    })
+}
+
+/// The cite once more, where the first author shows more of the name, if there is more to show:
+/// first the initials, and then the given name.
+fn fuller_cite<T: EntryLike>(
+    alloc: Global,
+    style: &Style,
+    entry: &T,
+    cite: Cite,
+) -> Result<Cite, Error> {
+    let Cite { text, names } = cite;
+    let Some(mut names) = names else {
+        return Ok(Cite { text, names: None });
+    };
+    if names.can_disambiguate(NameVariable::Author, &[0]) {
+        names.disambiguate_list(NameVariable::Author, &[0]);
+    }
+    let told_apart = DisambiguateState::NameDisambiguation(names);
+    cite_by(alloc, style, entry, told_apart)
+}
+
+/// The cites of two entries. Where they are the same, both show more of their first author's name,
+/// in two steps at most.
+///
+/// # Errors
+/// [`Error::Memory`]: there was no memory left, or an entry said so.
+pub fn cites_apart<T: EntryLike, U: EntryLike>(
+    alloc: Global,
+    style: &Style,
+    left: &T,
+    right: &U,
+) -> Result<(Cite, Cite), Error> {
+    let mut one = cite_by(alloc, style, left, DisambiguateState::None)?;
+    let mut other = cite_by(alloc, style, right, DisambiguateState::None)?;
+    for _step in 0..2 {
+        if one.text == other.text {
+            one = fuller_cite(alloc, style, left, one)?;
+            other = fuller_cite(alloc, style, right, other)?;
+        }
+    }
+    Ok((one, other))
+}
