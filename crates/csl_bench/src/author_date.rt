@@ -3,8 +3,8 @@
 use crate::cite::article_size;
 use crate::error::WorkError;
 use crate::nodes::{group, name, names, year};
-use crate::style::{alone, layout, put};
-use csl_built_in::BuiltInStyle;
+use crate::style::{layout, one_item, put};
+use csl_samples::BuiltInStyle;
 use csl_style::{
     Affixes, CslMacro, DateVariable, LayoutRenderingElement, Locale, NameForm, NameVariable,
     OtherTerm, Style, StyleSettings, Term, TermEntry, TermForm,
@@ -67,7 +67,7 @@ fn locale_behind(alloc: Global, size: usize, locales: &[Locale]) -> Result<Vec<L
         punctuation_in_quote: true,
         limit_day_ordinals_to_day_1: false,
     };
-    alone(alloc, locale)
+    one_item(alloc, locale)
 }
 
 /// A style of these macros and of a layout of one node, with the terms of another style behind as
@@ -79,7 +79,7 @@ pub fn with_terms(
     other: &Style,
     size: usize,
 ) -> Result<Style, WorkError> {
-    let citation = layout(alone(alloc, node)?);
+    let citation = layout(one_item(alloc, node)?);
     let locales = locale_behind(alloc, size, other.locales())?;
     let settings = StyleSettings::default();
     Ok(Style::new(alloc, settings, macros, citation, None, locales)?)
@@ -97,8 +97,8 @@ fn parentheses(alloc: Global) -> Result<Affixes, Memory> {
 
 /// The authors' family names and the year, as `author-date` has them.
 fn author_date(alloc: Global) -> Result<LayoutRenderingElement, Memory> {
-    let written = alone(alloc, name(alloc, Some(NameForm::Short), None))?;
-    let mut children = alone(alloc, names(alloc, NameVariable::Author, written)?)?;
+    let written = one_item(alloc, name(alloc, Some(NameForm::Short), None))?;
+    let mut children = one_item(alloc, names(alloc, NameVariable::Author, written)?)?;
     put(&mut children, year(alloc, DateVariable::Issued)?)?;
     let affixes = parentheses(alloc)?;
     let comma = String::from_str(alloc, ", ")?;

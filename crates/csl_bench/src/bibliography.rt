@@ -5,8 +5,8 @@ use crate::author_date::with_terms;
 use crate::error::WorkError;
 use crate::nodes::{group, macro_text, name, names, substitute, text, variable_text, year};
 use crate::render::text_size;
-use crate::style::{alone, put};
-use csl_built_in::{BuiltIn, BuiltInStyle};
+use crate::style::{one_item, put};
+use csl_samples::{BuiltIn, BuiltInStyle};
 use csl_style::{
     Affixes, Choose, ChooseBranch, ChooseMatch, CslMacro, DateVariable, Formatting, Kind, Label,
     LabelPluralize, LayoutRenderingElement, NameAsSortOrder, NameVariable, Number,
@@ -288,7 +288,7 @@ fn persons(
     variable: NameVariable,
     instead: Vec<LayoutRenderingElement>,
 ) -> Result<LayoutRenderingElement, Memory> {
-    let mut children = alone(alloc, name(alloc, None, Some(NameAsSortOrder::First)))?;
+    let mut children = one_item(alloc, name(alloc, None, Some(NameAsSortOrder::First)))?;
     put(&mut children, substitute(instead))?;
     names(alloc, variable, children)
 }
@@ -304,11 +304,11 @@ fn held(alloc: Global, row: &Row) -> Result<LayoutRenderingElement, Memory> {
             Ok(group(parts, Some(delimiter), Affixes::default()))
         }
         Holder::Given(variable) => {
-            let variables = alone(alloc, *variable)?;
+            let variables = one_item(alloc, *variable)?;
             Ok(choice(Some(variables), None, parts, no_more, otherwise))
         }
         Holder::Kind(kind) => {
-            let kinds = alone(alloc, *kind)?;
+            let kinds = one_item(alloc, *kind)?;
             Ok(choice(None, Some(kinds), parts, no_more, otherwise))
         }
         Holder::Names(variable) => persons(alloc, *variable, parts),
@@ -317,7 +317,7 @@ fn held(alloc: Global, row: &Row) -> Result<LayoutRenderingElement, Memory> {
 
 /// A macro.
 fn csl_macro(alloc: Global, row: &Row) -> Result<CslMacro, Memory> {
-    let children = alone(alloc, held(alloc, row)?)?;
+    let children = one_item(alloc, held(alloc, row)?)?;
     Ok(CslMacro {
         name: String::from_str(alloc, row.name)?,
         children,

@@ -3,7 +3,7 @@
 use crate::error::WorkError;
 use crate::literature::authors;
 use crate::render::text_size;
-use csl_built_in::{BuiltIn, BuiltInStyle};
+use csl_samples::{BuiltIn, BuiltInStyle};
 use csl_style::Style;
 use lit_model::Entry;
 use std::alloc::Global;

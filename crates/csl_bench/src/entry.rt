@@ -1,6 +1,6 @@
 //! Works over what an entry answers.
 
-use crate::style::{alone, put};
+use crate::style::{one_item, put};
 use csl_entry::{Alphanumerical, EntryLike};
 use csl_style::{DateVariable, NameVariable, NumberVariable, PageVariable, StandardVariable};
 use lit_model::{
@@ -124,7 +124,7 @@ fn text(alloc: Global, text: &str) -> Result<FormatString, Memory> {
         kind: ChunkKind::Normal,
     };
     Ok(FormatString {
-        value: ChunkedString(alone(alloc, chunk)?),
+        value: ChunkedString(one_item(alloc, chunk)?),
         short: None,
     })
 }
@@ -149,7 +149,7 @@ fn persons(alloc: Global, size: usize) -> Result<Vec<Person>, Memory> {
 
 /// A periodical with a title and a volume, alone in a list.
 fn journals(alloc: Global) -> Result<Vec<Entry>, Memory> {
-    let mut journals = alone(alloc, Entry::new(alloc, "journal", EntryType::Periodical)?)?;
+    let mut journals = one_item(alloc, Entry::new(alloc, "journal", EntryType::Periodical)?)?;
     if let Some(journal) = journals.last_mut() {
         journal.title = Some(text(alloc, "Il Nuovo Cimento")?);
         journal.volume = Some(MaybeTyped::Typed(Numeric::new(20)));
@@ -161,7 +161,7 @@ fn journals(alloc: Global) -> Result<Vec<Entry>, Memory> {
 fn translators(alloc: Global, size: usize) -> Result<Vec<PersonsWithRoles>, Memory> {
     let names = persons(alloc, size)?;
     let role = PersonRole::Translator;
-    alone(alloc, PersonsWithRoles { names, role })
+    one_item(alloc, PersonsWithRoles { names, role })
 }
 
 /// Says of an article who made it, and where and when it came out.

@@ -2,7 +2,7 @@
 //! on it.
 
 use crate::error::WorkError;
-use crate::style::{alone, put};
+use crate::style::{one_item, put};
 use lit_model::{Date, Entry, EntryType, Memory, Numeric, NumericValue, PageRanges, Person};
 use std::alloc::Global;
 
@@ -114,27 +114,31 @@ pub fn clone_entry(alloc: Global, size: usize) -> Result<usize, Memory> {
 }
 
 /// A work with these parents.
-fn above(alloc: Global, parents: Vec<Entry>, date: Option<Date>) -> Result<Vec<Entry>, Memory> {
+fn work_with_parents(
+    alloc: Global,
+    parents: Vec<Entry>,
+    date: Option<Date>,
+) -> Result<Vec<Entry>, Memory> {
     let mut work = Entry::new(alloc, "work", EntryType::Book)?;
     work.date = date;
     work.parents = parents;
-    alone(alloc, work)
+    one_item(alloc, work)
 }
 
 /// A work with that many others behind it, each the parent of the one before; the last has a date.
-fn chain(alloc: Global, parents: usize) -> Result<Vec<Entry>, Memory> {
+fn work_with_ancestors(alloc: Global, parents: usize) -> Result<Vec<Entry>, Memory> {
     let date = Date::new(1605, None, None, None, false);
-    let mut works = above(alloc, Vec::new(alloc), date)?;
+    let mut works = work_with_parents(alloc, Vec::new(alloc), date)?;
     for _ in 0..parents {
-        works = above(alloc, works, None)?;
+        works = work_with_parents(alloc, works, None)?;
     }
     Ok(works)
 }
 
 /// The first of some works, copied.
-fn copied(alloc: Global, works: &[Entry]) -> Result<Vec<Entry>, Memory> {
+fn copy_of_works(alloc: Global, works: &[Entry]) -> Result<Vec<Entry>, Memory> {
     match works {
-        [work, ..] => alone(alloc, work.clone(alloc)?),
+        [work, ..] => one_item(alloc, work.clone(alloc)?),
         [] => Ok(Vec::new(alloc)),
     }
 }
@@ -153,8 +157,8 @@ fn compare(copies: &[Entry], works: &[Entry]) -> Result<(), WorkError> {
 /// Copies a chain of parents, compares it, looks for the date at the copy's end, and answers how
 /// many parents there are.
 pub fn family(alloc: Global, size: usize) -> Result<usize, WorkError> {
-    let works = chain(alloc, size)?;
-    let copies = copied(alloc, &works)?;
+    let works = work_with_ancestors(alloc, size)?;
+    let copies = copy_of_works(alloc, &works)?;
     compare(&copies, &works)?;
     Ok(size)
 }

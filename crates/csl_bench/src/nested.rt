@@ -4,7 +4,7 @@ use crate::entry::article;
 use crate::error::WorkError;
 use crate::nodes::{bare_group, macro_text, names, substitute, title};
 use crate::render::text_size;
-use crate::style::{alone, layout, linked, name, with_layout};
+use crate::style::{layout, linked, name, one_item, with_layout};
 use csl_style::{
     CslMacro, LayoutRenderingElement, NameVariable, StandardVariable, Style, StyleSettings,
     Variable,
@@ -39,9 +39,9 @@ fn nested_size(
 
 /// As many groups in one another as `size`, a title in the innermost.
 fn nested_groups(alloc: Global, size: usize) -> Result<Vec<LayoutRenderingElement>, Memory> {
-    let mut nodes = alone(alloc, title())?;
+    let mut nodes = one_item(alloc, title())?;
     for _ in 0..size {
-        nodes = alone(alloc, bare_group(nodes))?;
+        nodes = one_item(alloc, bare_group(nodes))?;
     }
     Ok(nodes)
 }
@@ -57,16 +57,16 @@ pub fn macros(alloc: Global, size: usize) -> Result<usize, WorkError> {
     let title = Variable::Standard(StandardVariable::Title);
     let macros = linked(alloc, size, 1, title)?;
     let first = macro_text(name(alloc, 0)?);
-    nested_size(alloc, macros, alone(alloc, first)?)
+    nested_size(alloc, macros, one_item(alloc, first)?)
 }
 
 /// The authors, in as many substitutes of editors as `size`.
 fn nested_names(alloc: Global, size: usize) -> Result<Vec<LayoutRenderingElement>, Memory> {
     let authors = names(alloc, NameVariable::Author, Vec::new(alloc))?;
-    let mut nodes = alone(alloc, authors)?;
+    let mut nodes = one_item(alloc, authors)?;
     for _ in 0..size {
-        let children = alone(alloc, substitute(nodes))?;
-        nodes = alone(alloc, names(alloc, NameVariable::Editor, children)?)?;
+        let children = one_item(alloc, substitute(nodes))?;
+        nodes = one_item(alloc, names(alloc, NameVariable::Editor, children)?)?;
     }
     Ok(nodes)
 }
@@ -88,7 +88,7 @@ fn expanded_size(style: &Style) -> u64 {
 fn doubling_style(alloc: Global, size: usize) -> Result<Style, WorkError> {
     let genre = Variable::Standard(StandardVariable::Genre);
     let macros = linked(alloc, size, 2, genre)?;
-    let first = alone(alloc, macro_text(name(alloc, 0)?))?;
+    let first = one_item(alloc, macro_text(name(alloc, 0)?))?;
     with_layout(alloc, StyleSettings::default(), macros, layout(first))
 }
 

@@ -1,6 +1,6 @@
 //! Nodes of layouts, with nothing around what they hold.
 
-use crate::style::alone;
+use crate::style::one_item;
 use csl_style::{
     Affixes, Date, DatePart, DatePartName, DateVariable, Formatting, Group, InheritableNameOptions,
     LayoutRenderingElement, Name, NameAnd, NameAsSortOrder, NameForm, NameVariable, Names,
@@ -83,7 +83,7 @@ pub fn names(
     children: Vec<NamesChild>,
 ) -> Result<LayoutRenderingElement, Memory> {
     Ok(LayoutRenderingElement::Names(Names {
-        variable: alone(alloc, variable)?,
+        variable: one_item(alloc, variable)?,
         children,
         options: InheritableNameOptions::default(),
         delimiter: None,
@@ -110,7 +110,7 @@ pub fn year(alloc: Global, variable: DateVariable) -> Result<LayoutRenderingElem
         variable: Some(variable),
         form: None,
         parts: None,
-        date_part: alone(alloc, year_part())?,
+        date_part: one_item(alloc, year_part())?,
         delimiter: None,
         formatting: Formatting::default(),
         affixes: Affixes::default(),

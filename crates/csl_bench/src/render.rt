@@ -4,7 +4,7 @@ use crate::entry::article;
 use crate::error::WorkError;
 use crate::literature::page_ranges;
 use crate::nodes::{bare_group, macro_text, title, variable_text};
-use crate::style::{alone, layout, put, with_layout};
+use crate::style::{layout, one_item, put, with_layout};
 use csl_context::{RenderError, Rendered};
 use csl_entry::{CiteProperties, DisambiguateState, EntryLike};
 use csl_render::cite;
@@ -27,7 +27,7 @@ fn call(alloc: Global) -> Result<LayoutRenderingElement, Memory> {
 fn nodes(alloc: Global, size: usize) -> Result<Vec<LayoutRenderingElement>, Memory> {
     let mut nodes = Vec::new(alloc);
     for _ in 0..size {
-        put(&mut nodes, bare_group(alone(alloc, title())?))?;
+        put(&mut nodes, bare_group(one_item(alloc, title())?))?;
         put(&mut nodes, call(alloc)?)?;
     }
     Ok(nodes)
@@ -36,14 +36,14 @@ fn nodes(alloc: Global, size: usize) -> Result<Vec<LayoutRenderingElement>, Memo
 /// The macro of a title.
 fn title_macro(alloc: Global) -> Result<CslMacro, Memory> {
     let name = String::from_str(alloc, MACRO)?;
-    let children = alone(alloc, title())?;
+    let children = one_item(alloc, title())?;
     Ok(CslMacro { name, children })
 }
 
 /// A style of one macro, whose layout has so many groups and texts of the macro.
 pub fn style(alloc: Global, size: usize) -> Result<Style, WorkError> {
     let citation = layout(nodes(alloc, size)?);
-    let macros = alone(alloc, title_macro(alloc)?)?;
+    let macros = one_item(alloc, title_macro(alloc)?)?;
     with_layout(alloc, StyleSettings::default(), macros, citation)
 }
 
@@ -99,7 +99,7 @@ pub fn render(alloc: Global, size: usize) -> Result<usize, WorkError> {
 /// A style that writes pages in the minimal format, and nothing else.
 fn paged(alloc: Global) -> Result<Style, WorkError> {
     let pages = variable_text(Variable::Page(PageVariable::Page));
-    let citation = layout(alone(alloc, pages)?);
+    let citation = layout(one_item(alloc, pages)?);
     let mut settings = StyleSettings::default();
     settings.page_range_format = Some(PageRangeFormat::Minimal);
     with_layout(alloc, settings, Vec::new(alloc), citation)

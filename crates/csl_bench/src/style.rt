@@ -26,7 +26,7 @@ fn calls(alloc: Global, number: usize, first: usize, end: usize) -> Result<CslMa
 }
 
 /// A list of one item.
-pub fn alone<T: Drop>(alloc: Global, item: T) -> Result<Vec<T>, Memory> {
+pub fn one_item<T: Drop>(alloc: Global, item: T) -> Result<Vec<T>, Memory> {
     let mut items = Vec::new(alloc);
     put(&mut items, item)?;
     Ok(items)
@@ -116,7 +116,7 @@ pub fn linked(
 }
 
 /// Makes a style in which each macro calls the next, and counts the macros.
-pub fn chain(alloc: Global, size: usize) -> Result<usize, WorkError> {
+pub fn macro_chain(alloc: Global, size: usize) -> Result<usize, WorkError> {
     macro_count(alloc, macros(alloc, size, 1)?)
 }
 

@@ -1,18 +1,18 @@
 //! The program `csl_cite`: it prints what a built-in style makes of an entry.
 //!
-//! All of its work is [`csl_answers::run::run_into`], over any two sinks; `main` hands it the
+//! All of its work is [`csl_cli::run::run_into`], over any two sinks; `main` hands it the
 //! arguments and the standard streams.
 #![tactic(auto)]
 
 mod streams;
 
-use csl_answers::run;
-use lit_model::Noting;
+use csl_cli::run;
+use lit_model::TrackingWriter;
 use std::env;
 use std::io::{self, ErrorKind};
 use std::process::ExitCode;
 use std::rt::Env;
-use streams::{Fault, Output};
+use streams::{Output, Stderr};
 
 /// The arguments after the program's name.
 fn arguments(rt: &(impl Env + AllocGlobal)) -> io::Result<Vec<String>> {
@@ -40,8 +40,8 @@ fn main(rt: HostRuntime) -> ExitCode {
         Ok(words) => run::run_into(
             rt.alloc(),
             words.as_slice(),
-            &mut Noting::new(&mut Output { rt: &rt }),
-            &mut Noting::new(&mut Fault { rt: &rt }),
+            &mut TrackingWriter::new(&mut Output { rt: &rt }),
+            &mut TrackingWriter::new(&mut Stderr { rt: &rt }),
         ),
         Err(error) => without_arguments(&rt, &error),
     };

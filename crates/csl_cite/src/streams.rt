@@ -16,11 +16,11 @@ impl<R: Print> fmt::Write for Output<'_, R> {
 
 /// Standard error.
 #[derive(Drop)]
-pub struct Fault<'a, R> {
+pub struct Stderr<'a, R> {
     pub rt: &'a R,
 }
 
-impl<R: Eprint> fmt::Write for Fault<'_, R> {
+impl<R: Eprint> fmt::Write for Stderr<'_, R> {
     fn write_str(&mut self, s: &str) -> fmt::Result {
         self.rt.eprint(s).map_err(|_| fmt::Error)
     }

@@ -3,7 +3,7 @@
 use Rattle.std.specs.Prelude.{List, [], ◌∷◌, ⊤}
 use Rattle.csl_tree.specs.Tokens.{Token}
 use Rattle.csl_tree.specs.Content.{IsContent}
-use Rattle.csl_tree.specs.Flat.{Parts}
+use Rattle.csl_tree.specs.Flat.{OpenParts}
 
 -- contents all
 abbrev pub AreContents : List (List Token) → Type 0
@@ -11,5 +11,5 @@ AreContents [] = ⊤
 AreContents (c ∷ cs) = IsContent c × AreContents cs
 
 -- in the innermost open part, and in those around it
-abbrev pub HasContents : Parts → Type 0
+abbrev pub HasContents : OpenParts → Type 0
 HasContents p = IsContent p.inner × AreContents p.outer

@@ -6,5 +6,5 @@ pub mod State
 pub mod World
 pub mod Texts
 pub mod Quotes
-pub mod Now
-pub mod Left
+pub mod ContextView
+pub mod LeftState

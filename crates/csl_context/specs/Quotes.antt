@@ -15,56 +15,56 @@ use Rattle.csl_style.specs.Dressing.{AffixTexts}
 use Rattle.csl_style.specs.Scopes.{is_punctuation_in_quote}
 use Rattle.csl_style.specs.Style.{StyleParts}
 use Rattle.csl_tree.specs.Tokens.{Token, has_children}
-use Rattle.csl_tree.specs.Content.{◌++>◌, affixed}
+use Rattle.csl_tree.specs.Content.{◌++>◌, affixed_content}
 use Rattle.csl_context.specs.State.{Inherited}
 use Rattle.csl_context.specs.Texts.{text_in_if, affixed_in}
 use Rattle.csl_context.specs.World.{term_in}
 
 -- the opening term: the inner one inside of an odd number of quotes
-abbrev pub opening : Bool → OtherTerm
-opening false = OpenQuote
-opening true = OpenInnerQuote
+abbrev pub opening_quote : Bool → OtherTerm
+opening_quote false = OpenQuote
+opening_quote true = OpenInnerQuote
 
-abbrev pub closing : Bool → OtherTerm
-closing false = CloseQuote
-closing true = CloseInnerQuote
+abbrev pub closing_quote : Bool → OtherTerm
+closing_quote false = CloseQuote
+closing_quote true = CloseInnerQuote
 
-abbrev pub quote : StyleParts → OtherTerm → Option (List ℕ)
-quote style term = term_in style (Other term) Long false
+abbrev pub quote_text : StyleParts → OtherTerm → Option (List ℕ)
+quote_text style term = term_in style (Other term) Long false
 
 -- the comma or period that a suffix begins with
 abbrev pub is_movable : ℕ → Bool
 is_movable b = (b == comma_char) || (b == dot_char)
 
-abbrev pub front : List ℕ → Option (List ℕ)
-front [] = None
-front (b ∷ bs) = if is_movable b then Some (b ∷ []) else None
+abbrev pub leading_punctuation : List ℕ → Option (List ℕ)
+leading_punctuation [] = None
+leading_punctuation (b ∷ bs) = if is_movable b then Some (b ∷ []) else None
 
 -- the suffix without the comma or period that it begins with
-abbrev pub behind_front : List ℕ → List ℕ
-behind_front [] = []
-behind_front (b ∷ bs) = if is_movable b then bs else b ∷ bs
+abbrev pub after_leading_punctuation : List ℕ → List ℕ
+after_leading_punctuation [] = []
+after_leading_punctuation (b ∷ bs) = if is_movable b then bs else b ∷ bs
 
 -- the character that moves from the suffix to before the closing quote, if the first locale asks
 -- for it
-abbrev pub moved_front : StyleParts → Option (List ℕ) → Option (List ℕ)
-moved_front style None = None
-moved_front style (Some suffix) = if is_punctuation_in_quote style.locales then front suffix else None
+abbrev pub moved_punctuation : StyleParts → Option (List ℕ) → Option (List ℕ)
+moved_punctuation style None = None
+moved_punctuation style (Some suffix) = if is_punctuation_in_quote style.locales then leading_punctuation suffix else None
 
 -- whether a character moves into the quotes around this content; none does where the content is
 -- nothing
-abbrev pub has_moved : StyleParts → Option (List ℕ) → List Token → Bool
-has_moved style suffix c = is_some (moved_front style suffix) && has_children c
+abbrev pub moves_punctuation : StyleParts → Option (List ℕ) → List Token → Bool
+moves_punctuation style suffix c = is_some (moved_punctuation style suffix) && has_children c
 
 -- Quoted: the content in quotes, with the front of the suffix after it, where that is moved
-abbrev pub quoted_in : StyleParts → Inherited → Option (List ℕ) → List Token → List Token
-quoted_in style inh suffix c =
-    affixed (text_in_if inh (quote style (opening inh.in_quotes)))
-    (text_in_if inh (moved_front style suffix) ++> text_in_if inh (quote style (closing inh.in_quotes))) c
+abbrev pub quoted_content : StyleParts → Inherited → Option (List ℕ) → List Token → List Token
+quoted_content style inh suffix c =
+    affixed_content (text_in_if inh (quote_text style (opening_quote inh.in_quotes)))
+    (text_in_if inh (moved_punctuation style suffix) ++> text_in_if inh (quote_text style (closing_quote inh.in_quotes))) c
 
 -- the affixes of a content into whose quotes the front of the suffix was moved, or was not
-abbrev pub left_of : Bool → AffixTexts → AffixTexts
-left_of moved a = record { prefix = a.prefix; suffix = if moved then option_map behind_front a.suffix else a.suffix }
+abbrev pub affixes_after_move : Bool → AffixTexts → AffixTexts
+affixes_after_move moved a = record { prefix = a.prefix; suffix = if moved then option_map after_leading_punctuation a.suffix else a.suffix }
 
 abbrev pub affixed_after : Bool → Inherited → AffixTexts → List Token → List Token
-affixed_after moved inh a c = affixed_in inh (left_of moved a) c
+affixed_after moved inh a c = affixed_in inh (affixes_after_move moved a) c

@@ -10,10 +10,12 @@ use Rattle.std.specs.BTreeSet.{insert_key}
 use Rattle.std.specs.BTreeMap.{is_at}
 use Rattle.std.specs.List.{list_any}
 use Rattle.std.specs.declared.cmp.Ordering.{Ordering}
+use Rattle.csl_style.specs.declared.formatting.Formatting as partial
 use Rattle.csl_style.specs.declared.taxonomy.Variable.{Variable}
 use Rattle.csl_style.specs.contracts.taxonomy.VariableOrd.TheImpl.{cmp-value}
-use Rattle.csl_style.specs.NameOptions.{SetOptions}
+use Rattle.csl_style.specs.NameOptions.{PartialOptions}
 use Rattle.csl_tree.specs.declared.formatting.Formatting.{Formatting}
+use Rattle.csl_tree.specs.Formatting.{apply_formatting}
 use Rattle.csl_entry.specs.NameProperties.{NameProperties}
 
 -- The suppressed variables; whether a look for printing adds its variable to them; whether a date
@@ -33,14 +35,18 @@ is_suppressed s v = list_any (is_at (variable_cmp v)) s.suppressed
 
 -- the state after a look for printing: while the switch is on, the variable is suppressed from then
 -- on
-abbrev pub looked : Variable → State → State
-looked v s = record s { suppressed = if s.suppressing then insert_key variable_cmp s.suppressed v else s.suppressed }
+abbrev pub state_after_resolve : Variable → State → State
+state_after_resolve v s = record s { suppressed = if s.suppressing then insert_key variable_cmp s.suppressed v else s.suppressed }
 
 -- The formatting; the delimiter between children, if any; the options of names that are set;
 -- whether an odd number of quotes is around it; whether its texts lose their periods.
 pub record Inherited : Type 0 where
   pub formatting : Formatting
   pub delimiter : Option (List ℕ)
-  pub options : SetOptions
+  pub options : PartialOptions
   pub in_quotes : Bool
-  pub stripping : Bool
+  pub strip_periods : Bool
+
+-- what is inherited inside a node's formatting
+abbrev pub with_node_formatting : partial.Formatting → Inherited → Inherited
+with_node_formatting f inh = record inh { formatting = apply_formatting f inh.formatting }

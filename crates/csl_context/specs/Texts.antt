@@ -4,7 +4,7 @@
 -- A link and its address stay as they are. The place of a cite that the caller writes is a
 -- transparent.
 -- *Affixed* (Affixes): nothing around nothing, else prefix, content and suffix, the two as texts in
--- the inherited formatting. A gap (`gap_after`) is a space, unless there is no text yet or the text
+-- the inherited formatting. A gap (`wanted_space`) is a space, unless there is no text yet or the text
 -- ends in white space.
 use Rattle.std.specs.Prelude.{ℕ, Bool, not, ◌&&◌, ◌==◌, List, [], ◌∷◌, Option, Some, None, filter, encode_utf8_all, if◌then◌else◌}
 use Rattle.std.specs.Str.{chars}
@@ -15,7 +15,7 @@ use Rattle.lit_model.specs.declared.text.ChunkKind.{ChunkKind}
 use Rattle.csl_style.specs.Dressing.{AffixTexts}
 use Rattle.csl_tree.specs.declared.formatting.Formatting.{Formatting}
 use Rattle.csl_tree.specs.Tokens.{Token, solid, transparent, has_text, ends_in_white_space}
-use Rattle.csl_tree.specs.Content.{◌++>◌, text_content, markup_content, link_content, affixed}
+use Rattle.csl_tree.specs.Content.{◌++>◌, text_content, markup_content, link_content, affixed_content}
 use Rattle.csl_context.specs.State.{Inherited}
 
 abbrev pub is_no_period : ℕ → Bool
@@ -26,28 +26,28 @@ unfoldable pub without_periods : List ℕ → List ℕ
 without_periods bs = encode_utf8_all (filter is_no_period (chars bs))
 
 -- a text as it is written, where periods are stripped or not
-abbrev pub stripped : Bool → List ℕ → List ℕ
-stripped stripping bs = if stripping then without_periods bs else bs
+abbrev pub strip_if : Bool → List ℕ → List ℕ
+strip_if stripping bs = if stripping then without_periods bs else bs
 
 -- a text in a formatting, where periods are stripped or not
-abbrev pub text_of : Bool → Formatting → List ℕ → List Token
-text_of stripping f bs = text_content (stripped stripping bs) f
+abbrev pub formatted_text : Bool → Formatting → List ℕ → List Token
+formatted_text stripping f bs = text_content (strip_if stripping bs) f
 
-abbrev pub text_of_if : Bool → Formatting → Option (List ℕ) → List Token
-text_of_if stripping f None = []
-text_of_if stripping f (Some bs) = text_of stripping f bs
+abbrev pub optional_formatted_text : Bool → Formatting → Option (List ℕ) → List Token
+optional_formatted_text stripping f None = []
+optional_formatted_text stripping f (Some bs) = formatted_text stripping f bs
 
 -- the bytes of a text as it is written, if there is one
-abbrev pub stripped_if : Bool → Option (List ℕ) → List ℕ
-stripped_if stripping None = []
-stripped_if stripping (Some bs) = stripped stripping bs
+abbrev pub optional_strip_if : Bool → Option (List ℕ) → List ℕ
+optional_strip_if stripping None = []
+optional_strip_if stripping (Some bs) = strip_if stripping bs
 
 -- a text in what it inherits
 abbrev pub text_in : Inherited → List ℕ → List Token
-text_in inh bs = text_of inh.stripping inh.formatting bs
+text_in inh bs = formatted_text inh.strip_periods inh.formatting bs
 
 abbrev pub text_in_if : Inherited → Option (List ℕ) → List Token
-text_in_if inh text = text_of_if inh.stripping inh.formatting text
+text_in_if inh text = optional_formatted_text inh.strip_periods inh.formatting text
 
 -- a piece of a text: one that is verbatim keeps its periods, mathematics becomes markup
 abbrev pub chunk_in_kind : Inherited → ChunkKind → List ℕ → List Token
@@ -72,12 +72,12 @@ abbrev pub transparent_in : Inherited → ℕ → List Token
 transparent_in inh index = solid (transparent index inh.formatting) ∷ []
 
 -- a space, unless there is no text yet or white space ends it
-abbrev pub gap_after : List Token → List ℕ
-gap_after ts = if has_text ts && not (ends_in_white_space ts) then space_char ∷ [] else []
+abbrev pub wanted_space : List Token → List ℕ
+wanted_space ts = if has_text ts && not (ends_in_white_space ts) then space_char ∷ [] else []
 
 -- Affixed: a content between two texts
 abbrev pub between_in : Inherited → Option (List ℕ) → Option (List ℕ) → List Token → List Token
-between_in inh prefix suffix c = affixed (text_in_if inh prefix) (text_in_if inh suffix) c
+between_in inh prefix suffix c = affixed_content (text_in_if inh prefix) (text_in_if inh suffix) c
 
 abbrev pub affixed_in : Inherited → AffixTexts → List Token → List Token
 affixed_in inh a c = between_in inh a.prefix a.suffix c

@@ -7,12 +7,12 @@ use Rattle.std.specs.Prelude.{ℕ, Bool, true, false, List, [], Option, None, ma
 use Rattle.csl_common.specs.declared.form.LongShortForm.{LongShortForm}
 use Rattle.csl_common.specs.declared.form.NumberForm.{NumberForm}
 use Rattle.csl_common.specs.declared.ordinal.GrammarGender.{GrammarGender}
-use Rattle.lit_model.specs.Date.{Parts}
+use Rattle.lit_model.specs.Date.{DateView}
 use Rattle.lit_model.specs.MaybeTyped.{MaybeView}
 use Rattle.lit_model.specs.Numeric.{NumericView}
 use Rattle.lit_model.specs.NumericForm.{numeric_in_form}
 use Rattle.lit_model.specs.Page.{PartView}
-use Rattle.lit_model.specs.Person.{Named}
+use Rattle.lit_model.specs.Person.{PersonView}
 use Rattle.lit_model.specs.Text.{Chunk}
 use Rattle.csl_style.specs.declared.date.DateForm.{DateForm}
 use Rattle.csl_style.specs.declared.style.settings.Scope.{Scope}
@@ -26,38 +26,34 @@ use Rattle.csl_style.specs.declared.term.Term.{Term}
 use Rattle.csl_style.specs.declared.term.TermForm.{TermForm}
 use Rattle.csl_style.specs.Date.{date_in_form}
 use Rattle.csl_style.specs.Locale.{TermView, terms_of, ordinals_of}
-use Rattle.csl_style.specs.Meaning.{meaning}
-use Rattle.csl_style.specs.Node.{Fulls, DateNode}
+use Rattle.csl_style.specs.Expansion.{macro_expansion}
+use Rattle.csl_style.specs.Node.{ExpandedNodes, DateNode}
 use Rattle.csl_style.specs.Ordinal.{ordinals, long_ordinals}
 use Rattle.csl_style.specs.Style.{StyleParts}
 use Rattle.csl_style.specs.Term.{term_text, term_gender}
 use Rattle.csl_style.specs.View.{definitions, view_date}
-use Rattle.csl_entry.specs.Cite.{Disambiguation, nothing, names, choose, suffix}
+use Rattle.csl_entry.specs.Cite.{Disambiguation, no_disambiguation, by_names, by_choose, by_year_suffix}
 use Rattle.csl_entry.specs.NumberResult.{ResultView}
-use Rattle.csl_entry.specs.Instance.{Instance, look_number, look_page, look_standard, look_names, look_date}
+use Rattle.csl_entry.specs.Instance.{Instance, resolve_number, resolve_page, resolve_standard, resolve_names, resolve_date}
 use Rattle.csl_context.specs.State.{State, is_suppressed}
 
-pub record World : Type 0 where
+pub record RenderInput : Type 0 where
   pub style : StyleParts
   pub scope : Scope
   pub instance : Instance
 
 -- ---- what the style has
 
--- what a macro's name stands for
-abbrev pub env : StyleParts → List ℕ → Option Fulls
-env s = meaning (definitions s.macros)
-
 -- the terms of each locale
-abbrev pub terms : StyleParts → List (List TermView)
-terms s = map terms_of s.locales
+abbrev pub locale_terms : StyleParts → List (List TermView)
+locale_terms s = map terms_of s.locales
 
 -- the text of a term, and the gender of what it names
 abbrev pub term_in : StyleParts → Term → TermForm → Bool → Option (List ℕ)
-term_in s term form plural = term_text (terms s) term form plural
+term_in s term form plural = term_text (locale_terms s) term form plural
 
 abbrev pub gender_in : StyleParts → Term → Option GrammarGender
-gender_in s term = term_gender (terms s) term
+gender_in s term = term_gender (locale_terms s) term
 
 -- a number in a form, with the ordinals of the style
 unfoldable pub number_text : StyleParts → NumberForm → Option GrammarGender → NumericView → List ℕ
@@ -65,31 +61,31 @@ number_text s form gender v =
     numeric_in_form (ordinals (map ordinals_of s.locales)) (long_ordinals (map ordinals_of s.locales)) form gender v
 
 -- the localized date of a form
-abbrev pub localized : StyleParts → DateForm → Option DateNode
-localized s form = option_map view_date (date_in_form s.locales form)
+abbrev pub localized_date : StyleParts → DateForm → Option DateNode
+localized_date s form = option_map view_date (date_in_form s.locales form)
 
 -- ---- what the citation says
 
 -- the branches that ask for `disambiguate` are to be taken (CSL 1.0.2, Choose: disambiguate)
-abbrev pub is_choose : Disambiguation → Bool
-is_choose nothing = false
-is_choose (names p) = false
-is_choose choose = true
-is_choose (suffix n) = false
+abbrev pub should_disambiguate : Disambiguation → Bool
+should_disambiguate no_disambiguation = false
+should_disambiguate (by_names p) = false
+should_disambiguate by_choose = true
+should_disambiguate (by_year_suffix n) = false
 
 -- ---- Look: nothing where the variable is suppressed, else what the cite answers
 
-abbrev pub number_look : World → State → NumberVariable → Option ResultView
-number_look w s v = if is_suppressed s (variable.Number v) then None else look_number w.instance v
+abbrev pub peek_number : RenderInput → State → NumberVariable → Option ResultView
+peek_number w s v = if is_suppressed s (variable.Number v) then None else resolve_number w.instance v
 
-abbrev pub page_look : World → State → PageVariable → Option (MaybeView (List PartView))
-page_look w s v = if is_suppressed s (variable.Page v) then None else look_page w.instance v
+abbrev pub peek_page : RenderInput → State → PageVariable → Option (MaybeView (List PartView))
+peek_page w s v = if is_suppressed s (variable.Page v) then None else resolve_page w.instance v
 
-abbrev pub standard_look : World → State → LongShortForm → StandardVariable → Option (List Chunk)
-standard_look w s form v = if is_suppressed s (variable.Standard v) then None else look_standard w.instance form v
+abbrev pub peek_standard : RenderInput → State → LongShortForm → StandardVariable → Option (List Chunk)
+peek_standard w s form v = if is_suppressed s (variable.Standard v) then None else resolve_standard w.instance form v
 
-abbrev pub name_look : World → State → NameVariable → List Named
-name_look w s v = if is_suppressed s (variable.Name v) then [] else look_names w.instance v
+abbrev pub peek_names : RenderInput → State → NameVariable → List PersonView
+peek_names w s v = if is_suppressed s (variable.Name v) then [] else resolve_names w.instance v
 
-abbrev pub date_look : World → State → DateVariable → Option Parts
-date_look w s v = if is_suppressed s (variable.Date v) then None else look_date w.instance v
+abbrev pub peek_date : RenderInput → State → DateVariable → Option DateView
+peek_date w s v = if is_suppressed s (variable.Date v) then None else resolve_date w.instance v

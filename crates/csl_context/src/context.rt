@@ -7,8 +7,8 @@ ghost use Rattle.csl_tree.specs.Content.{IsContent};
 ghost use Rattle.csl_tree.specs.Tokens.{tokens};
 ghost use Rattle.csl_entry.specs.Cite.{cite_state};
 ghost use Rattle.csl_entry.specs.NameProperties.{name_properties};
-ghost use Rattle.csl_context.specs.Now.{begun, no_state};
-ghost use Rattle.csl_context.specs.Left.{state_left};
+ghost use Rattle.csl_context.specs.ContextView.{new_context, initial_state};
+ghost use Rattle.csl_context.specs.LeftState.{left_state_view};
 
 use crate::error::RenderError;
 use csl_entry::{InstanceContext, NameDisambiguationProperties, Sorting, SpecialForm};
@@ -41,7 +41,7 @@ pub struct WritingContext<'s> {
     pub(crate) options: InheritedNameOptions<'s>,
     pub(crate) outer_options: Vec<InheritedNameOptions<'s>>,
     pub(crate) in_quotes: bool,
-    pub(crate) stripping: bool,
+    pub(crate) strip_periods: bool,
     pub(crate) state: LeftState,
     pub(crate) failed: bool,
 }
@@ -54,10 +54,10 @@ impl<'s, T> Model for Context<'s, T> {
     ghost use Rattle.csl_style.specs.NameOptions.{inherited_options};
     ghost use Rattle.csl_entry.specs.Cite.{cite_state};
     ghost use Rattle.csl_context.specs.Contents.{HasContents};
-    ghost use Rattle.csl_context.specs.Left.{state_left};
-    ghost use Rattle.csl_context.specs.Now.{Now};
+    ghost use Rattle.csl_context.specs.LeftState.{left_state_view};
+    ghost use Rattle.csl_context.specs.ContextView.{ContextView};
 
-    ghost Value = { Now T };
+    ghost Value = { ContextView T };
 
     ghost coded = { Prim.hlevel (codes, of_macro.the_row.coded, of_layout.the_row.coded) };
 
@@ -75,12 +75,12 @@ impl<'s, T> Model for Context<'s, T> {
         delimiter = option_map (λ t. t.now) c.writing.delimiter;
         options = inherited_options c.writing.options;
         in_quotes = c.writing.in_quotes;
-        stripping = c.writing.stripping;
+        strip_periods = c.writing.strip_periods;
       };
       formats = reverse c.writing.formats.items;
       delimiters = reverse (map (option_map (λ t. t.now)) c.writing.delimiters.items);
       options = reverse (map inherited_options c.writing.outer_options.items);
-      state = state_left c.writing.state;
+      state = left_state_view c.writing.state;
       failed = c.writing.failed;
     } };
 
@@ -127,7 +127,7 @@ fn copy_names(
 impl LeftState {
     /// Nothing is suppressed, and no date and no names were printed.
     pub fn new(alloc: Global) -> LeftState
-        ensures { state_left result ≡ no_state }
+        ensures { left_state_view result ≡ initial_state }
     {
         LeftState {
             suppressed: BTreeSet::new(alloc),
@@ -142,7 +142,7 @@ impl LeftState {
     /// # Errors
     /// [`Memory`]: there was no memory left.
     pub fn clone(&self, alloc: Global) -> Result<LeftState, Memory>
-        ensures { IfOk result (λ copy. state_left copy ≡ state_left self.now) }
+        ensures { IfOk result (λ copy. left_state_view copy ≡ left_state_view self.now) }
     {
         let suppressed = self.suppressed.clone()?;
         let first_names = copy_names(alloc, &self.first_names)?;
@@ -163,9 +163,9 @@ fn begin<'s, T>(
     scope: Scope,
     state: LeftState,
 ) -> Context<'s, T>
-    ensures { result ≡ begun style.now scope instance.entry.entry.now
+    ensures { result ≡ new_context style.now scope instance.entry.entry.now
         (cite_state instance.entry.cite_props.now) instance.entry.sorting instance.entry.kind
-        (state_left state) }
+        (left_state_view state) }
 {
     Context {
         style,
@@ -181,7 +181,7 @@ fn begin<'s, T>(
             options: style.base_name_options(scope),
             outer_options: Vec::new(alloc),
             in_quotes: false,
-            stripping: false,
+            strip_periods: false,
             state,
             failed: false,
         },
@@ -199,9 +199,9 @@ impl<'s, T> Context<'s, T> {
         instance: InstanceContext<'s, T>,
         scope: Scope,
     ) -> Result<Context<'s, T>, Memory>
-        ensures { IfOk result (λ c. c ≡ begun style.now scope instance.entry.entry.now
+        ensures { IfOk result (λ c. c ≡ new_context style.now scope instance.entry.entry.now
             (cite_state instance.entry.cite_props.now) instance.entry.sorting instance.entry.kind
-            no_state) }
+            initial_state) }
     {
         Ok(begin(alloc, style, instance, scope, LeftState::new(alloc)))
     }
@@ -217,9 +217,9 @@ impl<'s, T> Context<'s, T> {
         scope: Scope,
         start: &LeftState,
     ) -> Result<Context<'s, T>, Memory>
-        ensures { IfOk result (λ c. c ≡ begun style.now scope instance.entry.entry.now
+        ensures { IfOk result (λ c. c ≡ new_context style.now scope instance.entry.entry.now
             (cite_state instance.entry.cite_props.now) instance.entry.sorting instance.entry.kind
-            (state_left start.now)) }
+            (left_state_view start.now)) }
     {
         let state = start.clone(alloc)?;
         Ok(begin(alloc, style, instance, scope, state))
@@ -237,7 +237,7 @@ impl<'s, T> Context<'s, T> {
         ensures sound { OnOk result (self.entry.failed ≡ false) }
         ensures content { IfOk result (λ r. tokens r.content ≡ self.entry.inner) }
         ensures whole { IfOk result (λ r. IsContent (tokens r.content)) }
-        ensures state { IfOk result (λ r. state_left r.state ≡ self.entry.state) }
+        ensures state { IfOk result (λ r. left_state_view r.state ≡ self.entry.state) }
         ensures err { IfErr result (λ e. (e ≡ RenderError.Failed) ↔ (self.entry.failed ≡ true)) }
     {
         self.ensure_live()?;

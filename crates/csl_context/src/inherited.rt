@@ -2,8 +2,8 @@
 
 ghost use Rattle.std.specs.Prelude.{◌≡◌, ◌<◌, ◌||◌, length, false, true, option_map};
 ghost use Rattle.std.specs.Bool.{OnFalse};
-ghost use Rattle.csl_style.specs.NameOptions.{own_options};
-ghost use Rattle.csl_context.specs.Now.{Runs, with_format, without_format, with_delimiter, without_delimiter, with_options, without_options, with_stripping};
+ghost use Rattle.csl_style.specs.NameOptions.{partial_options};
+ghost use Rattle.csl_context.specs.ContextView.{Runs, with_format, without_format, with_delimiter, without_delimiter, with_options, without_options, with_stripping};
 
 use crate::context::Context;
 use crate::error::RenderError;
@@ -88,7 +88,7 @@ impl<'s, T> Context<'s, T> {
         &mut self,
         options: &'s InheritableNameOptions,
     ) -> Result<(), RenderError>
-        ensures { Runs (with_options (own_options options.now)) result self.old self.new }
+        ensures { Runs (with_options (partial_options options.now)) result self.old self.new }
     {
         self.ensure_live()?;
         let under = self.writing.options;
@@ -118,11 +118,11 @@ impl<'s, T> Context<'s, T> {
     /// Has texts lose their periods from now on, if `strip` is true (CSL 1.0.2, Strip-periods).
     /// Returns whether they did before.
     pub fn may_strip_periods(&mut self, strip: bool) -> bool
-        ensures value { result ≡ self.old.inherited.stripping }
-        ensures after { self.new ≡ with_stripping (strip || self.old.inherited.stripping) self.old }
+        ensures value { result ≡ self.old.inherited.strip_periods }
+        ensures after { self.new ≡ with_stripping (strip || self.old.inherited.strip_periods) self.old }
     {
-        let old = self.writing.stripping;
-        self.writing.stripping = strip || old;
+        let old = self.writing.strip_periods;
+        self.writing.strip_periods = strip || old;
         old
     }
 
@@ -130,6 +130,6 @@ impl<'s, T> Context<'s, T> {
     pub fn stop_stripping_periods(&mut self, old: bool)
         ensures { self.new ≡ with_stripping old self.old }
     {
-        self.writing.stripping = old;
+        self.writing.strip_periods = old;
     }
 }

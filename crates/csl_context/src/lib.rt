@@ -1,17 +1,17 @@
 //! What is being written of a cite: the open parts, what nodes inherit, and what was looked up.
 //!
-//! Contracts see a context as one record (`specs/Now.antt`), and each call is one equation on it.
+//! Contracts see a context as one record (`specs/ContextView.antt`), and each call is one equation on it.
 #![tactic(auto)]
 
 mod context;
 mod error;
 mod inherited;
-mod look;
 mod mark;
 mod quotes;
 mod state;
 mod terms;
 mod texts;
+mod variables;
 mod writing;
 
 pub use context::{Context, LeftState, Rendered, WritingContext};

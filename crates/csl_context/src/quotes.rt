@@ -2,11 +2,11 @@
 
 ghost use Rattle.std.specs.Prelude.{◌≡◌, ◌+◌, length, false, option_map, IfOk};
 ghost use Rattle.csl_style.specs.Dressing.{affix_texts};
-ghost use Rattle.csl_tree.specs.Content.{◌++>◌, affixed};
+ghost use Rattle.csl_tree.specs.Content.{◌++>◌, affixed_content};
 ghost use Rattle.csl_tree.specs.Flat.{affix_content};
 ghost use Rattle.csl_context.specs.Texts.{text_in_if, between_in};
-ghost use Rattle.csl_context.specs.Quotes.{opening, closing, quote, front, behind_front, moved_front, has_moved, affixed_after};
-ghost use Rattle.csl_context.specs.Now.{Runs, IsInnermost, with_part, closed_by, turned, with_quotes};
+ghost use Rattle.csl_context.specs.Quotes.{opening_quote, closing_quote, quote_text, leading_punctuation, after_leading_punctuation, moved_punctuation, moves_punctuation, affixed_after};
+ghost use Rattle.csl_context.specs.ContextView.{Runs, IsInnermost, with_part, close_part_by, with_quotes_toggled, with_quotes};
 
 use crate::context::Context;
 use crate::error::RenderError;
@@ -16,8 +16,8 @@ use csl_tree::Formatted;
 use lit_model::Memory;
 
 /// The comma or period that a suffix begins with.
-fn front(suffix: &str) -> Option<&'static str>
-    ensures { option_map (λ t. t.now) result ≡ front suffix.now }
+fn leading_punctuation(suffix: &str) -> Option<&'static str>
+    ensures { option_map (λ t. t.now) result ≡ leading_punctuation suffix.now }
 {
     if suffix.starts_with(',') {
         Some(",")
@@ -29,8 +29,8 @@ fn front(suffix: &str) -> Option<&'static str>
 }
 
 /// The suffix without a comma or period that it begins with.
-fn behind_front(suffix: &str) -> &str
-    ensures { result.now ≡ behind_front suffix.now }
+fn after_leading_punctuation(suffix: &str) -> &str
+    ensures { result.now ≡ after_leading_punctuation suffix.now }
 {
     if let Some(rest) = suffix.strip_prefix(',') {
         return rest;
@@ -42,8 +42,8 @@ fn behind_front(suffix: &str) -> &str
 }
 
 /// The quote that opens, inside of an odd number of quotes or not.
-fn opening(in_quotes: bool) -> OtherTerm
-    ensures { result ≡ opening in_quotes }
+fn opening_quote(in_quotes: bool) -> OtherTerm
+    ensures { result ≡ opening_quote in_quotes }
 {
     if in_quotes {
         OtherTerm::OpenInnerQuote
@@ -53,8 +53,8 @@ fn opening(in_quotes: bool) -> OtherTerm
 }
 
 /// The quote that closes, inside of an odd number of quotes or not.
-fn closing(in_quotes: bool) -> OtherTerm
-    ensures { result ≡ closing in_quotes }
+fn closing_quote(in_quotes: bool) -> OtherTerm
+    ensures { result ≡ closing_quote in_quotes }
 {
     if in_quotes {
         OtherTerm::CloseInnerQuote
@@ -89,11 +89,11 @@ impl<'s, T> Context<'s, T> {
         moved: bool,
     ) -> Result<(), RenderError>
         requires innermost { IsInnermost mark self.old }
-        ensures { Runs (closed_by (λ inh c. affixed_after moved inh (affix_texts affixes.now) c))
+        ensures { Runs (close_part_by (λ inh c. affixed_after moved inh (affix_texts affixes.now) c))
             result self.old self.new }
     {
         let suffix = if moved {
-            affixes.suffix.as_deref().map(behind_front)
+            affixes.suffix.as_deref().map(after_leading_punctuation)
         } else {
             affixes.suffix.as_deref()
         };
@@ -112,10 +112,10 @@ impl<'s, T> Context<'s, T> {
         suffix: Option<&str>,
     ) -> Result<(), RenderError>
         requires innermost { IsInnermost mark self.old }
-        ensures { Runs (closed_by (λ inh c. between_in inh (option_map (λ t. t.now) prefix.entry)
+        ensures { Runs (close_part_by (λ inh c. between_in inh (option_map (λ t. t.now) prefix.entry)
             (option_map (λ t. t.now) suffix.entry) c)) result self.old self.new }
     {
-        let (before, after) = self.attempt(self.pen().affixes(prefix, suffix))?;
+        let (before, after) = self.attempt(self.text_writer().affixes(prefix, suffix))?;
         self.splice_between(mark, before, after)
     }
 
@@ -127,7 +127,7 @@ impl<'s, T> Context<'s, T> {
         after: Option<Formatted>,
     ) -> Result<(), RenderError>
         requires innermost { IsInnermost mark self.old }
-        ensures { Runs (closed_by (λ _ c. affixed (affix_content before) (affix_content after) c))
+        ensures { Runs (close_part_by (λ _ c. affixed_content (affix_content before) (affix_content after) c))
             result self.old self.new }
     {
         self.ensure_live()?;
@@ -145,27 +145,27 @@ impl<'s, T> Context<'s, T> {
 
     /// Goes to the other side of a quote.
     fn turn(&mut self)
-        ensures { self.new ≡ turned self.old }
+        ensures { self.new ≡ with_quotes_toggled self.old }
     {
         self.writing.in_quotes = !self.writing.in_quotes;
     }
 
     /// The text of a quote, where a locale has it.
-    fn quote(&self, term: OtherTerm) -> Option<&'s str>
-        ensures { option_map (λ t. t.now) result ≡ quote self.now.style term }
+    fn quote_text(&self, term: OtherTerm) -> Option<&'s str>
+        ensures { option_map (λ t. t.now) result ≡ quote_text self.now.style term }
     {
         self.style.term(Term::Other(term), TermForm::Long, false)
     }
 
     /// The comma or period that goes from the front of a suffix into the quotes before it.
-    fn moved_front(&self, suffix: Option<&str>) -> Option<&'static str>
+    fn moved_punctuation(&self, suffix: Option<&str>) -> Option<&'static str>
         ensures { option_map (λ t. t.now) result
-            ≡ moved_front self.now.style (option_map (λ t. t.now) suffix.entry) }
+            ≡ moved_punctuation self.now.style (option_map (λ t. t.now) suffix.entry) }
     {
         match suffix {
             Some(suffix) => {
                 if self.style.is_punctuation_in_quote() {
-                    front(suffix)
+                    leading_punctuation(suffix)
                 } else {
                     None
                 }
@@ -177,22 +177,22 @@ impl<'s, T> Context<'s, T> {
     /// The opening quote.
     fn opening_affix(&self) -> Result<Option<Formatted>, Memory>
         ensures { IfOk result (λ t. affix_content t ≡ text_in_if self.now.inherited
-            (quote self.now.style (opening self.now.inherited.in_quotes))) }
+            (quote_text self.now.style (opening_quote self.now.inherited.in_quotes))) }
     {
-        let open = self.quote(opening(self.in_quotes()));
-        self.pen().affix(open)
+        let open = self.quote_text(opening_quote(self.in_quotes()));
+        self.text_writer().affix(open)
     }
 
     /// The closing quote behind what is moved before it.
     fn closing_affix(&self, suffix: Option<&str>) -> Result<Option<Formatted>, Memory>
         ensures { IfOk result (λ t. affix_content t ≡ text_in_if self.now.inherited
-            (moved_front self.now.style (option_map (λ t. t.now) suffix.entry))
+            (moved_punctuation self.now.style (option_map (λ t. t.now) suffix.entry))
             ++> text_in_if self.now.inherited
-            (quote self.now.style (closing self.now.inherited.in_quotes))) }
+            (quote_text self.now.style (closing_quote self.now.inherited.in_quotes))) }
     {
-        let front = self.moved_front(suffix);
-        let close = self.quote(closing(self.in_quotes()));
-        let affix = self.pen().affix_of_two(front, close)?;
+        let front = self.moved_punctuation(suffix);
+        let close = self.quote_text(closing_quote(self.in_quotes()));
+        let affix = self.text_writer().affix_of_two(front, close)?;
         Ok(affix)
     }
 
@@ -203,11 +203,11 @@ impl<'s, T> Context<'s, T> {
         suffix: Option<&str>,
     ) -> Result<(Option<Formatted>, Option<Formatted>), Memory>
         ensures before { IfOk result (λ t. affix_content t.0 ≡ text_in_if self.now.inherited
-            (quote self.now.style (opening self.now.inherited.in_quotes))) }
+            (quote_text self.now.style (opening_quote self.now.inherited.in_quotes))) }
         ensures after { IfOk result (λ t. affix_content t.1 ≡ text_in_if self.now.inherited
-            (moved_front self.now.style (option_map (λ t. t.now) suffix.entry))
+            (moved_punctuation self.now.style (option_map (λ t. t.now) suffix.entry))
             ++> text_in_if self.now.inherited
-            (quote self.now.style (closing self.now.inherited.in_quotes))) }
+            (quote_text self.now.style (closing_quote self.now.inherited.in_quotes))) }
     {
         let before = self.opening_affix()?;
         let after = self.closing_affix(suffix)?;
@@ -215,15 +215,15 @@ impl<'s, T> Context<'s, T> {
     }
 
     /// Whether something is moved into the quotes that are to be closed.
-    fn has_moved(&self, suffix: Option<&str>) -> bool
-        ensures { result ≡ has_moved self.now.style (option_map (λ t. t.now) suffix.entry)
+    fn moves_punctuation(&self, suffix: Option<&str>) -> bool
+        ensures { result ≡ moves_punctuation self.now.style (option_map (λ t. t.now) suffix.entry)
             self.now.inner }
     {
-        self.moved_front(suffix).is_some() && !self.writing.content.is_empty()
+        self.moved_punctuation(suffix).is_some() && !self.writing.content.is_empty()
     }
 
     /// Closes the inside of quotes on their outside.
-    #[tactic(auto, unfolding(crate::specs::Now::with_quotes))]
+    #[tactic(auto, unfolding(crate::specs::ContextView::with_quotes))]
     fn close_quotes(&mut self, mark: Mark, suffix: Option<&str>) -> Result<(), RenderError>
         requires innermost { IsInnermost mark self.old }
         ensures { Runs (with_quotes (option_map (λ t. t.now) suffix.entry))
@@ -239,7 +239,7 @@ impl<'s, T> Context<'s, T> {
     /// [`RenderError::Memory`]: there was no memory left. The context has failed.
     /// [`RenderError::Failed`]: the context had failed.
     pub fn push_quotes(&mut self) -> Result<Mark, RenderError>
-        ensures after { Runs (λ now. with_part (turned now)) result self.old self.new }
+        ensures after { Runs (λ now. with_part (with_quotes_toggled now)) result self.old self.new }
         ensures mark { IfOk result (λ mark. length self.new.outer ≡ mark + 1) }
     {
         let mark = self.push_elem()?;
@@ -258,13 +258,13 @@ impl<'s, T> Context<'s, T> {
     pub fn pop_quotes(&mut self, mark: Mark, suffix: Option<&str>) -> Result<bool, RenderError>
         requires innermost { IsInnermost mark self.old }
         ensures after { Runs (λ now.
-            with_quotes (option_map (λ t. t.now) suffix.entry) (turned now))
+            with_quotes (option_map (λ t. t.now) suffix.entry) (with_quotes_toggled now))
             result self.old self.new }
         ensures moved { IfOk result (λ moved. moved
-            ≡ has_moved self.old.style (option_map (λ t. t.now) suffix.entry) self.old.inner) }
+            ≡ moves_punctuation self.old.style (option_map (λ t. t.now) suffix.entry) self.old.inner) }
     {
         self.ensure_live()?;
-        let moved = self.has_moved(suffix);
+        let moved = self.moves_punctuation(suffix);
         self.turn();
         self.close_quotes(mark, suffix)?;
         Ok(moved)

@@ -3,7 +3,7 @@
 
 ghost use Rattle.std.specs.Prelude.{◌≡◌, option_map};
 ghost use Rattle.csl_style.specs.Date.{date_in_form};
-ghost use Rattle.csl_context.specs.World.{term_in, gender_in, is_choose};
+ghost use Rattle.csl_context.specs.World.{term_in, gender_in, should_disambiguate};
 
 use crate::context::Context;
 use csl_entry::DisambiguateState;
@@ -41,7 +41,7 @@ impl<'s, T> Context<'s, T> {
 
     /// Whether the branches of the style that ask for `disambiguate` are to be taken.
     pub fn should_disambiguate(&self) -> bool
-        ensures { result ≡ is_choose self.now.cite.disambiguation }
+        ensures { result ≡ should_disambiguate self.now.cite.disambiguation }
     {
         match &self.instance.cite_props.speculative.disambiguation {
             DisambiguateState::Choose => true,

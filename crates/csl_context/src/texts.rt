@@ -4,7 +4,7 @@ ghost use Rattle.std.specs.Prelude.{◌≡◌, [], ◌∷◌, ◌++◌, string_b
 ghost use Rattle.csl_tree.specs.Content.{◌++>◌, markup_content, link_content};
 ghost use Rattle.csl_tree.specs.Flat.{with_tokens, affix_content};
 ghost use Rattle.csl_tree.specs.Tokens.{solid, transparent};
-ghost use Rattle.csl_context.specs.Texts.{without_periods, stripped, stripped_if, text_of, text_of_if};
+ghost use Rattle.csl_context.specs.Texts.{without_periods, strip_if, optional_strip_if, formatted_text, optional_formatted_text};
 
 use csl_tree::{ElemChild, FlatTree, Formatted, Formatting};
 use lit_model::Memory;
@@ -20,20 +20,20 @@ fn without_periods(alloc: Global, text: &str) -> Result<String, Memory>
 
 /// How texts are written: their formatting, and whether they lose their periods.
 #[derive(Clone, Copy)]
-pub(crate) struct Pen {
+pub(crate) struct TextWriter {
     pub(crate) alloc: Global,
     pub(crate) formatting: Formatting,
-    pub(crate) stripping: bool,
+    pub(crate) strip_periods: bool,
 }
 
-impl Pen {
+impl TextWriter {
     /// Writes a text into the innermost part.
     pub(crate) fn write(self, parts: &mut FlatTree, text: &str) -> Result<(), Memory>
         ensures ok { OnOk result (parts.new
-            ≡ with_tokens (text_of self.stripping self.formatting text.now) parts.old) }
+            ≡ with_tokens (formatted_text self.strip_periods self.formatting text.now) parts.old) }
         ensures err { OnErr result (parts.new ≡ parts.old) }
     {
-        if self.stripping {
+        if self.strip_periods {
             let text = without_periods(self.alloc, text)?;
             parts.push_text(text.as_str(), self.formatting)
         } else {
@@ -43,9 +43,9 @@ impl Pen {
 
     /// A copy of a text as it is written.
     fn copy(self, text: &str) -> Result<String, Memory>
-        ensures { IfOk result (λ s. string_bytes s ≡ stripped self.stripping text.now) }
+        ensures { IfOk result (λ s. string_bytes s ≡ strip_if self.strip_periods text.now) }
     {
-        if self.stripping {
+        if self.strip_periods {
             without_periods(self.alloc, text)
         } else {
             let copy = String::from_str(self.alloc, text)?;
@@ -56,7 +56,7 @@ impl Pen {
     /// Writes a text behind another, if there is one.
     fn add(self, all: &mut String, text: Option<&str>) -> Result<(), Memory>
         ensures { OnOk result (string_bytes all.new ≡ string_bytes all.old
-            ++ stripped_if self.stripping (option_map (λ t. t.now) text.entry)) }
+            ++ optional_strip_if self.strip_periods (option_map (λ t. t.now) text.entry)) }
     {
         match text {
             Some(text) => {
@@ -71,7 +71,7 @@ impl Pen {
     /// The text of a prefix or a suffix as it is written, if there is one.
     pub(crate) fn affix(self, text: Option<&str>) -> Result<Option<Formatted>, Memory>
         ensures { IfOk result (λ t. affix_content t
-            ≡ text_of_if self.stripping self.formatting (option_map (λ t. t.now) text.entry)) }
+            ≡ optional_formatted_text self.strip_periods self.formatting (option_map (λ t. t.now) text.entry)) }
     {
         match text {
             Some(text) => {
@@ -89,9 +89,9 @@ impl Pen {
         suffix: Option<&str>,
     ) -> Result<(Option<Formatted>, Option<Formatted>), Memory>
         ensures before { IfOk result (λ t. affix_content t.0
-            ≡ text_of_if self.stripping self.formatting (option_map (λ t. t.now) prefix.entry)) }
+            ≡ optional_formatted_text self.strip_periods self.formatting (option_map (λ t. t.now) prefix.entry)) }
         ensures after { IfOk result (λ t. affix_content t.1
-            ≡ text_of_if self.stripping self.formatting (option_map (λ t. t.now) suffix.entry)) }
+            ≡ optional_formatted_text self.strip_periods self.formatting (option_map (λ t. t.now) suffix.entry)) }
     {
         let before = self.affix(prefix)?;
         let after = self.affix(suffix)?;
@@ -105,8 +105,8 @@ impl Pen {
         second: Option<&str>,
     ) -> Result<Option<Formatted>, Memory>
         ensures { IfOk result (λ t. affix_content t
-            ≡ text_of_if self.stripping self.formatting (option_map (λ t. t.now) first.entry)
-            ++> text_of_if self.stripping self.formatting (option_map (λ t. t.now) second.entry)) }
+            ≡ optional_formatted_text self.strip_periods self.formatting (option_map (λ t. t.now) first.entry)
+            ++> optional_formatted_text self.strip_periods self.formatting (option_map (λ t. t.now) second.entry)) }
     {
         let mut text = String::new(self.alloc);
         self.add(&mut text, first)?;
@@ -118,7 +118,7 @@ impl Pen {
     }
 }
 
-impl Pen {
+impl TextWriter {
     /// Writes a markup into the innermost part, unless it is empty.
     pub(crate) fn write_markup(self, parts: &mut FlatTree, text: &str) -> Result<(), Memory>
         ensures ok { OnOk result (parts.new ≡ with_tokens (markup_content text.now) parts.old) }

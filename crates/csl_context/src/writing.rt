@@ -2,16 +2,16 @@
 
 ghost use Rattle.std.specs.Prelude.{◌≡◌, ◌+◌, ◌<◌, not, [], length, false, true, IfOk, OnOk, IfErr, OnErr, IsOk};
 ghost use Rattle.lit_model.specs.Text.{chunk_of, chunks};
-ghost use Rattle.csl_tree.specs.Content.{boxed, text_content, markup_content};
-ghost use Rattle.csl_tree.specs.Flat.{closed_as};
+ghost use Rattle.csl_tree.specs.Content.{elem_content, text_content, markup_content};
+ghost use Rattle.csl_tree.specs.Flat.{close_part};
 ghost use Rattle.csl_tree.specs.Tokens.{optional_meta, has_text, has_children, is_empty};
-ghost use Rattle.csl_context.specs.Texts.{text_in, gap_after, chunk_in, chunks_in, link_in, transparent_in};
-ghost use Rattle.csl_context.specs.Now.{Runs, IsSilent, IsInnermost, same, with_content, with_space, with_part, closed_by, dropped};
+ghost use Rattle.csl_context.specs.Texts.{text_in, wanted_space, chunk_in, chunks_in, link_in, transparent_in};
+ghost use Rattle.csl_context.specs.ContextView.{Runs, IsSilent, IsInnermost, same_context, with_content, with_space, with_part, close_part_by, no_content};
 
 use crate::context::Context;
 use crate::error::RenderError;
 use crate::mark::Mark;
-use crate::texts::Pen;
+use crate::texts::TextWriter;
 use csl_style::Display;
 use csl_tree::{ElemMeta, FlatTree};
 use lit_model::{ChunkKind, ChunkedString, Memory, StringChunk};
@@ -19,7 +19,7 @@ use lit_model::{ChunkKind, ChunkedString, Memory, StringChunk};
 /// Closes the innermost part, and leaves what stands in it in the part around it.
 fn splice_part(parts: &mut FlatTree) -> Result<(), Memory>
     requires is_open { 0 < length parts.old.outer }
-    ensures ok { OnOk result (parts.new ≡ closed_as parts.old.inner parts.old) }
+    ensures ok { OnOk result (parts.new ≡ close_part parts.old.inner parts.old) }
     ensures err { OnErr result (parts.new ≡ parts.old) }
 {
     parts.close_spliced(None, None)?;
@@ -29,7 +29,7 @@ fn splice_part(parts: &mut FlatTree) -> Result<(), Memory>
 /// Closes the innermost part, and leaves nothing of it in the part around it.
 fn drop_part(parts: &mut FlatTree)
     requires is_open { 0 < length parts.old.outer }
-    ensures { parts.new ≡ closed_as [] parts.old }
+    ensures { parts.new ≡ close_part [] parts.old }
 {
     parts.discard();
 }
@@ -40,7 +40,7 @@ impl<'s, T> Context<'s, T> {
     /// # Errors
     /// [`RenderError::Failed`]: the context had failed.
     pub fn ensure_live(&self) -> Result<(), RenderError>
-        ensures { Runs same result self.now self.now }
+        ensures { Runs same_context result self.now self.now }
     {
         if self.has_failed() {
             return Err(RenderError::Failed);
@@ -57,7 +57,7 @@ impl<'s, T> Context<'s, T> {
     where
         Memory: From<E>,
         ensures value { IfOk result (λ value. outcome ≡ Ok value) }
-        ensures after { Runs same result self.old self.new }
+        ensures after { Runs same_context result self.old self.new }
         ensures live { OnOk outcome (IfErr result (λ e. e ≡ RenderError.Failed)) }
     {
         self.ensure_live()?;
@@ -73,7 +73,7 @@ impl<'s, T> Context<'s, T> {
         Memory: From<E>,
         requires live { self.old.failed ≡ false }
         ensures value { IfOk result (λ value. outcome ≡ Ok value) }
-        ensures after { Runs same result self.old self.new }
+        ensures after { Runs same_context result self.old self.new }
         ensures ok { OnOk outcome (IsOk result) }
     {
         match outcome {
@@ -92,7 +92,7 @@ impl<'s, T> Context<'s, T> {
     pub fn settle<R: Drop>(&mut self, outcome: Result<R, RenderError>) -> Result<R, RenderError>
         requires silent { IsSilent outcome self.old }
         ensures value { result ≡ outcome }
-        ensures after { Runs same result self.old self.new }
+        ensures after { Runs same_context result self.old self.new }
     {
         match outcome {
             Ok(value) => Ok(value),
@@ -104,14 +104,14 @@ impl<'s, T> Context<'s, T> {
     }
 
     /// The formatting and the stripping that a text inherits here.
-    pub(crate) fn pen(&self) -> Pen
+    pub(crate) fn text_writer(&self) -> TextWriter
         ensures formatting { result.formatting ≡ self.now.inherited.formatting }
-        ensures stripping { result.stripping ≡ self.now.inherited.stripping }
+        ensures strip_periods { result.strip_periods ≡ self.now.inherited.strip_periods }
     {
-        Pen {
+        TextWriter {
             alloc: self.writing.alloc,
             formatting: self.writing.formatting,
-            stripping: self.writing.stripping,
+            strip_periods: self.writing.strip_periods,
         }
     }
 
@@ -124,7 +124,7 @@ impl<'s, T> Context<'s, T> {
         ensures { Runs (with_content (λ inh. text_in inh text.now)) result self.old self.new }
     {
         self.ensure_live()?;
-        let pen = self.pen();
+        let pen = self.text_writer();
         let written = pen.write(&mut self.writing.content, text);
         self.or_fail(written)
     }
@@ -135,7 +135,7 @@ impl<'s, T> Context<'s, T> {
             result self.old self.new }
     {
         self.ensure_live()?;
-        let pen = self.pen();
+        let pen = self.text_writer();
         let written = self.writing.content.push_text(text, pen.formatting);
         self.or_fail(written)
     }
@@ -145,7 +145,7 @@ impl<'s, T> Context<'s, T> {
         ensures { Runs (with_content (λ _. markup_content text.now)) result self.old self.new }
     {
         self.ensure_live()?;
-        let pen = self.pen();
+        let pen = self.text_writer();
         let written = pen.write_markup(&mut self.writing.content, text);
         self.or_fail(written)
     }
@@ -190,7 +190,7 @@ impl<'s, T> Context<'s, T> {
             result self.old self.new }
     {
         self.ensure_live()?;
-        let pen = self.pen();
+        let pen = self.text_writer();
         let written = pen.write_link(&mut self.writing.content, text, url);
         self.or_fail(written)
     }
@@ -206,7 +206,7 @@ impl<'s, T> Context<'s, T> {
             result self.old self.new }
     {
         self.ensure_live()?;
-        let pen = self.pen();
+        let pen = self.text_writer();
         let written = pen.write_transparent(&mut self.writing.content, cite_idx);
         self.or_fail(written)
     }
@@ -219,13 +219,13 @@ impl<'s, T> Context<'s, T> {
     pub fn ensure_space(&mut self) -> Result<(), RenderError>
         ensures { Runs with_space result self.old self.new }
     {
-        let gap = self.gap();
+        let gap = self.wanted_space();
         self.push_str(gap)
     }
 
     /// A space where one is wanted, else an empty text.
-    fn gap(&self) -> &'static str
-        ensures { result.now ≡ gap_after self.now.inner }
+    fn wanted_space(&self) -> &'static str
+        ensures { result.now ≡ wanted_space self.now.inner }
     {
         if self.writing.content.has_text() && !self.writing.content.ends_in_white_space() {
             " "
@@ -277,7 +277,7 @@ impl<'s, T> Context<'s, T> {
         meta: Option<ElemMeta>,
     ) -> Result<(), RenderError>
         requires innermost { IsInnermost mark self.old }
-        ensures after { Runs (closed_by (λ _ c. boxed display (optional_meta meta) c))
+        ensures after { Runs (close_part_by (λ _ c. elem_content display (optional_meta meta) c))
             result self.old self.new }
         ensures empty { is_empty self.old.inner ≡ not (has_children self.old.inner) }
     {
@@ -290,7 +290,7 @@ impl<'s, T> Context<'s, T> {
     /// Closes a part and drops what was written in it.
     pub fn discard_elem(&mut self, mark: Mark)
         requires innermost { IsInnermost mark self.old }
-        ensures closed { self.old.failed ≡ false → self.new ≡ closed_by dropped self.old }
+        ensures closed { self.old.failed ≡ false → self.new ≡ close_part_by no_content self.old }
         ensures unchanged { self.old.failed ≡ true → self.new ≡ self.old }
     {
         if self.writing.failed {
@@ -306,7 +306,7 @@ impl<'s, T> Context<'s, T> {
     /// [`RenderError::Failed`]: the context had failed.
     pub fn splice(&mut self, mark: Mark) -> Result<(), RenderError>
         requires innermost { IsInnermost mark self.old }
-        ensures { Runs (closed_by (λ _ c. c)) result self.old self.new }
+        ensures { Runs (close_part_by (λ _ c. c)) result self.old self.new }
     {
         self.ensure_live()?;
         let written = splice_part(&mut self.writing.content);

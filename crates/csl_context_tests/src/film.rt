@@ -25,11 +25,11 @@ pub(crate) struct Film {
 
 impl EntryLike for Film {
     ghost use Rattle.std.specs.Prelude.{[], ◌∷◌, Some, None};
-    ghost use Rattle.lit_model.specs.Date.{date_parts};
+    ghost use Rattle.lit_model.specs.Date.{date_view};
     ghost use Rattle.lit_model.specs.MaybeTyped.{typed};
     ghost use Rattle.lit_model.specs.Numeric.{numeric_view};
     ghost use Rattle.lit_model.specs.Page.{pages_view};
-    ghost use Rattle.lit_model.specs.Person.{named};
+    ghost use Rattle.lit_model.specs.Person.{person_view};
     ghost use Rattle.lit_model.specs.Text.{chunks};
     ghost use Rattle.csl_context_tests.specs.Film.{title_alone, is_film};
 
@@ -37,8 +37,8 @@ impl EntryLike for Film {
       numbers = λ _. Some (typed (numeric_view film.number));
       pages = λ _. Some (typed (pages_view film.pages));
       standards = λ _ variable. title_alone (chunks film.title) variable;
-      names = λ _. named film.director ∷ [];
-      dates = λ _. Some (date_parts film.shown);
+      names = λ _. person_view film.director ∷ [];
+      dates = λ _. Some (date_view film.shown);
       kinds = is_film;
     } };
 

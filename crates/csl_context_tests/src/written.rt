@@ -74,7 +74,7 @@ pub(crate) fn affix(
 }
 
 /// The text in quotes in affixes.
-#[tactic(auto, unfolding(csl_context::specs::Now::with_quotes))]
+#[tactic(auto, unfolding(csl_context::specs::ContextView::with_quotes))]
 pub(crate) fn quote(
     ctx: &mut Context<'_, Film>,
     affixes: &Affixes,
@@ -92,7 +92,7 @@ pub(crate) fn quote(
 
 /// A text in quotes in quotes, before two suffixes that are not written. Behind it a text in
 /// quotes.
-#[tactic(auto, unfolding(csl_context::specs::Now::with_quotes))]
+#[tactic(auto, unfolding(csl_context::specs::ContextView::with_quotes))]
 pub(crate) fn quote_twice(ctx: &mut Context<'_, Film>) -> Result<(), RenderError>
     ensures { OnOk result (ctx.new.outer ≡ ctx.old.outer) }
 {

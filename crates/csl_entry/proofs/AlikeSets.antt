@@ -11,7 +11,7 @@ use Rattle.lit_model.proofs.ByValue.{both, through}
 use Rattle.csl_common.specs.declared.form.LongShortForm.{LongShortForm}
 use Rattle.csl_style.proofs.Sets.{or_left, or_right}
 use Rattle.csl_style.proofs.Variables.{number_ordered, page_ordered, standard_ordered, name_ordered, date_ordered, kind_ordered}
-use Rattle.csl_style.specs.Has.{has}
+use Rattle.csl_style.specs.NamedWalk.{named_set}
 use Rattle.csl_style.specs.Named.{a_variable, a_kind}
 use Rattle.csl_style.specs.declared.named.Named.{Named}
 use Rattle.csl_style.specs.declared.taxonomy.Variable.TheVariants as variable
@@ -21,7 +21,7 @@ use Rattle.csl_style.specs.contracts.taxonomy.StandardVariableOrd.TheImpl.{cmp-v
 use Rattle.csl_style.specs.contracts.taxonomy.NameVariableOrd.TheImpl.{cmp-value as cmp_name}
 use Rattle.csl_style.specs.contracts.taxonomy.DateVariableOrd.TheImpl.{cmp-value as cmp_date}
 use Rattle.csl_style.specs.contracts.taxonomy.KindOrd.TheImpl.{cmp-value as cmp_kind}
-use Rattle.csl_entry.specs.Alike.{Alike, Each}
+use Rattle.csl_entry.specs.Alike.{SameNamedAnswers, Each}
 use Rattle.csl_entry.specs.Answers.{Answers}
 
 -- ---- one look
@@ -73,8 +73,8 @@ module _ (n : Named) (a b : Answers) where
   abbrev EachKind : Type 0
   EachKind = Each (λ v. a.kinds v ≡ b.kinds v) n.kinds.keys
 
-  alike_if : EachNumber → EachPage → EachStandard → EachName → EachDate → EachKind → Alike (has n) a b
-  unfolding has
+  alike_if : EachNumber → EachPage → EachStandard → EachName → EachDate → EachKind → SameNamedAnswers (named_set n) a b
+  unfolding named_set
   alike_if f g h i j k (a_variable (variable.Number v)) e = each_contained cmp_number.it number_ordered (λ v. a.numbers v ≡ b.numbers v) n.numbers.keys f v e
   alike_if f g h i j k (a_variable (variable.Page v)) e = each_contained cmp_page.it page_ordered (λ v. a.pages v ≡ b.pages v) n.pages.keys g v e
   alike_if f g h i j k (a_variable (variable.Standard v)) e = each_contained cmp_standard.it standard_ordered (λ v. (form : LongShortForm) → a.standards form v ≡ b.standards form v) n.standards.keys h v e
@@ -82,31 +82,31 @@ module _ (n : Named) (a b : Answers) where
   alike_if f g h i j k (a_variable (variable.Date v)) e = each_contained cmp_date.it date_ordered (λ v. a.dates v ≡ b.dates v) n.dates.keys j v e
   alike_if f g h i j k (a_kind l) e = each_contained cmp_kind.it kind_ordered (λ v. a.kinds v ≡ b.kinds v) n.kinds.keys k l e
 
-  numbers_if : Alike (has n) a b → EachNumber
-  unfolding has
+  numbers_if : SameNamedAnswers (named_set n) a b → EachNumber
+  unfolding named_set
   numbers_if h = contained_each cmp_number.it number_ordered _ n.numbers.keys (λ v e. h (a_variable (variable.Number v)) e)
 
-  pages_if : Alike (has n) a b → EachPage
-  unfolding has
+  pages_if : SameNamedAnswers (named_set n) a b → EachPage
+  unfolding named_set
   pages_if h = contained_each cmp_page.it page_ordered _ n.pages.keys (λ v e. h (a_variable (variable.Page v)) e)
 
-  standards_if : Alike (has n) a b → EachStandard
-  unfolding has
+  standards_if : SameNamedAnswers (named_set n) a b → EachStandard
+  unfolding named_set
   standards_if h = contained_each cmp_standard.it standard_ordered _ n.standards.keys (λ v e. h (a_variable (variable.Standard v)) e)
 
-  names_if : Alike (has n) a b → EachName
-  unfolding has
+  names_if : SameNamedAnswers (named_set n) a b → EachName
+  unfolding named_set
   names_if h = contained_each cmp_name.it name_ordered _ n.names.keys (λ v e. h (a_variable (variable.Name v)) e)
 
-  dates_if : Alike (has n) a b → EachDate
-  unfolding has
+  dates_if : SameNamedAnswers (named_set n) a b → EachDate
+  unfolding named_set
   dates_if h = contained_each cmp_date.it date_ordered _ n.dates.keys (λ v e. h (a_variable (variable.Date v)) e)
 
-  kinds_if : Alike (has n) a b → EachKind
-  unfolding has
+  kinds_if : SameNamedAnswers (named_set n) a b → EachKind
+  unfolding named_set
   kinds_if h = contained_each cmp_kind.it kind_ordered _ n.kinds.keys (λ v e. h (a_kind v) e)
 
-  pub alike_decides : (r p q s m d k : Bool) → r ≡ (p && (q && (s && (m && (d && k))))) → Decides p EachNumber → Decides q EachPage → Decides s EachStandard → Decides m EachName → Decides d EachDate → Decides k EachKind → Decides r (Alike (has n) a b)
+  pub alike_decides : (r p q s m d k : Bool) → r ≡ (p && (q && (s && (m && (d && k))))) → Decides p EachNumber → Decides q EachPage → Decides s EachStandard → Decides m EachName → Decides d EachDate → Decides k EachKind → Decides r (SameNamedAnswers (named_set n) a b)
   alike_decides r p q s m d k e dp dq ds dm dd dk =
       let all = both p _ dp (both q _ dq (both s _ ds (both m _ dm (both d k dd dk)))) in
       rw e (through _ all (λ h. let (f, (g, (t, (i, (j, l))))) = h in alike_if f g t i j l) (λ h. (numbers_if h, (pages_if h, (standards_if h, (names_if h, (dates_if h, kinds_if h)))))))

@@ -8,7 +8,7 @@ use Rattle.std.specs.declared.borrow.Cow.{Cow}
 use Rattle.std.specs.contracts.borrow.Cow.{the_row as cow_row}
 use Rattle.std.specs.contracts.impls.CowPartialEq.TheImpl.{ghosts as cow_ghosts}
 use denote.Signature.{static_lft}
-use Rattle.lit_model.specs.Date.{date_parts}
+use Rattle.lit_model.specs.Date.{date_view}
 use Rattle.lit_model.specs.MaybeTyped.{maybe_view}
 use Rattle.lit_model.specs.Numeric.{numeric_view}
 use Rattle.lit_model.specs.Page.{pages_view}
@@ -28,29 +28,29 @@ use Rattle.lit_model.specs.contracts.text.ChunkedStringPartialEq.TheImpl.{eq-val
 use Rattle.lit_model.proofs.ByValue.{option_view, through}
 use Rattle.lit_model.proofs.SourceEqual.{date_decides}
 use Rattle.lit_model.proofs.TextEqual.{chunks_decide}
-use Rattle.csl_entry.specs.Answers.{behind}
+use Rattle.csl_entry.specs.Answers.{cow_view}
 use Rattle.csl_entry.proofs.ResultEqual.{number_or_text, pages_or_text}
 
-pub texts_decide : (x y : Option (Cow ChunkedString)) → Decides (option_eq (λ c d. eq_chunks.it (cow_value c) (cow_value d)) x y) (option_map (behind chunks) x ≡ option_map (behind chunks) y)
-texts_decide x y = option_view _ (behind chunks) (λ c d. chunks_decide (cow_value c) (cow_value d)) x y
+pub texts_decide : (x y : Option (Cow ChunkedString)) → Decides (option_eq (λ c d. eq_chunks.it (cow_value c) (cow_value d)) x y) (option_map (cow_view chunks) x ≡ option_map (cow_view chunks) y)
+texts_decide x y = option_view _ (cow_view chunks) (λ c d. chunks_decide (cow_value c) (cow_value d)) x y
 
-pub numbers_decide : (x y : Option (MaybeTyped (Cow Numeric))) → Decides (option_eq (eq_maybe (cow_row static_lft numeric_row) (cow_ghosts numeric_row numeric_ghosts numeric_dict) no_dict).it x y) (option_map (maybe_view (behind numeric_view)) x ≡ option_map (maybe_view (behind numeric_view)) y)
-numbers_decide x y = option_view _ (maybe_view (behind numeric_view)) number_or_text x y
+pub numbers_decide : (x y : Option (MaybeTyped (Cow Numeric))) → Decides (option_eq (eq_maybe (cow_row static_lft numeric_row) (cow_ghosts numeric_row numeric_ghosts numeric_dict) no_dict).it x y) (option_map (maybe_view (cow_view numeric_view)) x ≡ option_map (maybe_view (cow_view numeric_view)) y)
+numbers_decide x y = option_view _ (maybe_view (cow_view numeric_view)) number_or_text x y
 
 pub pages_decide : (x y : Option (MaybeTyped PageRanges)) → Decides (option_eq (eq_maybe pages_row pages_ghosts no_dict).it x y) (option_map (maybe_view pages_view) x ≡ option_map (maybe_view pages_view) y)
 pages_decide x y = option_view _ (maybe_view pages_view) pages_or_text x y
 
 -- a date that was found, wherever it lies
-copied_parts : (x : Option (Bor Date)) (u : Option (Cow Date)) → option_copied x ≡ option_map cow_value u → option_map (λ d. date_parts d.now) x ≡ option_map (behind date_parts) u
+copied_parts : (x : Option (Bor Date)) (u : Option (Cow Date)) → option_copied x ≡ option_map cow_value u → option_map (λ d. date_view d.now) x ≡ option_map (cow_view date_view) u
 copied_parts None None h = refl
 copied_parts None (Some d) h = cc
 copied_parts (Some b) None h = cc
-copied_parts (Some b) (Some d) h = let e : b.now ≡ cow_value d = cc in ap (λ (x : Date). Some (date_parts x)) e
+copied_parts (Some b) (Some d) h = let e : b.now ≡ cow_value d = cc in ap (λ (x : Date). Some (date_view x)) e
 
 abbrev equal_dates : Bor Date → Bor Date → Bool
 equal_dates a b = eq_date.it a.now b.now
 
-pub dates_decide : (x y : Option (Bor Date)) (u v : Option (Cow Date)) → option_copied x ≡ option_map cow_value u → option_copied y ≡ option_map cow_value v → Decides (option_eq equal_dates x y) (option_map (behind date_parts) u ≡ option_map (behind date_parts) v)
-dates_decide x y u v h k = through _ (option_view equal_dates (λ d. date_parts d.now) (λ a b. date_decides a.now b.now) x y)
+pub dates_decide : (x y : Option (Bor Date)) (u v : Option (Cow Date)) → option_copied x ≡ option_map cow_value u → option_copied y ≡ option_map cow_value v → Decides (option_eq equal_dates x y) (option_map (cow_view date_view) u ≡ option_map (cow_view date_view) v)
+dates_decide x y u v h k = through _ (option_view equal_dates (λ d. date_view d.now) (λ a b. date_decides a.now b.now) x y)
     (λ e. sym (copied_parts x u h) ∙ e ∙ copied_parts y v k)
     (λ e. copied_parts x u h ∙ e ∙ sym (copied_parts y v k))

@@ -8,7 +8,7 @@ use Rattle.std.proofs.lemmas.List.Quantifiers.{position-Some}
 use Rattle.std.proofs.lemmas.Bool.Decides.{nat_tests}
 use Rattle.csl_entry.specs.declared.name_form.DisambiguatedNameForm.{DisambiguatedNameForm}
 use Rattle.csl_entry.specs.declared.name_properties.NameDisambiguationProperties.{NameDisambiguationProperties}
-use Rattle.csl_entry.specs.NameProperties.{Forms, NameProperties, first_as_long, with_list}
+use Rattle.csl_entry.specs.NameProperties.{NameForms, NameProperties, first_as_long, with_list}
 
 -- a change goes on by one item
 pub mapped_more : {X : Type 0} (f : X → X) (xs : List X) (i : ℕ) (d : X) → i < length xs → slice_set (map f (take i xs) ++ drop i xs) i (f (slice_index_or (map f (take i xs) ++ drop i xs) i d)) ≡ map f (take (suc i) xs) ++ drop (suc i) xs
@@ -30,20 +30,20 @@ at_most : (n m : ℕ) → nat_le n m ≡ true → n ≤ m
 at_most n m h = grind (arith, nat_tests)
 
 -- one list is changed in memory
-pub list_changed : (xs : List (Vec (Option DisambiguatedNameForm) Global)) (place : ℕ) (v : Vec (Option DisambiguatedNameForm) Global) (change : Forms → Forms) (ws : Forms) → place < length xs → v ≡ slice_index_or xs place v → length ws ≡ v.len → ws ≡ change v.items → map (λ forms. forms.items) (slice_set xs place (with_items v ws)) ≡ with_list (map (λ forms. forms.items) xs) change place
+pub list_changed : (xs : List (Vec (Option DisambiguatedNameForm) Global)) (place : ℕ) (v : Vec (Option DisambiguatedNameForm) Global) (change : NameForms → NameForms) (ws : NameForms) → place < length xs → v ≡ slice_index_or xs place v → length ws ≡ v.len → ws ≡ change v.items → map (λ forms. forms.items) (slice_set xs place (with_items v ws)) ≡ with_list (map (λ forms. forms.items) xs) change place
 list_changed xs place v change ws inside is as_long e =
     map-set (λ forms. forms.items) xs place (with_items v ws)
-    ∙ ap (λ (ys : Forms). slice_set (map (λ forms. forms.items) xs) place ys) (with_items_is v ws as_long ∙ e ∙ ap change (ap (λ u. u.items) is ∙ sym (get_or-map (λ forms. forms.items) xs place v [] inside)))
+    ∙ ap (λ (ys : NameForms). slice_set (map (λ forms. forms.items) xs) place ys) (with_items_is v ws as_long ∙ e ∙ ap change (ap (λ u. u.items) is ∙ sym (get_or-map (λ forms. forms.items) xs place v [] inside)))
 
 -- the properties with other lists
-abbrev pub with_lists : NameDisambiguationProperties → List Forms → NameProperties
+abbrev pub with_lists : NameDisambiguationProperties → List NameForms → NameProperties
 with_lists p lists = record { default_form = p.default_name_form; variables = p.variables.items; lists = lists }
 
-abbrev lists_of : NameDisambiguationProperties → List Forms
+abbrev lists_of : NameDisambiguationProperties → List NameForms
 lists_of p = map (λ forms. forms.items) p.name_forms.items
 
 -- the list at a place that was found is changed in memory
-pub changed_at : (p : NameDisambiguationProperties) (found : Option ℕ) (place : ℕ) (v : Vec (Option DisambiguatedNameForm) Global) (change : Forms → Forms) (ws : Forms) → Some place ≡ found → place < length p.name_forms.items → v ≡ slice_index_or p.name_forms.items place v → length ws ≡ v.len → ws ≡ change v.items
+pub changed_at : (p : NameDisambiguationProperties) (found : Option ℕ) (place : ℕ) (v : Vec (Option DisambiguatedNameForm) Global) (change : NameForms → NameForms) (ws : NameForms) → Some place ≡ found → place < length p.name_forms.items → v ≡ slice_index_or p.name_forms.items place v → length ws ≡ v.len → ws ≡ change v.items
     → with_lists p (map (λ forms. forms.items) (slice_set p.name_forms.items place (with_items v ws))) ≡ with_lists p (option_map_or (with_list (lists_of p) change) found (lists_of p))
 changed_at p found place v change ws at inside is as_long e =
     ap (with_lists p) (list_changed p.name_forms.items place v change ws inside is as_long e ∙ ap (λ o. option_map_or (with_list (lists_of p) change) o (lists_of p)) at)
@@ -54,20 +54,20 @@ long_enough n xs place v at is =
     let first = position-Some (λ forms. nat_le n (length forms)) (map (λ forms. forms.items) xs) place [] (sym at) in
     let inside : place < length xs = omega (arith, first.0, length-map xs (λ forms. forms.items)) in
     let same : slice_index_or (map (λ forms. forms.items) xs) place [] ≡ v.items = get_or-map (λ forms. forms.items) xs place v [] inside ∙ sym (ap (λ u. u.items) is) in
-    (inside, at_most n (length v.items) (ap (λ (forms : Forms). nat_le n (length forms)) (sym same) ∙ first.1))
+    (inside, at_most n (length v.items) (ap (λ (forms : NameForms). nat_le n (length forms)) (sym same) ∙ first.1))
 
 -- a list that holds what is asked of it is in range
-pub stands_at : (xs : List (Vec (Option DisambiguatedNameForm) Global)) (place : ℕ) (P : Forms → Type 0) → IsSomeAnd (slice_get (map (λ forms. forms.items) xs) place) P → place < length xs
+pub stands_at : (xs : List (Vec (Option DisambiguatedNameForm) Global)) (place : ℕ) (P : NameForms → Type 0) → IsSomeAnd (slice_get (map (λ forms. forms.items) xs) place) P → place < length xs
 stands_at [] place P h = absurd h
 stands_at (x ∷ xs) zero P h = omega arith
 stands_at (x ∷ xs) (suc place) P h = let more = stands_at xs place P h in omega arith
 
-pub holds_at : (xs : List (Vec (Option DisambiguatedNameForm) Global)) (place : ℕ) (v : Vec (Option DisambiguatedNameForm) Global) (P : Forms → Type 0) → IsSomeAnd (slice_get (map (λ forms. forms.items) xs) place) P → v ≡ slice_index_or xs place v → P v.items
+pub holds_at : (xs : List (Vec (Option DisambiguatedNameForm) Global)) (place : ℕ) (v : Vec (Option DisambiguatedNameForm) Global) (P : NameForms → Type 0) → IsSomeAnd (slice_get (map (λ forms. forms.items) xs) place) P → v ≡ slice_index_or xs place v → P v.items
 holds_at [] place v P h is = absurd h
 holds_at (x ∷ xs) zero v P h is = subst (λ (u : Vec (Option DisambiguatedNameForm) Global). P u.items) (sym is) h
 holds_at (x ∷ xs) (suc place) v P h is = holds_at xs place v P h is
 
-stands_there : (xs : List (Vec (Option DisambiguatedNameForm) Global)) (place : ℕ) (v : Vec (Option DisambiguatedNameForm) Global) (P : Forms → Type 0) → place < length xs → v ≡ slice_index_or xs place v → P v.items → IsSomeAnd (slice_get (map (λ forms. forms.items) xs) place) P
+stands_there : (xs : List (Vec (Option DisambiguatedNameForm) Global)) (place : ℕ) (v : Vec (Option DisambiguatedNameForm) Global) (P : NameForms → Type 0) → place < length xs → v ≡ slice_index_or xs place v → P v.items → IsSomeAnd (slice_get (map (λ forms. forms.items) xs) place) P
 stands_there [] place v P inside is h = absurd (omega (arith, inside))
 stands_there (x ∷ xs) zero v P inside is h = subst (λ (u : Vec (Option DisambiguatedNameForm) Global). P u.items) is h
 stands_there (x ∷ xs) (suc place) v P inside is h = stands_there xs place v P (omega (arith, inside)) is h
@@ -76,17 +76,17 @@ same_place : (i k : ℕ) (found : Option ℕ) → Some i ≡ found → found ≡
 same_place i k found at there = cc
 
 -- at a place that was found a list stands of which this holds
-pub holds_there : (found : Option ℕ) (xs : List (Vec (Option DisambiguatedNameForm) Global)) (place : ℕ) (v : Vec (Option DisambiguatedNameForm) Global) (P : Forms → Type 0) → Some place ≡ found → place < length xs → v ≡ slice_index_or xs place v → P v.items → ForSome found (λ i. IsSomeAnd (slice_get (map (λ forms. forms.items) xs) i) P)
+pub holds_there : (found : Option ℕ) (xs : List (Vec (Option DisambiguatedNameForm) Global)) (place : ℕ) (v : Vec (Option DisambiguatedNameForm) Global) (P : NameForms → Type 0) → Some place ≡ found → place < length xs → v ≡ slice_index_or xs place v → P v.items → ForSome found (λ i. IsSomeAnd (slice_get (map (λ forms. forms.items) xs) i) P)
 holds_there found xs place v P at inside is h = λ k there. subst (λ (i : ℕ). IsSomeAnd (slice_get (map (λ forms. forms.items) xs) i) P) (same_place place k found at there) (stands_there xs place v P inside is h)
 
 -- a list that is the same in memory leaves the lists as they were, and no other does
-pub same_after : (xs : List (Vec (Option DisambiguatedNameForm) Global)) (place : ℕ) (v : Vec (Option DisambiguatedNameForm) Global) (ws : Forms) → place < length xs → v ≡ slice_index_or xs place v → length ws ≡ v.len → ws ≡ v.items → map (λ forms. forms.items) (slice_set xs place (with_items v ws)) ≡ map (λ forms. forms.items) xs
+pub same_after : (xs : List (Vec (Option DisambiguatedNameForm) Global)) (place : ℕ) (v : Vec (Option DisambiguatedNameForm) Global) (ws : NameForms) → place < length xs → v ≡ slice_index_or xs place v → length ws ≡ v.len → ws ≡ v.items → map (λ forms. forms.items) (slice_set xs place (with_items v ws)) ≡ map (λ forms. forms.items) xs
 same_after xs place v ws inside is as_long e = list_changed xs place v (λ forms. forms) ws inside is as_long e ∙ set-get_or (map (λ forms. forms.items) xs) place []
 
-pub same_there : (xs : List (Vec (Option DisambiguatedNameForm) Global)) (place : ℕ) (v : Vec (Option DisambiguatedNameForm) Global) (ws : Forms) → place < length xs → v ≡ slice_index_or xs place v → length ws ≡ v.len → map (λ forms. forms.items) (slice_set xs place (with_items v ws)) ≡ map (λ forms. forms.items) xs → ws ≡ v.items
+pub same_there : (xs : List (Vec (Option DisambiguatedNameForm) Global)) (place : ℕ) (v : Vec (Option DisambiguatedNameForm) Global) (ws : NameForms) → place < length xs → v ≡ slice_index_or xs place v → length ws ≡ v.len → map (λ forms. forms.items) (slice_set xs place (with_items v ws)) ≡ map (λ forms. forms.items) xs → ws ≡ v.items
 same_there xs place v ws inside is as_long e =
     let lists = map (λ forms. forms.items) xs in
     let within : place < length lists = omega (arith, inside, length-map xs (λ forms. forms.items)) in
     sym (get_or-set_same lists place ws [] within)
-    ∙ ap (λ (ls : List Forms). slice_index_or ls place []) (sym (list_changed xs place v (λ forms. ws) ws inside is as_long refl) ∙ e)
+    ∙ ap (λ (ls : List NameForms). slice_index_or ls place []) (sym (list_changed xs place v (λ forms. ws) ws inside is as_long refl) ∙ e)
     ∙ get_or-map (λ forms. forms.items) xs place v [] inside ∙ sym (ap (λ u. u.items) is)

@@ -9,16 +9,16 @@ use Rattle.std.specs.declared.borrow.Cow.{Cow}
 use Rattle.std.proofs.lemmas.Simd.{map-map}
 use Rattle.lit_model.specs.declared.person.Person.{Person}
 use Rattle.lit_model.specs.contracts.person.PersonPartialEq.TheImpl.{eq-value as eq_person}
-use Rattle.lit_model.specs.Person.{Named, named}
-use Rattle.lit_model.specs.SamePerson.{same_named, same_people}
+use Rattle.lit_model.specs.Person.{PersonView, person_view}
+use Rattle.lit_model.specs.SamePerson.{same_person, same_people}
 use Rattle.lit_model.proofs.PageEqual.{pointwise_view}
 use Rattle.lit_model.proofs.PersonEqual.{person_decides}
 use Rattle.lit_model.proofs.SamePersons.{person_same}
-use Rattle.csl_entry.specs.Answers.{behind}
+use Rattle.csl_entry.specs.Answers.{cow_view}
 use Rattle.csl_entry.specs.EntryName.{is_one_of}
 
-pub named_each : (ps : List (Bor Person)) (qs : List Person) → map (λ p. p.now) ps ≡ qs → map (λ p. named p.now) ps ≡ map named qs
-named_each ps qs same = sym (map-map named (λ (p : Bor Person). p.now) ps) ∙ ap (map named) same
+pub named_each : (ps : List (Bor Person)) (qs : List Person) → map (λ p. p.now) ps ≡ qs → map (λ p. person_view p.now) ps ≡ map person_view qs
+named_each ps qs same = sym (map-map person_view (λ (p : Bor Person). p.now) ps) ∙ ap (map person_view) same
 
 pub one_of_same : (ps : List Person) (p : Person) → list_any (λ q. eq_person.it q p) ps ≡ is_one_of ps p
 one_of_same ps p = λ i. list_any (λ q. person_same q p i) ps
@@ -31,10 +31,10 @@ both_same a b c d h k = λ i. h i && k i
 abbrev equal_behind : Cow Person → Cow Person → Bool
 equal_behind c d = eq_person.it (cow_value c) (cow_value d)
 
-pub people_decide : (ps qs : List (Cow Person)) → Decides (pointwise equal_behind ps qs) (map (behind named) ps ≡ map (behind named) qs)
-people_decide ps qs = pointwise_view equal_behind (behind named) (λ c d. person_decides (cow_value c) (cow_value d)) ps qs
+pub people_decide : (ps qs : List (Cow Person)) → Decides (pointwise equal_behind ps qs) (map (cow_view person_view) ps ≡ map (cow_view person_view) qs)
+people_decide ps qs = pointwise_view equal_behind (cow_view person_view) (λ c d. person_decides (cow_value c) (cow_value d)) ps qs
 
-pub people_same : (ps qs : List (Cow Person)) → pointwise equal_behind ps qs ≡ same_people (map (behind named) ps) (map (behind named) qs)
+pub people_same : (ps qs : List (Cow Person)) → pointwise equal_behind ps qs ≡ same_people (map (cow_view person_view) ps) (map (cow_view person_view) qs)
 people_same [] [] = refl
 people_same [] (q ∷ qs) = refl
 people_same (p ∷ ps) [] = refl
@@ -45,8 +45,8 @@ and_false true = refl
 and_false false = refl
 
 -- lists of two lengths do not show the same
-pub people_apart : (xs ys : List Named) → (length xs ≡ length ys → ⊥) → same_people xs ys ≡ false
+pub people_apart : (xs ys : List PersonView) → (length xs ≡ length ys → ⊥) → same_people xs ys ≡ false
 people_apart [] [] h = absurd (h refl)
 people_apart [] (y ∷ ys) h = refl
 people_apart (x ∷ xs) [] h = refl
-people_apart (x ∷ xs) (y ∷ ys) h = ap (λ b. same_named x y && b) (people_apart xs ys (λ e. h (omega (arith, e)))) ∙ and_false (same_named x y)
+people_apart (x ∷ xs) (y ∷ ys) h = ap (λ b. same_person x y && b) (people_apart xs ys (λ e. h (omega (arith, e)))) ∙ and_false (same_person x y)

@@ -4,7 +4,7 @@ use Rattle.std.specs.Cow.{cow_value}
 use Rattle.std.specs.declared.borrow.Cow.{Cow}
 use Rattle.std.specs.Bool.{Decides}
 use Rattle.csl_entry.specs.NumberResult.{result_view, number_or_page_view}
-use Rattle.csl_entry.specs.Answers.{behind}
+use Rattle.csl_entry.specs.Answers.{cow_view}
 use Rattle.csl_entry.specs.declared.number_result.NumberVariableResult.{NumberVariableResult}
 use Rattle.csl_entry.specs.declared.number_result.NumberVariableResult.TheVariants.{Regular, Transparent}
 use Rattle.csl_entry.specs.contracts.number_result.NumberVariableResultPartialEq.TheImpl.{eq-value as eq_result}
@@ -28,8 +28,8 @@ use Rattle.lit_model.specs.contracts.page.PageRangesPartialEq.TheImpl.{ghosts as
 use Rattle.lit_model.proofs.PageEqual.{numeric_decides}
 use Rattle.lit_model.proofs.MaybeEqual.{maybe_decides, pages_decide}
 
-pub number_or_text : (a b : MaybeTyped (Cow Numeric)) → Decides ((eq_maybe (cow_row static_lft numeric_row) (cow_ghosts numeric_row numeric_ghosts numeric_dict) no_dict).it a b) (maybe_view (behind numeric_view) a ≡ maybe_view (behind numeric_view) b)
-number_or_text a b = maybe_decides (cow_row static_lft numeric_row) (cow_ghosts numeric_row numeric_ghosts numeric_dict) no_dict (behind numeric_view) (λ c d. numeric_decides (cow_value c) (cow_value d)) a b
+pub number_or_text : (a b : MaybeTyped (Cow Numeric)) → Decides ((eq_maybe (cow_row static_lft numeric_row) (cow_ghosts numeric_row numeric_ghosts numeric_dict) no_dict).it a b) (maybe_view (cow_view numeric_view) a ≡ maybe_view (cow_view numeric_view) b)
+number_or_text a b = maybe_decides (cow_row static_lft numeric_row) (cow_ghosts numeric_row numeric_ghosts numeric_dict) no_dict (cow_view numeric_view) (λ c d. numeric_decides (cow_value c) (cow_value d)) a b
 
 pub pages_or_text : (a b : MaybeTyped PageRanges) → Decides ((eq_maybe pages_row pages_ghosts no_dict).it a b) (maybe_view pages_view a ≡ maybe_view pages_view b)
 pages_or_text a b = maybe_decides pages_row pages_ghosts no_dict pages_view pages_decide a b

@@ -88,9 +88,9 @@ up_to Greater h = cc
 
 pub csl_is_order : IsOrder csl_order
 csl_is_order = record {
-  swapped = λ a b. csl_total.antisymm b a;
-  chained = λ a b c h k. up_to (csl_order a c) (upto csl_total a b c (not_after (csl_order a b) h) (not_after (csl_order b c) k));
-  chained_strictly = csl_total.trans;
+  antisymmetric = λ a b. csl_total.antisymm b a;
+  transitive = λ a b c h k. up_to (csl_order a c) (upto csl_total a b c (not_after (csl_order a b) h) (not_after (csl_order b c) k));
+  strictly_transitive = csl_total.trans;
 }
 
 at_one_place : (v w : NumericView) → SameButSeparators v w → numeric_order v w ≡ Equal

@@ -21,24 +21,24 @@ use Rattle.lit_model.specs.declared.select.Field.{Field}
 use Rattle.lit_model.specs.declared.select.Field.TheVariants as of_field
 use Rattle.lit_model.specs.declared.source.QualifiedUrl.{QualifiedUrl}
 use Rattle.lit_model.specs.declared.text.FormatString.{FormatString}
-use Rattle.lit_model.specs.Chunks.{text_of}
-use Rattle.lit_model.specs.Date.{date_parts}
-use Rattle.lit_model.specs.Entry.{parents_of, preorder, groups_of}
+use Rattle.lit_model.specs.Chunks.{chunks_text}
+use Rattle.lit_model.specs.Date.{date_view}
+use Rattle.lit_model.specs.Entry.{parents_of, preorder, role_groups}
 use Rattle.csl_common.specs.Lists.{first_some}
 use Rattle.lit_model.specs.MaybeTyped.{maybe_view}
 use Rattle.lit_model.specs.Numeric.{numeric_view}
-use Rattle.lit_model.specs.Person.{Named, named, Group, group_of, role_of, same_role, with_role}
-use Rattle.lit_model.specs.Select.{Rule, same_type, is_among, has_field, has_parent, fits, bound_by, bound_select, parent_among, is_untitled_part, full_of}
+use Rattle.lit_model.specs.Person.{PersonView, person_view, RoleGroup, role_group, role_of, same_role, with_role}
+use Rattle.lit_model.specs.Select.{ClauseView, same_type, is_among, has_field, has_parent, fits, bound_by, bound_select, parent_among, is_untitled_part, full_of}
 use Rattle.lit_model.specs.Source.{Address, address_of}
-use Rattle.lit_model.specs.Text.{Forms, forms_of}
+use Rattle.lit_model.specs.Text.{FormatStringView, format_string_view}
 use Rattle.lit_model.specs.Work.{Own, own_of, Work, work_of, works}
 use Rattle.lit_model.proofs.Depth.{EachOf, depth_of, parents_less}
 use Rattle.lit_model.proofs.PersonEqual.{role_decides}
 use Rattle.lit_model.proofs.Prefix.{same_shown}
 use Rattle.lit_model.proofs.Whole.{full_whole, full_alone, full_up}
-use Rattle.csl_entry.specs.CitationLabel.{alphabetic, stand_in_of, stand_in, label_date, label_parts, label_from, label}
+use Rattle.csl_entry.specs.CitationLabel.{alphabetic_part, stand_in_of, stand_in, label_date, label_parts, label_from, label}
 use Rattle.csl_entry.specs.Creators.{in_role, or_else, series, video_makers, makers, persons_or, creators_of}
-use Rattle.csl_entry.specs.EntryDate.{date_in, issued, visit_date}
+use Rattle.csl_entry.specs.EntryDate.{date_in, issue_date, visit_date}
 use Rattle.csl_entry.specs.EntryKind.{typing_of, typing_from}
 use Rattle.csl_entry.proofs.Typings.{is_some-shown, typing_shown}
 
@@ -114,7 +114,7 @@ module _ (a b : Entry) (h : works a ≡ works b) where
   parent_same None = refl
   parent_same (Some types) = same_fact works (parent_among types a) (parent_among types b) (among_same types)
 
-  fits_same : (r : Rule) → fits a r ≡ fits b r
+  fits_same : (r : ClauseView) → fits a r ≡ fits b r
   fits_same r = λ i. is_among (same_own a b h i).entry_type r.own && (list_all (λ f. field_same f i) r.fields && parent_same r.parent i)
 
   bound_by_same : (bind : Bind) (types : Option (List EntryType)) → option_map works (bound_by bind types a) ≡ option_map works (bound_by bind types b)
@@ -123,12 +123,12 @@ module _ (a b : Entry) (h : works a ≡ works b) where
   bound_by_same Parent None = refl
   bound_by_same Parent (Some types) = among_same types
 
-  bound_of : (o : Option Rule) → option_map works (option_and_then (λ r. bound_by r.bind r.parent a) o) ≡ option_map works (option_and_then (λ r. bound_by r.bind r.parent b) o)
+  bound_of : (o : Option ClauseView) → option_map works (option_and_then (λ r. bound_by r.bind r.parent a) o) ≡ option_map works (option_and_then (λ r. bound_by r.bind r.parent b) o)
   bound_of None = refl
   bound_of (Some r) = bound_by_same r.bind r.parent
 
   -- what clauses select shows the same
-  pub bound_same : (rules : List Rule) → option_map works (bound_select rules a) ≡ option_map works (bound_select rules b)
+  pub bound_same : (rules : List ClauseView) → option_map works (bound_select rules a) ≡ option_map works (bound_select rules b)
   bound_same rules = ap (λ o. option_map works (option_and_then (λ r. bound_by r.bind r.parent a) o)) (λ i. find (λ r. fits_same r i) rules) ∙ bound_of (find (fits b) rules)
 
 -- ---- the whole that an entry is a part of
@@ -136,7 +136,7 @@ module _ (a b : Entry) (h : works a ≡ works b) where
 untitled_same : (a b : Entry) → works a ≡ works b → is_untitled_part a ≡ is_untitled_part b
 untitled_same a b h =
     let own = same_own a b h in
-    let none = none_fact forms_of (out-Entry a).title (out-Entry b).title (ap (λ (o : Own). o.title) own) in
+    let none = none_fact format_string_view (out-Entry a).title (out-Entry b).title (ap (λ (o : Own). o.title) own) in
     λ i. (same_type (own i).entry_type Chapter || same_type (own i).entry_type Scene) && none i
 
 abbrev WholesBelow : ℕ → Type 0
@@ -166,29 +166,29 @@ whole_same a b h = wholes_below (suc (depth_of a)) a b (omega arith) h
 abbrev Persons : Type 0
 Persons = Vec Person Global
 
-abbrev names_in : Persons → List Named
-names_in v = map named v.items
+abbrev names_in : Persons → List PersonView
+names_in v = map person_view v.items
 
-persons_or_same : (o p : Option Persons) (xs ys : List Person) → option_map names_in o ≡ option_map names_in p → map named xs ≡ map named ys → map named (persons_or o xs) ≡ map named (persons_or p ys)
+persons_or_same : (o p : Option Persons) (xs ys : List Person) → option_map names_in o ≡ option_map names_in p → map person_view xs ≡ map person_view ys → map person_view (persons_or o xs) ≡ map person_view (persons_or p ys)
 persons_or_same None None xs ys h k = k
 persons_or_same None (Some w) xs ys h k = cc
 persons_or_same (Some v) None xs ys h k = cc
 persons_or_same (Some v) (Some w) xs ys h k = cc
 
-or_else_same : (xs us ys vs : List Person) → map named xs ≡ map named us → map named ys ≡ map named vs → map named (or_else xs ys) ≡ map named (or_else us vs)
+or_else_same : (xs us ys vs : List Person) → map person_view xs ≡ map person_view us → map person_view ys ≡ map person_view vs → map person_view (or_else xs ys) ≡ map person_view (or_else us vs)
 or_else_same [] [] ys vs h k = k
 or_else_same [] (u ∷ us) ys vs h k = cc
 or_else_same (x ∷ xs) [] ys vs h k = cc
 or_else_same (x ∷ xs) (u ∷ us) ys vs h k = h
 
-chosen_same : (b c : Bool) (xs us ys vs : List Person) → b ≡ c → map named xs ≡ map named us → map named ys ≡ map named vs → map named (if b then xs else ys) ≡ map named (if c then us else vs)
+chosen_same : (b c : Bool) (xs us ys vs : List Person) → b ≡ c → map person_view xs ≡ map person_view us → map person_view ys ≡ map person_view vs → map person_view (if b then xs else ys) ≡ map person_view (if c then us else vs)
 chosen_same true true xs us ys vs e h k = h
 chosen_same true false xs us ys vs e h k = cc
 chosen_same false true xs us ys vs e h k = cc
 chosen_same false false xs us ys vs e h k = k
 
-joined_same : (xs us ys vs : List Person) → map named xs ≡ map named us → map named ys ≡ map named vs → map named (xs ++ ys) ≡ map named (us ++ vs)
-joined_same xs us ys vs h k = map-append named xs ys ∙ (λ i. h i ++ k i) ∙ sym (map-append named us vs)
+joined_same : (xs us ys vs : List Person) → map person_view xs ≡ map person_view us → map person_view ys ≡ map person_view vs → map person_view (xs ++ ys) ≡ map person_view (us ++ vs)
+joined_same xs us ys vs h k = map-append person_view xs ys ∙ (λ i. h i ++ k i) ∙ sym (map-append person_view us vs)
 
 truths_same : {P Q : Type 0} (p q : Bool) → Decides p P → Decides q Q → (P → Q) → (Q → P) → p ≡ q
 truths_same true true d e f g = refl
@@ -199,35 +199,35 @@ truths_same false false d e f g = refl
 role_same : (r s t : PersonRole) → role_of r ≡ role_of s → same_role r t ≡ same_role s t
 role_same r s t h = truths_same _ _ (role_decides r t) (role_decides s t) (λ e. sym h ∙ e) (λ e. h ∙ e)
 
-with_role_same : (t : PersonRole) (gs hs : List PersonsWithRoles) → map group_of gs ≡ map group_of hs → map named (with_role (λ r. same_role r t) gs) ≡ map named (with_role (λ r. same_role r t) hs)
+with_role_same : (t : PersonRole) (gs hs : List PersonsWithRoles) → map role_group gs ≡ map role_group hs → map person_view (with_role (λ r. same_role r t) gs) ≡ map person_view (with_role (λ r. same_role r t) hs)
 with_role_same t [] [] e = refl
 with_role_same t [] (h ∷ hs) e = cc
 with_role_same t (g ∷ gs) [] e = cc
 with_role_same t (g ∷ gs) (h ∷ hs) e =
-    let first : group_of g ≡ group_of h = cc in
-    let rest : map group_of gs ≡ map group_of hs = cc in
+    let first : role_group g ≡ role_group h = cc in
+    let rest : map role_group gs ≡ map role_group hs = cc in
     joined_same (if same_role g.role t then g.names.items else []) (if same_role h.role t then h.names.items else []) (with_role (λ r. same_role r t) gs) (with_role (λ r. same_role r t) hs)
-    (chosen_same (same_role g.role t) (same_role h.role t) g.names.items h.names.items [] [] (role_same g.role h.role t (ap (λ (x : Group). x.role) first)) (ap (λ (x : Group). x.names) first) refl)
+    (chosen_same (same_role g.role t) (same_role h.role t) g.names.items h.names.items [] [] (role_same g.role h.role t (ap (λ (x : RoleGroup). x.role) first)) (ap (λ (x : RoleGroup). x.names) first) refl)
     (with_role_same t gs hs rest)
 
-abbrev groups_in : Vec PersonsWithRoles Global → List Group
-groups_in v = map group_of v.items
+abbrev groups_in : Vec PersonsWithRoles Global → List RoleGroup
+groups_in v = map role_group v.items
 
 abbrev group_items : Option (Vec PersonsWithRoles Global) → List PersonsWithRoles
 group_items None = []
 group_items (Some v) = v.items
 
-groups_same : (o p : Option (Vec PersonsWithRoles Global)) → option_map groups_in o ≡ option_map groups_in p → map group_of (group_items o) ≡ map group_of (group_items p)
+groups_same : (o p : Option (Vec PersonsWithRoles Global)) → option_map groups_in o ≡ option_map groups_in p → map role_group (group_items o) ≡ map role_group (group_items p)
 groups_same None None h = refl
 groups_same None (Some w) h = cc
 groups_same (Some v) None h = cc
 groups_same (Some v) (Some w) h = cc
 
 module _ (a b : Entry) (own : own_of a ≡ own_of b) where
-  in_role_same : (t : PersonRole) → map named (in_role t a) ≡ map named (in_role t b)
-  in_role_same t = with_role_same t (groups_of a) (groups_of b) (groups_same (out-Entry a).affiliated (out-Entry b).affiliated (ap (λ (o : Own). o.affiliated) own))
+  in_role_same : (t : PersonRole) → map person_view (in_role t a) ≡ map person_view (in_role t b)
+  in_role_same t = with_role_same t (role_groups a) (role_groups b) (groups_same (out-Entry a).affiliated (out-Entry b).affiliated (ap (λ (o : Own). o.affiliated) own))
 
-video_makers_same : (a b : Entry) → own_of a ≡ own_of b → (s t : Option Entry) → option_map works s ≡ option_map works t → map named (video_makers a s) ≡ map named (video_makers b t)
+video_makers_same : (a b : Entry) → own_of a ≡ own_of b → (s t : Option Entry) → option_map works s ≡ option_map works t → map person_view (video_makers a s) ≡ map person_view (video_makers b t)
 video_makers_same a b own None None h = or_else_same (in_role Director a) (in_role Director b) (in_role ExecutiveProducer a) (in_role ExecutiveProducer b) (in_role_same a b own Director) (in_role_same a b own ExecutiveProducer)
 video_makers_same a b own None (Some t) h = cc
 video_makers_same a b own (Some s) None h = cc
@@ -238,7 +238,7 @@ video_makers_same a b own (Some s) (Some t) h =
     (in_role_same s t (same_own s t same) ExecutiveProducer)
 
 module _ (a b : Entry) (h : works a ≡ works b) where
-  makers_same : map named (makers a) ≡ map named (makers b)
+  makers_same : map person_view (makers a) ≡ map person_view (makers b)
   makers_same =
       let own = same_own a b h in
       chosen_same (same_type (out-Entry a).entry_type Video) (same_type (out-Entry b).entry_type Video)
@@ -283,16 +283,16 @@ visit_of e = visit_shown (first_some url_in (preorder e)) ∙ ap visited (first_
 
 pub date_same : (a b : Entry) → works a ≡ works b → label_date a ≡ label_date b
 date_same a b h =
-    let issue : issued a ≡ issued b = first_date (preorder a) ∙ ap (first_some (λ (w : Work). w.own.date)) h ∙ sym (first_date (preorder b)) in
+    let issue : issue_date a ≡ issue_date b = first_date (preorder a) ∙ ap (first_some (λ (w : Work). w.own.date)) h ∙ sym (first_date (preorder b)) in
     let visit : visit_date a ≡ visit_date b = visit_of a ∙ ap (λ l. visited (first_some (λ (w : Work). w.own.url) l)) h ∙ sym (visit_of b) in
     λ i. option_or (issue i) (visit i)
 
-abbrev pub stand_in_from : Option Forms → Option Forms → List ℕ → List ℕ
-stand_in_from (Some organization) title key = text_of organization.value
-stand_in_from None (Some title) key = text_of title.value
-stand_in_from None None key = alphabetic key
+abbrev pub stand_in_from : Option FormatStringView → Option FormatStringView → List ℕ → List ℕ
+stand_in_from (Some organization) title key = chunks_text organization.value
+stand_in_from None (Some title) key = chunks_text title.value
+stand_in_from None None key = alphabetic_part key
 
-pub stand_in_shown : (o t : Option FormatString) (key : List ℕ) → stand_in_of o t key ≡ stand_in_from (option_map forms_of o) (option_map forms_of t) key
+pub stand_in_shown : (o t : Option FormatString) (key : List ℕ) → stand_in_of o t key ≡ stand_in_from (option_map format_string_view o) (option_map format_string_view t) key
 stand_in_shown (Some o) t key = refl
 stand_in_shown None (Some t) key = refl
 stand_in_shown None None key = refl
@@ -309,7 +309,7 @@ parts_same : (a b : Entry) → works a ≡ works b → label_parts a ≡ label_p
 parts_same a b h = λ i. record {
   creators = creators_same a b h i;
   stand_in = (stand_in_own a ∙ ap own_stand_in (same_own a b h) ∙ sym (stand_in_own b)) i;
-  date = option_map date_parts (date_same a b h i);
+  date = option_map date_view (date_same a b h i);
 }
 
 pub same_label : (n : ℕ) (a b : Entry) → works a ≡ works b → label n a ≡ label n b

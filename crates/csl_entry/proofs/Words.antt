@@ -3,7 +3,7 @@ use Rattle.std.proofs.Math.Nat.{pow-suc, pow-le-pow_right, one-le-pow}
 use Rattle.std.proofs.lemmas.Bool.{cases_order}
 use Rattle.std.proofs.lemmas.Grind.{reverse_onto}
 use Rattle.std.proofs.lemmas.Bool.Decides.{nat_tests}
-use Rattle.csl_entry.specs.Letters.{AreLetters, IsWord, IsEarlier, StandsBefore, word_value, place_of, next_reversed, reversed_word, letters}
+use Rattle.csl_entry.specs.Letters.{AreLetters, IsWord, IsEarlier, StandsBefore, word_value, word_index, next_reversed, reversed_word, letters}
 
 -- the value of the word of so many a
 abbrev pub ones : ℕ → ℕ
@@ -162,24 +162,24 @@ one_value v w hv hw e = by_order (which_before v w) where
   by_order (inr (inr h)) = absurd (omega (arith, e, value_before w v hw hv h))
 
 -- the word at a place is the one that is counted there
-pub at_place : (w : List ℕ) (n : ℕ) → IsWord w → place_of w ≡ n → w ≡ letters n
+pub at_place : (w : List ℕ) (n : ℕ) → IsWord w → word_index w ≡ n → w ≡ letters n
 at_place w n h e = one_value w (letters n) h.1 (letters-letters n) (omega (arith, has_value w h, e, letters-value n))
 
 -- the words before another are those of a lower place
-pub before_place : (v w : List ℕ) → IsWord v → IsWord w → StandsBefore v w → place_of v < place_of w
+pub before_place : (v w : List ℕ) → IsWord v → IsWord w → StandsBefore v w → word_index v < word_index w
 before_place v w hv hw h = omega (arith, value_before v w hv.1 hw.1 h, has_value v hv, has_value w hw)
 
-pub place_before : (v w : List ℕ) → IsWord v → IsWord w → place_of v < place_of w → StandsBefore v w
+pub place_before : (v w : List ℕ) → IsWord v → IsWord w → word_index v < word_index w → StandsBefore v w
 place_before v w hv hw h = by_order (which_before v w) where
   by_order : (v ≡ w) ⊎ (StandsBefore v w ⊎ StandsBefore w v) → StandsBefore v w
-  by_order (inl e) = absurd (omega (arith, ap place_of e, h))
+  by_order (inl e) = absurd (omega (arith, ap word_index e, h))
   by_order (inr (inl b)) = b
   by_order (inr (inr b)) = absurd (omega (arith, before_place w v hw hv b, h))
 
-pub order_at : (v w : List ℕ) (n : ℕ) → IsWord v → IsWord w → place_of w ≡ n → StandsBefore v w ↔ (place_of v < n)
+pub order_at : (v w : List ℕ) (n : ℕ) → IsWord v → IsWord w → word_index w ≡ n → StandsBefore v w ↔ (word_index v < n)
 order_at v w n hv hw e = (λ b. omega (arith, before_place v w hv hw b, e), λ l. place_before v w hv hw (omega (arith, l, e)))
 
-pub one_place : (v w : List ℕ) (n : ℕ) → IsWord v → IsWord w → place_of v ≡ n → place_of w ≡ n → v ≡ w
+pub one_place : (v w : List ℕ) (n : ℕ) → IsWord v → IsWord w → word_index v ≡ n → word_index w ≡ n → v ≡ w
 one_place v w n hv hw ev ew = at_place v n hv ev ∙ sym (at_place w n hw ew)
 
 in_front : (q r p m : ℕ) → (26 * q + r + 1) * p + m ≡ q * (26 * p) + ((97 + r - 96) * p + m)

@@ -5,13 +5,13 @@
 -- Variables and kinds outside of the set may differ, and so may key and language.
 use Rattle.std.specs.Prelude.{◌≡◌, true, List, [], ◌∷◌}
 use Rattle.csl_common.specs.declared.form.LongShortForm.{LongShortForm}
-use Rattle.csl_style.specs.Named.{Asked, a_variable, a_kind, NamedSet}
+use Rattle.csl_style.specs.Named.{NamedItem, a_variable, a_kind, NamedSet}
 use Rattle.csl_style.specs.declared.taxonomy.Variable.TheVariants as variable
 use Rattle.csl_entry.specs.Answers.{Answers}
 
 -- both have the same answer to a variable, to a standard variable in both forms, or are both of a
 -- kind or not
-abbrev pub SameAnswer : Answers → Answers → Asked → Type 0
+abbrev pub SameAnswer : Answers → Answers → NamedItem → Type 0
 SameAnswer a b (a_variable (variable.Number v)) = a.numbers v ≡ b.numbers v
 SameAnswer a b (a_variable (variable.Page v)) = a.pages v ≡ b.pages v
 SameAnswer a b (a_variable (variable.Standard v)) = (form : LongShortForm) → a.standards form v ≡ b.standards form v
@@ -19,8 +19,8 @@ SameAnswer a b (a_variable (variable.Name v)) = a.names v ≡ b.names v
 SameAnswer a b (a_variable (variable.Date v)) = a.dates v ≡ b.dates v
 SameAnswer a b (a_kind k) = a.kinds k ≡ b.kinds k
 
-abbrev pub Alike : NamedSet → Answers → Answers → Type 0
-Alike ns a b = (q : Asked) → ns q ≡ true → SameAnswer a b q
+abbrev pub SameNamedAnswers : NamedSet → Answers → Answers → Type 0
+SameNamedAnswers ns a b = (q : NamedItem) → ns q ≡ true → SameAnswer a b q
 
 abbrev pub Each : {A : Type 0} → (A → Type 0) → List A → Type 0
 Each P [] = Unit {0}

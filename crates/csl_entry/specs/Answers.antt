@@ -12,11 +12,11 @@ use Rattle.csl_style.specs.declared.taxonomy.NameVariable.{NameVariable}
 use Rattle.csl_style.specs.declared.taxonomy.DateVariable.{DateVariable}
 use Rattle.csl_style.specs.declared.taxonomy.Kind.{Kind}
 use Rattle.csl_common.specs.declared.form.LongShortForm.{LongShortForm}
-use Rattle.lit_model.specs.Date.{Parts}
+use Rattle.lit_model.specs.Date.{DateView}
 use Rattle.lit_model.specs.MaybeTyped.{MaybeView}
 use Rattle.lit_model.specs.Numeric.{NumericView}
 use Rattle.lit_model.specs.Page.{PartView}
-use Rattle.lit_model.specs.Person.{Named}
+use Rattle.lit_model.specs.Person.{PersonView}
 use Rattle.lit_model.specs.Text.{Chunk}
 
 -- the answer of an entry to each variable, and its kinds
@@ -24,10 +24,10 @@ pub record Answers : Type 0 where
   pub numbers : NumberVariable → Option (MaybeView NumericView)
   pub pages : PageVariable → Option (MaybeView (List PartView))
   pub standards : LongShortForm → StandardVariable → Option (List Chunk)
-  pub names : NameVariable → List Named
-  pub dates : DateVariable → Option Parts
+  pub names : NameVariable → List PersonView
+  pub dates : DateVariable → Option DateView
   pub kinds : Kind → Bool
 
 -- a view of a value that may be borrowed
-abbrev pub behind : {T V : Type 0} → (T → V) → Cow T → V
-behind view c = view (cow_value c)
+abbrev pub cow_view : {T V : Type 0} → (T → V) → Cow T → V
+cow_view view c = view (cow_value c)

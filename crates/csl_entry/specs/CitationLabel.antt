@@ -19,14 +19,14 @@ use Rattle.unicode_segmentation.specs.Grapheme.{graphemes}
 use Rattle.lit_model.specs.declared.date.Date.{Date}
 use Rattle.lit_model.specs.declared.entry.Entry.{Entry, out-Entry}
 use Rattle.lit_model.specs.declared.text.FormatString.{FormatString}
-use Rattle.lit_model.specs.Chunks.{text_of}
-use Rattle.lit_model.specs.Date.{Parts, date_parts}
-use Rattle.lit_model.specs.Person.{Named}
+use Rattle.lit_model.specs.Chunks.{chunks_text}
+use Rattle.lit_model.specs.Date.{DateView, date_view}
+use Rattle.lit_model.specs.Person.{PersonView}
 use Rattle.lit_model.specs.Select.{full_of}
 use Rattle.lit_model.specs.Text.{chunks}
 use Rattle.lit_model.specs.Work.{works}
 use Rattle.csl_entry.specs.Creators.{creators_of}
-use Rattle.csl_entry.specs.EntryDate.{issued, visit_date}
+use Rattle.csl_entry.specs.EntryDate.{issue_date, visit_date}
 
 -- the first n letters of a text; all of them where it has fewer
 abbrev pub first_letters : ℕ → List ℕ → List ℕ
@@ -34,7 +34,7 @@ first_letters n text = concat (take n (graphemes true text))
 
 -- one creator: the first n letters of the name; two or three: the first letter of each; more: the
 -- first n letters of the first name, and `+`; none: the first n letters of another text
-abbrev pub creators_part : ℕ → List ℕ → List Named → List ℕ
+abbrev pub creators_part : ℕ → List ℕ → List PersonView → List ℕ
 creators_part n other [] = first_letters n other
 creators_part n other (p ∷ []) = first_letters n p.name
 creators_part n other (p ∷ q ∷ []) = first_letters 1 p.name ++ first_letters 1 q.name
@@ -42,22 +42,22 @@ creators_part n other (p ∷ q ∷ r ∷ []) = first_letters 1 p.name ++ first_l
 creators_part n other (p ∷ q ∷ r ∷ s ∷ more) = first_letters n p.name ++ codes "+"
 
 -- the letters among the characters of a key (Unicode Alphabetic)
-abbrev pub alphabetic : List ℕ → List ℕ
-alphabetic key = encode_utf8_all (filter is_alphabetic (chars key))
+abbrev pub alphabetic_part : List ℕ → List ℕ
+alphabetic_part key = encode_utf8_all (filter is_alphabetic (chars key))
 
 -- the stand-in for creators: the organization, else the title, both in full; else the letters of
 -- the key
 abbrev pub stand_in_of : Option FormatString → Option FormatString → List ℕ → List ℕ
-stand_in_of (Some organization) title key = text_of (chunks organization.value)
-stand_in_of None (Some title) key = text_of (chunks title.value)
-stand_in_of None None key = alphabetic key
+stand_in_of (Some organization) title key = chunks_text (chunks organization.value)
+stand_in_of None (Some title) key = chunks_text (chunks title.value)
+stand_in_of None None key = alphabetic_part key
 
 abbrev pub stand_in : Entry → List ℕ
 stand_in e = stand_in_of (out-Entry e).organization (out-Entry e).title (string_bytes (out-Entry e).key)
 
 -- the date of a label: the one as issued, else when the first address was visited
 abbrev pub label_date : Entry → Option Date
-label_date e = option_or (issued e) (visit_date e)
+label_date e = option_or (issue_date e) (visit_date e)
 
 -- the last two digits of a year, without its sign; one more where the year is 0 or less
 abbrev pub year_number : ℤ → ℕ
@@ -70,18 +70,18 @@ abbrev pub two_digits : ℕ → List ℕ
 two_digits n = if nat_lt n 10 then codes "0" ++ decimal n else decimal n
 
 -- without a date there is no year
-abbrev pub year_part : Option Parts → List ℕ
+abbrev pub year_part : Option DateView → List ℕ
 year_part None = []
 year_part (Some date) = two_digits (year_number date.year)
 
 -- what the label of a work depends on: its creators, their stand-in, and its date
 pub record LabelParts : Type 0 where
-  pub creators : List Named
+  pub creators : List PersonView
   pub stand_in : List ℕ
-  pub date : Option Parts
+  pub date : Option DateView
 
 abbrev pub label_parts : Entry → LabelParts
-label_parts e = record { creators = creators_of e; stand_in = stand_in e; date = option_map date_parts (label_date e) }
+label_parts e = record { creators = creators_of e; stand_in = stand_in e; date = option_map date_view (label_date e) }
 
 -- the creators, then the year
 abbrev pub label_from : ℕ → LabelParts → List ℕ

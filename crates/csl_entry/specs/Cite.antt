@@ -22,18 +22,18 @@ use Rattle.csl_entry.specs.NameProperties.{NameProperties, name_properties}
 
 -- what a locator prints: the bytes of its text, or what the caller writes at its place
 pub data Payload : Type 0 where
-  printed : List ℕ → Payload
-  left_open : Payload
+  payload_text : List ℕ → Payload
+  payload_transparent : Payload
 
 -- what tells the cite from those that look like it
 pub data Disambiguation : Type 0 where
-  nothing : Disambiguation
-  names : NameProperties → Disambiguation
-  choose : Disambiguation
-  suffix : ℕ → Disambiguation
+  no_disambiguation : Disambiguation
+  by_names : NameProperties → Disambiguation
+  by_choose : Disambiguation
+  by_year_suffix : ℕ → Disambiguation
 
 -- where in its work a cite points
-pub record Place : Type 0 where
+pub record LocatorView : Type 0 where
   pub kind : Locator
   pub payload : Payload
 
@@ -42,7 +42,7 @@ pub record CiteState : Type 0 where
   pub is_first : Bool
   pub is_near_note : Bool
   pub initial_index : ℕ
-  pub locator : Option Place
+  pub locator : Option LocatorView
   pub citation_number : ℕ
   pub disambiguation : Disambiguation
   pub ibid : IbidState
@@ -61,28 +61,28 @@ first_cite told = record {
 }
 
 abbrev pub payload_of : LocatorPayload → Payload
-payload_of (of_payload.Str text) = printed text.now
-payload_of of_payload.Transparent = left_open
+payload_of (of_payload.Str text) = payload_text text.now
+payload_of of_payload.Transparent = payload_transparent
 
-abbrev pub place_of : SpecificLocator → Place
-place_of l = record { kind = l.0; payload = payload_of l.1 }
+abbrev pub locator_view : SpecificLocator → LocatorView
+locator_view l = record { kind = l.0; payload = payload_of l.1 }
 
 abbrev pub disambiguation_of : DisambiguateState → Disambiguation
-disambiguation_of of_state.None = nothing
-disambiguation_of (of_state.NameDisambiguation p) = names (name_properties p)
-disambiguation_of of_state.Choose = choose
-disambiguation_of (of_state.YearSuffix n) = suffix n
+disambiguation_of of_state.None = no_disambiguation
+disambiguation_of (of_state.NameDisambiguation p) = by_names (name_properties p)
+disambiguation_of of_state.Choose = by_choose
+disambiguation_of (of_state.YearSuffix n) = by_year_suffix n
 
 -- the properties of a cite that are known as far as it was rendered
 pub record Speculation : Type 0 where
-  pub locator : Option Place
+  pub locator : Option LocatorView
   pub citation_number : ℕ
   pub disambiguation : Disambiguation
   pub ibid : IbidState
 
 abbrev pub speculation : SpeculativeCiteProperties → Speculation
 speculation s = record {
-  locator = option_map place_of s.locator;
+  locator = option_map locator_view s.locator;
   citation_number = citation_number s.citation_number;
   disambiguation = disambiguation_of s.disambiguation;
   ibid = s.ibid;

@@ -14,13 +14,13 @@ use Rattle.lit_model.specs.declared.person.PersonRole.{PersonRole}
 use Rattle.lit_model.specs.declared.person.PersonRole.TheVariants.{Translator, Compiler, ExecutiveProducer, Writer, Director}
 use Rattle.lit_model.specs.declared.select.Bind.TheVariants.{Parent}
 use Rattle.lit_model.specs.declared.select.Field.TheVariants.{Issue, Volume}
-use Rattle.lit_model.specs.Entry.{groups_of}
-use Rattle.lit_model.specs.Person.{Named, named, same_role, with_role}
-use Rattle.lit_model.specs.Select.{Rule, same_type, bound_select}
+use Rattle.lit_model.specs.Entry.{role_groups}
+use Rattle.lit_model.specs.Person.{PersonView, person_view, same_role, with_role}
+use Rattle.lit_model.specs.Select.{ClauseView, same_type, bound_select}
 
 -- an entry's own persons of a role, in order
 abbrev pub in_role : PersonRole → Entry → List Person
-in_role role e = with_role (λ r. same_role r role) (groups_of e)
+in_role role e = with_role (λ r. same_role r role) (role_groups e)
 
 -- the first list; the second where the first is empty
 abbrev pub or_else : List Person → List Person → List Person
@@ -28,7 +28,7 @@ or_else [] others = others
 or_else (p ∷ ps) others = p ∷ ps
 
 -- an episode, which has an issue and a volume: the first parent that is a video
-abbrev pub series : List Rule
+abbrev pub series : List ClauseView
 series = record { own = Video ∷ []; fields = Issue ∷ Volume ∷ []; parent = Some (Video ∷ []); bind = Parent } ∷ []
 
 -- of an episode of a series: directors and then writers, or else the series' executive producers;
@@ -50,5 +50,5 @@ persons_or (Some persons) others = persons.items
 persons_or None others = others
 
 -- the creators of a work: its authors, else its editors, else its makers
-abbrev pub creators_of : Entry → List Named
-creators_of e = map named (persons_or (out-Entry e).authors (persons_or (out-Entry e).editors (makers e)))
+abbrev pub creators_of : Entry → List PersonView
+creators_of e = map person_view (persons_or (out-Entry e).authors (persons_or (out-Entry e).editors (makers e)))

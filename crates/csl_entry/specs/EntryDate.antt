@@ -8,7 +8,7 @@ use Rattle.csl_style.specs.declared.taxonomy.DateVariable.{DateVariable}
 use Rattle.csl_style.specs.declared.taxonomy.DateVariable.TheVariants.{Accessed, AvailableDate, EventDate, Issued, OriginalDate, Submitted}
 use Rattle.lit_model.specs.declared.date.Date.{Date}
 use Rattle.lit_model.specs.declared.entry.Entry.{Entry, out-Entry}
-use Rattle.lit_model.specs.Date.{Parts, date_parts}
+use Rattle.lit_model.specs.Date.{DateView, date_view}
 use Rattle.lit_model.specs.Entry.{preorder}
 use Rattle.csl_common.specs.Lists.{first_some}
 use Rattle.lit_model.specs.Select.{event, original, bound_select}
@@ -18,17 +18,17 @@ abbrev pub date_in : Entry → Option Date
 date_in e = (out-Entry e).date
 
 -- the first date along the work and its parents
-abbrev pub issued : Entry → Option Date
-issued e = first_some date_in (preorder e)
+abbrev pub issue_date : Entry → Option Date
+issue_date e = first_some date_in (preorder e)
 
 -- when the first address along the work and its parents was visited
 abbrev pub visit_date : Entry → Option Date
 visit_date e = option_and_then (λ url. url.visit_date) (first_some (λ x. (out-Entry x).url) (preorder e))
 
-abbrev pub date_of : Entry → DateVariable → Option Parts
-date_of e Accessed = option_map date_parts (visit_date e)
+abbrev pub date_of : Entry → DateVariable → Option DateView
+date_of e Accessed = option_map date_view (visit_date e)
 date_of e AvailableDate = None
-date_of e EventDate = option_map date_parts (option_and_then date_in (bound_select event e))
-date_of e Issued = option_map date_parts (issued e)
-date_of e OriginalDate = option_map date_parts (option_and_then date_in (bound_select original e))
+date_of e EventDate = option_map date_view (option_and_then date_in (bound_select event e))
+date_of e Issued = option_map date_view (issue_date e)
+date_of e OriginalDate = option_map date_view (option_and_then date_in (bound_select original e))
 date_of e Submitted = None

@@ -21,22 +21,22 @@ use Rattle.lit_model.specs.declared.entry.Entry.{Entry, out-Entry}
 use Rattle.lit_model.specs.declared.entry_type.EntryType.TheVariants.{Proceedings, Conference, Exhibition}
 use Rattle.lit_model.specs.declared.person.Person.{Person}
 use Rattle.lit_model.specs.declared.person.PersonRole.TheVariants as role
-use Rattle.lit_model.specs.Person.{Named, named}
-use Rattle.lit_model.specs.SamePerson.{same_named}
-use Rattle.lit_model.specs.Select.{Rule, parent_of, bound_select, original, audio_video, container_of, collection_of}
+use Rattle.lit_model.specs.Person.{PersonView, person_view}
+use Rattle.lit_model.specs.SamePerson.{same_person}
+use Rattle.lit_model.specs.Select.{ClauseView, parent_of, bound_select, original, audio_video, container_of, collection_of}
 use Rattle.csl_entry.specs.Creators.{in_role, persons_or}
 
 -- selects the first parent that is proceedings or a conference
-abbrev pub meeting : List Rule
-meeting = parent_of [] (Proceedings ∷ Conference ∷ []) ∷ []
+abbrev pub conference_clauses : List ClauseView
+conference_clauses = parent_of [] (Proceedings ∷ Conference ∷ []) ∷ []
 
-abbrev pub exhibition : List Rule
+abbrev pub exhibition : List ClauseView
 exhibition = parent_of [] (Exhibition ∷ []) ∷ []
 
 -- the persons of the work that was found, if any
-abbrev pub of_found : (Entry → List Person) → Option Entry → List Person
-of_found persons None = []
-of_found persons (Some e) = persons e
+abbrev pub persons_of_bound : (Entry → List Person) → Option Entry → List Person
+persons_of_bound persons None = []
+persons_of_bound persons (Some e) = persons e
 
 abbrev pub own_authors : Entry → List Person
 own_authors e = persons_or (out-Entry e).authors []
@@ -46,20 +46,20 @@ own_editors e = persons_or (out-Entry e).editors []
 
 -- one of the persons shows the same as this one
 abbrev pub is_one_of : List Person → Person → Bool
-is_one_of persons p = list_any (λ q. same_named (named q) (named p)) persons
+is_one_of persons p = list_any (λ q. same_person (person_view q) (person_view p)) persons
 
 -- the persons, by variable
 abbrev pub persons_of : Entry → NameVariable → List Person
 persons_of e Author = own_authors e
-persons_of e Chair = of_found (in_role role.Director) (bound_select meeting e)
-persons_of e CollectionEditor = of_found own_editors (collection_of e)
+persons_of e Chair = persons_of_bound (in_role role.Director) (bound_select conference_clauses e)
+persons_of e CollectionEditor = persons_of_bound own_editors (collection_of e)
 persons_of e Compiler = in_role role.Compiler e
 persons_of e Composer = in_role role.Composer e
-persons_of e ContainerAuthor = of_found own_authors (container_of e)
+persons_of e ContainerAuthor = persons_of_bound own_authors (container_of e)
 persons_of e Contributor = in_role role.Collaborator e
-persons_of e Curator = of_found (in_role role.Organizer) (bound_select exhibition e)
-persons_of e Director = of_found (in_role role.Director) (bound_select audio_video e)
-persons_of e Editor = persons_or (out-Entry e).editors (of_found own_editors (container_of e))
+persons_of e Curator = persons_of_bound (in_role role.Organizer) (bound_select exhibition e)
+persons_of e Director = persons_of_bound (in_role role.Director) (bound_select audio_video e)
+persons_of e Editor = persons_or (out-Entry e).editors (persons_of_bound own_editors (container_of e))
 persons_of e EditorialDirector = []
 persons_of e EditorTranslator = filter (is_one_of (in_role role.Translator e)) (own_editors e)
 persons_of e ExecutiveProducer = in_role role.ExecutiveProducer e
@@ -69,14 +69,14 @@ persons_of e Illustrator = in_role role.Illustrator e
 persons_of e Interviewer = []
 persons_of e Narrator = in_role role.Narrator e
 persons_of e Organizer = in_role role.Organizer e
-persons_of e OriginalAuthor = of_found own_authors (bound_select original e)
+persons_of e OriginalAuthor = persons_of_bound own_authors (bound_select original e)
 persons_of e Performer = in_role role.CastMember e
 persons_of e Producer = in_role role.Producer e
 persons_of e Recipient = []
 persons_of e ReviewedAuthor = []
 persons_of e ScriptWriter = in_role role.Writer e
-persons_of e SeriesCreator = of_found (in_role role.Founder) (bound_select audio_video e)
+persons_of e SeriesCreator = persons_of_bound (in_role role.Founder) (bound_select audio_video e)
 persons_of e Translator = in_role role.Translator e
 
-abbrev pub names_of : Entry → NameVariable → List Named
-names_of e variable = map named (persons_of e variable)
+abbrev pub names_of : Entry → NameVariable → List PersonView
+names_of e variable = map person_view (persons_of e variable)

@@ -8,7 +8,7 @@
 --   if the caller writes it;
 -- - the year suffix: one normal chunk of its letters, if the cite has one.
 -- A look depends on the citation state and on that one answer of the entry. For the citation's
--- variables it reads no answer (`NumberAlike`, `StandardAlike`, `NumberOrPageAlike`).
+-- variables it reads no answer (`SameNumber`, `SameStandard`, `SameNumberOrPage`).
 use Rattle.std.specs.Prelude.{◌≡◌, ℕ, false, ◌+◌, List, Option, Some, None, option_map, pos}
 use Rattle.csl_style.specs.declared.taxonomy.NumberVariable.{NumberVariable}
 use Rattle.csl_style.specs.declared.taxonomy.NumberVariable.TheVariants.{CitationNumber, FirstReferenceNoteNumber, Locator}
@@ -23,18 +23,18 @@ use Rattle.csl_style.specs.declared.taxonomy.Variable.TheVariants as variable
 use Rattle.csl_style.specs.OfCitation.{is_of_citation}
 use Rattle.lit_model.specs.declared.text.ChunkKind.TheVariants.{Normal}
 use Rattle.csl_common.specs.declared.form.LongShortForm.{LongShortForm}
-use Rattle.lit_model.specs.Date.{Parts}
+use Rattle.lit_model.specs.Date.{DateView}
 use Rattle.lit_model.specs.MaybeTyped.{MaybeView, typed}
 use Rattle.lit_model.specs.Numeric.{one}
 use Rattle.lit_model.specs.Page.{PartView}
-use Rattle.lit_model.specs.Person.{Named}
+use Rattle.lit_model.specs.Person.{PersonView}
 use Rattle.lit_model.specs.Text.{Chunk}
 use Rattle.csl_entry.specs.declared.cite.Sorting.{Sorting}
 use Rattle.csl_entry.specs.declared.cite.SpecialForm.{SpecialForm}
 use Rattle.csl_entry.specs.declared.instance.InstanceContext.{InstanceContext}
 use Rattle.csl_entry.specs.Answers.{Answers}
 use Rattle.csl_entry.specs.Chunk.{one_chunk}
-use Rattle.csl_entry.specs.Cite.{CiteState, cite_state, Payload, printed, left_open, Disambiguation, nothing, names, choose, suffix}
+use Rattle.csl_entry.specs.Cite.{CiteState, cite_state, Payload, payload_text, payload_transparent, Disambiguation, no_disambiguation, by_names, by_choose, by_year_suffix}
 use Rattle.csl_entry.specs.Letters.{letters}
 use Rattle.csl_entry.specs.NumberResult.{ResultView, regular, transparent, NumberOrPageView, number, page}
 use Rattle.csl_entry.specs.NumericText.{numeric_or_text}
@@ -62,51 +62,51 @@ plain_number n = regular (typed (record { value = one (pos n); prefix = None; su
 -- the answer of a locator: a number if its text spells one, else the text; or what the caller
 -- writes, with the index of the cite
 abbrev pub locator_answer : ℕ → Payload → ResultView
-locator_answer index (printed bytes) = regular (numeric_or_text bytes)
-locator_answer index left_open = transparent index
+locator_answer index (payload_text bytes) = regular (numeric_or_text bytes)
+locator_answer index payload_transparent = transparent index
 
 -- the letters of a year suffix, where the cite has one
 abbrev pub year_suffix : Disambiguation → Option (List Chunk)
-year_suffix nothing = None
-year_suffix (names forms) = None
-year_suffix choose = None
-year_suffix (suffix n) = Some (one_chunk Normal (letters n))
+year_suffix no_disambiguation = None
+year_suffix (by_names forms) = None
+year_suffix by_choose = None
+year_suffix (by_year_suffix n) = Some (one_chunk Normal (letters n))
 
 -- ---- Look: what the cite answers to a variable
 
 -- a citation number counts from 0 and is printed one higher
-abbrev pub look_number : Instance → NumberVariable → Option ResultView
-look_number i CitationNumber = Some (plain_number (i.cite.citation_number + 1))
-look_number i FirstReferenceNoteNumber = option_map plain_number i.cite.first_note
-look_number i Locator = option_map (λ place. locator_answer i.cite.initial_index place.payload) i.cite.locator
-look_number i other = option_map regular (i.answers.numbers other)
+abbrev pub resolve_number : Instance → NumberVariable → Option ResultView
+resolve_number i CitationNumber = Some (plain_number (i.cite.citation_number + 1))
+resolve_number i FirstReferenceNoteNumber = option_map plain_number i.cite.first_note
+resolve_number i Locator = option_map (λ place. locator_answer i.cite.initial_index place.payload) i.cite.locator
+resolve_number i other = option_map regular (i.answers.numbers other)
 
-abbrev pub look_page : Instance → PageVariable → Option (MaybeView (List PartView))
-look_page i v = i.answers.pages v
+abbrev pub resolve_page : Instance → PageVariable → Option (MaybeView (List PartView))
+resolve_page i v = i.answers.pages v
 
-abbrev pub look_number_or_page : Instance → NumberOrPageVariable → Option NumberOrPageView
-look_number_or_page i (number_or_page.Number v) = option_map number (look_number i v)
-look_number_or_page i (number_or_page.Page v) = option_map page (look_page i v)
+abbrev pub resolve_number_or_page : Instance → NumberOrPageVariable → Option NumberOrPageView
+resolve_number_or_page i (number_or_page.Number v) = option_map number (resolve_number i v)
+resolve_number_or_page i (number_or_page.Page v) = option_map page (resolve_page i v)
 
-abbrev pub look_standard : Instance → LongShortForm → StandardVariable → Option (List Chunk)
-look_standard i form YearSuffix = year_suffix i.cite.disambiguation
-look_standard i form other = i.answers.standards form other
+abbrev pub resolve_standard : Instance → LongShortForm → StandardVariable → Option (List Chunk)
+resolve_standard i form YearSuffix = year_suffix i.cite.disambiguation
+resolve_standard i form other = i.answers.standards form other
 
-abbrev pub look_names : Instance → NameVariable → List Named
-look_names i v = i.answers.names v
+abbrev pub resolve_names : Instance → NameVariable → List PersonView
+resolve_names i v = i.answers.names v
 
-abbrev pub look_date : Instance → DateVariable → Option Parts
-look_date i v = i.answers.dates v
+abbrev pub resolve_date : Instance → DateVariable → Option DateView
+resolve_date i v = i.answers.dates v
 
 -- ---- on what a look depends: on the citation, and on that one answer where the variable is not
 -- the citation's
 
-abbrev pub NumberAlike : Instance → Instance → NumberVariable → Type 0
-NumberAlike i j v = is_of_citation (variable.Number v) ≡ false → i.answers.numbers v ≡ j.answers.numbers v
+abbrev pub SameNumber : Instance → Instance → NumberVariable → Type 0
+SameNumber i j v = is_of_citation (variable.Number v) ≡ false → i.answers.numbers v ≡ j.answers.numbers v
 
-abbrev pub StandardAlike : Instance → Instance → LongShortForm → StandardVariable → Type 0
-StandardAlike i j form v = is_of_citation (variable.Standard v) ≡ false → i.answers.standards form v ≡ j.answers.standards form v
+abbrev pub SameStandard : Instance → Instance → LongShortForm → StandardVariable → Type 0
+SameStandard i j form v = is_of_citation (variable.Standard v) ≡ false → i.answers.standards form v ≡ j.answers.standards form v
 
-abbrev pub NumberOrPageAlike : Instance → Instance → NumberOrPageVariable → Type 0
-NumberOrPageAlike i j (number_or_page.Number v) = NumberAlike i j v
-NumberOrPageAlike i j (number_or_page.Page v) = i.answers.pages v ≡ j.answers.pages v
+abbrev pub SameNumberOrPage : Instance → Instance → NumberOrPageVariable → Type 0
+SameNumberOrPage i j (number_or_page.Number v) = SameNumber i j v
+SameNumberOrPage i j (number_or_page.Page v) = i.answers.pages v ≡ j.answers.pages v

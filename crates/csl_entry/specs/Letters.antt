@@ -39,8 +39,8 @@ word_value [] = 0
 word_value (c ∷ cs) = (c - before_a) * 26 ^ length cs + word_value cs
 
 -- the place of a word, from 0
-abbrev pub place_of : List ℕ → ℕ
-place_of w = word_value w - 1
+abbrev pub word_index : List ℕ → ℕ
+word_index w = word_value w - 1
 
 -- the next word, last letter first: after z comes a, and then the letter before counts on
 abbrev pub next_reversed : List ℕ → List ℕ

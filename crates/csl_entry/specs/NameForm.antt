@@ -48,6 +48,6 @@ further_form default None = Some default
 further_form default (Some form) = fuller_form true form
 
 -- the form after n steps of `further_form`
-abbrev pub told_apart : DisambiguatedNameForm → ℕ → Option DisambiguatedNameForm → Option DisambiguatedNameForm
-told_apart default zero form = form
-told_apart default (suc n) form = option_or (further_form default (told_apart default n form)) (told_apart default n form)
+abbrev pub disambiguated_form : DisambiguatedNameForm → ℕ → Option DisambiguatedNameForm → Option DisambiguatedNameForm
+disambiguated_form default zero form = form
+disambiguated_form default (suc n) form = option_or (further_form default (disambiguated_form default n form)) (disambiguated_form default n form)

@@ -13,11 +13,11 @@ use Rattle.csl_style.specs.contracts.taxonomy.NameVariable.{the_type}
 use Rattle.csl_style.specs.declared.taxonomy.NameVariable.{NameVariable}
 use Rattle.csl_entry.specs.declared.name_form.DisambiguatedNameForm.{DisambiguatedNameForm}
 use Rattle.csl_entry.specs.declared.name_properties.NameDisambiguationProperties.{NameDisambiguationProperties}
-use Rattle.csl_entry.specs.NameForm.{form_cmp, told_apart}
+use Rattle.csl_entry.specs.NameForm.{form_cmp, disambiguated_form}
 
 -- the form of each name of a list, where it is shown
-abbrev pub Forms : Type 0
-Forms = List (Option DisambiguatedNameForm)
+abbrev pub NameForms : Type 0
+NameForms = List (Option DisambiguatedNameForm)
 
 -- the form of a name that comes to be shown, the variables, and for each list of names the form of
 -- each name, where it is shown
@@ -34,7 +34,7 @@ name_properties p = record {
 }
 
 -- the forms of all lists in order, absent ones counted
-abbrev pub all_forms : List Forms → Forms
+abbrev pub all_forms : List NameForms → NameForms
 all_forms lists = flat_map (λ forms. forms) lists
 
 -- ---- more names are shown (disambiguate-add-names)
@@ -42,19 +42,19 @@ all_forms lists = flat_map (λ forms. forms) lists
 -- Without such a list nothing changes. An n of 0 finds the first list.
 
 -- absent forms become this one
-abbrev pub all_shown : DisambiguatedNameForm → Forms → Forms
+abbrev pub all_shown : DisambiguatedNameForm → NameForms → NameForms
 all_shown form forms = map (λ f. Some (unwrap_or f form)) forms
 
 -- the first n forms of a list, if they are absent, become this one
-abbrev pub first_shown : DisambiguatedNameForm → ℕ → Forms → Forms
+abbrev pub first_shown : DisambiguatedNameForm → ℕ → NameForms → NameForms
 first_shown form n forms = all_shown form (take n forms) ++ drop n forms
 
 -- the place of the first list of at least n forms
-abbrev pub first_as_long : ℕ → List Forms → Option ℕ
+abbrev pub first_as_long : ℕ → List NameForms → Option ℕ
 first_as_long n lists = position (λ forms. nat_le n (length forms)) lists
 
 -- the lists after a change of the one at a place
-abbrev pub with_list : List Forms → (Forms → Forms) → ℕ → List Forms
+abbrev pub with_list : List NameForms → (NameForms → NameForms) → ℕ → List NameForms
 with_list lists change i = slice_set lists i (change (slice_index_or lists i []))
 
 -- the first n names of the first list with as many are shown
@@ -65,7 +65,7 @@ with_names_shown n p = record p {
 
 -- ---- names are told apart (disambiguate-add-givenname)
 -- The list at a variable's first position among the variables takes a step of `further_form` at
--- each given place, as often as the place is given. This is allowed (`CanTellApart`) if the
+-- each given place, as often as the place is given. This is allowed (`CanDisambiguate`) if the
 -- variable is not listed, and then nothing changes, or if that list exists and has each of the
 -- places.
 
@@ -74,18 +74,18 @@ abbrev pub first_listed : NameVariable → NameProperties → Option ℕ
 first_listed variable p = position (λ v. sameb the_type v variable) p.variables
 
 -- where the variable is listed, a list stands at its first position and holds each of the places
-abbrev pub CanTellApart : NameVariable → List ℕ → NameProperties → Type 0
-CanTellApart variable places p = ForSome (first_listed variable p)
+abbrev pub CanDisambiguate : NameVariable → List ℕ → NameProperties → Type 0
+CanDisambiguate variable places p = ForSome (first_listed variable p)
     (λ i. IsSomeAnd (slice_get p.lists i) (λ forms. All (λ k. k < length forms) places))
 
 -- the form of each name after one step for each time that its place is given
-abbrev pub each_told_apart : DisambiguatedNameForm → List ℕ → Forms → Forms
-each_told_apart default places forms = map (λ f. told_apart default (count_by (λ k. k == f.0) places) f.1) (enumerate_from 0 forms)
+abbrev pub disambiguated_forms : DisambiguatedNameForm → List ℕ → NameForms → NameForms
+disambiguated_forms default places forms = map (λ f. disambiguated_form default (count_by (λ k. k == f.0) places) f.1) (enumerate_from 0 forms)
 
 -- the names at these places of a variable's list are told apart
-abbrev pub with_told_apart : NameVariable → List ℕ → NameProperties → NameProperties
-with_told_apart variable places p = record p {
-  lists = option_map_or (with_list p.lists (each_told_apart p.default_form places)) (first_listed variable p) p.lists;
+abbrev pub with_disambiguated_list : NameVariable → List ℕ → NameProperties → NameProperties
+with_disambiguated_list variable places p = record p {
+  lists = option_map_or (with_list p.lists (disambiguated_forms p.default_form places)) (first_listed variable p) p.lists;
 }
 
 -- ---- which of two shows more
@@ -101,7 +101,7 @@ shown_count p = sum_by (count_by is_some) p.lists
 
 -- the order of lists of forms, by the first place at which they differ; an absent form comes first,
 -- and a list before a longer one
-abbrev pub forms_cmp : Forms → Forms → Ordering
+abbrev pub forms_cmp : NameForms → NameForms → Ordering
 forms_cmp = slice_cmp (option_cmp form_cmp)
 
 -- the order by the number of names that are shown, then by all forms
@@ -122,7 +122,7 @@ abbrev pub form_or_default : ℕ → NameProperties → DisambiguatedNameForm
 form_or_default i p = unwrap_or (form_at i p) p.default_form
 
 -- the lists with another form as the i-th of all
-abbrev pub with_form_at : ℕ → DisambiguatedNameForm → List Forms → List Forms
+abbrev pub with_form_at : ℕ → DisambiguatedNameForm → List NameForms → List NameForms
 with_form_at i form [] = []
 with_form_at i form (forms ∷ lists) =
     if nat_lt i (length forms) then slice_set forms i (Some form) ∷ lists else forms ∷ with_form_at (i - length forms) form lists
@@ -133,7 +133,7 @@ with_form i p form = if is_some (form_at i p) then record p { lists = with_form_
 
 -- the list that has the i-th of all forms, and its place there, if it is not absent; lists are
 -- counted from n on
-abbrev pub shown_from : ℕ → ℕ → List Forms → Option (ℕ × ℕ)
+abbrev pub shown_from : ℕ → ℕ → List NameForms → Option (ℕ × ℕ)
 shown_from n i [] = None
 shown_from n i (forms ∷ lists) =
     if nat_lt i (length forms) then option_map (λ form. (n, i)) (slice_index_or forms i None) else shown_from (n + 1) (i - length forms) lists

@@ -20,7 +20,7 @@ use Rattle.csl_entry.specs.declared.number_result.NumberVariableResult.{NumberVa
 use Rattle.csl_entry.specs.declared.number_result.NumberVariableResult.TheVariants.{Regular, Transparent}
 use Rattle.csl_entry.specs.declared.number_result.NumberOrPageVariableResult.{NumberOrPageVariableResult}
 use Rattle.csl_entry.specs.declared.number_result.NumberOrPageVariableResult.TheVariants.{Number, Page}
-use Rattle.csl_entry.specs.Answers.{behind}
+use Rattle.csl_entry.specs.Answers.{cow_view}
 
 -- a number or a text, or the place of a cite that the caller writes
 pub data ResultView : Type 0 where
@@ -28,15 +28,15 @@ pub data ResultView : Type 0 where
   transparent : ℕ → ResultView
 
 abbrev pub result_view : NumberVariableResult → ResultView
-result_view (Regular number) = regular (maybe_view (behind numeric_view) number)
+result_view (Regular number) = regular (maybe_view (cow_view numeric_view) number)
 result_view (Transparent index) = transparent index
 
 -- whether an answer borrows a number from the entry
-abbrev pub is_lent : NumberVariableResult → Bool
-is_lent (Regular (of_kind.Typed (Borrowed number))) = true
-is_lent (Regular (of_kind.Typed (Owned number))) = false
-is_lent (Regular (of_kind.String s)) = false
-is_lent (Transparent index) = false
+abbrev pub is_borrowed : NumberVariableResult → Bool
+is_borrowed (Regular (of_kind.Typed (Borrowed number))) = true
+is_borrowed (Regular (of_kind.Typed (Owned number))) = false
+is_borrowed (Regular (of_kind.String s)) = false
+is_borrowed (Transparent index) = false
 
 -- the answer to a variable that holds a number, or pages
 pub data NumberOrPageView : Type 0 where
@@ -77,9 +77,9 @@ csl_order (transparent i) (transparent j) = nat_cmp i j
 -- The laws of an order: swapping two values reverses it, and it is transitive. Two different values
 -- may be equal in it.
 pub record IsOrder {X : Type 0} (order : X → X → Ordering) : Type 0 where
-  pub swapped : (a b : X) → order b a ≡ ordering_reverse (order a b)
-  pub chained : (a b c : X) → IsTrue (is_le (order a b)) → IsTrue (is_le (order b c)) → IsTrue (is_le (order a c))
-  pub chained_strictly : (a b c : X) → order a b ≡ Less → order b c ≡ Less → order a c ≡ Less
+  pub antisymmetric : (a b : X) → order b a ≡ ordering_reverse (order a b)
+  pub transitive : (a b c : X) → IsTrue (is_le (order a b)) → IsTrue (is_le (order b c)) → IsTrue (is_le (order a c))
+  pub strictly_transitive : (a b c : X) → order a b ≡ Less → order b c ≡ Less → order a c ≡ Less
 
 -- the two numbers are the same, but for what separates the numbers of a list
 pub record SameButSeparators (v w : NumericView) : Type 0 where

@@ -4,8 +4,8 @@
 ghost use Rattle.std.specs.Prelude.{◌≡◌, ◌&&◌, IfOk};
 ghost use Rattle.std.specs.Bool.{Decides};
 ghost use Rattle.csl_common.specs.declared.form.LongShortForm.{LongShortForm};
-ghost use Rattle.csl_style.specs.Has.{has};
-ghost use Rattle.csl_entry.specs.Alike.{Each, Alike};
+ghost use Rattle.csl_style.specs.NamedWalk.{named_set};
+ghost use Rattle.csl_entry.specs.Alike.{Each, SameNamedAnswers};
 
 use crate::same::{same_date, same_number, same_pages, same_people, same_text};
 use crate::taxonomy::EntryLike;
@@ -238,7 +238,7 @@ pub fn same_answers<T: EntryLike, U: EntryLike>(
     named: &Named,
 ) -> Result<bool, Memory>
     ensures { IfOk result (λ same. Decides same
-        (Alike (has named.now) (T.answers a.now) (U.answers b.now))) }
+        (SameNamedAnswers (named_set named.now) (T.answers a.now) (U.answers b.now))) }
 {
     let numbers = are_numbers_alike(alloc, a, b, &named.numbers)?;
     let pages = are_all_pages_alike(alloc, a, b, &named.pages)?;

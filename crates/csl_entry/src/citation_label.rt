@@ -1,9 +1,9 @@
 //! Alphanumerical labels of citations.
 
 ghost use Rattle.std.specs.Prelude.{◌≡◌, ◌++◌, option_copied, option_map, string_bytes, IfOk, OnOk};
-ghost use Rattle.lit_model.specs.Date.{date_parts};
+ghost use Rattle.lit_model.specs.Date.{date_view};
 ghost use Rattle.csl_entry.specs.Creators.{creators_of};
-ghost use Rattle.csl_entry.specs.CitationLabel.{first_letters, creators_part, alphabetic, stand_in, label_date, year_number, year_part, label, LabelIsShown};
+ghost use Rattle.csl_entry.specs.CitationLabel.{first_letters, creators_part, alphabetic_part, stand_in, label_date, year_number, year_part, label, LabelIsShown};
 
 use crate::creators::creators;
 use crate::entry::visit_date;
@@ -107,14 +107,14 @@ fn stand_in(alloc: Global, work: &Entry) -> Result<String, Memory>
     let text = match (&work.organization, &work.title) {
         (Some(organization), _) => organization.value.to_text(alloc)?,
         (None, Some(title)) => title.value.to_text(alloc)?,
-        (None, None) => alphabetic(alloc, work.key.as_str())?,
+        (None, None) => alphabetic_part(alloc, work.key.as_str())?,
     };
     Ok(text)
 }
 
 /// The letters of a key.
-fn alphabetic(alloc: Global, key: &str) -> Result<String, Memory>
-    ensures { IfOk result (λ s. string_bytes s ≡ alphabetic key.now) }
+fn alphabetic_part(alloc: Global, key: &str) -> Result<String, Memory>
+    ensures { IfOk result (λ s. string_bytes s ≡ alphabetic_part key.now) }
 {
     let letters = key.chars().filter(|c| is_alphabetic(*c)).collect(alloc)?;
     Ok(letters)
@@ -129,7 +129,7 @@ fn label_date(work: &Entry) -> Option<&Date>
 
 fn push_year(label: &mut String, date: Option<&Date>) -> Result<(), Memory>
     ensures { OnOk result (string_bytes label.new
-        ≡ string_bytes label.old ++ year_part (option_map date_parts (option_copied date.entry))) }
+        ≡ string_bytes label.old ++ year_part (option_map date_view (option_copied date.entry))) }
 {
     if let Some(date) = date {
         write!(label, "{:02}", year_number(date.year()))?;

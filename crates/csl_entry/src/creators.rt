@@ -2,8 +2,8 @@
 //! citation-label).
 
 ghost use Rattle.std.specs.Prelude.{◌≡◌, ◌++◌, map, IfOk};
-ghost use Rattle.lit_model.specs.Person.{named};
-ghost use Rattle.lit_model.specs.Select.{rule_of};
+ghost use Rattle.lit_model.specs.Person.{person_view};
+ghost use Rattle.lit_model.specs.Select.{clause_view};
 ghost use Rattle.csl_entry.specs.Creators.{in_role, or_else, series, makers, creators_of};
 
 use lit_model::{Bind, Clause, Entry, EntryType, Field, Memory, Person, PersonRole};
@@ -18,7 +18,7 @@ static SERIES: [Clause<'static>; 1] = [Clause {
 
 /// The series of an episode that has an issue and a volume.
 fn series() -> &'static [Clause<'static>]
-    ensures { map rule_of result.now ≡ series }
+    ensures { map clause_view result.now ≡ series }
 {
     &SERIES
 }
@@ -27,7 +27,7 @@ fn series() -> &'static [Clause<'static>]
 /// those who made it. A list that is named and empty counts.
 #[tactic(auto, using(crate::proofs::Persons::named_each))]
 pub(crate) fn creators(alloc: Global, entry: &Entry) -> Result<Vec<&Person>, Memory>
-    ensures { IfOk result (λ v. map (λ p. named p.now) v.items ≡ creators_of entry.now) }
+    ensures { IfOk result (λ v. map (λ p. person_view p.now) v.items ≡ creators_of entry.now) }
 {
     let creators = match (&entry.authors, &entry.editors) {
         (Some(authors), _) => references(alloc, authors)?,

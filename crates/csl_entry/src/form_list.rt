@@ -4,7 +4,7 @@ ghost use Rattle.std.specs.Prelude.{◌≡◌, ◌≤◌, ◌<◌, ◌↔◌, Bo
 ghost use Rattle.std.specs.Borrow.{sem};
 ghost use Rattle.csl_entry.specs.LentForm.{lends_shown};
 ghost use Rattle.csl_entry.specs.NameForm.{further_form};
-ghost use Rattle.csl_entry.specs.NameProperties.{all_shown, first_shown, each_told_apart};
+ghost use Rattle.csl_entry.specs.NameProperties.{all_shown, first_shown, disambiguated_forms};
 
 use crate::name_form::DisambiguatedNameForm;
 
@@ -46,13 +46,13 @@ fn further(
 
 /// Tells the names at these places apart from others, place by place, and answers whether a form
 /// changed.
-pub(crate) fn tell_apart(
+pub(crate) fn disambiguate_forms(
     forms: &mut [Option<DisambiguatedNameForm>],
     default: DisambiguatedNameForm,
     places: &[usize],
 ) -> bool
     requires { All (λ k. k < length forms.old) places.now }
-    ensures forms { forms.new ≡ each_told_apart default places.now forms.old }
+    ensures forms { forms.new ≡ disambiguated_forms default places.now forms.old }
     ensures answer { (result ≡ Bool.false) ↔ (forms.new ≡ forms.old) }
 {
     let mut changed = false;

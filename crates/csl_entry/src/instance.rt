@@ -1,16 +1,16 @@
 //! A cite with its entry: what it answers to a style.
 
 ghost use Rattle.std.specs.Prelude.{◌≡◌, map, IfOk, option_map};
-ghost use Rattle.lit_model.specs.Date.{date_parts};
+ghost use Rattle.lit_model.specs.Date.{date_view};
 ghost use Rattle.lit_model.specs.MaybeTyped.{maybe_view};
 ghost use Rattle.lit_model.specs.Page.{pages_view};
-ghost use Rattle.lit_model.specs.Person.{named};
+ghost use Rattle.lit_model.specs.Person.{person_view};
 ghost use Rattle.lit_model.specs.Text.{chunks};
-ghost use Rattle.csl_entry.specs.Answers.{behind};
+ghost use Rattle.csl_entry.specs.Answers.{cow_view};
 ghost use Rattle.csl_entry.specs.Cite.{disambiguation_of, payload_of};
 ghost use Rattle.csl_entry.specs.Instance.{Instance, instance_of, plain_number, locator_answer, year_suffix};
-ghost use Rattle.csl_entry.specs.Instance.{look_number, look_page, look_number_or_page, look_standard, look_names, look_date};
-ghost use Rattle.csl_entry.specs.Instance.{NumberAlike, StandardAlike};
+ghost use Rattle.csl_entry.specs.Instance.{resolve_number, resolve_page, resolve_number_or_page, resolve_standard, resolve_names, resolve_date};
+ghost use Rattle.csl_entry.specs.Instance.{SameNumber, SameStandard};
 ghost use Rattle.csl_entry.specs.NumberResult.{result_view, number_or_page_view};
 ghost use Rattle.csl_entry.specs.Numbers.{IsNoteNumber};
 
@@ -70,12 +70,12 @@ impl<'s, T: EntryLike> InstanceContext<'s, T> {
         variable: NumberVariable,
     ) -> Result<Option<NumberVariableResult<'s>>, Memory>
         ensures value { IfOk result (λ found. option_map result_view found
-            ≡ look_number (instance_of T.answers self.now) variable) }
+            ≡ resolve_number (instance_of T.answers self.now) variable) }
 
         // It depends on the citation, and on the entry's answer to this variable alone, where the
         // variable is not the citation's.
-        ensures depends { (i j : Instance) → i.cite ≡ j.cite → NumberAlike i j variable
-            → look_number i variable ≡ look_number j variable }
+        ensures depends { (i j : Instance) → i.cite ≡ j.cite → SameNumber i j variable
+            → resolve_number i variable ≡ resolve_number j variable }
     {
         match variable {
             NumberVariable::CitationNumber => {
@@ -113,7 +113,7 @@ impl<'s, T: EntryLike> InstanceContext<'s, T> {
         variable: PageVariable,
     ) -> Result<Option<PageVariableResult>, Memory>
         ensures { IfOk result (λ found. option_map (maybe_view pages_view) found
-            ≡ look_page (instance_of T.answers self.now) variable) }
+            ≡ resolve_page (instance_of T.answers self.now) variable) }
     {
         self.entry.resolve_page_variable(alloc, variable)
     }
@@ -129,7 +129,7 @@ impl<'s, T: EntryLike> InstanceContext<'s, T> {
         variable: NumberOrPageVariable,
     ) -> Result<Option<NumberOrPageVariableResult<'s>>, Memory>
         ensures { IfOk result (λ found. option_map number_or_page_view found
-            ≡ look_number_or_page (instance_of T.answers self.now) variable) }
+            ≡ resolve_number_or_page (instance_of T.answers self.now) variable) }
     {
         match variable {
             NumberOrPageVariable::Number(variable) => {
@@ -159,13 +159,13 @@ impl<'s, T: EntryLike> InstanceContext<'s, T> {
         form: LongShortForm,
         variable: StandardVariable,
     ) -> Result<Option<Cow<'s, ChunkedString>>, Memory>
-        ensures value { IfOk result (λ found. option_map (behind chunks) found
-            ≡ look_standard (instance_of T.answers self.now) form variable) }
+        ensures value { IfOk result (λ found. option_map (cow_view chunks) found
+            ≡ resolve_standard (instance_of T.answers self.now) form variable) }
 
         // It depends on the citation, and on the entry's answer to this variable in this form
         // alone, where the variable is not the citation's.
-        ensures depends { (i j : Instance) → i.cite ≡ j.cite → StandardAlike i j form variable
-            → look_standard i form variable ≡ look_standard j form variable }
+        ensures depends { (i j : Instance) → i.cite ≡ j.cite → SameStandard i j form variable
+            → resolve_standard i form variable ≡ resolve_standard j form variable }
     {
         match variable {
             StandardVariable::YearSuffix => {
@@ -185,8 +185,8 @@ impl<'s, T: EntryLike> InstanceContext<'s, T> {
         alloc: Global,
         variable: NameVariable,
     ) -> Result<Vec<Cow<'s, Person>>, Memory>
-        ensures { IfOk result (λ found. map (behind named) found.items
-            ≡ look_names (instance_of T.answers self.now) variable) }
+        ensures { IfOk result (λ found. map (cow_view person_view) found.items
+            ≡ resolve_names (instance_of T.answers self.now) variable) }
     {
         self.entry.resolve_name_variable(alloc, variable)
     }
@@ -200,8 +200,8 @@ impl<'s, T: EntryLike> InstanceContext<'s, T> {
         alloc: Global,
         variable: DateVariable,
     ) -> Result<Option<Cow<'s, Date>>, Memory>
-        ensures { IfOk result (λ found. option_map (behind date_parts) found
-            ≡ look_date (instance_of T.answers self.now) variable) }
+        ensures { IfOk result (λ found. option_map (cow_view date_view) found
+            ≡ resolve_date (instance_of T.answers self.now) variable) }
     {
         self.entry.resolve_date_variable(alloc, variable)
     }
@@ -244,7 +244,7 @@ fn year_suffix<'s>(
     alloc: Global,
     state: &DisambiguateState,
 ) -> Result<Option<Cow<'s, ChunkedString>>, Memory>
-    ensures { IfOk result (λ found. option_map (behind chunks) found
+    ensures { IfOk result (λ found. option_map (cow_view chunks) found
         ≡ year_suffix (disambiguation_of state.now)) }
 {
     match state {

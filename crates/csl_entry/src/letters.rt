@@ -1,7 +1,7 @@
 //! The letters of a year suffix.
 
 ghost use Rattle.std.specs.Prelude.{◌≡◌, ◌↔◌, ◌<◌, ℕ, List, IfOk, string_bytes};
-ghost use Rattle.csl_entry.specs.Letters.{IsWord, StandsBefore, place_of, letters};
+ghost use Rattle.csl_entry.specs.Letters.{IsWord, StandsBefore, word_index, letters};
 
 use lit_model::Memory;
 use std::alloc::Global;
@@ -14,11 +14,11 @@ use std::alloc::Global;
 pub fn letter(alloc: Global, n: u16) -> Result<String, Memory>
     ensures letters { IfOk result (λ s. string_bytes s ≡ letters n) }
     ensures word { IfOk result (λ s. IsWord (string_bytes s)) }
-    ensures place { IfOk result (λ s. place_of (string_bytes s) ≡ n) }
+    ensures place { IfOk result (λ s. word_index (string_bytes s) ≡ n) }
     ensures order { IfOk result (λ s. (w : List ℕ) → IsWord w →
-        StandsBefore w (string_bytes s) ↔ (place_of w < n)) }
+        StandsBefore w (string_bytes s) ↔ (word_index w < n)) }
     ensures only { IfOk result (λ s. (w : List ℕ) → IsWord w →
-        place_of w ≡ n → w ≡ string_bytes s) }
+        word_index w ≡ n → w ≡ string_bytes s) }
 {
     let word = word_at(alloc, n)?;
     Ok(word)
@@ -28,7 +28,7 @@ pub fn letter(alloc: Global, n: u16) -> Result<String, Memory>
 /// place `n / 26 - 1`.
 fn word_at(alloc: Global, n: u16) -> Result<String, Memory>
     ensures word { IfOk result (λ s. IsWord (string_bytes s)) }
-    ensures place { IfOk result (λ s. place_of (string_bytes s) ≡ n) }
+    ensures place { IfOk result (λ s. word_index (string_bytes s) ≡ n) }
 {
     let mut word = String::new(alloc);
     let mut rest = n;

@@ -5,10 +5,10 @@ ghost use Rattle.std.specs.Borrow.{sem};
 ghost use Rattle.std.specs.Ordering.{is_gt, is_le};
 ghost use Rattle.std.specs.declared.cmp.Ordering.TheVariants.{Equal};
 ghost use Rattle.csl_entry.specs.LentForm.{lends_list, lends_form};
-ghost use Rattle.csl_entry.specs.NameProperties.{name_properties, first_as_long, with_names_shown, first_listed, CanTellApart, with_told_apart};
+ghost use Rattle.csl_entry.specs.NameProperties.{name_properties, first_as_long, with_names_shown, first_listed, CanDisambiguate, with_disambiguated_list};
 ghost use Rattle.csl_entry.specs.NameProperties.{shown_count, all_forms, forms_cmp, properties_cmp, shown_from, form_or_default};
 
-use crate::form_list::{count_shown, holds_each, show_first, shown_mut, tell_apart};
+use crate::form_list::{count_shown, disambiguate_forms, holds_each, show_first, shown_mut};
 use crate::name_form::DisambiguatedNameForm;
 use csl_style::NameVariable;
 use lit_model::Memory;
@@ -116,7 +116,7 @@ impl NameDisambiguationProperties {
     /// Whether [`disambiguate_list`](Self::disambiguate_list) may be called: where the variable is
     /// listed, a list of forms stands at its first position and holds each of these places.
     pub fn can_disambiguate(&self, variable: NameVariable, items: &[usize]) -> bool
-        ensures { IsTrue result ↔ CanTellApart variable items.now (name_properties self.now) }
+        ensures { IsTrue result ↔ CanDisambiguate variable items.now (name_properties self.now) }
     {
         let Some(position) = self.first_listed(variable) else {
             return true;
@@ -132,16 +132,16 @@ impl NameDisambiguationProperties {
     /// itself where it can. Answers whether a form changed; of a variable that is not listed none
     /// does. [`can_disambiguate`](Self::can_disambiguate) says whether it may be called.
     pub fn disambiguate_list(&mut self, variable: NameVariable, items: &[usize]) -> bool
-        requires { CanTellApart variable items.now (name_properties self.old) }
+        requires { CanDisambiguate variable items.now (name_properties self.old) }
         ensures told { name_properties self.new
-            ≡ with_told_apart variable items.now (name_properties self.old) }
+            ≡ with_disambiguated_list variable items.now (name_properties self.old) }
         ensures answer { (result ≡ Bool.false)
             ↔ (name_properties self.new ≡ name_properties self.old) }
     {
         let Some(place) = self.first_listed(variable) else {
             return false;
         };
-        tell_apart(&mut self.name_forms[place], self.default_name_form, items)
+        disambiguate_forms(&mut self.name_forms[place], self.default_name_form, items)
     }
 
     /// How many names are shown. Lists and their names are too few to exceed 128 bits.

@@ -5,8 +5,8 @@ ghost use Rattle.std.specs.Cmp.Lexicographic.{slice_cmp};
 ghost use Rattle.std.specs.Ordering.{int_cmp};
 ghost use Rattle.lit_model.specs.MaybeTyped.{typed, maybe_view};
 ghost use Rattle.lit_model.specs.Numeric.{NumericView, numeric_view, value_view, numbers};
-ghost use Rattle.csl_entry.specs.Answers.{behind};
-ghost use Rattle.csl_entry.specs.NumberResult.{regular, result_view, number_or_page_view, is_lent, numeric_order, regular_order, csl_order, IsOrder, SameButSeparators};
+ghost use Rattle.csl_entry.specs.Answers.{cow_view};
+ghost use Rattle.csl_entry.specs.NumberResult.{regular, result_view, number_or_page_view, is_borrowed, numeric_order, regular_order, csl_order, IsOrder, SameButSeparators};
 
 use lit_model::{MaybeTyped, Memory, Numeric, NumericDelimiter, NumericValue, PageRanges};
 use std::alloc::Global;
@@ -37,7 +37,7 @@ pub enum NumberOrPageVariableResult<'a> {
 impl<'a> NumberVariableResult<'a> {
     /// The answer of that number or text.
     pub fn from_regular(number: MaybeTyped<Cow<'a, Numeric>>) -> NumberVariableResult<'a>
-        ensures { result_view result ≡ regular (maybe_view (behind numeric_view) number.entry) }
+        ensures { result_view result ≡ regular (maybe_view (cow_view numeric_view) number.entry) }
     {
         NumberVariableResult::Regular(number)
     }
@@ -79,7 +79,7 @@ impl<'a> NumberVariableResult<'a> {
     /// [`Memory`]: there was no memory left.
     pub fn clone(&self, alloc: Global) -> Result<NumberVariableResult<'a>, Memory>
         ensures value { IfOk result (λ copy. result_view copy ≡ result_view self.now) }
-        ensures borrows { IfOk result (λ copy. is_lent copy ≡ is_lent self.now) }
+        ensures borrows { IfOk result (λ copy. is_borrowed copy ≡ is_borrowed self.now) }
     {
         match self {
             NumberVariableResult::Regular(MaybeTyped::Typed(Cow::Borrowed(number))) => {
@@ -123,8 +123,8 @@ impl<'a> NumberOrPageVariableResult<'a> {
 
 /// How two numbers or texts stand in order.
 fn compare_regular(a: &MaybeTyped<Cow<'_, Numeric>>, b: &MaybeTyped<Cow<'_, Numeric>>) -> Ordering
-    ensures { result ≡ regular_order (maybe_view (behind numeric_view) a.now)
-        (maybe_view (behind numeric_view) b.now) }
+    ensures { result ≡ regular_order (maybe_view (cow_view numeric_view) a.now)
+        (maybe_view (cow_view numeric_view) b.now) }
 {
     match (a, b) {
         (MaybeTyped::Typed(a), MaybeTyped::Typed(b)) => compare_numerics(a.as_ref(), b.as_ref()),

@@ -5,15 +5,15 @@
 //! one by one, every text and the comma. A number or pages never equal a text that is neither.
 
 ghost use Rattle.std.specs.Prelude.{◌≡◌, ◌↔◌, map, option_map, option_copied, IsTrue};
-ghost use Rattle.lit_model.specs.Date.{date_parts};
+ghost use Rattle.lit_model.specs.Date.{date_view};
 ghost use Rattle.lit_model.specs.MaybeTyped.{maybe_view};
 ghost use Rattle.lit_model.specs.Numeric.{numeric_view};
 ghost use Rattle.lit_model.specs.Page.{pages_view};
-ghost use Rattle.lit_model.specs.Person.{named};
+ghost use Rattle.lit_model.specs.Person.{person_view};
 ghost use Rattle.lit_model.specs.SamePerson.{same_people};
 ghost use Rattle.lit_model.specs.Text.{chunks};
 ghost use Rattle.std.specs.Cow.{cow_value};
-ghost use Rattle.csl_entry.specs.Answers.{behind};
+ghost use Rattle.csl_entry.specs.Answers.{cow_view};
 
 use crate::number_result::PageVariableResult;
 use lit_model::{ChunkedString, Date, MaybeTyped, Numeric, Person};
@@ -23,22 +23,25 @@ use std::borrow::Cow;
 /// in every text (CSL 1.0.2, Name Variables).
 pub fn same_people(people: &[Cow<'_, Person>], others: &[Cow<'_, Person>]) -> bool
     ensures texts { IsTrue result
-        ↔ (map (behind named) people.now ≡ map (behind named) others.now) }
+        ↔ (map (cow_view person_view) people.now ≡ map (cow_view person_view) others.now) }
     ensures test { result
-        ≡ same_people (map (behind named) people.now) (map (behind named) others.now) }
+        ≡ same_people (map (cow_view person_view) people.now) (map (cow_view person_view) others.now) }
 {
     same_each(people, others)
 }
 
 /// Compares two lists of persons, person by person.
 fn same_each(people: &[Cow<'_, Person>], others: &[Cow<'_, Person>]) -> bool
-    ensures { result ≡ same_people (map (behind named) people.now) (map (behind named) others.now) }
+    ensures { result ≡ same_people (map (cow_view person_view) people.now) (map (cow_view person_view) others.now) }
 {
     if people.len() != others.len() {
         return false;
     }
     for place in 0..people.len() {
-        if !people[place].as_ref().shows_same(others[place].as_ref()) {
+        if !people[place]
+            .as_ref()
+            .is_same_person(others[place].as_ref())
+        {
             return false;
         }
     }
@@ -52,7 +55,7 @@ pub fn same_text(
     other: &Option<Cow<'_, ChunkedString>>,
 ) -> bool
     ensures { IsTrue result
-        ↔ (option_map (behind chunks) text.now ≡ option_map (behind chunks) other.now) }
+        ↔ (option_map (cow_view chunks) text.now ≡ option_map (cow_view chunks) other.now) }
 {
     *text == *other
 }
@@ -64,8 +67,8 @@ pub fn same_number(
     other: &Option<MaybeTyped<Cow<'_, Numeric>>>,
 ) -> bool
     ensures { IsTrue result
-        ↔ (option_map (maybe_view (behind numeric_view)) number.now
-        ≡ option_map (maybe_view (behind numeric_view)) other.now) }
+        ↔ (option_map (maybe_view (cow_view numeric_view)) number.now
+        ≡ option_map (maybe_view (cow_view numeric_view)) other.now) }
 {
     *number == *other
 }
@@ -84,13 +87,13 @@ pub fn same_pages(pages: &Option<PageVariableResult>, others: &Option<PageVariab
 /// whether they are approximate (CSL 1.0.2, Date Variables).
 pub fn same_date(date: &Option<Cow<'_, Date>>, other: &Option<Cow<'_, Date>>) -> bool
     ensures { IsTrue result
-        ↔ (option_map (behind date_parts) date.now ≡ option_map (behind date_parts) other.now) }
+        ↔ (option_map (cow_view date_view) date.now ≡ option_map (cow_view date_view) other.now) }
 {
-    lent(date) == lent(other)
+    as_deref(date) == as_deref(other)
 }
 
 /// What was found, wherever it lies.
-fn lent<'a, T: Drop>(found: &'a Option<Cow<'_, T>>) -> Option<&'a T>
+fn as_deref<'a, T: Drop>(found: &'a Option<Cow<'_, T>>) -> Option<&'a T>
     ensures { option_copied result ≡ option_map cow_value found.now }
 {
     match found {

@@ -13,12 +13,12 @@ use std::borrow::{Cow, CowStr};
 pub trait EntryLike {
     ghost use Rattle.std.specs.Prelude.{◌≡◌, ℕ, Bool, List, Option, IfOk, map, option_map};
     ghost use Rattle.std.specs.Cow.{cow_str_bytes};
-    ghost use Rattle.csl_entry.specs.Answers.{Answers, behind};
-    ghost use Rattle.lit_model.specs.Date.{date_parts};
+    ghost use Rattle.csl_entry.specs.Answers.{Answers, cow_view};
+    ghost use Rattle.lit_model.specs.Date.{date_view};
     ghost use Rattle.lit_model.specs.MaybeTyped.{maybe_view};
     ghost use Rattle.lit_model.specs.Numeric.{numeric_view};
     ghost use Rattle.lit_model.specs.Page.{pages_view};
-    ghost use Rattle.lit_model.specs.Person.{named};
+    ghost use Rattle.lit_model.specs.Person.{person_view};
     ghost use Rattle.lit_model.specs.Text.{chunks};
 
     ghost answers: { Self → Answers };
@@ -36,7 +36,7 @@ pub trait EntryLike {
         alloc: Global,
         variable: NumberVariable,
     ) -> Result<Option<MaybeTyped<Cow<'_, Numeric>>>, Memory>
-        ensures { IfOk result (λ found. option_map (maybe_view (behind numeric_view)) found
+        ensures { IfOk result (λ found. option_map (maybe_view (cow_view numeric_view)) found
             ≡ (answers self.now).numbers variable) };
 
     /// The pages, or their text where they are none.
@@ -61,7 +61,7 @@ pub trait EntryLike {
         form: LongShortForm,
         variable: StandardVariable,
     ) -> Result<Option<Cow<'_, ChunkedString>>, Memory>
-        ensures { IfOk result (λ found. option_map (behind chunks) found
+        ensures { IfOk result (λ found. option_map (cow_view chunks) found
             ≡ (answers self.now).standards form variable) };
 
     /// The persons, in order; none where there are none (CSL 1.0.2, Name Variables).
@@ -73,7 +73,7 @@ pub trait EntryLike {
         alloc: Global,
         variable: NameVariable,
     ) -> Result<Vec<Cow<'_, Person>>, Memory>
-        ensures { IfOk result (λ found. map (behind named) found.items
+        ensures { IfOk result (λ found. map (cow_view person_view) found.items
             ≡ (answers self.now).names variable) };
 
     /// The date (CSL 1.0.2, Date Variables).
@@ -85,7 +85,7 @@ pub trait EntryLike {
         alloc: Global,
         variable: DateVariable,
     ) -> Result<Option<Cow<'_, Date>>, Memory>
-        ensures { IfOk result (λ found. option_map (behind date_parts) found
+        ensures { IfOk result (λ found. option_map (cow_view date_view) found
             ≡ (answers self.now).dates variable) };
 
     /// Whether the entry is of that kind (CSL 1.0.2, Types). It may be of several, or of none.

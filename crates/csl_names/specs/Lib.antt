@@ -2,12 +2,12 @@
 -- lists of a names node are written.
 pub mod Piece
 pub mod OneName
-pub mod Ways
+pub mod NameStyles
 pub mod NameList
-pub mod ListWays
+pub mod ListStyles
 pub mod NamesLists
 pub mod PersonLists
 pub mod NamesForms
-pub mod KeptForms
+pub mod CiteForms
 pub mod NamesContent
 pub mod NamesStyles

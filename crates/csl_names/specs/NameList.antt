@@ -1,33 +1,34 @@
 -- A list of names (CSL 1.0.2, Name: `and`, `delimiter`, `delimiter-precedes-et-al`,
 -- `delimiter-precedes-last`, `et-al-use-last`, `name-as-sort-order`; Et-al) has persons, and a form
--- or none for each place (`Forms`). It is a list of pieces too (`name_list`): the names, and what
+-- or none for each place (`NameForms`). It is a list of pieces too (`name_list`): the names, and what
 -- replaces those that are left out. A gap of the list sees all of the innermost open part, also
 -- what is before the list.
 use Rattle.std.specs.Prelude.{ℕ, ◌+◌, ◌-◌, Bool, true, false, ◌&&◌, ◌==◌, nat_lt, nat_le, min, List, [], ◌∷◌, ◌++◌, length, Option, Some, None, is_none, slice_get, codes, if◌then◌else◌}
 use Rattle.std.specs.List.{position}
-use Rattle.lit_model.specs.Person.{Named}
+use Rattle.lit_model.specs.Person.{PersonView}
 use Rattle.csl_style.specs.declared.formatting.Formatting as partial
 use Rattle.csl_style.specs.declared.taxonomy.NameVariable.{NameVariable}
 use Rattle.csl_style.specs.declared.names.DelimiterBehavior.{DelimiterBehavior}
 use Rattle.csl_style.specs.declared.names.DelimiterBehavior.TheVariants.{Contextual, AfterInvertedName, Always, Never}
 use Rattle.csl_style.specs.declared.names.NameAsSortOrder.{NameAsSortOrder}
 use Rattle.csl_style.specs.declared.names.NameAsSortOrder.TheVariants.{First, All}
-use Rattle.csl_style.specs.NamesParts.{plain}
+use Rattle.csl_style.specs.NamesParts.{no_formatting}
 use Rattle.csl_tree.specs.Tokens.{of_name}
-use Rattle.csl_tree.specs.Content.{boxed}
+use Rattle.csl_tree.specs.Content.{elem_content}
 use Rattle.csl_entry.specs.declared.name_form.DisambiguatedNameForm.{DisambiguatedNameForm}
+use Rattle.csl_entry.specs.NameProperties.{NameForms}
 use Rattle.csl_context.specs.State.{Inherited}
-use Rattle.csl_context.specs.Now.{Now}
+use Rattle.csl_context.specs.ContextView.{ContextView}
 use Rattle.csl_names.specs.Piece.{Piece, word, gap, whole, with_pieces}
-use Rattle.csl_names.specs.OneName.{NameHow, name_content}
+use Rattle.csl_names.specs.OneName.{NameStyleView, name_content}
 
 -- The variable; how each name is written; what stands between two names; the word before the last
 -- one, where there is to be one; when a delimiter stands before that word and before `et al.`;
 -- whether the last name is kept; which names begin with the family name; the text of `et al.`,
 -- where the style has one, and its formatting.
-pub record ListHow : Type 0 where
+pub record ListStyleView : Type 0 where
   pub variable : NameVariable
-  pub name : NameHow
+  pub name : NameStyleView
   pub delimiter : List ℕ
   pub and_word : Option (List ℕ)
   pub before_last : DelimiterBehavior
@@ -42,20 +43,16 @@ pub record ListHow : Type 0 where
 -- persons, or more. Each name is in an element of its own, with the variable and the place
 -- (`one_whole`), and its gaps see that name alone.
 
--- the form of each name: one without a form is left out
-abbrev pub Forms : Type 0
-Forms = List (Option DisambiguatedNameForm)
-
 abbrev pub form_or_none : Option (Option DisambiguatedNameForm) → Option DisambiguatedNameForm
 form_or_none None = None
 form_or_none (Some form) = form
 
 -- the form of the name at a place; beyond the forms there is none
-abbrev pub form_at : Forms → ℕ → Option DisambiguatedNameForm
+abbrev pub form_at : NameForms → ℕ → Option DisambiguatedNameForm
 form_at forms place = form_or_none (slice_get forms place)
 
 -- the place of the first name that the forms leave out, if any
-abbrev pub first_absent : Forms → Option ℕ
+abbrev pub first_absent : NameForms → Option ℕ
 first_absent forms = position (λ form. is_none form) forms
 
 -- the number of names of a list that is shown whole
@@ -80,29 +77,29 @@ is_all (Some First) = false
 is_all (Some All) = true
 
 -- ---- before a name
--- Before each name but the first is the delimiter (`join`). Before the last name of a list that is
+-- Before each name but the first is the delimiter (`name_separator`). Before the last name of a list that is
 -- shown whole, if there is an `and`, are the delimiter or a space, the word, and a gap
--- (`last_join`).
--- A delimiter precedes the word or `et al.` (`precedes`) under `Always`; never under `Never`; under
+-- (`last_name_separator`).
+-- A delimiter precedes the word or `et al.` (`delimiter_precedes`) under `Always`; never under `Never`; under
 -- `Contextual` after two names or more; under `AfterInvertedName` if a name is shown and the last
 -- one shown is reversed.
 
 -- whether a delimiter follows this many names, of which `shown` are shown
-abbrev pub precedes : DelimiterBehavior → Option NameAsSortOrder → ℕ → ℕ → Bool
-precedes Contextual order names shown = nat_le 2 names
-precedes AfterInvertedName order names shown = nat_lt 0 shown && is_reversed order (shown - 1)
-precedes Always order names shown = true
-precedes Never order names shown = false
+abbrev pub delimiter_precedes : DelimiterBehavior → Option NameAsSortOrder → ℕ → ℕ → Bool
+delimiter_precedes Contextual order names shown = nat_le 2 names
+delimiter_precedes AfterInvertedName order names shown = nat_lt 0 shown && is_reversed order (shown - 1)
+delimiter_precedes Always order names shown = true
+delimiter_precedes Never order names shown = false
 
-abbrev pub delimiter_of : ListHow → Piece
-delimiter_of how = word how.delimiter plain
+abbrev pub delimiter_of : ListStyleView → Piece
+delimiter_of how = word how.delimiter no_formatting
 
 -- the pieces before the last name: a delimiter or a space, the word and a gap; the delimiter where
 -- there is no word
-abbrev pub last_join : ListHow → ℕ → Option (List ℕ) → List Piece
-last_join how place None = delimiter_of how ∷ []
-last_join how place (Some and) =
-    word (if precedes how.before_last how.order place place then how.delimiter else codes " ") plain ∷ word and plain ∷ gap plain ∷ []
+abbrev pub last_name_separator : ListStyleView → ℕ → Option (List ℕ) → List Piece
+last_name_separator how place None = delimiter_of how ∷ []
+last_name_separator how place (Some and) =
+    word (if delimiter_precedes how.before_last how.order place place then how.delimiter else codes " ") no_formatting ∷ word and no_formatting ∷ gap no_formatting ∷ []
 
 -- the last place of a list that is shown whole
 abbrev pub is_last : Option ℕ → ℕ → Bool
@@ -110,24 +107,24 @@ is_last None place = false
 is_last (Some count) place = place + 1 == count
 
 -- the pieces before the name at a place; `ends` is the number of names, where all are shown
-abbrev pub join : ListHow → Option ℕ → ℕ → List Piece
-join how ends place =
-    if nat_lt 0 place then (if is_last ends place then last_join how place how.and_word else delimiter_of how ∷ []) else []
+abbrev pub name_separator : ListStyleView → Option ℕ → ℕ → List Piece
+name_separator how ends place =
+    if nat_lt 0 place then (if is_last ends place then last_name_separator how place how.and_word else delimiter_of how ∷ []) else []
 
 -- ---- the names
 
 -- one name in an element of its own
-abbrev pub one_whole : Inherited → ListHow → DisambiguatedNameForm → Bool → ℕ → Named → Piece
-one_whole inh how form reversed place p = whole (boxed None (Some (of_name how.variable place)) (name_content how.name form reversed p inh))
+abbrev pub one_whole : Inherited → ListStyleView → DisambiguatedNameForm → Bool → ℕ → PersonView → Piece
+one_whole inh how form reversed place p = whole (elem_content None (Some (of_name how.variable place)) (name_content how.name form reversed p inh))
 
 -- a name that has a form, and the pieces after it; nothing if it has none
-abbrev pub from_form : Inherited → ListHow → Option ℕ → ℕ → Named → List Piece → Option DisambiguatedNameForm → List Piece
+abbrev pub from_form : Inherited → ListStyleView → Option ℕ → ℕ → PersonView → List Piece → Option DisambiguatedNameForm → List Piece
 from_form inh how ends place p behind None = []
 from_form inh how ends place p behind (Some form) =
-    join how ends place ++ (one_whole inh how form (is_reversed how.order place) place p ∷ behind)
+    name_separator how ends place ++ (one_whole inh how form (is_reversed how.order place) place p ∷ behind)
 
 -- the names from a place on, up to the first without a form
-abbrev pub names_from : Inherited → ListHow → Option ℕ → Forms → ℕ → List Named → List Piece
+abbrev pub names_from : Inherited → ListStyleView → Option ℕ → NameForms → ℕ → List PersonView → List Piece
 names_from inh how ends forms place [] = []
 names_from inh how ends forms place (p ∷ ps) =
     from_form inh how ends place p (names_from inh how ends forms (place + 1) ps) (form_at forms place)
@@ -136,15 +133,15 @@ names_from inh how ends forms place (p ∷ ps) =
 -- If the forms leave a name out, the list ends with more pieces (`list_end`). With et-al-use-last
 -- and a form at the last place (`last_form`): the delimiter, an ellipsis and a space, and the last
 -- person in that form, with that person's place, reversed only under `All` (`kept_last`).
--- Else, unless a sort key is made or the style lacks the term (`others`): the delimiter, if it
+-- Else, unless a sort key is made or the style lacks the term (`et_al_pieces`): the delimiter, if it
 -- precedes by the place of the first name left out and the persons before it, without the
 -- formatting of `et al.`; then a gap and the term in that formatting.
 
 -- `et al.` after this many names, of which `shown` are shown
-abbrev pub others : ListHow → ℕ → ℕ → Option (List ℕ) → List Piece
-others how names shown None = []
-others how names shown (Some term) =
-    (if precedes how.before_et_al how.order names shown then delimiter_of how ∷ [] else [])
+abbrev pub et_al_pieces : ListStyleView → ℕ → ℕ → Option (List ℕ) → List Piece
+et_al_pieces how names shown None = []
+et_al_pieces how names shown (Some term) =
+    (if delimiter_precedes how.before_et_al how.order names shown then delimiter_of how ∷ [] else [])
     ++ (gap how.et_al_formatting ∷ word term how.et_al_formatting ∷ [])
 
 -- the bytes of an ellipsis and a space
@@ -152,36 +149,36 @@ abbrev pub ellipsis : List ℕ
 ellipsis = 226 ∷ 128 ∷ 166 ∷ 32 ∷ []
 
 -- the last name, after the delimiter and an ellipsis
-abbrev pub kept_last : Inherited → ListHow → List Named → DisambiguatedNameForm → Option Named → List Piece
+abbrev pub kept_last : Inherited → ListStyleView → List PersonView → DisambiguatedNameForm → Option PersonView → List Piece
 kept_last inh how persons form None = []
 kept_last inh how persons form (Some p) =
-    delimiter_of how ∷ word ellipsis plain ∷ one_whole inh how form (is_all how.order) (length persons - 1) p ∷ []
+    delimiter_of how ∷ word ellipsis no_formatting ∷ one_whole inh how form (is_all how.order) (length persons - 1) p ∷ []
 
 -- the form of the last name, where that is to be kept
-abbrev pub last_form : ListHow → Forms → Option DisambiguatedNameForm
+abbrev pub last_form : ListStyleView → NameForms → Option DisambiguatedNameForm
 last_form how forms = if how.use_last then form_at forms (length forms - 1) else None
 
 -- the pieces after the names, of which the one at place `names` is the first without a form; a sort
 -- key has no `et al.`
-abbrev pub cut_end : Inherited → ListHow → ℕ → Forms → List Named → Option DisambiguatedNameForm → List Piece
+abbrev pub cut_end : Inherited → ListStyleView → ℕ → NameForms → List PersonView → Option DisambiguatedNameForm → List Piece
 cut_end inh how names forms persons (Some form) = kept_last inh how persons form (slice_get persons (length persons - 1))
-cut_end inh how names forms persons None = if how.name.sorting then [] else others how names (min names (length persons)) how.et_al
+cut_end inh how names forms persons None = if how.name.sorting then [] else et_al_pieces how names (min names (length persons)) how.et_al
 
-abbrev pub list_end : Inherited → ListHow → Forms → List Named → Option ℕ → List Piece
+abbrev pub list_end : Inherited → ListStyleView → NameForms → List PersonView → Option ℕ → List Piece
 list_end inh how forms persons None = []
 list_end inh how forms persons (Some names) = cut_end inh how names forms persons (last_form how forms)
 
 -- ---- Name list
 
-abbrev pub name_list : Inherited → ListHow → List Named → Forms → List Piece
+abbrev pub name_list : Inherited → ListStyleView → List PersonView → NameForms → List Piece
 name_list inh how persons forms =
     names_from inh how (whole_count (first_absent forms) (length persons)) forms 0 persons
     ++ list_end inh how forms persons (first_absent forms)
 
 -- the context after one name, and after the list; a gap of the list sees all of the innermost open
 -- part
-abbrev pub with_whole : {T : Type 0} → ListHow → DisambiguatedNameForm → Bool → ℕ → Named → Now T → Now T
+abbrev pub with_whole : {T : Type 0} → ListStyleView → DisambiguatedNameForm → Bool → ℕ → PersonView → ContextView T → ContextView T
 with_whole how form reversed place p now = with_pieces (one_whole now.inherited how form reversed place p ∷ []) now
 
-abbrev pub with_names : {T : Type 0} → ListHow → List Named → Forms → Now T → Now T
+abbrev pub with_names : {T : Type 0} → ListStyleView → List PersonView → NameForms → ContextView T → ContextView T
 with_names how persons forms now = with_pieces (name_list now.inherited how persons forms) now

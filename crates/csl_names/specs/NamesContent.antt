@@ -2,28 +2,29 @@
 -- Label in Names; Affixes; Display; Name, `form`).
 use Rattle.std.specs.Prelude.{ℕ, ◌+◌, Bool, true, false, not, ◌&&◌, ◌||◌, ◌==◌, List, [], ◌∷◌, length, Option, Some, None, slice_get, decimal, if◌then◌else◌}
 use Rattle.std.specs.Option.{unwrap_or, option_or}
-use Rattle.lit_model.specs.Person.{Named}
+use Rattle.lit_model.specs.Person.{PersonView}
 use Rattle.csl_style.specs.declared.names.NameForm.{NameForm}
 use Rattle.csl_style.specs.declared.names.NameForm.TheVariants.{Count, Short, Long}
 use Rattle.csl_style.specs.declared.taxonomy.NameVariable.{NameVariable}
 use Rattle.csl_style.specs.declared.term.Term.TheVariants as terms
 use Rattle.csl_style.specs.Dressing.{Dressing}
-use Rattle.csl_style.specs.NameOptions.{SetOptions, UsedOptions, options_over, with_defaults, names_delimiter_of}
+use Rattle.csl_style.specs.NameOptions.{PartialOptions, CompleteOptions, apply_options, with_defaults, names_delimiter_of}
 use Rattle.csl_style.specs.Names.{NameNode, EtAlNode, LabelNode, NamesLabel, NamesNode, first_name}
 use Rattle.csl_style.specs.NamesParts.{default_name, default_et_al}
 use Rattle.csl_style.specs.Style.{StyleParts}
 use Rattle.csl_tree.specs.Tokens.{Token, Meta, of_names}
-use Rattle.csl_tree.specs.Content.{◌++>◌, boxed}
+use Rattle.csl_tree.specs.Content.{◌++>◌, elem_content}
 use Rattle.csl_entry.specs.Cite.{CiteState}
-use Rattle.csl_context.specs.State.{State, Inherited}
+use Rattle.csl_entry.specs.NameProperties.{NameForms}
+use Rattle.csl_context.specs.State.{State, Inherited, with_node_formatting}
 use Rattle.csl_context.specs.Texts.{text_in, affixed_in}
 use Rattle.csl_context.specs.World.{term_in}
-use Rattle.csl_names.specs.Piece.{under, written}
-use Rattle.csl_names.specs.NameList.{Forms, name_list}
-use Rattle.csl_names.specs.ListWays.{list_way}
-use Rattle.csl_names.specs.NamesLists.{Lists}
-use Rattle.csl_names.specs.NamesForms.{count_of, counted}
-use Rattle.csl_names.specs.KeptForms.{forms_in, keeping_by}
+use Rattle.csl_names.specs.Piece.{append_pieces}
+use Rattle.csl_names.specs.NameList.{name_list}
+use Rattle.csl_names.specs.ListStyles.{list_style}
+use Rattle.csl_names.specs.NamesLists.{PersonLists}
+use Rattle.csl_names.specs.NamesForms.{count_of, saturated_count}
+use Rattle.csl_names.specs.CiteForms.{forms_in, with_first_forms_by}
 
 -- ---- how the lists are written
 -- The first Name, Et-al and Label among the children count. Options are those of the Name over
@@ -31,9 +32,9 @@ use Rattle.csl_names.specs.KeptForms.{forms_in, keeping_by}
 -- else the delimiter of the node, else that of the node's options over the inherited ones.
 
 -- the name, its options, et al., the label, and the delimiter between two lists
-pub record NamesHow : Type 0 where
+pub record NamesStyleView : Type 0 where
   pub name : NameNode
-  pub options : UsedOptions
+  pub options : CompleteOptions
   pub et_al : EtAlNode
   pub label : Option NamesLabel
   pub delimiter : List ℕ
@@ -42,16 +43,16 @@ abbrev pub name_of : NamesNode → NameNode
 name_of n = unwrap_or (first_name n) default_name
 
 -- the options that are set: those of the name, over those of the node, over the inherited ones
-abbrev pub set_options : NamesNode → SetOptions → SetOptions
-set_options n inherited = options_over (name_of n).options (options_over n.options inherited)
+abbrev pub set_options : NamesNode → PartialOptions → PartialOptions
+set_options n inherited = apply_options (name_of n).options (apply_options n.options inherited)
 
 -- the delimiter that the node itself has counts before that among its options
-abbrev pub lists_delimiter : NamesNode → SetOptions → List ℕ
+abbrev pub lists_delimiter : NamesNode → PartialOptions → List ℕ
 lists_delimiter n inherited =
-    unwrap_or (option_or (name_of n).options.names_delimiter n.delimiter) (names_delimiter_of (options_over n.options inherited))
+    unwrap_or (option_or (name_of n).options.names_delimiter n.delimiter) (names_delimiter_of (apply_options n.options inherited))
 
-abbrev pub names_how : NamesNode → SetOptions → NamesHow
-names_how n inherited = record {
+abbrev pub names_style : NamesNode → PartialOptions → NamesStyleView
+names_style n inherited = record {
   name = name_of n;
   options = with_defaults (set_options n inherited);
   et_al = unwrap_or n.et_al default_et_al;
@@ -67,10 +68,10 @@ names_how n inherited = record {
 
 -- what the term of a label inherits: the label's formatting, and stripping of the term alone
 abbrev pub in_label : LabelNode → Inherited → Inherited
-in_label l inh = record (under l.formatting inh) { stripping = l.strip_periods || inh.stripping }
+in_label l inh = record (with_node_formatting l.formatting inh) { strip_periods = l.strip_periods || inh.strip_periods }
 
 abbrev pub label_content : LabelNode → List ℕ → Inherited → List Token
-label_content l term inh = affixed_in (under l.formatting inh) l.affixes (text_in (in_label l inh) term)
+label_content l term inh = affixed_in (with_node_formatting l.formatting inh) l.affixes (text_in (in_label l inh) term)
 
 -- the term of the label of a list: that of its variable, in the plural where there is not one
 -- person
@@ -81,8 +82,8 @@ list_term style l v count = term_in style (terms.Name v) l.form (not (count == 1
 abbrev pub label_on : Bool → Bool → Option NamesLabel → Option LabelNode
 label_on sorting behind None = None
 label_on true behind (Some l) = None
-label_on false true (Some l) = if l.is_behind then Some l.label else None
-label_on false false (Some l) = if l.is_behind then None else Some l.label
+label_on false true (Some l) = if l.is_after then Some l.label else None
+label_on false false (Some l) = if l.is_after then None else Some l.label
 
 -- what is written, with a label after it, unless the style lacks the term
 abbrev pub with_term : LabelNode → Option (List ℕ) → Inherited → List Token → List Token
@@ -96,70 +97,66 @@ with_label style (Some l) v count inh ts = with_term l (list_term style l v coun
 
 -- ---- lists
 -- A list is the label before it, the names in the formatting of the Name, and the label after it
--- (`with_one`). A list that is empty or has no forms is left out, and takes no delimiter
+-- (`with_labelled_list`). A list that is empty or has no forms is left out, and takes no delimiter
 -- (`with_lists`).
 
 -- a list that is empty, or has no forms, is left out
-abbrev pub is_skipped : List Named → Option Forms → Bool
+abbrev pub is_skipped : List PersonView → Option NameForms → Bool
 is_skipped persons None = true
 is_skipped [] (Some forms) = true
 is_skipped (p ∷ ps) (Some forms) = false
 
-module _ (style : StyleParts) (sorting : Bool) (how : NamesHow) (inh : Inherited) where
+module _ (style : StyleParts) (sorting : Bool) (how : NamesStyleView) (inh : Inherited) where
   -- what is written, with the names of a list after it, in the formatting of the name
-  abbrev pub with_list : List Named → NameVariable → Forms → List Token → List Token
+  abbrev pub with_list : List PersonView → NameVariable → NameForms → List Token → List Token
   with_list persons v forms ts =
-      written (under how.name.formatting inh)
-      (name_list (under how.name.formatting inh) (list_way style sorting how.name how.options how.et_al v) persons forms) ts
+      append_pieces (with_node_formatting how.name.formatting inh)
+      (name_list (with_node_formatting how.name.formatting inh) (list_style style sorting how.name how.options how.et_al v) persons forms) ts
 
   -- the delimiter, unless it is the first; label, names, label
-  unfoldable pub with_one : Bool → List Named → NameVariable → Forms → List Token → List Token
-  with_one first persons v forms ts =
+  unfoldable pub with_labelled_list : Bool → List PersonView → NameVariable → NameForms → List Token → List Token
+  with_labelled_list first persons v forms ts =
       with_label style (label_on sorting true how.label) v (length persons) inh
       (with_list persons v forms
       (with_label style (label_on sorting false how.label) v (length persons) inh
       (if first then ts else ts ++> text_in inh how.delimiter)))
 
   -- a list after what is written, unless it is left out
-  abbrev pub with_one_if : Bool → List Named → NameVariable → Option Forms → List Token → List Token
-  with_one_if first persons v None ts = ts
-  with_one_if first [] v (Some forms) ts = ts
-  with_one_if first (p ∷ ps) v (Some forms) ts = with_one first (p ∷ ps) v forms ts
+  abbrev pub with_list_if_any : Bool → List PersonView → NameVariable → Option NameForms → List Token → List Token
+  with_list_if_any first persons v None ts = ts
+  with_list_if_any first [] v (Some forms) ts = ts
+  with_list_if_any first (p ∷ ps) v (Some forms) ts = with_labelled_list first (p ∷ ps) v forms ts
 
   -- the lists from a place on, each with the forms at its place; `first` while none is written
-  abbrev pub with_lists : Bool → ℕ → List Forms → Lists → List Token → List Token
+  abbrev pub with_lists : Bool → ℕ → List NameForms → PersonLists → List Token → List Token
   with_lists first place forms [] ts = ts
   with_lists first place forms (l ∷ ls) ts =
       with_lists (first && is_skipped l.0 (slice_get forms place)) (place + 1) forms ls
-      (with_one_if first l.0 l.1 (slice_get forms place) ts)
+      (with_list_if_any first l.0 l.1 (slice_get forms place) ts)
 
 -- ---- the node
 -- A box of the node's display, in its formatting, around the affixes and what is between them: the
 -- lists in their forms, or, if the form is the count, the number of names, whatever forms the
 -- citation has. The box has the lists as its meta. After it the forms are kept (`names_state`).
 
--- what is inherited inside a node's box
-abbrev pub inside : Dressing → Inherited → Inherited
-inside d inh = under d.formatting inh
-
 -- a names node writes how many names there are, or the names
-abbrev pub written_by : NameForm → StyleParts → Bool → CiteState → List NameVariable → NamesHow → Lists → Inherited → List Token
-written_by Count style sorting cite vs how ls inh = text_in inh (decimal (counted (count_of how.options (not cite.is_first) ls)))
-written_by Short style sorting cite vs how ls inh = with_lists style sorting how inh true 0 (forms_in cite vs how.options ls).lists ls []
-written_by Long style sorting cite vs how ls inh = with_lists style sorting how inh true 0 (forms_in cite vs how.options ls).lists ls []
+abbrev pub names_body : NameForm → StyleParts → Bool → CiteState → List NameVariable → NamesStyleView → PersonLists → Inherited → List Token
+names_body Count style sorting cite vs how ls inh = text_in inh (decimal (saturated_count (count_of how.options (not cite.is_first) ls)))
+names_body Short style sorting cite vs how ls inh = with_lists style sorting how inh true 0 (forms_in cite vs how.options ls).lists ls []
+names_body Long style sorting cite vs how ls inh = with_lists style sorting how inh true 0 (forms_in cite vs how.options ls).lists ls []
 
 -- the meta of a names node's box
-abbrev pub lists_meta : Lists → Option Meta
+abbrev pub lists_meta : PersonLists → Option Meta
 lists_meta ls = Some (of_names ls)
 
 -- the box of a names node that has persons, around the affixed lists, in a style and a cite, for a
 -- sort key or not
-abbrev pub names_content : StyleParts → Bool → CiteState → NamesNode → Lists → Inherited → List Token
-names_content style sorting cite n ls inh = boxed n.dressing.display (lists_meta ls)
-    (affixed_in (inside n.dressing inh) n.dressing.affixes
-    (written_by (names_how n inh.options).options.form style sorting cite n.variables (names_how n inh.options) ls (inside n.dressing inh)))
+abbrev pub names_content : StyleParts → Bool → CiteState → NamesNode → PersonLists → Inherited → List Token
+names_content style sorting cite n ls inh = elem_content n.dressing.display (lists_meta ls)
+    (affixed_in (with_node_formatting n.dressing.formatting inh) n.dressing.affixes
+    (names_body (names_style n inh.options).options.form style sorting cite n.variables (names_style n inh.options) ls (with_node_formatting n.dressing.formatting inh)))
 
 -- the state after the node: the first names that are not counted keep their forms
-abbrev pub names_state : CiteState → NamesNode → Lists → Inherited → State → State
+abbrev pub names_state : CiteState → NamesNode → PersonLists → Inherited → State → State
 names_state cite n ls inh s =
-    keeping_by (names_how n inh.options).options.form (forms_in cite n.variables (names_how n inh.options).options ls) s
+    with_first_forms_by (names_style n inh.options).options.form (forms_in cite n.variables (names_style n inh.options).options ls) s

@@ -6,7 +6,7 @@
 --   `default_forms`).
 -- - *The count* is the number of names of all lists that are not left out (`count_of`). The number
 --   that is printed stops at 2^64 - 1.
--- - A node is *void* (`is_void`) if it has no persons. It is also void if each of its name
+-- - A node is *void* (`writes_no_name`) if it has no persons. It is also void if each of its name
 --   children, or the default one where it has none, leaves out all names of all lists: by its
 --   options over those of the node alone, et-al-min and et-al-use-first are set, the latter is 0,
 --   and each list has at least et-al-min persons. In a dry run these are the lists as they are
@@ -15,17 +15,17 @@ use Rattle.std.specs.Prelude.{ℕ, ◌+◌, Bool, false, not, ◌&&◌, ◌||◌
 use Rattle.std.specs.List.{list_all, range_with_len}
 use Rattle.csl_style.specs.declared.names.NameForm.{NameForm}
 use Rattle.csl_style.specs.declared.names.NameForm.TheVariants.{Count, Short, Long}
-use Rattle.csl_style.specs.NameOptions.{SetOptions, UsedOptions, options_over, is_suppressed}
+use Rattle.csl_style.specs.NameOptions.{PartialOptions, CompleteOptions, apply_options, is_suppressed}
 use Rattle.csl_style.specs.Names.{NameNode, NamesNode}
 use Rattle.csl_entry.specs.declared.name_form.DisambiguatedNameForm.{DisambiguatedNameForm}
 use Rattle.csl_entry.specs.declared.name_form.DisambiguatedNameForm.TheVariants as forms
-use Rattle.csl_names.specs.NameList.{Forms}
-use Rattle.csl_names.specs.NamesLists.{Lists, all_empty}
+use Rattle.csl_entry.specs.NameProperties.{NameForms}
+use Rattle.csl_names.specs.NamesLists.{PersonLists, all_empty}
 
 -- ---- forms
 
 -- given names are written by their initials
-abbrev pub is_initialized : UsedOptions → Bool
+abbrev pub is_initialized : CompleteOptions → Bool
 is_initialized o = o.initialize && is_some o.initialize_with
 
 abbrev pub form_by : NameForm → Bool → DisambiguatedNameForm
@@ -34,50 +34,50 @@ form_by Short initialized = if initialized then forms.ShortInitialized else form
 form_by Long initialized = if initialized then forms.LongInitialized else forms.LongFull
 
 -- the form of each name that is shown
-abbrev pub default_form : UsedOptions → DisambiguatedNameForm
+abbrev pub default_form : CompleteOptions → DisambiguatedNameForm
 default_form o = form_by o.form (is_initialized o)
 
 -- the form of the name at a place of a list of this length, in a first or a later cite; a name that
 -- is left out has none
-abbrev pub form_in : UsedOptions → Bool → ℕ → ℕ → Option DisambiguatedNameForm
+abbrev pub form_in : CompleteOptions → Bool → ℕ → ℕ → Option DisambiguatedNameForm
 form_in o later len place = if is_suppressed o place len later then None else Some (default_form o)
 
-abbrev pub list_forms : UsedOptions → Bool → ℕ → Forms
+abbrev pub list_forms : CompleteOptions → Bool → ℕ → NameForms
 list_forms o later len = map (form_in o later len) (range_with_len 0 len)
 
-abbrev pub default_forms : UsedOptions → Bool → Lists → List Forms
+abbrev pub default_forms : CompleteOptions → Bool → PersonLists → List NameForms
 default_forms o later ls = map (λ l. list_forms o later (length l.0)) ls
 
 -- ---- counts
 
 -- the number of names of a list of this length that are not left out
-abbrev pub shown_count : UsedOptions → Bool → ℕ → ℕ
+abbrev pub shown_count : CompleteOptions → Bool → ℕ → ℕ
 shown_count o later len = count_by (λ place. not (is_suppressed o place len later)) (range_with_len 0 len)
 
 -- the number of names of all lists that are not left out
-abbrev pub count_of : UsedOptions → Bool → Lists → ℕ
+abbrev pub count_of : CompleteOptions → Bool → PersonLists → ℕ
 count_of o later [] = 0
 count_of o later (l ∷ ls) = shown_count o later (length l.0) + count_of o later ls
 
 -- names that are counted stop at `usize::MAX`
-abbrev pub counted : ℕ → ℕ
-counted n = min n 18446744073709551615
+abbrev pub saturated_count : ℕ → ℕ
+saturated_count n = min n 18446744073709551615
 
 -- ---- when no name is written
 
 -- names are left out from the first on, in each list
-abbrev pub hides_all : Option ℕ → Option ℕ → Lists → Bool
+abbrev pub hides_all : Option ℕ → Option ℕ → PersonLists → Bool
 hides_all None first ls = false
 hides_all (Some min) None ls = false
 hides_all (Some min) (Some first) ls = (first == 0) && list_all (λ l. nat_le min (length l.0)) ls
 
-abbrev pub name_hides : SetOptions → Lists → NameNode → Bool
-name_hides own ls n = hides_all (options_over n.options own).et_al_min (options_over n.options own).et_al_use_first ls
+abbrev pub name_hides : PartialOptions → PersonLists → NameNode → Bool
+name_hides own ls n = hides_all (apply_options n.options own).et_al_min (apply_options n.options own).et_al_use_first ls
 
 -- each name child does, or the default one where there is none, by the options of the node alone
-abbrev pub each_hides : SetOptions → Lists → List NameNode → Bool
+abbrev pub each_hides : PartialOptions → PersonLists → List NameNode → Bool
 each_hides own ls [] = hides_all own.et_al_min own.et_al_use_first ls
 each_hides own ls (n ∷ ns) = list_all (name_hides own ls) (n ∷ ns)
 
-abbrev pub is_void : NamesNode → Lists → Bool
-is_void n ls = all_empty ls || each_hides n.options ls n.name_children
+abbrev pub writes_no_name : NamesNode → PersonLists → Bool
+writes_no_name n ls = all_empty ls || each_hides n.options ls n.name_children

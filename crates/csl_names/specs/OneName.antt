@@ -1,17 +1,17 @@
 -- One name (CSL 1.0.2, Name; Name-part; `name-as-sort-order`, `demote-non-dropping-particle`,
 -- `initialize-with`, `sort-separator`) is a list of pieces (`one_name`). It depends on the form, on
--- whether the name is reversed, and on how it is written (`NameHow`): the two parts with their
+-- whether the name is reversed, and on how it is written (`NameStyleView`): the two parts with their
 -- formattings and affixes, the separator, the text after initials, whether these keep a hyphen,
 -- whether a particle is demoted, and whether a sort key is made. `name_content` is the content of
 -- these pieces alone, so its gaps see only this name.
--- `part_how` and `name_how` are the code's own: private contracts alone cite them.
+-- `part_style_view` and `name_style_view` are the code's own: private contracts alone cite them.
 use Rattle.std.specs.Prelude.{ℕ, Bool, true, false, ◌||◌, List, [], ◌∷◌, ◌++◌, Option, Some, None, option_map, if◌then◌else◌}
-use Rattle.lit_model.specs.Person.{Named}
+use Rattle.lit_model.specs.Person.{PersonView}
 use Rattle.lit_model.specs.Name.{is_institutional, is_cjk, name_particle, name_without_particle, name_without_article}
 use Rattle.lit_model.specs.Initials.{initials, given_words}
 use Rattle.lit_model.specs.FirstNames.{lettered_words}
 use Rattle.csl_style.specs.declared.formatting.Formatting as partial
-use Rattle.csl_style.specs.NamesParts.{plain}
+use Rattle.csl_style.specs.NamesParts.{no_formatting}
 use Rattle.csl_style.specs.Dressing.{AffixTexts}
 use Rattle.csl_tree.specs.Tokens.{Token}
 use Rattle.csl_entry.specs.declared.name_form.DisambiguatedNameForm.{DisambiguatedNameForm}
@@ -20,17 +20,17 @@ use Rattle.csl_entry.specs.NameForm.{shows_given_name}
 use Rattle.csl_context.specs.State.{Inherited}
 use Rattle.csl_names.specs.declared.part.PartStyle.{PartStyle}
 use Rattle.csl_names.specs.declared.name.NameStyle.{NameStyle}
-use Rattle.csl_names.specs.Piece.{Piece, word, gap, optional_word, spaced_word, written}
+use Rattle.csl_names.specs.Piece.{Piece, word, gap, optional_word, spaced_word, append_pieces}
 
 -- ---- how a name is written
 
 -- a part of a name: its formatting, and its affixes
-pub record PartHow : Type 0 where
+pub record PartStyleView : Type 0 where
   pub formatting : partial.Formatting
   pub affixes : AffixTexts
 
-abbrev pub part_how : PartStyle → PartHow
-part_how p = record {
+abbrev pub part_style_view : PartStyle → PartStyleView
+part_style_view p = record {
   formatting = p.formatting;
   affixes = record { prefix = option_map (λ t. t.now) p.prefix; suffix = option_map (λ t. t.now) p.suffix };
 }
@@ -38,19 +38,19 @@ part_how p = record {
 -- The two parts; the separator after a family name that comes first; the text after an initial, if
 -- given names are shortened; whether initials keep a hyphen; whether a particle is demoted; whether
 -- a sort key is made.
-pub record NameHow : Type 0 where
-  pub given : PartHow
-  pub family : PartHow
+pub record NameStyleView : Type 0 where
+  pub given : PartStyleView
+  pub family : PartStyleView
   pub separator : List ℕ
   pub initialize_with : Option (List ℕ)
   pub hyphen : Bool
   pub demotes : Bool
   pub sorting : Bool
 
-abbrev pub name_how : NameStyle → NameHow
-name_how s = record {
-  given = part_how s.given;
-  family = part_how s.family;
+abbrev pub name_style_view : NameStyle → NameStyleView
+name_style_view s = record {
+  given = part_style_view s.given;
+  family = part_style_view s.family;
   separator = s.separator.now;
   initialize_with = option_map (λ t. t.now) s.initialize_with;
   hyphen = s.hyphen;
@@ -66,50 +66,50 @@ name_how s = record {
 -- name with its single letters marked.
 
 -- a text as a part of a name: the prefix and it in the part's formatting, the suffix outside
-abbrev pub part_text : PartHow → List ℕ → List Piece
+abbrev pub part_text : PartStyleView → List ℕ → List Piece
 part_text part name =
     optional_word part.affixes.prefix part.formatting
-    ++ (word name part.formatting ∷ optional_word part.affixes.suffix plain)
+    ++ (word name part.formatting ∷ optional_word part.affixes.suffix no_formatting)
 
 -- the separator and a text, if there is one
 abbrev pub separated_word : List ℕ → Option (List ℕ) → List Piece
 separated_word separator None = []
-separated_word separator (Some bs) = word separator plain ∷ word bs plain ∷ []
+separated_word separator (Some bs) = word separator no_formatting ∷ word bs no_formatting ∷ []
 
 -- the given name with its letters marked
 abbrev pub lettered_name : List ℕ → List ℕ → List ℕ
 lettered_name text given = lettered_words text (given_words given)
 
 -- the initials in the one long form, in the others the given name with its letters marked
-abbrev pub shortened : List ℕ → Bool → DisambiguatedNameForm → List ℕ → List ℕ
-shortened text hyphen Count given = lettered_name text given
-shortened text hyphen ShortInitialized given = lettered_name text given
-shortened text hyphen ShortFull given = lettered_name text given
-shortened text hyphen LongInitialized given = initials text hyphen given
-shortened text hyphen LongFull given = lettered_name text given
+abbrev pub initialized_given : List ℕ → Bool → DisambiguatedNameForm → List ℕ → List ℕ
+initialized_given text hyphen Count given = lettered_name text given
+initialized_given text hyphen ShortInitialized given = lettered_name text given
+initialized_given text hyphen ShortFull given = lettered_name text given
+initialized_given text hyphen LongInitialized given = initials text hyphen given
+initialized_given text hyphen LongFull given = lettered_name text given
 
 -- the given name as it is written
 abbrev pub given_text : Option (List ℕ) → Bool → DisambiguatedNameForm → List ℕ → List ℕ
 given_text None hyphen form given = given
-given_text (Some text) hyphen form given = shortened text hyphen form given
+given_text (Some text) hyphen form given = initialized_given text hyphen form given
 
 -- the given name in its part's formatting, if there is one
-abbrev pub given_word : NameHow → DisambiguatedNameForm → Named → List Piece
+abbrev pub given_word : NameStyleView → DisambiguatedNameForm → PersonView → List Piece
 given_word how form p =
     optional_word (option_map (given_text how.initialize_with how.hyphen form) p.given_name) how.given.formatting
 
 -- the given name and the person's prefix, in the given part's formatting
-abbrev pub given_block : NameHow → DisambiguatedNameForm → Named → List Piece
+abbrev pub given_block : NameStyleView → DisambiguatedNameForm → PersonView → List Piece
 given_block how form p =
     optional_word how.given.affixes.prefix how.given.formatting
     ++ (given_word how form p ++ spaced_word p.prefix how.given.formatting)
 
 -- the name as it comes first, and the demoted particle
-abbrev pub front_of : NameHow → Named → List ℕ
-front_of how p = if how.demotes then name_without_particle p.name else p.name
+abbrev pub leading_name : NameStyleView → PersonView → List ℕ
+leading_name how p = if how.demotes then name_without_particle p.name else p.name
 
-abbrev pub particle_of : NameHow → Named → Option (List ℕ)
-particle_of how p = if how.demotes then name_particle p.name else None
+abbrev pub demoted_particle : NameStyleView → PersonView → Option (List ℕ)
+demoted_particle how p = if how.demotes then name_particle p.name else None
 
 -- ---- its shapes
 -- The first case that fits counts.
@@ -128,57 +128,57 @@ particle_of how p = if how.demotes then name_particle p.name else None
 -- would come first, but not where it would come second.
 
 -- what follows a family name that comes first, where there is a given name
-abbrev pub given_behind : NameHow → DisambiguatedNameForm → Named → Option (List ℕ) → List Piece
-given_behind how form p None = []
-given_behind how form p (Some given) =
-    word how.separator plain
-    ∷ (given_block how form p ++ (spaced_word (particle_of how p) plain ++ optional_word how.given.affixes.suffix plain))
+abbrev pub given_after_family : NameStyleView → DisambiguatedNameForm → PersonView → Option (List ℕ) → List Piece
+given_after_family how form p None = []
+given_after_family how form p (Some given) =
+    word how.separator no_formatting
+    ∷ (given_block how form p ++ (spaced_word (demoted_particle how p) no_formatting ++ optional_word how.given.affixes.suffix no_formatting))
 
 -- `Gogh, Vincent van, Jr.`
-abbrev pub family_first : NameHow → DisambiguatedNameForm → Named → List Piece
+abbrev pub family_first : NameStyleView → DisambiguatedNameForm → PersonView → List Piece
 family_first how form p =
-    part_text how.family (front_of how p)
-    ++ (given_behind how form p p.given_name ++ separated_word how.separator p.suffix)
+    part_text how.family (leading_name how p)
+    ++ (given_after_family how form p p.given_name ++ separated_word how.separator p.suffix)
 
 -- the suffix of a person, after the separator if it wants a comma
-abbrev pub suffix_behind : NameHow → Bool → Option (List ℕ) → List Piece
-suffix_behind how comma None = []
-suffix_behind how true (Some bs) = word how.separator plain ∷ gap plain ∷ word bs plain ∷ []
-suffix_behind how false (Some bs) = gap plain ∷ word bs plain ∷ []
+abbrev pub suffix_after_name : NameStyleView → Bool → Option (List ℕ) → List Piece
+suffix_after_name how comma None = []
+suffix_after_name how true (Some bs) = word how.separator no_formatting ∷ gap no_formatting ∷ word bs no_formatting ∷ []
+suffix_after_name how false (Some bs) = gap no_formatting ∷ word bs no_formatting ∷ []
 
 -- `Vincent van Gogh Jr.`
-abbrev pub given_first : NameHow → DisambiguatedNameForm → Named → List Piece
+abbrev pub given_first : NameStyleView → DisambiguatedNameForm → PersonView → List Piece
 given_first how form p =
     given_block how form p
-    ++ (optional_word how.given.affixes.suffix plain
-    ++ (gap plain ∷ (optional_word how.family.affixes.prefix how.family.formatting
+    ++ (optional_word how.given.affixes.suffix no_formatting
+    ++ (gap no_formatting ∷ (optional_word how.family.affixes.prefix how.family.formatting
     ++ (word p.name how.family.formatting
-    ∷ (suffix_behind how p.comma_suffix p.suffix ++ optional_word how.family.affixes.suffix plain)))))
+    ∷ (suffix_after_name how p.comma_suffix p.suffix ++ optional_word how.family.affixes.suffix no_formatting)))))
 
-abbrev pub cjk_given : NameHow → Option (List ℕ) → List Piece
+abbrev pub cjk_given : NameStyleView → Option (List ℕ) → List Piece
 cjk_given how None = []
 cjk_given how (Some given) = part_text how.given given
 
 -- a name in a Chinese, Japanese or Korean script: no gap between its parts
-abbrev pub cjk_name : NameHow → Named → List Piece
+abbrev pub cjk_name : NameStyleView → PersonView → List Piece
 cjk_name how p = part_text how.family p.name ++ cjk_given how p.given_name
 
 -- an institution is sorted without its article
-abbrev pub institution : NameHow → Named → List Piece
+abbrev pub institution : NameStyleView → PersonView → List Piece
 institution how p =
     if how.sorting then word (name_without_article p.name) how.family.formatting ∷ [] else part_text how.family p.name
 
-abbrev pub long_name : NameHow → DisambiguatedNameForm → Bool → Named → List Piece
+abbrev pub long_name : NameStyleView → DisambiguatedNameForm → Bool → PersonView → List Piece
 long_name how form reversed p =
     if is_cjk p then cjk_name how p
     else (if how.sorting || reversed then family_first how form p else given_first how form p)
 
 -- One name. The first case that fits counts.
-abbrev pub one_name : NameHow → DisambiguatedNameForm → Bool → Named → List Piece
+abbrev pub one_name : NameStyleView → DisambiguatedNameForm → Bool → PersonView → List Piece
 one_name how form reversed p =
     if is_institutional p then institution how p
     else (if shows_given_name form then long_name how form reversed p else part_text how.family p.name)
 
 -- the content of one name, in a place that inherits this: the gaps see this name alone
-abbrev pub name_content : NameHow → DisambiguatedNameForm → Bool → Named → Inherited → List Token
-name_content how form reversed p inh = written inh (one_name how form reversed p) []
+abbrev pub name_content : NameStyleView → DisambiguatedNameForm → Bool → PersonView → Inherited → List Token
+name_content how form reversed p inh = append_pieces inh (one_name how form reversed p) []

@@ -1,16 +1,16 @@
 -- A name, or a list of names, is a list of pieces, read from the left: a text in a formatting over
 -- that of its place (`word`), a space unless there is no text yet or the text ends in white space
--- (`gap`), and a content as it is (`whole`). Only `then_piece`, which appends a piece, knows what
+-- (`gap`), and a content as it is (`whole`). Only `append_piece`, which appends a piece, knows what
 -- is written before it; any other definition of names is a plain list. Under stripping, texts lose
 -- their periods, as all texts of a context do (CSL 1.0.2, Name).
 use Rattle.std.specs.Prelude.{ℕ, List, [], ◌∷◌, Option, Some, None}
 use Rattle.csl_style.specs.declared.formatting.Formatting as partial
-use Rattle.csl_tree.specs.Formatting.{over}
+use Rattle.csl_tree.specs.Formatting.{apply_formatting}
 use Rattle.csl_tree.specs.Tokens.{Token}
 use Rattle.csl_tree.specs.Content.{◌++>◌}
-use Rattle.csl_context.specs.State.{Inherited}
-use Rattle.csl_context.specs.Texts.{text_in, gap_after}
-use Rattle.csl_context.specs.Now.{Now}
+use Rattle.csl_context.specs.State.{Inherited, with_node_formatting}
+use Rattle.csl_context.specs.Texts.{text_in, wanted_space}
+use Rattle.csl_context.specs.ContextView.{ContextView}
 
 pub data Piece : Type 0 where
   -- a text, in a formatting over that of its place
@@ -20,24 +20,20 @@ pub data Piece : Type 0 where
   -- a content as it is
   whole : List Token → Piece
 
--- what is inherited under a formatting
-abbrev pub under : partial.Formatting → Inherited → Inherited
-under p inh = record inh { formatting = over p inh.formatting }
-
 -- what is written, and then a piece, in a place that inherits this
-abbrev pub then_piece : Inherited → List Token → Piece → List Token
-then_piece inh ts (word bs p) = ts ++> text_in (under p inh) bs
-then_piece inh ts (gap p) = ts ++> text_in (under p inh) (gap_after ts)
-then_piece inh ts (whole more) = ts ++> more
+abbrev pub append_piece : Inherited → List Token → Piece → List Token
+append_piece inh ts (word bs p) = ts ++> text_in (with_node_formatting p inh) bs
+append_piece inh ts (gap p) = ts ++> text_in (with_node_formatting p inh) (wanted_space ts)
+append_piece inh ts (whole more) = ts ++> more
 
 -- what is written, and then pieces
-abbrev pub written : Inherited → List Piece → List Token → List Token
-written inh [] ts = ts
-written inh (p ∷ ps) ts = written inh ps (then_piece inh ts p)
+abbrev pub append_pieces : Inherited → List Piece → List Token → List Token
+append_pieces inh [] ts = ts
+append_pieces inh (p ∷ ps) ts = append_pieces inh ps (append_piece inh ts p)
 
 -- the context after the pieces
-abbrev pub with_pieces : {T : Type 0} → List Piece → Now T → Now T
-with_pieces ps now = record now { inner = written now.inherited ps now.inner }
+abbrev pub with_pieces : {T : Type 0} → List Piece → ContextView T → ContextView T
+with_pieces ps now = record now { inner = append_pieces now.inherited ps now.inner }
 
 -- a text, if there is one
 abbrev pub optional_word : Option (List ℕ) → partial.Formatting → List Piece

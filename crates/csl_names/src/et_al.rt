@@ -3,15 +3,15 @@
 
 ghost use Rattle.std.specs.Prelude.{◌≡◌, ◌-◌, map, length, slice_get};
 ghost use Rattle.std.specs.Cow.{cow_value};
-ghost use Rattle.lit_model.specs.Person.{named};
-ghost use Rattle.csl_context.specs.Now.{Runs};
+ghost use Rattle.lit_model.specs.Person.{person_view};
+ghost use Rattle.csl_context.specs.ContextView.{Runs};
 ghost use Rattle.csl_names.specs.Piece.{with_pieces};
-ghost use Rattle.csl_names.specs.NameList.{is_all, others, last_form, kept_last, cut_end};
-ghost use Rattle.csl_names.specs.ListWays.{list_how};
+ghost use Rattle.csl_names.specs.NameList.{is_all, et_al_pieces, last_form, kept_last, cut_end};
+ghost use Rattle.csl_names.specs.ListStyles.{list_style_view};
 
-use crate::join::precedes;
+use crate::join::delimiter_precedes;
 use crate::list::{ListStyle, form_at};
-use crate::piece::{plain, put, put_gap};
+use crate::piece::{plain, push_gap, put};
 use csl_context::{Context, RenderError};
 use csl_entry::DisambiguatedNameForm;
 use csl_style::{NameAsSortOrder, Term, TermForm};
@@ -32,14 +32,14 @@ fn is_all(order: Option<NameAsSortOrder>) -> bool
 impl ListStyle<'_> {
     /// Writes `et al.` behind so many names, of which so many are shown, where the style has a
     /// text for it.
-    fn put_others<T>(
+    fn push_et_al<T>(
         self,
         ctx: &mut Context<'_, T>,
         names: usize,
         shown: usize,
     ) -> Result<(), RenderError>
-        ensures { Runs (with_pieces (others (list_how self.entry) names shown
-            (list_how self.entry).et_al)) result ctx.old ctx.new }
+        ensures { Runs (with_pieces (et_al_pieces (list_style_view self.entry) names shown
+            (list_style_view self.entry).et_al)) result ctx.old ctx.new }
     {
         match self
             .style
@@ -47,10 +47,10 @@ impl ListStyle<'_> {
         {
             None => ctx.ensure_live(),
             Some(term) => {
-                if precedes(self.before_et_al, self.order, names, shown) {
+                if delimiter_precedes(self.before_et_al, self.order, names, shown) {
                     put(ctx, self.delimiter, plain())?;
                 }
-                put_gap(ctx, self.et_al_formatting)?;
+                push_gap(ctx, self.et_al_formatting)?;
                 put(ctx, term, self.et_al_formatting)
             }
         }
@@ -58,7 +58,7 @@ impl ListStyle<'_> {
 
     /// The form of the last name, where that is to be kept.
     fn last_form(self, forms: &[Option<DisambiguatedNameForm>]) -> Option<DisambiguatedNameForm>
-        ensures { result ≡ last_form (list_how self.entry) forms.now }
+        ensures { result ≡ last_form (list_style_view self.entry) forms.now }
     {
         if self.use_last && !forms.is_empty() {
             form_at(forms, forms.len() - 1)
@@ -68,16 +68,16 @@ impl ListStyle<'_> {
     }
 
     /// Writes the last name behind an ellipsis.
-    fn put_kept_last<T>(
+    fn push_kept_last<T>(
         self,
         ctx: &mut Context<'_, T>,
         persons: &[Cow<'_, Person>],
         form: DisambiguatedNameForm,
     ) -> Result<(), RenderError>
         ensures { Runs (λ now. with_pieces (kept_last now.inherited
-            (list_how self.entry) (map (λ p. named (cow_value p)) persons.now) form
-            (slice_get (map (λ p. named (cow_value p)) persons.now) (length
-            (map (λ p. named (cow_value p)) persons.now) - 1))) now) result ctx.old ctx.new }
+            (list_style_view self.entry) (map (λ p. person_view (cow_value p)) persons.now) form
+            (slice_get (map (λ p. person_view (cow_value p)) persons.now) (length
+            (map (λ p. person_view (cow_value p)) persons.now) - 1))) now) result ctx.old ctx.new }
     {
         match persons.last() {
             None => ctx.ensure_live(),
@@ -85,14 +85,14 @@ impl ListStyle<'_> {
                 put(ctx, self.delimiter, plain())?;
                 put(ctx, "… ", plain())?;
                 let place = persons.len() - 1;
-                self.put_whole(ctx, person.as_ref(), form, is_all(self.order), place)
+                self.push_whole(ctx, person.as_ref(), form, is_all(self.order), place)
             }
         }
     }
 
     /// Writes what stands behind the names of a list, of which that at the place `names` is the
     /// first without a form.
-    pub(crate) fn put_cut_end<T>(
+    pub(crate) fn push_cut_end<T>(
         self,
         ctx: &mut Context<'_, T>,
         names: usize,
@@ -100,16 +100,16 @@ impl ListStyle<'_> {
         persons: &[Cow<'_, Person>],
     ) -> Result<(), RenderError>
         ensures { Runs (λ now. with_pieces (cut_end now.inherited
-            (list_how self.entry) names forms.now (map (λ p. named (cow_value p)) persons.now)
-            (last_form (list_how self.entry) forms.now)) now) result ctx.old ctx.new }
+            (list_style_view self.entry) names forms.now (map (λ p. person_view (cow_value p)) persons.now)
+            (last_form (list_style_view self.entry) forms.now)) now) result ctx.old ctx.new }
     {
         match self.last_form(forms) {
-            Some(form) => self.put_kept_last(ctx, persons, form),
+            Some(form) => self.push_kept_last(ctx, persons, form),
             None => {
                 if self.name.sorting {
                     ctx.ensure_live()
                 } else {
-                    self.put_others(ctx, names, names.min(persons.len()))
+                    self.push_et_al(ctx, names, names.min(persons.len()))
                 }
             }
         }

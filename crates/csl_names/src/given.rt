@@ -1,15 +1,15 @@
 //! Given names, whole or cut down (CSL 1.0.2, Name: initialize-with).
 
 ghost use Rattle.std.specs.Prelude.{◌≡◌, ◌∷◌, [], Some, IfOk, option_map, string_bytes};
-ghost use Rattle.lit_model.specs.Person.{named};
+ghost use Rattle.lit_model.specs.Person.{person_view};
 ghost use Rattle.lit_model.specs.Initials.{person_initials};
 ghost use Rattle.lit_model.specs.FirstNames.{person_first_name};
-ghost use Rattle.csl_context.specs.Now.{Runs};
+ghost use Rattle.csl_context.specs.ContextView.{Runs};
 ghost use Rattle.csl_names.specs.Piece.{word, with_pieces};
-ghost use Rattle.csl_names.specs.OneName.{name_how, shortened, given_word, given_block};
+ghost use Rattle.csl_names.specs.OneName.{name_style_view, initialized_given, given_word, given_block};
 
 use crate::name::NameStyle;
-use crate::piece::{put, put_optional, put_spaced};
+use crate::piece::{push_optional, push_with_spaces, put};
 use csl_context::{Context, RenderError};
 use csl_entry::DisambiguatedNameForm;
 use lit_model::{Memory, Person};
@@ -18,7 +18,7 @@ use std::alloc::Global;
 /// The initials of a person.
 fn initials_of(alloc: Global, person: &Person, text: &str, hyphen: bool) -> Result<String, Memory>
     ensures { IfOk result (λ short. string_bytes short
-        ≡ person_initials (Some text.now) hyphen (named person.now)) }
+        ≡ person_initials (Some text.now) hyphen (person_view person.now)) }
 {
     let mut short = String::new(alloc);
     match person.initials(&mut short, Some(text), hyphen) {
@@ -30,7 +30,7 @@ fn initials_of(alloc: Global, person: &Person, text: &str, hyphen: bool) -> Resu
 /// The given name of a person, with its letters marked.
 fn lettered_name(alloc: Global, person: &Person, text: &str) -> Result<String, Memory>
     ensures { IfOk result (λ short. string_bytes short
-        ≡ person_first_name (Some text.now) (named person.now)) }
+        ≡ person_first_name (Some text.now) (person_view person.now)) }
 {
     let mut short = String::new(alloc);
     match person.first_name_with_delimiter(&mut short, Some(text)) {
@@ -51,7 +51,7 @@ fn shorten(
 ) -> Result<String, Memory>
     requires given_name { option_map string_bytes person.now.given_name ≡ Some given.now }
     ensures { IfOk result (λ short. string_bytes short
-        ≡ shortened text.now hyphen form given.now) }
+        ≡ initialized_given text.now hyphen form given.now) }
 {
     match form {
         DisambiguatedNameForm::LongInitialized => initials_of(alloc, person, text, hyphen),
@@ -64,26 +64,26 @@ fn shorten(
 
 impl NameStyle<'_> {
     /// Writes the given name, if there is one.
-    fn put_given<T>(
+    fn push_given<T>(
         self,
         ctx: &mut Context<'_, T>,
         person: &Person,
         form: DisambiguatedNameForm,
     ) -> Result<(), RenderError>
-        ensures { Runs (with_pieces (given_word (name_how self.entry) form (named person.now)))
+        ensures { Runs (with_pieces (given_word (name_style_view self.entry) form (person_view person.now)))
             result ctx.old ctx.new }
     {
         match &person.given_name {
             None => ctx.ensure_live(),
             Some(given) => match self.initialize_with {
                 None => put(ctx, given.as_str(), self.given.formatting),
-                Some(text) => self.put_short(ctx, person, given.as_str(), form, text),
+                Some(text) => self.push_short(ctx, person, given.as_str(), form, text),
             },
         }
     }
 
     /// Writes the given name, cut down.
-    fn put_short<T>(
+    fn push_short<T>(
         self,
         ctx: &mut Context<'_, T>,
         person: &Person,
@@ -92,8 +92,8 @@ impl NameStyle<'_> {
         text: &str,
     ) -> Result<(), RenderError>
         requires given_name { option_map string_bytes person.now.given_name ≡ Some given.now }
-        ensures { Runs (with_pieces (word (shortened text.now (name_how self.entry).hyphen
-            form given.now) (name_how self.entry).given.formatting ∷ [])) result ctx.old ctx.new }
+        ensures { Runs (with_pieces (word (initialized_given text.now (name_style_view self.entry).hyphen
+            form given.now) (name_style_view self.entry).given.formatting ∷ [])) result ctx.old ctx.new }
     {
         let short = shorten(ctx.alloc(), person, given, form, text, self.hyphen);
         let short = ctx.attempt(short)?;
@@ -102,17 +102,17 @@ impl NameStyle<'_> {
 
     /// Writes the given name and what stands before the family name, in the given part's
     /// formatting.
-    pub(crate) fn put_given_block<T>(
+    pub(crate) fn push_given_block<T>(
         self,
         ctx: &mut Context<'_, T>,
         person: &Person,
         form: DisambiguatedNameForm,
     ) -> Result<(), RenderError>
-        ensures { Runs (with_pieces (given_block (name_how self.entry) form (named person.now)))
+        ensures { Runs (with_pieces (given_block (name_style_view self.entry) form (person_view person.now)))
             result ctx.old ctx.new }
     {
-        put_optional(ctx, self.given.prefix, self.given.formatting)?;
-        self.put_given(ctx, person, form)?;
-        put_spaced(ctx, person.prefix.as_deref(), self.given.formatting)
+        push_optional(ctx, self.given.prefix, self.given.formatting)?;
+        self.push_given(ctx, person, form)?;
+        push_with_spaces(ctx, person.prefix.as_deref(), self.given.formatting)
     }
 }

@@ -2,24 +2,24 @@
 //! delimiter-precedes-last).
 
 ghost use Rattle.std.specs.Prelude.{◌≡◌, ◌<◌, option_map};
-ghost use Rattle.csl_context.specs.Now.{Runs};
+ghost use Rattle.csl_context.specs.ContextView.{Runs};
 ghost use Rattle.csl_names.specs.Piece.{with_pieces};
-ghost use Rattle.csl_names.specs.NameList.{precedes, last_join, join};
-ghost use Rattle.csl_names.specs.ListWays.{and_word, list_how};
+ghost use Rattle.csl_names.specs.NameList.{delimiter_precedes, last_name_separator, name_separator};
+ghost use Rattle.csl_names.specs.ListStyles.{and_word, list_style_view};
 
 use crate::list::{ListStyle, is_reversed};
-use crate::piece::{plain, put, put_gap};
+use crate::piece::{plain, push_gap, put};
 use csl_context::{Context, RenderError};
 use csl_style::{DelimiterBehavior, NameAnd, NameAsSortOrder, OtherTerm, Style, Term, TermForm};
 
 /// Whether a delimiter stands behind so many names, of which so many are shown.
-pub(crate) fn precedes(
+pub(crate) fn delimiter_precedes(
     behavior: DelimiterBehavior,
     order: Option<NameAsSortOrder>,
     names: usize,
     shown: usize,
 ) -> bool
-    ensures { result ≡ precedes behavior order names shown }
+    ensures { result ≡ delimiter_precedes behavior order names shown }
 {
     match behavior {
         DelimiterBehavior::Contextual => 2 <= names,
@@ -48,42 +48,42 @@ fn and_word(style: &Style, and: Option<NameAnd>) -> Option<&str>
 impl ListStyle<'_> {
     /// Writes what stands before the last name at a place: the word behind a delimiter or a
     /// space, or the delimiter alone.
-    fn put_last_join<T>(self, ctx: &mut Context<'_, T>, place: usize) -> Result<(), RenderError>
-        ensures { Runs (with_pieces (last_join (list_how self.entry) place
-            (list_how self.entry).and_word)) result ctx.old ctx.new }
+    fn push_last_join<T>(self, ctx: &mut Context<'_, T>, place: usize) -> Result<(), RenderError>
+        ensures { Runs (with_pieces (last_name_separator (list_style_view self.entry) place
+            (list_style_view self.entry).and_word)) result ctx.old ctx.new }
     {
         match and_word(self.style, self.and) {
             None => put(ctx, self.delimiter, plain()),
             Some(and) => {
-                let before = if precedes(self.before_last, self.order, place, place) {
+                let before = if delimiter_precedes(self.before_last, self.order, place, place) {
                     self.delimiter
                 } else {
                     " "
                 };
                 put(ctx, before, plain())?;
                 put(ctx, and, plain())?;
-                put_gap(ctx, plain())
+                push_gap(ctx, plain())
             }
         }
     }
 
     /// Writes what stands before the name at a place: nothing before the first. `ends` is the
     /// number of names, where all are shown.
-    pub(crate) fn put_join<T>(
+    pub(crate) fn push_join<T>(
         self,
         ctx: &mut Context<'_, T>,
         ends: Option<usize>,
         place: usize,
     ) -> Result<(), RenderError>
         requires { place < usize.MAX }
-        ensures { Runs (with_pieces (join (list_how self.entry) ends place))
+        ensures { Runs (with_pieces (name_separator (list_style_view self.entry) ends place))
             result ctx.old ctx.new }
     {
         if place == 0 {
             return ctx.ensure_live();
         }
         match ends {
-            Some(count) if place + 1 == count => self.put_last_join(ctx, place),
+            Some(count) if place + 1 == count => self.push_last_join(ctx, place),
             Some(_) => put(ctx, self.delimiter, plain()),
             None => put(ctx, self.delimiter, plain()),
         }

@@ -3,11 +3,11 @@
 
 ghost use Rattle.std.specs.Prelude.{◌≡◌, map};
 ghost use Rattle.std.specs.Cow.{cow_value};
-ghost use Rattle.lit_model.specs.Person.{named};
-ghost use Rattle.csl_context.specs.Now.{Runs};
+ghost use Rattle.lit_model.specs.Person.{person_view};
+ghost use Rattle.csl_context.specs.ContextView.{Runs};
 ghost use Rattle.csl_names.specs.Piece.{with_pieces};
 ghost use Rattle.csl_names.specs.NameList.{form_at, first_absent, is_reversed, names_from, with_whole, with_names};
-ghost use Rattle.csl_names.specs.ListWays.{list_how};
+ghost use Rattle.csl_names.specs.ListStyles.{list_style_view};
 
 use crate::name::NameStyle;
 use csl_context::{Context, RenderError};
@@ -76,7 +76,7 @@ pub(crate) fn is_reversed(order: Option<NameAsSortOrder>, place: usize) -> bool
 
 impl ListStyle<'_> {
     /// Writes one name in an element of its own.
-    pub(crate) fn put_whole<T>(
+    pub(crate) fn push_whole<T>(
         self,
         ctx: &mut Context<'_, T>,
         person: &Person,
@@ -84,26 +84,26 @@ impl ListStyle<'_> {
         reversed: bool,
         place: usize,
     ) -> Result<(), RenderError>
-        ensures { Runs (with_whole (list_how self.entry) form reversed place (named person.now))
+        ensures { Runs (with_whole (list_style_view self.entry) form reversed place (person_view person.now))
             result ctx.old ctx.new }
     {
         let element = ctx.push_elem()?;
-        self.name.put_name(ctx, person, form, reversed)?;
+        self.name.push_name(ctx, person, form, reversed)?;
         ctx.commit_elem(element, None, Some(ElemMeta::Name(self.variable, place)))?;
         Ok(())
     }
 
     /// Writes the names up to the first without a form. `ends` is their number, where all are
     /// shown.
-    fn put_names<T>(
+    fn push_names<T>(
         self,
         ctx: &mut Context<'_, T>,
         ends: Option<usize>,
         forms: &[Option<DisambiguatedNameForm>],
         persons: &[Cow<'_, Person>],
     ) -> Result<(), RenderError>
-        ensures { Runs (λ now. with_pieces (names_from now.inherited (list_how self.entry) ends
-            forms.now 0 (map (λ p. named (cow_value p)) persons.now)) now) result ctx.old ctx.new }
+        ensures { Runs (λ now. with_pieces (names_from now.inherited (list_style_view self.entry) ends
+            forms.now 0 (map (λ p. person_view (cow_value p)) persons.now)) now) result ctx.old ctx.new }
     {
         ctx.ensure_live()?;
         let mut place: usize = 0;
@@ -111,9 +111,9 @@ impl ListStyle<'_> {
             match form_at(forms, place) {
                 None => return Ok(()),
                 Some(form) => {
-                    self.put_join(ctx, ends, place)?;
+                    self.push_join(ctx, ends, place)?;
                     let reversed = is_reversed(self.order, place);
-                    self.put_whole(ctx, person.as_ref(), form, reversed, place)?;
+                    self.push_whole(ctx, person.as_ref(), form, reversed, place)?;
                 }
             }
             place += 1;
@@ -123,20 +123,20 @@ impl ListStyle<'_> {
 
     /// Writes a list of names.
     #[tactic(auto, using(crate::proofs::Pieces::written_append))]
-    pub(crate) fn put_list<T>(
+    pub(crate) fn push_list<T>(
         self,
         ctx: &mut Context<'_, T>,
         persons: &[Cow<'_, Person>],
         forms: &[Option<DisambiguatedNameForm>],
     ) -> Result<(), RenderError>
-        ensures { Runs (with_names (list_how self.entry)
-            (map (λ p. named (cow_value p)) persons.now) forms.now) result ctx.old ctx.new }
+        ensures { Runs (with_names (list_style_view self.entry)
+            (map (λ p. person_view (cow_value p)) persons.now) forms.now) result ctx.old ctx.new }
     {
         match first_absent(forms) {
-            None => self.put_names(ctx, Some(persons.len()), forms, persons),
+            None => self.push_names(ctx, Some(persons.len()), forms, persons),
             Some(names) => {
-                self.put_names(ctx, None, forms, persons)?;
-                self.put_cut_end(ctx, names, forms, persons)
+                self.push_names(ctx, None, forms, persons)?;
+                self.push_cut_end(ctx, names, forms, persons)
             }
         }
     }

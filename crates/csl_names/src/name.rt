@@ -1,13 +1,13 @@
 //! One name (CSL 1.0.2, Name; name-as-sort-order; demote-non-dropping-particle; sort-separator).
 
 ghost use Rattle.std.specs.Prelude.{◌≡◌, option_map};
-ghost use Rattle.lit_model.specs.Person.{named};
-ghost use Rattle.csl_context.specs.Now.{Runs};
+ghost use Rattle.lit_model.specs.Person.{person_view};
+ghost use Rattle.csl_context.specs.ContextView.{Runs};
 ghost use Rattle.csl_names.specs.Piece.{with_pieces};
-ghost use Rattle.csl_names.specs.OneName.{name_how, front_of, particle_of, given_behind, family_first, suffix_behind, given_first, cjk_name, institution, long_name, one_name};
+ghost use Rattle.csl_names.specs.OneName.{name_style_view, leading_name, demoted_particle, given_after_family, family_first, suffix_after_name, given_first, cjk_name, institution, long_name, one_name};
 
-use crate::part::{PartStyle, put_separated};
-use crate::piece::{plain, put, put_gap, put_optional, put_spaced};
+use crate::part::{PartStyle, push_separated};
+use crate::piece::{plain, push_gap, push_optional, push_with_spaces, put};
 use csl_context::{Context, RenderError};
 use csl_entry::DisambiguatedNameForm;
 use lit_model::Person;
@@ -31,9 +31,9 @@ pub(crate) struct NameStyle<'s> {
 
 impl NameStyle<'_> {
     /// The particle that goes behind.
-    fn particle<'p>(self, person: &'p Person) -> Option<&'p str>
+    fn demoted_particle<'p>(self, person: &'p Person) -> Option<&'p str>
         ensures { option_map (λ t. t.now) result
-            ≡ particle_of (name_how self.entry) (named person.now) }
+            ≡ demoted_particle (name_style_view self.entry) (person_view person.now) }
     {
         if self.demotes {
             person.name_particle()
@@ -43,8 +43,8 @@ impl NameStyle<'_> {
     }
 
     /// The family name as it comes first.
-    fn front<'p>(self, person: &'p Person) -> &'p str
-        ensures { result.now ≡ front_of (name_how self.entry) (named person.now) }
+    fn leading_name<'p>(self, person: &'p Person) -> &'p str
+        ensures { result.now ≡ leading_name (name_style_view self.entry) (person_view person.now) }
     {
         if self.demotes {
             person.name_without_particle()
@@ -54,50 +54,50 @@ impl NameStyle<'_> {
     }
 
     /// Writes what follows a family name that comes first, where there is a given name.
-    fn put_given_behind<T>(
+    fn push_given_after<T>(
         self,
         ctx: &mut Context<'_, T>,
         person: &Person,
         form: DisambiguatedNameForm,
     ) -> Result<(), RenderError>
-        ensures { Runs (with_pieces (given_behind (name_how self.entry) form
-            (named person.now) (named person.now).given_name)) result ctx.old ctx.new }
+        ensures { Runs (with_pieces (given_after_family (name_style_view self.entry) form
+            (person_view person.now) (person_view person.now).given_name)) result ctx.old ctx.new }
     {
         match &person.given_name {
             None => ctx.ensure_live(),
             Some(_) => {
                 put(ctx, self.separator, plain())?;
-                self.put_given_block(ctx, person, form)?;
-                put_spaced(ctx, self.particle(person), plain())?;
-                put_optional(ctx, self.given.suffix, plain())
+                self.push_given_block(ctx, person, form)?;
+                push_with_spaces(ctx, self.demoted_particle(person), plain())?;
+                push_optional(ctx, self.given.suffix, plain())
             }
         }
     }
 
     /// Writes a name that begins with the family name.
     #[tactic(auto, using(crate::proofs::Pieces::written_append))]
-    fn put_family_first<T>(
+    fn push_family_first<T>(
         self,
         ctx: &mut Context<'_, T>,
         person: &Person,
         form: DisambiguatedNameForm,
     ) -> Result<(), RenderError>
-        ensures { Runs (with_pieces (family_first (name_how self.entry) form (named person.now)))
+        ensures { Runs (with_pieces (family_first (name_style_view self.entry) form (person_view person.now)))
             result ctx.old ctx.new }
     {
-        self.family.put(ctx, self.front(person))?;
-        self.put_given_behind(ctx, person, form)?;
-        put_separated(ctx, self.separator, person.suffix.as_deref())
+        self.family.put(ctx, self.leading_name(person))?;
+        self.push_given_after(ctx, person, form)?;
+        push_separated(ctx, self.separator, person.suffix.as_deref())
     }
 
     /// Writes the suffix of a person, behind the separator where it wants a comma.
-    fn put_suffix_behind<T>(
+    fn push_suffix_after<T>(
         self,
         ctx: &mut Context<'_, T>,
         person: &Person,
     ) -> Result<(), RenderError>
-        ensures { Runs (with_pieces (suffix_behind (name_how self.entry)
-            (named person.now).comma_suffix (named person.now).suffix)) result ctx.old ctx.new }
+        ensures { Runs (with_pieces (suffix_after_name (name_style_view self.entry)
+            (person_view person.now).comma_suffix (person_view person.now).suffix)) result ctx.old ctx.new }
     {
         match &person.suffix {
             None => ctx.ensure_live(),
@@ -105,7 +105,7 @@ impl NameStyle<'_> {
                 if person.comma_suffix {
                     put(ctx, self.separator, plain())?;
                 }
-                put_gap(ctx, plain())?;
+                push_gap(ctx, plain())?;
                 put(ctx, suffix.as_str(), plain())
             }
         }
@@ -113,27 +113,27 @@ impl NameStyle<'_> {
 
     /// Writes a name that begins with the given name.
     #[tactic(auto, using(crate::proofs::Pieces::written_append))]
-    fn put_given_first<T>(
+    fn push_given_first<T>(
         self,
         ctx: &mut Context<'_, T>,
         person: &Person,
         form: DisambiguatedNameForm,
     ) -> Result<(), RenderError>
-        ensures { Runs (with_pieces (given_first (name_how self.entry) form (named person.now)))
+        ensures { Runs (with_pieces (given_first (name_style_view self.entry) form (person_view person.now)))
             result ctx.old ctx.new }
     {
-        self.put_given_block(ctx, person, form)?;
-        put_optional(ctx, self.given.suffix, plain())?;
-        put_gap(ctx, plain())?;
-        put_optional(ctx, self.family.prefix, self.family.formatting)?;
+        self.push_given_block(ctx, person, form)?;
+        push_optional(ctx, self.given.suffix, plain())?;
+        push_gap(ctx, plain())?;
+        push_optional(ctx, self.family.prefix, self.family.formatting)?;
         put(ctx, person.name.as_str(), self.family.formatting)?;
-        self.put_suffix_behind(ctx, person)?;
-        put_optional(ctx, self.family.suffix, plain())
+        self.push_suffix_after(ctx, person)?;
+        push_optional(ctx, self.family.suffix, plain())
     }
 
     /// Writes a name in a Chinese, Japanese or Korean script: no gap stands between its parts.
-    fn put_cjk<T>(self, ctx: &mut Context<'_, T>, person: &Person) -> Result<(), RenderError>
-        ensures { Runs (with_pieces (cjk_name (name_how self.entry) (named person.now)))
+    fn push_cjk<T>(self, ctx: &mut Context<'_, T>, person: &Person) -> Result<(), RenderError>
+        ensures { Runs (with_pieces (cjk_name (name_style_view self.entry) (person_view person.now)))
             result ctx.old ctx.new }
     {
         self.family.put(ctx, person.name.as_str())?;
@@ -144,12 +144,12 @@ impl NameStyle<'_> {
     }
 
     /// Writes the name of an institution. It is sorted without its article.
-    fn put_institution<T>(
+    fn push_institution<T>(
         self,
         ctx: &mut Context<'_, T>,
         person: &Person,
     ) -> Result<(), RenderError>
-        ensures { Runs (with_pieces (institution (name_how self.entry) (named person.now)))
+        ensures { Runs (with_pieces (institution (name_style_view self.entry) (person_view person.now)))
             result ctx.old ctx.new }
     {
         if !self.sorting {
@@ -159,40 +159,40 @@ impl NameStyle<'_> {
     }
 
     /// Writes a name with its given name.
-    fn put_long<T>(
+    fn push_long<T>(
         self,
         ctx: &mut Context<'_, T>,
         person: &Person,
         form: DisambiguatedNameForm,
         reversed: bool,
     ) -> Result<(), RenderError>
-        ensures { Runs (with_pieces (long_name (name_how self.entry) form reversed
-            (named person.now))) result ctx.old ctx.new }
+        ensures { Runs (with_pieces (long_name (name_style_view self.entry) form reversed
+            (person_view person.now))) result ctx.old ctx.new }
     {
         if person.is_cjk() {
-            self.put_cjk(ctx, person)
+            self.push_cjk(ctx, person)
         } else if self.sorting || reversed {
-            self.put_family_first(ctx, person, form)
+            self.push_family_first(ctx, person, form)
         } else {
-            self.put_given_first(ctx, person, form)
+            self.push_given_first(ctx, person, form)
         }
     }
 
     /// Writes one name. Its gaps see all of what the innermost open part holds.
-    pub(crate) fn put_name<T>(
+    pub(crate) fn push_name<T>(
         self,
         ctx: &mut Context<'_, T>,
         person: &Person,
         form: DisambiguatedNameForm,
         reversed: bool,
     ) -> Result<(), RenderError>
-        ensures { Runs (with_pieces (one_name (name_how self.entry) form reversed
-            (named person.now))) result ctx.old ctx.new }
+        ensures { Runs (with_pieces (one_name (name_style_view self.entry) form reversed
+            (person_view person.now))) result ctx.old ctx.new }
     {
         if person.is_institutional() {
-            self.put_institution(ctx, person)
+            self.push_institution(ctx, person)
         } else if form.is_long() {
-            self.put_long(ctx, person, form, reversed)
+            self.push_long(ctx, person, form, reversed)
         } else {
             self.family.put(ctx, person.name.as_str())
         }

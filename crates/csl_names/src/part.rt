@@ -1,11 +1,11 @@
 //! The parts of a name (CSL 1.0.2, Name-part).
 
 ghost use Rattle.std.specs.Prelude.{option_map};
-ghost use Rattle.csl_context.specs.Now.{Runs};
+ghost use Rattle.csl_context.specs.ContextView.{Runs};
 ghost use Rattle.csl_names.specs.Piece.{with_pieces};
-ghost use Rattle.csl_names.specs.OneName.{part_how, part_text, separated_word};
+ghost use Rattle.csl_names.specs.OneName.{part_style_view, part_text, separated_word};
 
-use crate::piece::{plain, put, put_optional};
+use crate::piece::{plain, push_optional, put};
 use csl_context::{Context, RenderError};
 use csl_style::Formatting;
 
@@ -20,17 +20,17 @@ pub(crate) struct PartStyle<'s> {
 impl PartStyle<'_> {
     /// Writes a text as this part of a name: the suffix stands outside the part's formatting.
     pub(crate) fn put<T>(self, ctx: &mut Context<'_, T>, text: &str) -> Result<(), RenderError>
-        ensures { Runs (with_pieces (part_text (part_how self.entry) text.now))
+        ensures { Runs (with_pieces (part_text (part_style_view self.entry) text.now))
             result ctx.old ctx.new }
     {
-        put_optional(ctx, self.prefix, self.formatting)?;
+        push_optional(ctx, self.prefix, self.formatting)?;
         put(ctx, text, self.formatting)?;
-        put_optional(ctx, self.suffix, plain())
+        push_optional(ctx, self.suffix, plain())
     }
 }
 
 /// Writes a text behind the separator, if there is one.
-pub(crate) fn put_separated<T>(
+pub(crate) fn push_separated<T>(
     ctx: &mut Context<'_, T>,
     separator: &str,
     text: Option<&str>,

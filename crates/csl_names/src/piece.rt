@@ -1,8 +1,8 @@
 //! Texts and gaps, written from the left.
 
 ghost use Rattle.std.specs.Prelude.{◌≡◌, ◌∷◌, [], option_map};
-ghost use Rattle.csl_style.specs.NamesParts.{plain};
-ghost use Rattle.csl_context.specs.Now.{Runs};
+ghost use Rattle.csl_style.specs.NamesParts.{no_formatting};
+ghost use Rattle.csl_context.specs.ContextView.{Runs};
 ghost use Rattle.csl_names.specs.Piece.{word, gap, with_pieces, optional_word, spaced_word};
 
 use csl_context::{Context, RenderError};
@@ -10,7 +10,7 @@ use csl_style::Formatting;
 
 /// The formatting that says nothing.
 pub(crate) fn plain() -> Formatting
-    ensures { result ≡ plain }
+    ensures { result ≡ no_formatting }
 {
     Formatting::default()
 }
@@ -30,7 +30,7 @@ pub(crate) fn put<T>(
 }
 
 /// Writes a text as [`put`] does, if there is one.
-pub(crate) fn put_optional<T>(
+pub(crate) fn push_optional<T>(
     ctx: &mut Context<'_, T>,
     text: Option<&str>,
     format: Formatting,
@@ -45,7 +45,7 @@ pub(crate) fn put_optional<T>(
 }
 
 /// Writes a space, unless there is no text yet or white space ends it.
-pub(crate) fn put_gap<T>(ctx: &mut Context<'_, T>, format: Formatting) -> Result<(), RenderError>
+pub(crate) fn push_gap<T>(ctx: &mut Context<'_, T>, format: Formatting) -> Result<(), RenderError>
     ensures { Runs (with_pieces (gap format ∷ [])) result ctx.old ctx.new }
 {
     ctx.push_format(format)?;
@@ -55,7 +55,7 @@ pub(crate) fn put_gap<T>(ctx: &mut Context<'_, T>, format: Formatting) -> Result
 }
 
 /// Writes a text behind a gap, if there is one.
-pub(crate) fn put_spaced<T>(
+pub(crate) fn push_with_spaces<T>(
     ctx: &mut Context<'_, T>,
     text: Option<&str>,
     format: Formatting,
@@ -65,7 +65,7 @@ pub(crate) fn put_spaced<T>(
 {
     match text {
         Some(text) => {
-            put_gap(ctx, format)?;
+            push_gap(ctx, format)?;
             put(ctx, text, format)
         }
         None => ctx.ensure_live(),

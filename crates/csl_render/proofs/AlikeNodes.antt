@@ -1,8 +1,8 @@
 -- Two entries that answer alike what a node names: the node says, shows and makes the same of both.
 use Rattle.std.proofs.Common.{◌≡◌, Bool, true, false, subst, ℕ, List, [], ◌∷◌, map, Option, Some, None, refl, sym, ap, ap₂, ◌∙◌, if◌then◌else◌}
 use Rattle.std.specs.Prelude.{◌||◌, ◌&&◌, not, ◌==◌, length, option_map, is_some, unwrap_or}
-use Rattle.lit_model.specs.Date.{Parts}
-use Rattle.lit_model.specs.Person.{Named}
+use Rattle.lit_model.specs.Date.{DateView}
+use Rattle.lit_model.specs.Person.{PersonView}
 use Rattle.lit_model.specs.Chunks.{is_white_space}
 use Rattle.csl_common.specs.declared.form.LongShortForm.{LongShortForm}
 use Rattle.csl_common.specs.declared.form.LongShortForm.TheVariants.{Long}
@@ -17,61 +17,61 @@ use Rattle.csl_style.specs.declared.term.Term.{Term}
 use Rattle.csl_style.specs.declared.term.Term.TheVariants as terms
 use Rattle.csl_style.specs.declared.term.TermForm.TheVariants as term_forms
 use Rattle.csl_style.specs.Dressing.{TextDressing}
-use Rattle.csl_style.specs.Named.{NamedSet, joined, the_variable, the_date, the_name, the_kind, each_of, each_if, the_number_or_page, date_if, of_target, of_tests, of_full, of_fulls, of_cases, of_insteads}
+use Rattle.csl_style.specs.Named.{NamedSet, named_union, the_variable, the_date, the_name, the_kind, each_of, each_if, the_number_or_page, date_if, named_in_target, named_in_tests, named_in_node, named_in_nodes, named_in_branches, named_in_substitutes}
 use Rattle.csl_style.specs.Names.{LabelNode}
-use Rattle.csl_style.specs.Node.{Target, of_variable, of_term, of_value, NumberNode, DateNode, Tests, Full, printed, called, lacking, numbered, labelled, dated, named, shorthand, chosen, grouped, Fulls, none, more, Cases, no_cases, else_case, case, Insteads, no_insteads, instead, FullLayout}
+use Rattle.csl_style.specs.Node.{Target, of_variable, of_term, of_value, NumberNode, DateNode, Tests, ExpandedNode, expanded_text, expanded_macro, unknown_macro, expanded_number, expanded_label, expanded_date, expanded_names, shorthand, expanded_choose, expanded_group, ExpandedNodes, no_expanded_nodes, expanded_node, ExpandedBranches, no_expanded_branches, expanded_otherwise, expanded_branch, ExpandedSubstitutes, no_expanded_substitutes, expanded_substitute, ExpandedLayout}
 use Rattle.csl_style.specs.Taxonomy.{variable_of}
 use Rattle.csl_style.proofs.Sets.{or_left, or_right}
 use Rattle.csl_style.proofs.Variables.{name_decides}
 use Rattle.std.proofs.lemmas.Bool.{false≢true}
 use Rattle.std.proofs.lemmas.Slice.Eq.{slice_eq-Decides}
 use Rattle.csl_tree.specs.Tokens.{Token, has_text}
-use Rattle.csl_entry.specs.Alike.{Alike}
+use Rattle.csl_entry.specs.Alike.{SameNamedAnswers}
 use Rattle.csl_entry.specs.Answers.{Answers}
 use Rattle.csl_entry.specs.declared.cite.Sorting.{Sorting}
 use Rattle.csl_entry.specs.NumberResult.{NumberOrPageView}
-use Rattle.csl_context.specs.State.{State, Inherited, looked}
-use Rattle.csl_context.specs.World.{World, name_look, date_look, term_in}
-use Rattle.csl_names.specs.NamesLists.{Lists, same_variables, merges, merged, all_empty, each_printed, all_looked, found_lists, printed_lists, lists_state, is_pair}
-use Rattle.csl_leaves.specs.Answered.{number_or_page_look}
-use Rattle.csl_leaves.specs.Conditions.{is_some_and, is_number, is_typed, is_typed_result, is_numeric, is_uncertain, is_disambiguated, is_of_kind, is_present, one_if, all_if, holds}
-use Rattle.csl_leaves.specs.Dates.{shows_date, variable_info, written_as, printed_date, date_or_key, found_date, variable_tree}
-use Rattle.csl_leaves.specs.Flags.{info_of, no_flags, nothing_said, rule, either, counted, but_groups, group_info, macro_info}
-use Rattle.csl_leaves.specs.Labels.{is_plural, label_term, term_if, text_beside, label_text, label_info, label_box, label_tree, said_by_form}
-use Rattle.csl_leaves.specs.Numbers.{shows_own, number_said, number_info, sort_text_if, number_content, found_content, number_tree}
-use Rattle.csl_render.specs.Printed.{answered_by}
-use Rattle.csl_leaves.specs.Text.{Made, made, then_made, within, shows_variable, answer, numeral, Found, variable_found, found, calls, found_info, is_of, found_tree, variable_state, target_state, target_tree}
-use Rattle.csl_render.specs.Names.{author, is_refused, names_show, names_info, in_substitute, suppressing_from, names_made}
-use Rattle.csl_render.specs.Tree.{is_group, info, infos, cases_info, substitute_info, shows, any_shows, cases_show, substitute_shows, names_tree, tree, sum_of, delimited, cases_tree, until_text, substitute_tree, admitted_made, macro_made, in_macro, group_made, in_group, layout_tree}
+use Rattle.csl_context.specs.State.{State, Inherited, state_after_resolve, with_node_formatting}
+use Rattle.csl_context.specs.World.{RenderInput, peek_names, peek_date, term_in}
+use Rattle.csl_names.specs.NamesLists.{PersonLists, same_variables, may_merge, merged_lists, all_empty, each_resolved, state_after_resolve_all, peeked_lists, resolved_lists, lists_state, is_pair}
+use Rattle.csl_nodes.specs.NumberOrPage.{peek_number_or_page}
+use Rattle.csl_nodes.specs.Conditions.{is_some_and, is_number, is_typed, is_typed_result, is_numeric, is_uncertain, is_disambiguated, is_of_kind, is_present, one_if, all_if, branch_matches}
+use Rattle.csl_nodes.specs.Dates.{date_shows_own, variable_info, localized_over, printed_date, date_or_key, resolved_date, variable_output}
+use Rattle.csl_nodes.specs.Flags.{info_of, no_usage_flags, no_info, should_render_group, info_union, as_child_info, without_group_flag, group_info, macro_info}
+use Rattle.csl_nodes.specs.Labels.{is_plural, label_term, term_if, text_beside, label_text, label_info, label_box, label_output, label_by_special_form}
+use Rattle.csl_nodes.specs.Numbers.{shows_own, presence_info, number_info, sort_text_if, number_content, optional_number_content, number_output}
+use Rattle.csl_render.specs.PairOutput.{with_answers}
+use Rattle.csl_nodes.specs.Text.{RenderOutput, render_output, then_output, shows_variable, standard_text, number_result, ResolvedText, resolved_variable, resolved_text, calls, resolved_info, is_of, resolved_content, variable_state, target_state, text_output}
+use Rattle.csl_render.specs.Names.{author, is_refused, names_show, names_info, in_substitute, suppressing_from, lists_or_substitute}
+use Rattle.csl_render.specs.Tree.{is_group, info, nodes_info, branches_info, substitute_info, shows, any_shows, branches_show, substitute_shows, names_output, node_output, nodes_output, delimited_output, branches_output, output_until_text, substitute_output, delimited_child_output, macro_output, in_macro, group_output, in_group, layout_output}
 use Rattle.csl_render.proofs.Looks.{kind_alike, number_look_alike, page_look_alike, number_or_page_look_alike, standard_look_alike, name_look_alike, date_look_alike}
 
 module _ (a b : Answers) where
   -- alike in both of two sets, alike in each
-  on_left : (p r : NamedSet) → Alike (joined p r) a b → Alike p a b
-  unfolding joined
+  on_left : (p r : NamedSet) → SameNamedAnswers (named_union p r) a b → SameNamedAnswers p a b
+  unfolding named_union
   on_left p r h q e = h q (or_left (p q) (r q) e)
 
-  on_right : (p r : NamedSet) → Alike (joined p r) a b → Alike r a b
-  unfolding joined
+  on_right : (p r : NamedSet) → SameNamedAnswers (named_union p r) a b → SameNamedAnswers r a b
+  unfolding named_union
   on_right p r h q e = h q (or_right (p q) (r q) e)
 
-  module _ (w : World) where
-    abbrev v : World
-    v = answered_by a w
+  module _ (w : RenderInput) where
+    abbrev v : RenderInput
+    v = with_answers a w
 
-    abbrev u : World
-    u = answered_by b w
+    abbrev u : RenderInput
+    u = with_answers b w
 
     -- ---- texts
 
-    variable_found_alike : (s : State) (form : LongShortForm) (x : Variable) → Alike (the_variable x) a b → variable_found v s form x ≡ variable_found u s form x
-    variable_found_alike s form (variable.Standard x) h = ap (option_map (answer x)) (standard_look_alike a b w s form x h)
-    variable_found_alike s form (variable.Number x) h = ap (option_map (numeral (number_or_page.Number x))) (number_or_page_look_alike a b w s (number_or_page.Number x) h)
-    variable_found_alike s form (variable.Page x) h = ap (option_map (numeral (number_or_page.Page x))) (number_or_page_look_alike a b w s (number_or_page.Page x) h)
+    variable_found_alike : (s : State) (form : LongShortForm) (x : Variable) → SameNamedAnswers (the_variable x) a b → resolved_variable v s form x ≡ resolved_variable u s form x
+    variable_found_alike s form (variable.Standard x) h = ap (option_map (standard_text x)) (standard_look_alike a b w s form x h)
+    variable_found_alike s form (variable.Number x) h = ap (option_map (number_result (number_or_page.Number x))) (number_or_page_look_alike a b w s (number_or_page.Number x) h)
+    variable_found_alike s form (variable.Page x) h = ap (option_map (number_result (number_or_page.Page x))) (number_or_page_look_alike a b w s (number_or_page.Page x) h)
     variable_found_alike s form (variable.Name x) h = refl
     variable_found_alike s form (variable.Date x) h = refl
 
-    found_alike : (s : State) (t : Target) → Alike (of_target t) a b → found v s t ≡ found u s t
+    found_alike : (s : State) (t : Target) → SameNamedAnswers (named_in_target t) a b → resolved_text v s t ≡ resolved_text u s t
     found_alike s (of_variable x form) h = ap (λ o. if shows_variable w.instance.special x then o else None) (variable_found_alike s form x h)
     found_alike s (of_term t form plural) h = refl
     found_alike s (of_value bs) h = refl
@@ -88,30 +88,30 @@ module _ (a b : Answers) where
     target_state_alike (of_term t form plural) s = refl
     target_state_alike (of_value bs) s = refl
 
-    found_tree_alike : (d : TextDressing) (inh : Inherited) (o : Option Found) → found_tree v d inh o ≡ found_tree u d inh o
+    found_tree_alike : (d : TextDressing) (inh : Inherited) (o : Option ResolvedText) → resolved_content v d inh o ≡ resolved_content u d inh o
     found_tree_alike d inh None = refl
     found_tree_alike d inh (Some f) = refl
 
-    target_tree_alike : (t : Target) (d : TextDressing) (inh : Inherited) (s : State) → Alike (of_target t) a b → target_tree v t d inh s ≡ target_tree u t d inh s
-    target_tree_alike t d inh s h = ap₂ made (ap (found_tree v d inh) (found_alike s t h) ∙ found_tree_alike d inh (found u s t)) (target_state_alike t s)
+    target_tree_alike : (t : Target) (d : TextDressing) (inh : Inherited) (s : State) → SameNamedAnswers (named_in_target t) a b → text_output v t d inh s ≡ text_output u t d inh s
+    target_tree_alike t d inh s h = ap₂ render_output (ap (resolved_content v d inh) (found_alike s t h) ∙ found_tree_alike d inh (resolved_text u s t)) (target_state_alike t s)
 
     -- ---- numbers
 
-    number_info_alike : (s : State) (n : NumberNode) → Alike (the_number_or_page n.variable) a b → number_info v s n ≡ number_info u s n
-    number_info_alike s n h = ap (λ o. number_said (if shows_own w n then is_some o else false)) (number_or_page_look_alike a b w s n.variable h)
+    number_info_alike : (s : State) (n : NumberNode) → SameNamedAnswers (the_number_or_page n.variable) a b → number_info v s n ≡ number_info u s n
+    number_info_alike s n h = ap (λ o. presence_info (if shows_own w n then is_some o else false)) (number_or_page_look_alike a b w s n.variable h)
 
     content_alike : (n : NumberNode) (found : NumberOrPageView) (key : Option (List ℕ)) (inh : Inherited) → number_content v n found key inh ≡ number_content u n found key inh
     content_alike n found (Some key) inh = refl
     content_alike n found None inh = refl
 
-    found_content_alike : (n : NumberNode) (o : Option NumberOrPageView) (inh : Inherited) → found_content v n o inh ≡ found_content u n o inh
+    found_content_alike : (n : NumberNode) (o : Option NumberOrPageView) (inh : Inherited) → optional_number_content v n o inh ≡ optional_number_content u n o inh
     found_content_alike n None inh = refl
     found_content_alike n (Some found) inh = content_alike n found (sort_text_if w.instance.sorting found) inh
 
-    number_tree_alike : (n : NumberNode) (inh : Inherited) (s : State) → Alike (the_number_or_page n.variable) a b → number_tree v n inh s ≡ number_tree u n inh s
+    number_tree_alike : (n : NumberNode) (inh : Inherited) (s : State) → SameNamedAnswers (the_number_or_page n.variable) a b → number_output v n inh s ≡ number_output u n inh s
     number_tree_alike n inh s h =
-        let content = ap (λ o. found_content v n o inh) (number_or_page_look_alike a b w s n.variable h) ∙ found_content_alike n (number_or_page_look u s n.variable) inh in
-        ap (λ (c : List Token). if shows_own w n then made c (looked (variable_of n.variable) s) else made [] s) content
+        let content = ap (λ o. optional_number_content v n o inh) (number_or_page_look_alike a b w s n.variable h) ∙ found_content_alike n (peek_number_or_page u s n.variable) inh in
+        ap (λ (c : List Token). if shows_own w n then render_output c (state_after_resolve (variable_of n.variable) s) else render_output [] s) content
 
     -- ---- labels
 
@@ -121,107 +121,107 @@ module _ (a b : Answers) where
 
     beside_alike : (x : NumberOrPageVariable) (l : LabelNode) (o : Option NumberOrPageView) → text_beside v x l o ≡ text_beside u x l o
     beside_alike x l None = refl
-    beside_alike x l (Some found) = term_alike l (label_term w.instance.cite x) (is_plural l.plural x found)
+    beside_alike x l (Some resolved_text) = term_alike l (label_term w.instance.cite x) (is_plural l.plural x resolved_text)
 
-    label_text_alike : (s : State) (x : NumberOrPageVariable) (l : LabelNode) → Alike (the_number_or_page x) a b → label_text v s x l ≡ label_text u s x l
-    label_text_alike s x l h = ap (text_beside v x l) (number_or_page_look_alike a b w s x h) ∙ beside_alike x l (number_or_page_look u s x)
+    label_text_alike : (s : State) (x : NumberOrPageVariable) (l : LabelNode) → SameNamedAnswers (the_number_or_page x) a b → label_text v s x l ≡ label_text u s x l
+    label_text_alike s x l h = ap (text_beside v x l) (number_or_page_look_alike a b w s x h) ∙ beside_alike x l (peek_number_or_page u s x)
 
-    label_info_alike : (s : State) (x : NumberOrPageVariable) (l : LabelNode) → Alike (the_number_or_page x) a b → label_info v s x l ≡ label_info u s x l
-    label_info_alike s x l h = ap (λ (o : Option (List ℕ)). info_of (unwrap_or (said_by_form w.instance.special x) (is_some o)) no_flags) (label_text_alike s x l h)
+    label_info_alike : (s : State) (x : NumberOrPageVariable) (l : LabelNode) → SameNamedAnswers (the_number_or_page x) a b → label_info v s x l ≡ label_info u s x l
+    label_info_alike s x l h = ap (λ (o : Option (List ℕ)). info_of (unwrap_or (label_by_special_form w.instance.special x) (is_some o)) no_usage_flags) (label_text_alike s x l h)
 
-    label_tree_alike : (x : NumberOrPageVariable) (l : LabelNode) (inh : Inherited) (s : State) → Alike (the_number_or_page x) a b → label_tree v x l inh s ≡ label_tree u x l inh s
-    label_tree_alike x l inh s h = ap (λ (o : Option (List ℕ)). made (if unwrap_or (said_by_form w.instance.special x) (is_some o) then label_box l o inh else []) s) (label_text_alike s x l h)
+    label_tree_alike : (x : NumberOrPageVariable) (l : LabelNode) (inh : Inherited) (s : State) → SameNamedAnswers (the_number_or_page x) a b → label_output v x l inh s ≡ label_output u x l inh s
+    label_tree_alike x l inh s h = ap (λ (o : Option (List ℕ)). render_output (if unwrap_or (label_by_special_form w.instance.special x) (is_some o) then label_box l o inh else []) s) (label_text_alike s x l h)
 
     -- ---- dates
 
-    variable_info_alike : (s : State) (o : Option DateVariable) → Alike (date_if o) a b → variable_info v s o ≡ variable_info u s o
+    variable_info_alike : (s : State) (o : Option DateVariable) → SameNamedAnswers (date_if o) a b → variable_info v s o ≡ variable_info u s o
     variable_info_alike s None h = refl
-    variable_info_alike s (Some x) h = ap (λ d. if shows_date w s x then number_said (is_some d) else nothing_said) (date_look_alike a b w s x h)
+    variable_info_alike s (Some x) h = ap (λ d. if date_shows_own w s x then presence_info (is_some d) else no_info) (date_look_alike a b w s x h)
 
-    printed_date_alike : (o : Option DateNode) (d : Parts) (inh : Inherited) (s : State) → printed_date v o d inh s ≡ printed_date u o d inh s
+    printed_date_alike : (o : Option DateNode) (d : DateView) (inh : Inherited) (s : State) → printed_date v o d inh s ≡ printed_date u o d inh s
     printed_date_alike None d inh s = refl
     printed_date_alike (Some n) d inh s = refl
 
-    date_or_key_alike : (n : DateNode) (o : Option Sorting) (d : Parts) (inh : Inherited) (s : State) → date_or_key v n o d inh s ≡ date_or_key u n o d inh s
-    date_or_key_alike n None d inh s = printed_date_alike (written_as w.style n n.form) d inh s
+    date_or_key_alike : (n : DateNode) (o : Option Sorting) (d : DateView) (inh : Inherited) (s : State) → date_or_key v n o d inh s ≡ date_or_key u n o d inh s
+    date_or_key_alike n None d inh s = printed_date_alike (localized_over w.style n n.form) d inh s
     date_or_key_alike n (Some sorting) d inh s = refl
 
-    found_date_alike : (n : DateNode) (o : Option Parts) (inh : Inherited) (s : State) → found_date v n o inh s ≡ found_date u n o inh s
+    found_date_alike : (n : DateNode) (o : Option DateView) (inh : Inherited) (s : State) → resolved_date v n o inh s ≡ resolved_date u n o inh s
     found_date_alike n None inh s = refl
     found_date_alike n (Some d) inh s = date_or_key_alike n w.instance.sorting d inh s
 
-    variable_tree_alike : (n : DateNode) (o : Option DateVariable) (inh : Inherited) (s : State) → Alike (date_if o) a b → variable_tree v n o inh s ≡ variable_tree u n o inh s
+    variable_tree_alike : (n : DateNode) (o : Option DateVariable) (inh : Inherited) (s : State) → SameNamedAnswers (date_if o) a b → variable_output v n o inh s ≡ variable_output u n o inh s
     variable_tree_alike n None inh s h = refl
     variable_tree_alike n (Some x) inh s h =
-        let after = looked (variable.Date x) s in
-        let content = ap (λ o. found_date v n o inh after) (date_look_alike a b w s x h) ∙ found_date_alike n (date_look u s x) inh after in
-        ap (λ m. if shows_date w s x then m else made [] s) content
+        let after = state_after_resolve (variable.Date x) s in
+        let content = ap (λ o. resolved_date v n o inh after) (date_look_alike a b w s x h) ∙ found_date_alike n (peek_date u s x) inh after in
+        ap (λ m. if date_shows_own w s x then m else render_output [] s) content
 
     -- ---- lists of names
 
-    found_lists_alike : (s : State) (vs : List NameVariable) → Alike (each_of the_name vs) a b → found_lists v s vs ≡ found_lists u s vs
+    found_lists_alike : (s : State) (vs : List NameVariable) → SameNamedAnswers (each_of the_name vs) a b → peeked_lists v s vs ≡ peeked_lists u s vs
     found_lists_alike s [] h = refl
-    found_lists_alike s (x ∷ vs) h = ap₂ (λ (l : List Named) (ls : Lists). (l, x) ∷ ls) (name_look_alike a b w s x (on_left _ _ h)) (found_lists_alike s vs (on_right _ _ h))
+    found_lists_alike s (x ∷ vs) h = ap₂ (λ (l : List PersonView) (ls : PersonLists). (l, x) ∷ ls) (name_look_alike a b w s x (on_left _ _ h)) (found_lists_alike s vs (on_right _ _ h))
 
-    each_printed_alike : (s : State) (vs : List NameVariable) → Alike (each_of the_name vs) a b → each_printed v s vs ≡ each_printed u s vs
+    each_printed_alike : (s : State) (vs : List NameVariable) → SameNamedAnswers (each_of the_name vs) a b → each_resolved v s vs ≡ each_resolved u s vs
     each_printed_alike s [] h = refl
-    each_printed_alike s (x ∷ vs) h = ap₂ (λ (l : List Named) (ls : Lists). (l, x) ∷ ls) (name_look_alike a b w s x (on_left _ _ h)) (each_printed_alike (looked (variable.Name x) s) vs (on_right _ _ h))
+    each_printed_alike s (x ∷ vs) h = ap₂ (λ (l : List PersonView) (ls : PersonLists). (l, x) ∷ ls) (name_look_alike a b w s x (on_left _ _ h)) (each_printed_alike (state_after_resolve (variable.Name x) s) vs (on_right _ _ h))
 
-    all_looked_alike : (s : State) (vs : List NameVariable) → all_looked v s vs ≡ all_looked u s vs
+    all_looked_alike : (s : State) (vs : List NameVariable) → state_after_resolve_all v s vs ≡ state_after_resolve_all u s vs
     all_looked_alike s [] = refl
-    all_looked_alike s (x ∷ vs) = all_looked_alike (looked (variable.Name x) s) vs
+    all_looked_alike s (x ∷ vs) = all_looked_alike (state_after_resolve (variable.Name x) s) vs
 
     lists_state_alike : (s : State) (vs : List NameVariable) → lists_state v s vs ≡ lists_state u s vs
-    lists_state_alike s vs = ap (λ t. if merges w.style vs then looked (variable.Name Translator) (looked (variable.Name Editor) s) else t) (all_looked_alike s vs)
+    lists_state_alike s vs = ap (λ t. if may_merge w.style vs then state_after_resolve (variable.Name Translator) (state_after_resolve (variable.Name Editor) s) else t) (all_looked_alike s vs)
 
     -- lists of editors and translators that may be merged are of these two variables
     module _ (s t : State) where
       abbrev Pair : Type 0
-      Pair = (name_look v s Editor ≡ name_look u s Editor) × (name_look v t Translator ≡ name_look u t Translator)
+      Pair = (peek_names v s Editor ≡ peek_names u s Editor) × (peek_names v t Translator ≡ peek_names u t Translator)
 
-      looks_alike : Alike (the_name Editor) a b → Alike (the_name Translator) a b → Pair
+      looks_alike : SameNamedAnswers (the_name Editor) a b → SameNamedAnswers (the_name Translator) a b → Pair
       looks_alike h k = (name_look_alike a b w s Editor h, name_look_alike a b w t Translator k)
 
-      one_of : (x y : Bool) (vs : List NameVariable) → (x ≡ true → vs ≡ Editor ∷ Translator ∷ []) → (y ≡ true → vs ≡ Translator ∷ Editor ∷ []) → (x || y) ≡ true → Alike (each_of the_name vs) a b → Pair
+      one_of : (x y : Bool) (vs : List NameVariable) → (x ≡ true → vs ≡ Editor ∷ Translator ∷ []) → (y ≡ true → vs ≡ Translator ∷ Editor ∷ []) → (x || y) ≡ true → SameNamedAnswers (each_of the_name vs) a b → Pair
       one_of true y vs f g e h =
-          let k : Alike (each_of the_name (Editor ∷ Translator ∷ [])) a b = subst (λ us. Alike (each_of the_name us) a b) (f refl) h in
+          let k : SameNamedAnswers (each_of the_name (Editor ∷ Translator ∷ [])) a b = subst (λ us. SameNamedAnswers (each_of the_name us) a b) (f refl) h in
           looks_alike (on_left _ _ k) (on_left _ _ (on_right _ _ k))
       one_of false true vs f g e h =
-          let k : Alike (each_of the_name (Translator ∷ Editor ∷ [])) a b = subst (λ us. Alike (each_of the_name us) a b) (g refl) h in
+          let k : SameNamedAnswers (each_of the_name (Translator ∷ Editor ∷ [])) a b = subst (λ us. SameNamedAnswers (each_of the_name us) a b) (g refl) h in
           looks_alike (on_left _ _ (on_right _ _ k)) (on_left _ _ k)
       one_of false false vs f g e h = absurd (false≢true e)
 
       same_list : (xs ys : List NameVariable) → same_variables xs ys ≡ true → xs ≡ ys
       same_list xs ys e = (slice_eq-Decides name_decides xs ys (same_variables xs ys) refl).0 e
 
-      pair_alike : (vs : List NameVariable) → is_pair vs ≡ true → Alike (each_of the_name vs) a b → Pair
+      pair_alike : (vs : List NameVariable) → is_pair vs ≡ true → SameNamedAnswers (each_of the_name vs) a b → Pair
       pair_alike vs e h =
           one_of (same_variables vs (Editor ∷ Translator ∷ [])) (same_variables vs (Translator ∷ Editor ∷ [])) vs (same_list vs (Editor ∷ Translator ∷ [])) (same_list vs (Translator ∷ Editor ∷ [])) e h
 
       -- lists that are merged where a word is there and they are that pair, else not
-      merged_alike : (word pair : Bool) (vs : List NameVariable) (xs ys : Lists) → pair ≡ is_pair vs → xs ≡ ys → Alike (each_of the_name vs) a b
-          → (if word && pair then merged (name_look v s Editor) (name_look v t Translator) else xs) ≡ (if word && pair then merged (name_look u s Editor) (name_look u t Translator) else ys)
-      merged_alike true true vs xs ys e f h = let both = pair_alike vs (sym e) h in ap₂ merged both.0 both.1
+      merged_alike : (word pair : Bool) (vs : List NameVariable) (xs ys : PersonLists) → pair ≡ is_pair vs → xs ≡ ys → SameNamedAnswers (each_of the_name vs) a b
+          → (if word && pair then merged_lists (peek_names v s Editor) (peek_names v t Translator) else xs) ≡ (if word && pair then merged_lists (peek_names u s Editor) (peek_names u t Translator) else ys)
+      merged_alike true true vs xs ys e f h = let both = pair_alike vs (sym e) h in ap₂ merged_lists both.0 both.1
       merged_alike true false vs xs ys e f h = f
       merged_alike false true vs xs ys e f h = f
       merged_alike false false vs xs ys e f h = f
 
-    printed_lists_alike : (s : State) (vs : List NameVariable) → Alike (each_of the_name vs) a b → printed_lists v s vs ≡ printed_lists u s vs
-    printed_lists_alike s vs h = merged_alike s (looked (variable.Name Editor) s) (is_some (term_in w.style (terms.Name EditorTranslator) term_forms.Long false)) (is_pair vs) vs _ _ refl (each_printed_alike s vs h) h
+    printed_lists_alike : (s : State) (vs : List NameVariable) → SameNamedAnswers (each_of the_name vs) a b → resolved_lists v s vs ≡ resolved_lists u s vs
+    printed_lists_alike s vs h = merged_alike s (state_after_resolve (variable.Name Editor) s) (is_some (term_in w.style (terms.Name EditorTranslator) term_forms.Long false)) (is_pair vs) vs _ _ refl (each_printed_alike s vs h) h
 
     -- ---- tests
 
-    numeric_alike : (s : State) (x : Variable) → Alike (the_variable x) a b → is_numeric v s x ≡ is_numeric u s x
+    numeric_alike : (s : State) (x : Variable) → SameNamedAnswers (the_variable x) a b → is_numeric v s x ≡ is_numeric u s x
     numeric_alike s (variable.Standard x) h = ap (is_some_and is_number) (standard_look_alike a b w s Long x h)
     numeric_alike s (variable.Number x) h = ap (is_some_and is_typed_result) (number_look_alike a b w s x h)
     numeric_alike s (variable.Page x) h = ap (is_some_and is_typed) (page_look_alike a b w s x h)
     numeric_alike s (variable.Name x) h = refl
     numeric_alike s (variable.Date x) h = refl
 
-    uncertain_alike : (s : State) (x : DateVariable) → Alike (the_date x) a b → is_uncertain v s x ≡ is_uncertain u s x
+    uncertain_alike : (s : State) (x : DateVariable) → SameNamedAnswers (the_date x) a b → is_uncertain v s x ≡ is_uncertain u s x
     uncertain_alike s x h = ap (is_some_and (λ d. d.approximate)) (date_look_alike a b w s x h)
 
-    present_alike : (s : State) (x : Variable) → Alike (the_variable x) a b → is_present v s x ≡ is_present u s x
+    present_alike : (s : State) (x : Variable) → SameNamedAnswers (the_variable x) a b → is_present v s x ≡ is_present u s x
     present_alike s (variable.Standard x) h = ap (is_some_and (λ cs. not (is_white_space cs))) (standard_look_alike a b w s Long x h)
     present_alike s (variable.Number x) h = ap is_some (number_look_alike a b w s x h)
     present_alike s (variable.Page x) h = ap is_some (page_look_alike a b w s x h)
@@ -234,17 +234,17 @@ module _ (a b : Answers) where
     disambiguated_alike (Some false) = refl
 
     -- each of a list, where each one is alike
-    module _ {A : Type 0} (names : A → NamedSet) (f g : A → Bool) (one : (x : A) → Alike (names x) a b → f x ≡ g x) where
-      each_alike : (xs : List A) → Alike (each_of names xs) a b → map f xs ≡ map g xs
+    module _ {A : Type 0} (names : A → NamedSet) (f g : A → Bool) (one : (x : A) → SameNamedAnswers (names x) a b → f x ≡ g x) where
+      each_alike : (xs : List A) → SameNamedAnswers (each_of names xs) a b → map f xs ≡ map g xs
       each_alike [] h = refl
       each_alike (x ∷ xs) h = ap₂ (λ y ys. y ∷ ys) (one x (on_left _ _ h)) (each_alike xs (on_right _ _ h))
 
-      each_if_alike : (o : Option (List A)) → Alike (each_if names o) a b → map f (all_if o) ≡ map g (all_if o)
+      each_if_alike : (o : Option (List A)) → SameNamedAnswers (each_if names o) a b → map f (all_if o) ≡ map g (all_if o)
       each_if_alike None h = refl
       each_if_alike (Some xs) h = each_alike xs h
 
-    holds_alike : (s : State) (ts : Tests) → Alike (of_tests ts) a b → holds v s ts ≡ holds u s ts
-    unfolding holds
+    holds_alike : (s : State) (ts : Tests) → SameNamedAnswers (named_in_tests ts) a b → branch_matches v s ts ≡ branch_matches u s ts
+    unfolding branch_matches
     holds_alike s ts h =
         let past_numbers = on_right _ _ h in
         let past_dates = on_right _ _ past_numbers in
@@ -257,123 +257,123 @@ module _ (a b : Answers) where
     -- ---- what is shown
 
     mutual
-      pub shows_alike : (s : State) (x : Variable) (f : Full) → Alike (of_full f) a b → shows v s x f ≡ shows u s x f
-      shows_alike s x (printed t d) h = ap (λ o. is_some o && is_of x t) (found_alike s t h)
-      shows_alike s x (called fs d) h = any_shows_alike s x fs h
-      shows_alike s x lacking h = refl
-      shows_alike s x (numbered n) h = refl
-      shows_alike s x (labelled y l) h = refl
-      shows_alike s x (dated n) h = refl
-      shows_alike s x (named n is) h =
+      pub shows_alike : (s : State) (x : Variable) (f : ExpandedNode) → SameNamedAnswers (named_in_node f) a b → shows v s x f ≡ shows u s x f
+      shows_alike s x (expanded_text t d) h = ap (λ o. is_some o && is_of x t) (found_alike s t h)
+      shows_alike s x (expanded_macro fs d) h = any_shows_alike s x fs h
+      shows_alike s x unknown_macro h = refl
+      shows_alike s x (expanded_number n) h = refl
+      shows_alike s x (expanded_label y l) h = refl
+      shows_alike s x (expanded_date n) h = refl
+      shows_alike s x (expanded_names n is) h =
           ap₂ (λ ls substitute. names_show x n (all_empty ls) substitute) (found_lists_alike s n.variables (on_left _ _ h)) (substitute_shows_alike s x is (on_right _ _ h))
       shows_alike s x (shorthand written n) h = ap (λ ls. names_show x written (all_empty ls) false) (found_lists_alike s written.variables (on_left _ _ h))
-      shows_alike s x (chosen cs) h = cases_show_alike s x cs h
-      shows_alike s x (grouped delimiter d fs) h = any_shows_alike s x fs h
+      shows_alike s x (expanded_choose cs) h = cases_show_alike s x cs h
+      shows_alike s x (expanded_group delimiter d fs) h = any_shows_alike s x fs h
 
-      pub any_shows_alike : (s : State) (x : Variable) (fs : Fulls) → Alike (of_fulls fs) a b → any_shows v s x fs ≡ any_shows u s x fs
-      any_shows_alike s x none h = refl
-      any_shows_alike s x (more f fs) h = ap₂ (λ i j. i || j) (shows_alike s x f (on_left _ _ h)) (any_shows_alike s x fs (on_right _ _ h))
+      pub any_shows_alike : (s : State) (x : Variable) (fs : ExpandedNodes) → SameNamedAnswers (named_in_nodes fs) a b → any_shows v s x fs ≡ any_shows u s x fs
+      any_shows_alike s x no_expanded_nodes h = refl
+      any_shows_alike s x (expanded_node f fs) h = ap₂ (λ i j. i || j) (shows_alike s x f (on_left _ _ h)) (any_shows_alike s x fs (on_right _ _ h))
 
-      cases_show_alike : (s : State) (x : Variable) (cs : Cases) → Alike (of_cases cs) a b → cases_show v s x cs ≡ cases_show u s x cs
-      cases_show_alike s x no_cases h = refl
-      cases_show_alike s x (else_case fs) h = any_shows_alike s x fs h
-      cases_show_alike s x (case ts fs cs) h =
+      cases_show_alike : (s : State) (x : Variable) (cs : ExpandedBranches) → SameNamedAnswers (named_in_branches cs) a b → branches_show v s x cs ≡ branches_show u s x cs
+      cases_show_alike s x no_expanded_branches h = refl
+      cases_show_alike s x (expanded_otherwise fs) h = any_shows_alike s x fs h
+      cases_show_alike s x (expanded_branch ts fs cs) h =
           rw (holds_alike s ts (on_left _ _ h), any_shows_alike s x fs (on_left _ _ (on_right _ _ h)), cases_show_alike s x cs (on_right _ _ (on_right _ _ h))) refl
 
-      substitute_shows_alike : (s : State) (x : Variable) (is : Insteads) → Alike (of_insteads is) a b → substitute_shows v s x is ≡ substitute_shows u s x is
-      substitute_shows_alike s x no_insteads h = refl
-      substitute_shows_alike s x (instead fs is) h = any_shows_alike s x fs (on_left _ _ h)
+      substitute_shows_alike : (s : State) (x : Variable) (is : ExpandedSubstitutes) → SameNamedAnswers (named_in_substitutes is) a b → substitute_shows v s x is ≡ substitute_shows u s x is
+      substitute_shows_alike s x no_expanded_substitutes h = refl
+      substitute_shows_alike s x (expanded_substitute fs is) h = any_shows_alike s x fs (on_left _ _ h)
 
     -- ---- what is said
 
     mutual
-      pub info_alike : (s : State) (f : Full) → Alike (of_full f) a b → info v s f ≡ info u s f
-      info_alike s (printed t d) h = ap (found_info (calls t)) (found_alike s t h)
-      info_alike s (called fs d) h = ap (λ i. macro_info (but_groups i)) (infos_alike s fs h)
-      info_alike s lacking h = refl
-      info_alike s (numbered n) h = number_info_alike s n h
-      info_alike s (labelled x l) h = label_info_alike s x l h
-      info_alike s (dated n) h = variable_info_alike s n.variable h
-      info_alike s (named n is) h =
+      pub info_alike : (s : State) (f : ExpandedNode) → SameNamedAnswers (named_in_node f) a b → info v s f ≡ info u s f
+      info_alike s (expanded_text t d) h = ap (resolved_info (calls t)) (found_alike s t h)
+      info_alike s (expanded_macro fs d) h = ap (λ i. macro_info (without_group_flag i)) (infos_alike s fs h)
+      info_alike s unknown_macro h = refl
+      info_alike s (expanded_number n) h = number_info_alike s n h
+      info_alike s (expanded_label x l) h = label_info_alike s x l h
+      info_alike s (expanded_date n) h = variable_info_alike s n.variable h
+      info_alike s (expanded_names n is) h =
           let lists = found_lists_alike s n.variables (on_left _ _ h) in
-          let shown = shows_alike s author (named n is) h in
+          let shown = shows_alike s author (expanded_names n is) h in
           let substituted = substitute_info_alike s is (on_right _ _ h) in
-          ap (λ ls. names_info w.instance.special n ls is (shows v s author (named n is)) (substitute_info v s is)) lists
-          ∙ ap₂ (λ shown sub. names_info w.instance.special n (found_lists u s n.variables) is shown sub) shown substituted
+          ap (λ ls. names_info w.instance.special n ls is (shows v s author (expanded_names n is)) (substitute_info v s is)) lists
+          ∙ ap₂ (λ shown sub. names_info w.instance.special n (peeked_lists u s n.variables) is shown sub) shown substituted
       info_alike s (shorthand written n) h =
-          ap₂ (λ ls shown. names_info w.instance.special written ls no_insteads shown nothing_said) (found_lists_alike s written.variables (on_left _ _ h)) (shows_alike s author (shorthand written n) h)
-      info_alike s (chosen cs) h = cases_info_alike s cs h
-      info_alike s (grouped delimiter d fs) h = ap group_info (infos_alike s fs h)
+          ap₂ (λ ls shown. names_info w.instance.special written ls no_expanded_substitutes shown no_info) (found_lists_alike s written.variables (on_left _ _ h)) (shows_alike s author (shorthand written n) h)
+      info_alike s (expanded_choose cs) h = cases_info_alike s cs h
+      info_alike s (expanded_group delimiter d fs) h = ap group_info (infos_alike s fs h)
 
-      pub infos_alike : (s : State) (fs : Fulls) → Alike (of_fulls fs) a b → infos v s fs ≡ infos u s fs
-      infos_alike s none h = refl
-      infos_alike s (more f fs) h = ap₂ (λ i j. either (counted (is_group f) i) j) (info_alike s f (on_left _ _ h)) (infos_alike s fs (on_right _ _ h))
+      pub infos_alike : (s : State) (fs : ExpandedNodes) → SameNamedAnswers (named_in_nodes fs) a b → nodes_info v s fs ≡ nodes_info u s fs
+      infos_alike s no_expanded_nodes h = refl
+      infos_alike s (expanded_node f fs) h = ap₂ (λ i j. info_union (as_child_info (is_group f) i) j) (info_alike s f (on_left _ _ h)) (infos_alike s fs (on_right _ _ h))
 
-      cases_info_alike : (s : State) (cs : Cases) → Alike (of_cases cs) a b → cases_info v s cs ≡ cases_info u s cs
-      cases_info_alike s no_cases h = refl
-      cases_info_alike s (else_case fs) h = ap but_groups (infos_alike s fs h)
-      cases_info_alike s (case ts fs cs) h =
+      cases_info_alike : (s : State) (cs : ExpandedBranches) → SameNamedAnswers (named_in_branches cs) a b → branches_info v s cs ≡ branches_info u s cs
+      cases_info_alike s no_expanded_branches h = refl
+      cases_info_alike s (expanded_otherwise fs) h = ap without_group_flag (infos_alike s fs h)
+      cases_info_alike s (expanded_branch ts fs cs) h =
           rw (holds_alike s ts (on_left _ _ h), infos_alike s fs (on_left _ _ (on_right _ _ h)), cases_info_alike s cs (on_right _ _ (on_right _ _ h))) refl
 
-      substitute_info_alike : (s : State) (is : Insteads) → Alike (of_insteads is) a b → substitute_info v s is ≡ substitute_info u s is
-      substitute_info_alike s no_insteads h = refl
-      substitute_info_alike s (instead fs is) h = ap but_groups (infos_alike s fs (on_left _ _ h))
+      substitute_info_alike : (s : State) (is : ExpandedSubstitutes) → SameNamedAnswers (named_in_substitutes is) a b → substitute_info v s is ≡ substitute_info u s is
+      substitute_info_alike s no_expanded_substitutes h = refl
+      substitute_info_alike s (expanded_substitute fs is) h = ap without_group_flag (infos_alike s fs (on_left _ _ h))
 
     -- ---- what is made
 
     mutual
-      pub tree_alike : (f : Full) (inh : Inherited) (s : State) → Alike (of_full f) a b → tree v f inh s ≡ tree u f inh s
-      tree_alike (printed t d) inh s h = target_tree_alike t d inh s h
-      tree_alike (called fs d) inh s h = ap₂ (λ i m. macro_made (rule (macro_info (but_groups i)).flags) w d inh m s) (infos_alike s fs h) (sum_of_alike fs (in_macro d inh) s h)
-      tree_alike lacking inh s h = refl
-      tree_alike (numbered n) inh s h = number_tree_alike n inh s h
-      tree_alike (labelled x l) inh s h = label_tree_alike x l inh s h
-      tree_alike (dated n) inh s h = variable_tree_alike n n.variable inh s h
-      tree_alike (named n is) inh s h =
+      pub tree_alike : (f : ExpandedNode) (inh : Inherited) (s : State) → SameNamedAnswers (named_in_node f) a b → node_output v f inh s ≡ node_output u f inh s
+      tree_alike (expanded_text t d) inh s h = target_tree_alike t d inh s h
+      tree_alike (expanded_macro fs d) inh s h = ap₂ (λ i m. macro_output (should_render_group (macro_info (without_group_flag i)).flags) w d inh m s) (infos_alike s fs h) (sum_of_alike fs (in_macro d inh) s h)
+      tree_alike unknown_macro inh s h = refl
+      tree_alike (expanded_number n) inh s h = number_tree_alike n inh s h
+      tree_alike (expanded_label x l) inh s h = label_tree_alike x l inh s h
+      tree_alike (expanded_date n) inh s h = variable_tree_alike n n.variable inh s h
+      tree_alike (expanded_names n is) inh s h =
           let after = lists_state u s n.variables in
-          let lists = printed_lists u s n.variables in
+          let lists = resolved_lists u s n.variables in
           let substitute = suppressing_from after in
-          ap₂ (λ ls t. names_tree v n is inh (substitute_tree v is (in_substitute n inh) (suppressing_from t)) ls t) (printed_lists_alike s n.variables (on_left _ _ h)) (lists_state_alike s n.variables)
-          ∙ ap₂ (λ shown m. names_made w n lists (is_refused w.instance.special n (all_empty lists) is (names_show author n (all_empty lists) shown)) inh m after)
+          ap₂ (λ ls t. names_output v n is inh (substitute_output v is (in_substitute n inh) (suppressing_from t)) ls t) (printed_lists_alike s n.variables (on_left _ _ h)) (lists_state_alike s n.variables)
+          ∙ ap₂ (λ shown m. lists_or_substitute w n lists (is_refused w.instance.special n (all_empty lists) is (names_show author n (all_empty lists) shown)) inh m after)
           (substitute_shows_alike after author is (on_right _ _ h)) (substitute_tree_alike is (in_substitute n inh) substitute (on_right _ _ h))
       tree_alike (shorthand written n) inh s h =
-          ap₂ (λ ls t. names_tree w n no_insteads inh (made [] (suppressing_from t)) ls t) (printed_lists_alike s n.variables (on_right _ _ h)) (lists_state_alike s n.variables)
-      tree_alike (chosen cs) inh s h = cases_tree_alike cs inh s h
-      tree_alike (grouped delimiter d fs) inh s h = ap₂ (λ i m. group_made (rule i.flags) d inh m) (infos_alike s fs h) (delimited_alike fs (in_group delimiter d inh) true s h)
+          ap₂ (λ ls t. names_output w n no_expanded_substitutes inh (render_output [] (suppressing_from t)) ls t) (printed_lists_alike s n.variables (on_right _ _ h)) (lists_state_alike s n.variables)
+      tree_alike (expanded_choose cs) inh s h = cases_tree_alike cs inh s h
+      tree_alike (expanded_group delimiter d fs) inh s h = ap₂ (λ i m. group_output (should_render_group i.flags) d inh m) (infos_alike s fs h) (delimited_alike fs (in_group delimiter d inh) true s h)
 
-      pub sum_of_alike : (fs : Fulls) (inh : Inherited) (s : State) → Alike (of_fulls fs) a b → sum_of v fs inh s ≡ sum_of u fs inh s
-      sum_of_alike none inh s h = refl
-      sum_of_alike (more f fs) inh s h =
+      pub sum_of_alike : (fs : ExpandedNodes) (inh : Inherited) (s : State) → SameNamedAnswers (named_in_nodes fs) a b → nodes_output v fs inh s ≡ nodes_output u fs inh s
+      sum_of_alike no_expanded_nodes inh s h = refl
+      sum_of_alike (expanded_node f fs) inh s h =
           let first = tree_alike f inh s (on_left _ _ h) in
-          let rest = sum_of_alike fs inh (tree v f inh s).state (on_right _ _ h) in
-          ap (then_made (tree v f inh s).content) rest ∙ ap (λ m. then_made m.content (sum_of u fs inh m.state)) first
+          let rest = sum_of_alike fs inh (node_output v f inh s).state (on_right _ _ h) in
+          ap (then_output (node_output v f inh s).content) rest ∙ ap (λ m. then_output m.content (nodes_output u fs inh m.state)) first
 
-      delimited_alike : (fs : Fulls) (inh : Inherited) (first : Bool) (s : State) → Alike (of_fulls fs) a b → delimited v fs inh first s ≡ delimited u fs inh first s
-      delimited_alike none inh first s h = refl
-      delimited_alike (more f fs) inh first s h =
+      delimited_alike : (fs : ExpandedNodes) (inh : Inherited) (first : Bool) (s : State) → SameNamedAnswers (named_in_nodes fs) a b → delimited_output v fs inh first s ≡ delimited_output u fs inh first s
+      delimited_alike no_expanded_nodes inh first s h = refl
+      delimited_alike (expanded_node f fs) inh first s h =
           let said = info_alike s f (on_left _ _ h) in
           let one = tree_alike f inh s (on_left _ _ h) in
-          let behind = delimited_alike fs inh false (tree v f inh s).state (on_right _ _ h) in
+          let behind = delimited_alike fs inh false (node_output v f inh s).state (on_right _ _ h) in
           let skipped = delimited_alike fs inh first s (on_right _ _ h) in
-          ap₂ (λ m k. if (info v s f).prints then m else k) (ap (then_made (admitted_made first inh (tree v f inh s)).content) behind ∙ ap (λ m. then_made (admitted_made first inh m).content (delimited u fs inh false m.state)) one) skipped
-          ∙ ap (λ i. if i.prints then then_made (admitted_made first inh (tree u f inh s)).content (delimited u fs inh false (tree u f inh s).state) else delimited u fs inh first s) said
+          ap₂ (λ m k. if (info v s f).prints then m else k) (ap (then_output (delimited_child_output first inh (node_output v f inh s)).content) behind ∙ ap (λ m. then_output (delimited_child_output first inh m).content (delimited_output u fs inh false m.state)) one) skipped
+          ∙ ap (λ i. if i.prints then then_output (delimited_child_output first inh (node_output u f inh s)).content (delimited_output u fs inh false (node_output u f inh s).state) else delimited_output u fs inh first s) said
 
-      cases_tree_alike : (cs : Cases) (inh : Inherited) (s : State) → Alike (of_cases cs) a b → cases_tree v cs inh s ≡ cases_tree u cs inh s
-      cases_tree_alike no_cases inh s h = refl
-      cases_tree_alike (else_case fs) inh s h = delimited_alike fs inh true s h
-      cases_tree_alike (case ts fs cs) inh s h =
+      cases_tree_alike : (cs : ExpandedBranches) (inh : Inherited) (s : State) → SameNamedAnswers (named_in_branches cs) a b → branches_output v cs inh s ≡ branches_output u cs inh s
+      cases_tree_alike no_expanded_branches inh s h = refl
+      cases_tree_alike (expanded_otherwise fs) inh s h = delimited_alike fs inh true s h
+      cases_tree_alike (expanded_branch ts fs cs) inh s h =
           rw (holds_alike s ts (on_left _ _ h), delimited_alike fs inh true s (on_left _ _ (on_right _ _ h)), cases_tree_alike cs inh s (on_right _ _ (on_right _ _ h))) refl
 
-      substitute_tree_alike : (is : Insteads) (inh : Inherited) (s : State) → Alike (of_insteads is) a b → substitute_tree v is inh s ≡ substitute_tree u is inh s
-      substitute_tree_alike no_insteads inh s h = refl
-      substitute_tree_alike (instead fs is) inh s h = until_text_alike fs inh (made [] s) (on_left _ _ h)
+      substitute_tree_alike : (is : ExpandedSubstitutes) (inh : Inherited) (s : State) → SameNamedAnswers (named_in_substitutes is) a b → substitute_output v is inh s ≡ substitute_output u is inh s
+      substitute_tree_alike no_expanded_substitutes inh s h = refl
+      substitute_tree_alike (expanded_substitute fs is) inh s h = until_text_alike fs inh (render_output [] s) (on_left _ _ h)
 
-      until_text_alike : (fs : Fulls) (inh : Inherited) (m : Made) → Alike (of_fulls fs) a b → until_text v fs inh m ≡ until_text u fs inh m
-      until_text_alike none inh m h = refl
-      until_text_alike (more f fs) inh m h =
-          let rest = until_text_alike fs inh (then_made m.content (tree v f inh m.state)) (on_right _ _ h) in
+      until_text_alike : (fs : ExpandedNodes) (inh : Inherited) (m : RenderOutput) → SameNamedAnswers (named_in_nodes fs) a b → output_until_text v fs inh m ≡ output_until_text u fs inh m
+      until_text_alike no_expanded_nodes inh m h = refl
+      until_text_alike (expanded_node f fs) inh m h =
+          let rest = until_text_alike fs inh (then_output m.content (node_output v f inh m.state)) (on_right _ _ h) in
           let first = tree_alike f inh m.state (on_left _ _ h) in
-          ap (λ k. if has_text m.content then m else k) (rest ∙ ap (λ t. until_text u fs inh (then_made m.content t)) first)
+          ap (λ k. if has_text m.content then m else k) (rest ∙ ap (λ t. output_until_text u fs inh (then_output m.content t)) first)
 
-    pub layout_alike : (l : FullLayout) (inh : Inherited) (s : State) → Alike (of_fulls l.elements) a b → layout_tree v l inh s ≡ layout_tree u l inh s
-    layout_alike l inh s h = sum_of_alike l.elements (record (within l.formatting inh) { delimiter = l.delimiter }) s h
+    pub layout_alike : (l : ExpandedLayout) (inh : Inherited) (s : State) → SameNamedAnswers (named_in_nodes l.elements) a b → layout_output v l inh s ≡ layout_output u l inh s
+    layout_alike l inh s h = sum_of_alike l.elements (record (with_node_formatting l.formatting inh) { delimiter = l.delimiter }) s h

@@ -2,10 +2,10 @@
 -- decides is what the definition does.
 use Rattle.std.proofs.Common.{◌≡◌, Option, Some, None, IfSome, Result, Ok, Err, List, subst, sym, ◌∙◌}
 use Rattle.std.specs.Option.{IsSomeAnd}
-use Rattle.csl_style.specs.Node.{Full, Fulls}
-use Rattle.csl_context.specs.Now.{Now, Runs, Leaves}
+use Rattle.csl_style.specs.Node.{ExpandedNode, ExpandedNodes}
+use Rattle.csl_context.specs.ContextView.{ContextView, Runs, Becomes}
 use Rattle.csl_context.specs.State.{State}
-use Rattle.csl_context.specs.World.{World}
+use Rattle.csl_context.specs.World.{RenderInput}
 use Rattle.csl_context.specs.declared.error.RenderError.{RenderError}
 use Rattle.csl_render.specs.declared.plan.ListPlan.{ListPlan}
 use Rattle.csl_render.specs.declared.plan.NodeInfo.{NodeInfo}
@@ -13,7 +13,7 @@ use Rattle.csl_render.specs.declared.plan.NodePlan.{NodePlan}
 use Rattle.csl_render.specs.Plan.{AreReadAlike, inside_of, AreInside, AreInfos, IsPlan, ArePlans}
 
 -- the plan of a choice is that of the nodes that it takes
-pub taken_planned : (w : World) (s : State) (f : Full) (fs : Fulls) → ((at : State) → AreReadAlike w at s → (is : List NodeInfo) → AreInside w at f is → AreInfos w at fs is)
+pub taken_planned : (w : RenderInput) (s : State) (f : ExpandedNode) (fs : ExpandedNodes) → ((at : State) → AreReadAlike w at s → (is : List NodeInfo) → AreInside w at f is → AreInfos w at fs is)
     → (plan : Option NodePlan) (inside : Option ListPlan) → IfSome plan (IsPlan w s f) → IfSome inside (λ nodes. IsSomeAnd plan (λ node. (nodes.at.now ≡ node.at.now) × (nodes.infos.now ≡ inside_of node.info.now)))
     → IfSome inside (ArePlans w fs)
 taken_planned w s f fs planned plan None h same = tt
@@ -24,9 +24,9 @@ taken_planned w s f fs planned (Some node) (Some nodes) h same =
 
 -- ---- calls that end as another one does
 
-pub ends_as : {T R : Type 0} (f h : Now T → Now T) (old new : Now T) (r : Result R RenderError) → f old ≡ h old → Runs f r old new → Runs h r old new
-ends_as f h old new (Ok x) e l = record { sound = l.sound; left = l.left ∙ e }
+pub ends_as : {T R : Type 0} (f h : ContextView T → ContextView T) (old new : ContextView T) (r : Result R RenderError) → f old ≡ h old → Runs f r old new → Runs h r old new
+ends_as f h old new (Ok x) e l = record { was_live = l.was_live; becomes = l.becomes ∙ e }
 ends_as f h old new (Err x) e l = l
 
-pub shown_as : {T : Type 0} (f h : Now T → Now T) (old new : Now T) → f old ≡ h old → Leaves f old new → Leaves h old new
-shown_as f h old new e l = record { sound = l.sound; left = l.left ∙ e }
+pub shown_as : {T : Type 0} (f h : ContextView T → ContextView T) (old new : ContextView T) → f old ≡ h old → Becomes f old new → Becomes h old new
+shown_as f h old new e l = record { was_live = l.was_live; becomes = l.becomes ∙ e }

@@ -6,9 +6,9 @@ use Rattle.std.specs.Map.{lookup}
 use denote.Bor.{Bor}
 use Rattle.csl_style.specs.declared.taxonomy.Variable.{Variable}
 use Rattle.csl_style.specs.Dressing.{TextDressing}
-use Rattle.csl_style.specs.Node.{Fulls, fill_call}
+use Rattle.csl_style.specs.Node.{ExpandedNodes, expand_call}
 use Rattle.csl_context.specs.State.{State}
-use Rattle.csl_context.specs.World.{World}
+use Rattle.csl_context.specs.World.{RenderInput}
 use Rattle.csl_render.specs.DryRun.{text_eq, call_info, call_shows}
 use Rattle.csl_render.specs.Tree.{info, shows}
 
@@ -39,10 +39,10 @@ recalled P (Some a) h = h a refl
 
 -- ---- texts of a macro
 
-pub info_of_call : (w : World) (s : State) (d : TextDressing) (o : Option Fulls) → info w s (fill_call d o) ≡ call_info w s o
+pub info_of_call : (w : RenderInput) (s : State) (d : TextDressing) (o : Option ExpandedNodes) → info w s (expand_call d o) ≡ call_info w s o
 info_of_call w s d None = refl
 info_of_call w s d (Some fs) = refl
 
-pub shows_of_call : (w : World) (s : State) (v : Variable) (d : TextDressing) (o : Option Fulls) → shows w s v (fill_call d o) ≡ call_shows w s v o
+pub shows_of_call : (w : RenderInput) (s : State) (v : Variable) (d : TextDressing) (o : Option ExpandedNodes) → shows w s v (expand_call d o) ≡ call_shows w s v o
 shows_of_call w s v d None = refl
 shows_of_call w s v d (Some fs) = refl

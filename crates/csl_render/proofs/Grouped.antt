@@ -3,23 +3,23 @@ use Rattle.std.proofs.Common.{ℕ, Bool, true, false, List, Option, None}
 use Rattle.csl_style.specs.declared.formatting.Display.{Display}
 use Rattle.csl_style.specs.declared.formatting.Formatting as partial
 use Rattle.csl_style.specs.Dressing.{AffixTexts}
-use Rattle.csl_style.specs.Node.{Nodes, fills}
-use Rattle.csl_tree.specs.Content.{boxed}
+use Rattle.csl_style.specs.Node.{Nodes, expand_nodes}
+use Rattle.csl_style.specs.Expanded.{macro_env}
+use Rattle.csl_tree.specs.Content.{elem_content}
 use Rattle.csl_entry.specs.Answers.{Answers}
-use Rattle.csl_context.specs.Now.{Now, world, with_part, closed_by, with_format, without_format, with_delimiter, without_delimiter}
+use Rattle.csl_context.specs.ContextView.{ContextView, render_input, with_part, close_part_by, with_format, without_format, with_delimiter, without_delimiter}
 use Rattle.csl_context.specs.Quotes.{affixed_after}
-use Rattle.csl_context.specs.World.{env}
-use Rattle.csl_render.specs.Tree.{shown_if, delimited}
-use Rattle.csl_leaves.specs.Text.{with_made}
+use Rattle.csl_render.specs.Tree.{shown_if, delimited_output}
+use Rattle.csl_nodes.specs.Text.{with_output}
 
 module _ {T : Type 0} (answers : T → Answers) where
   -- the children of a group, in the context that they are lent
-  abbrev pub with_children : Nodes → Now T → Now T
-  with_children ns now = with_made (delimited (world answers now) (fills (env now.style) ns) now.inherited true now.state) now
+  abbrev pub with_children : Nodes → ContextView T → ContextView T
+  with_children ns now = with_output (delimited_output (render_input answers now) (expand_nodes (macro_env now.style) ns) now.inherited true now.state) now
 
-  abbrev pub grouped_by : partial.Formatting → AffixTexts → Option Display → Bool → Option (List ℕ) → Nodes → Now T → Now T
+  abbrev pub grouped_by : partial.Formatting → AffixTexts → Option Display → Bool → Option (List ℕ) → Nodes → ContextView T → ContextView T
   grouped_by f a display shows delimiter ns now =
       without_format (without_delimiter
-      (closed_by (λ _ c. shown_if shows (boxed display None c))
-      (closed_by (λ inh c. affixed_after false inh a c)
+      (close_part_by (λ _ c. shown_if shows (elem_content display None c))
+      (close_part_by (λ inh c. affixed_after false inh a c)
       (with_children ns (with_part (with_part (with_delimiter delimiter (with_format f now))))))))

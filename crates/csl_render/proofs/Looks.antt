@@ -15,41 +15,41 @@ use Rattle.csl_style.specs.declared.taxonomy.Variable.TheVariants as variable
 use Rattle.csl_style.specs.Named.{a_variable, a_kind, the_variable, the_kind, the_number_or_page}
 use Rattle.csl_style.specs.OfCitation.{is_of_citation}
 use Rattle.csl_style.proofs.Variables.{variable_ordered, kind_ordered}
-use Rattle.csl_entry.specs.Alike.{Alike, SameAnswer}
+use Rattle.csl_entry.specs.Alike.{SameNamedAnswers, SameAnswer}
 use Rattle.csl_entry.specs.Answers.{Answers}
 use Rattle.csl_entry.specs.NumberResult.{number, page}
 use Rattle.csl_entry.proofs.Looks.{number_alike, standard_alike}
 use Rattle.csl_context.specs.State.{State, is_suppressed}
-use Rattle.csl_context.specs.World.{World, number_look, page_look, standard_look, name_look, date_look}
-use Rattle.csl_leaves.specs.Answered.{number_or_page_look}
-use Rattle.csl_render.specs.Printed.{answered_by}
+use Rattle.csl_context.specs.World.{RenderInput, peek_number, peek_page, peek_standard, peek_names, peek_date}
+use Rattle.csl_nodes.specs.NumberOrPage.{peek_number_or_page}
+use Rattle.csl_render.specs.PairOutput.{with_answers}
 
 module _ (a b : Answers) where
   -- a variable that is named, unless the citation answers it
-  answer_alike : (v : Variable) → Alike (the_variable v) a b → is_of_citation v ≡ false → SameAnswer a b (a_variable v)
+  answer_alike : (v : Variable) → SameNamedAnswers (the_variable v) a b → is_of_citation v ≡ false → SameAnswer a b (a_variable v)
   unfolding the_variable
   answer_alike v h e = h (a_variable v) (rw ((variable_ordered v v).1 refl, e) refl)
 
-  pub kind_alike : (k : Kind) → Alike (the_kind k) a b → a.kinds k ≡ b.kinds k
+  pub kind_alike : (k : Kind) → SameNamedAnswers (the_kind k) a b → a.kinds k ≡ b.kinds k
   unfolding the_kind
   kind_alike k h = h (a_kind k) (rw ((kind_ordered k k).1 refl) refl)
 
-  module _ (w : World) (s : State) where
-    pub number_look_alike : (v : NumberVariable) → Alike (the_variable (variable.Number v)) a b → number_look (answered_by a w) s v ≡ number_look (answered_by b w) s v
-    number_look_alike v h = ap (λ o. if is_suppressed s (variable.Number v) then None else o) (number_alike v (answered_by a w).instance (answered_by b w).instance refl (answer_alike (variable.Number v) h))
+  module _ (w : RenderInput) (s : State) where
+    pub number_look_alike : (v : NumberVariable) → SameNamedAnswers (the_variable (variable.Number v)) a b → peek_number (with_answers a w) s v ≡ peek_number (with_answers b w) s v
+    number_look_alike v h = ap (λ o. if is_suppressed s (variable.Number v) then None else o) (number_alike v (with_answers a w).instance (with_answers b w).instance refl (answer_alike (variable.Number v) h))
 
-    pub page_look_alike : (v : PageVariable) → Alike (the_variable (variable.Page v)) a b → page_look (answered_by a w) s v ≡ page_look (answered_by b w) s v
+    pub page_look_alike : (v : PageVariable) → SameNamedAnswers (the_variable (variable.Page v)) a b → peek_page (with_answers a w) s v ≡ peek_page (with_answers b w) s v
     page_look_alike v h = ap (λ o. if is_suppressed s (variable.Page v) then None else o) (answer_alike (variable.Page v) h refl)
 
-    pub number_or_page_look_alike : (v : NumberOrPageVariable) → Alike (the_number_or_page v) a b → number_or_page_look (answered_by a w) s v ≡ number_or_page_look (answered_by b w) s v
+    pub number_or_page_look_alike : (v : NumberOrPageVariable) → SameNamedAnswers (the_number_or_page v) a b → peek_number_or_page (with_answers a w) s v ≡ peek_number_or_page (with_answers b w) s v
     number_or_page_look_alike (number_or_page.Number v) h = ap (option_map number) (number_look_alike v h)
     number_or_page_look_alike (number_or_page.Page v) h = ap (option_map page) (page_look_alike v h)
 
-    pub standard_look_alike : (form : LongShortForm) (v : StandardVariable) → Alike (the_variable (variable.Standard v)) a b → standard_look (answered_by a w) s form v ≡ standard_look (answered_by b w) s form v
-    standard_look_alike form v h = ap (λ o. if is_suppressed s (variable.Standard v) then None else o) (standard_alike form v (answered_by a w).instance (answered_by b w).instance refl (λ e. answer_alike (variable.Standard v) h e form))
+    pub standard_look_alike : (form : LongShortForm) (v : StandardVariable) → SameNamedAnswers (the_variable (variable.Standard v)) a b → peek_standard (with_answers a w) s form v ≡ peek_standard (with_answers b w) s form v
+    standard_look_alike form v h = ap (λ o. if is_suppressed s (variable.Standard v) then None else o) (standard_alike form v (with_answers a w).instance (with_answers b w).instance refl (λ e. answer_alike (variable.Standard v) h e form))
 
-    pub name_look_alike : (v : NameVariable) → Alike (the_variable (variable.Name v)) a b → name_look (answered_by a w) s v ≡ name_look (answered_by b w) s v
+    pub name_look_alike : (v : NameVariable) → SameNamedAnswers (the_variable (variable.Name v)) a b → peek_names (with_answers a w) s v ≡ peek_names (with_answers b w) s v
     name_look_alike v h = ap (λ l. if is_suppressed s (variable.Name v) then [] else l) (answer_alike (variable.Name v) h refl)
 
-    pub date_look_alike : (v : DateVariable) → Alike (the_variable (variable.Date v)) a b → date_look (answered_by a w) s v ≡ date_look (answered_by b w) s v
+    pub date_look_alike : (v : DateVariable) → SameNamedAnswers (the_variable (variable.Date v)) a b → peek_date (with_answers a w) s v ≡ peek_date (with_answers b w) s v
     date_look_alike v h = ap (λ o. if is_suppressed s (variable.Date v) then None else o) (answer_alike (variable.Date v) h refl)

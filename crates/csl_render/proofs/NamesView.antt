@@ -4,16 +4,16 @@ use Rattle.csl_style.specs.declared.element.Names.{Names}
 use Rattle.csl_style.specs.declared.element.Substitute.{Substitute, out-Substitute}
 use Rattle.csl_style.specs.declared.element.LayoutRenderingElement.TheFolds.{fold_out-Names, fold_out-Substitute}
 use Rattle.csl_style.specs.NamesParts.{names_node, names_substitutes}
-use Rattle.csl_style.specs.Node.{Node, names, Nodes, Fulls, fill, size, insteads_size}
-use Rattle.csl_style.specs.View.{Child, Part, view_names, view_substitute, views, element_step, child_step, choose_step, branch_step, group_step, names_step, substitute_step}
-use Rattle.csl_render.specs.Names.{insteads_of}
+use Rattle.csl_style.specs.Node.{Node, names, Nodes, ExpandedNodes, expand, size, expanded_substitutes_size}
+use Rattle.csl_style.specs.View.{NamesChildView, BranchView, view_names, view_substitute, view_nodes, element_step, child_step, choose_step, branch_step, group_step, names_step, substitute_step}
+use Rattle.csl_render.specs.Names.{expanded_substitutes_of}
 
 pub names_out : (x : Names) → view_names x ≡ names (names_node x) (names_substitutes x)
-names_out x = rw (fold_out-Names Node Child Node Part Node Node Nodes element_step child_step choose_step branch_step group_step names_step substitute_step x) refl
+names_out x = rw (fold_out-Names Node NamesChildView Node BranchView Node Node Nodes element_step child_step choose_step branch_step group_step names_step substitute_step x) refl
 
-pub substitute_out : (x : Substitute) → view_substitute x ≡ views (out-Substitute x).children.items
-substitute_out x = rw (fold_out-Substitute Node Child Node Part Node Node Nodes element_step child_step choose_step branch_step group_step names_step substitute_step x) refl
+pub substitute_out : (x : Substitute) → view_substitute x ≡ view_nodes (out-Substitute x).children.items
+substitute_out x = rw (fold_out-Substitute Node NamesChildView Node BranchView Node Node Nodes element_step child_step choose_step branch_step group_step names_step substitute_step x) refl
 
 -- names are one larger than their substitutes
-pub names_size : (env : List ℕ → Option Fulls) (x : Names) → size (fill env (view_names x)) ≡ suc (insteads_size (insteads_of env x))
-names_size env x = ap (λ n. size (fill env n)) (names_out x)
+pub names_size : (env : List ℕ → Option ExpandedNodes) (x : Names) → size (expand env (view_names x)) ≡ suc (expanded_substitutes_size (expanded_substitutes_of env x))
+names_size env x = ap (λ n. size (expand env n)) (names_out x)

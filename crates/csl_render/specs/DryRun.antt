@@ -5,22 +5,23 @@ use Rattle.std.specs.HashMap.{HashMap, get}
 use Rattle.std.specs.Str.{bytes_eq}
 use denote.Bor.{Bor}
 use Rattle.csl_style.specs.declared.taxonomy.Variable.{Variable}
-use Rattle.csl_style.specs.Node.{Fulls}
-use Rattle.csl_context.specs.Now.{Now}
+use Rattle.csl_style.specs.Node.{ExpandedNodes}
+use Rattle.csl_style.specs.Expanded.{macro_env}
+use Rattle.csl_context.specs.ContextView.{ContextView}
 use Rattle.csl_context.specs.State.{State}
-use Rattle.csl_context.specs.World.{World, env}
-use Rattle.csl_leaves.specs.declared.usage.UsageInfo.{UsageInfo}
-use Rattle.csl_leaves.specs.Flags.{Info, nothing_said, but_groups, macro_info}
-use Rattle.csl_leaves.specs.Usages.{told}
-use Rattle.csl_render.specs.Tree.{infos, any_shows}
+use Rattle.csl_context.specs.World.{RenderInput}
+use Rattle.csl_nodes.specs.declared.usage.UsageInfo.{UsageInfo}
+use Rattle.csl_nodes.specs.Flags.{Info, no_info, without_group_flag, macro_info}
+use Rattle.csl_nodes.specs.UsageView.{info_view}
+use Rattle.csl_render.specs.Tree.{nodes_info, any_shows}
 
 -- the dry run of a text of a macro, from what the macro's name stands for
-abbrev pub call_info : World → State → Option Fulls → Info
-call_info w s None = nothing_said
-call_info w s (Some fs) = macro_info (but_groups (infos w s fs))
+abbrev pub call_info : RenderInput → State → Option ExpandedNodes → Info
+call_info w s None = no_info
+call_info w s (Some fs) = macro_info (without_group_flag (nodes_info w s fs))
 
 -- whether a text of a macro shows a variable
-abbrev pub call_shows : World → State → Variable → Option Fulls → Bool
+abbrev pub call_shows : RenderInput → State → Variable → Option ExpandedNodes → Bool
 call_shows w s v None = false
 call_shows w s v (Some fs) = any_shows w s v fs
 
@@ -28,15 +29,15 @@ abbrev pub text_eq : Bor (List ℕ) → Bor (List ℕ) → Bool
 text_eq a b = bytes_eq a.now b.now
 
 -- at each name the dry run of a text of that macro
-abbrev pub HasInfos : {S : Type 0} → World → State → HashMap (Bor (List ℕ)) (Bool × UsageInfo) S → Type 0
+abbrev pub HasInfos : {S : Type 0} → RenderInput → State → HashMap (Bor (List ℕ)) (Bool × UsageInfo) S → Type 0
 HasInfos w s calls =
-    (name : Bor (List ℕ)) (answer : Bool × UsageInfo) → get text_eq calls name ≡ Some answer → told answer ≡ call_info w s (env w.style name.now)
+    (name : Bor (List ℕ)) (answer : Bool × UsageInfo) → get text_eq calls name ≡ Some answer → info_view answer ≡ call_info w s (macro_env w.style name.now)
 
 -- at each name whether a text of that macro shows the variable
-abbrev pub HasShown : {S : Type 0} → World → State → Variable → HashMap (Bor (List ℕ)) Bool S → Type 0
-HasShown w s v calls = (name : Bor (List ℕ)) (shows : Bool) → get text_eq calls name ≡ Some shows → shows ≡ call_shows w s v (env w.style name.now)
+abbrev pub HasShown : {S : Type 0} → RenderInput → State → Variable → HashMap (Bor (List ℕ)) Bool S → Type 0
+HasShown w s v calls = (name : Bor (List ℕ)) (shows : Bool) → get text_eq calls name ≡ Some shows → shows ≡ call_shows w s v (macro_env w.style name.now)
 
 -- a context, and the variable that is asked for
 pub record Query (T : Type 0) : Type 0 where
-  pub now : Now T
+  pub now : ContextView T
   pub variable : Variable

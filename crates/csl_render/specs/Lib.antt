@@ -5,6 +5,6 @@ pub mod Tree
 pub mod DryRun
 pub mod Plan
 pub mod Rendering
-pub mod Printed
+pub mod PairOutput
 pub mod Keeps
-pub mod Cited
+pub mod CiteContent

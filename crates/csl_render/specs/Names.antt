@@ -10,24 +10,24 @@ use Rattle.csl_style.specs.declared.taxonomy.NameVariable.{NameVariable}
 use Rattle.csl_style.specs.declared.taxonomy.NameVariable.TheVariants.{Author}
 use Rattle.csl_style.specs.declared.taxonomy.Variable.{Variable}
 use Rattle.csl_style.specs.declared.taxonomy.Variable.TheVariants as variable
-use Rattle.csl_style.specs.NameOptions.{options_over}
-use Rattle.csl_style.specs.Names.{NamesNode, in_place_of}
+use Rattle.csl_style.specs.NameOptions.{apply_options}
+use Rattle.csl_style.specs.Names.{NamesNode, shorthand_expansion}
 use Rattle.csl_style.specs.NamesParts.{names_node, names_substitutes}
-use Rattle.csl_style.specs.Node.{Full, printed, called, lacking, numbered, labelled, dated, named, shorthand, chosen, grouped, Fulls, none, more, Insteads, no_insteads, instead, fill_substitutes}
-use Rattle.csl_tree.specs.Content.{boxed}
+use Rattle.csl_style.specs.Node.{ExpandedNode, expanded_text, expanded_macro, unknown_macro, expanded_number, expanded_label, expanded_date, expanded_names, shorthand, expanded_choose, expanded_group, ExpandedNodes, no_expanded_nodes, expanded_node, ExpandedSubstitutes, no_expanded_substitutes, expanded_substitute, expand_substitutes}
+use Rattle.csl_tree.specs.Content.{elem_content}
 use Rattle.csl_entry.specs.declared.cite.SpecialForm.{SpecialForm}
 use Rattle.csl_entry.specs.declared.cite.SpecialForm.TheVariants.{VarOnly, OnlyFirstDate, OnlyYearSuffix, SuppressAuthor}
-use Rattle.csl_context.specs.State.{State, Inherited}
-use Rattle.csl_context.specs.World.{World}
+use Rattle.csl_context.specs.State.{State, Inherited, with_node_formatting}
+use Rattle.csl_context.specs.World.{RenderInput}
 use Rattle.csl_names.specs.NamesContent.{lists_meta, names_content, names_state}
-use Rattle.csl_names.specs.NamesForms.{is_void}
-use Rattle.csl_names.specs.NamesLists.{Lists, all_empty}
-use Rattle.csl_leaves.specs.Flags.{flags, Info, info_of, nothing_said}
-use Rattle.csl_leaves.specs.Text.{Made, made, within}
+use Rattle.csl_names.specs.NamesForms.{writes_no_name}
+use Rattle.csl_names.specs.NamesLists.{PersonLists, all_empty}
+use Rattle.csl_nodes.specs.Flags.{usage_flags, Info, info_of, no_info}
+use Rattle.csl_nodes.specs.Text.{RenderOutput, render_output}
 
 -- what the macros of a style stand for
 abbrev pub Macros : Type 0
-Macros = List ℕ → Option Fulls
+Macros = List ℕ → Option ExpandedNodes
 
 -- ---- variables
 
@@ -47,46 +47,46 @@ is_of_names (variable.Date v) vs = false
 
 -- ---- substitutes
 -- Of several substitutes the first one counts. Names without children directly in a substitute are
--- rendered as their node in the place of the names around it (`in_place_of` of `csl_style`): with
+-- rendered as their node in the place of the names around it (`shorthand_expansion` of `csl_style`): with
 -- those names' name, et-al and label, with their affixes, formatting, delimiter and options where
 -- the node sets none, and without a substitute.
 
 -- a names node of the variable
-abbrev pub names_it : NameVariable → Full → Bool
-names_it v (printed t d) = false
-names_it v (called fs d) = false
-names_it v lacking = false
-names_it v (numbered n) = false
-names_it v (labelled u l) = false
-names_it v (dated n) = false
-names_it v (named n is) = has_variable v n.variables
-names_it v (shorthand written n) = has_variable v written.variables
-names_it v (chosen cs) = false
-names_it v (grouped delimiter d fs) = false
+abbrev pub is_names_of : NameVariable → ExpandedNode → Bool
+is_names_of v (expanded_text t d) = false
+is_names_of v (expanded_macro fs d) = false
+is_names_of v unknown_macro = false
+is_names_of v (expanded_number n) = false
+is_names_of v (expanded_label u l) = false
+is_names_of v (expanded_date n) = false
+is_names_of v (expanded_names n is) = has_variable v n.variables
+is_names_of v (shorthand written n) = has_variable v written.variables
+is_names_of v (expanded_choose cs) = false
+is_names_of v (expanded_group delimiter d fs) = false
 
-abbrev pub any_names_it : NameVariable → Fulls → Bool
-any_names_it v none = false
-any_names_it v (more f fs) = names_it v f || any_names_it v fs
+abbrev pub any_is_names_of : NameVariable → ExpandedNodes → Bool
+any_is_names_of v no_expanded_nodes = false
+any_is_names_of v (expanded_node f fs) = is_names_of v f || any_is_names_of v fs
 
 -- whether one of the nodes that are chosen, if any, is a names node of the variable
-abbrev pub choice_names_it : NameVariable → Option Fulls → Bool
-choice_names_it v None = false
-choice_names_it v (Some fs) = any_names_it v fs
+abbrev pub choice_is_names_of : NameVariable → Option ExpandedNodes → Bool
+choice_is_names_of v None = false
+choice_is_names_of v (Some fs) = any_is_names_of v fs
 
 -- whether a names node of the variable is directly in the first substitute
-abbrev pub substitutes_it : NameVariable → Insteads → Bool
-substitutes_it v no_insteads = false
-substitutes_it v (instead fs is) = any_names_it v fs
+abbrev pub substitute_has_names_of : NameVariable → ExpandedSubstitutes → Bool
+substitute_has_names_of v no_expanded_substitutes = false
+substitute_has_names_of v (expanded_substitute fs is) = any_is_names_of v fs
 
 -- the substitutes of a names node, with each macro in the place of its name
-abbrev pub insteads_of : (List ℕ → Option Fulls) → Names → Insteads
-insteads_of env n = fill_substitutes env (names_node n) (names_substitutes n)
+abbrev pub expanded_substitutes_of : (List ℕ → Option ExpandedNodes) → Names → ExpandedSubstitutes
+expanded_substitutes_of env n = expand_substitutes env (names_node n) (names_substitutes n)
 
 -- a node in the substitute of another one: a names node without children is in that one's place,
 -- any other is as elsewhere
-abbrev pub standing_in : NamesNode → Full → Option NamesNode → Full
+abbrev pub standing_in : NamesNode → ExpandedNode → Option NamesNode → ExpandedNode
 standing_in original f None = f
-standing_in original f (Some own) = shorthand own (in_place_of original own)
+standing_in original f (Some own) = shorthand own (shorthand_expansion original own)
 
 -- ---- special forms
 -- If only one variable is to be shown, names stay if it is one of theirs, or if they have no
@@ -96,15 +96,15 @@ standing_in original f (Some own) = shorthand own (in_place_of original own)
 
 -- Where one variable alone is to be shown, names of another one are refused; where there are no
 -- persons, those of the substitute count.
-abbrev pub refuses_alone : Variable → NamesNode → Bool → Insteads → Bool
+abbrev pub refuses_alone : Variable → NamesNode → Bool → ExpandedSubstitutes → Bool
 refuses_alone (variable.Standard v) n empty is = true
 refuses_alone (variable.Number v) n empty is = true
 refuses_alone (variable.Page v) n empty is = true
-refuses_alone (variable.Name v) n empty is = not (has_variable v n.variables || (empty && substitutes_it v is))
+refuses_alone (variable.Name v) n empty is = not (has_variable v n.variables || (empty && substitute_has_names_of v is))
 refuses_alone (variable.Date v) n empty is = true
 
 -- whether a special form refuses the names; `shows_author` is whether they would show the authors
-abbrev pub is_refused : Option SpecialForm → NamesNode → Bool → Insteads → Bool → Bool
+abbrev pub is_refused : Option SpecialForm → NamesNode → Bool → ExpandedSubstitutes → Bool → Bool
 is_refused None n empty is shows_author = false
 is_refused (Some (VarOnly v)) n empty is shows_author = refuses_alone v n empty is
 is_refused (Some OnlyFirstDate) n empty is shows_author = true
@@ -124,13 +124,13 @@ names_show v n empty substitute_shows = is_of_names v n.variables || (empty && s
 
 -- The dry run of names that are not refused. They call a variable; void ones print if the
 -- substitute does, with its flags.
-abbrev pub names_said : Bool → Info → Info
-names_said false sub = info_of true (flags true true false false)
-names_said true sub = info_of sub.prints (flags true sub.flags.non_empty sub.flags.used_macro false)
+abbrev pub names_or_substitute_info : Bool → Info → Info
+names_or_substitute_info false sub = info_of true (usage_flags true true false false)
+names_or_substitute_info true sub = info_of sub.prints (usage_flags true sub.flags.has_non_empty_vars sub.flags.has_used_macros false)
 
-abbrev pub names_info : Option SpecialForm → NamesNode → Lists → Insteads → Bool → Info → Info
+abbrev pub names_info : Option SpecialForm → NamesNode → PersonLists → ExpandedSubstitutes → Bool → Info → Info
 names_info special n ls is shows_author sub =
-    if is_refused special n (all_empty ls) is shows_author then nothing_said else names_said (is_void n ls) sub
+    if is_refused special n (all_empty ls) is shows_author then no_info else names_or_substitute_info (writes_no_name n ls) sub
 
 -- ---- rendering
 -- The lists are what looks for printing find, from left to right. Refusal depends on these lists;
@@ -145,7 +145,7 @@ names_info special n ls is shows_author sub =
 
 -- what the children of a substitute inherit: no affixes
 abbrev pub in_substitute : NamesNode → Inherited → Inherited
-in_substitute n inh = record (within n.dressing.formatting inh) { options = options_over n.options inh.options }
+in_substitute n inh = record (with_node_formatting n.dressing.formatting inh) { options = apply_options n.options inh.options }
 
 -- looks for printing suppress their variable
 abbrev pub suppressing_from : State → State
@@ -153,16 +153,16 @@ suppressing_from s = record s { suppressing = true }
 
 -- the substitute's content in the node's box; from then on looks suppress their variable as they
 -- did before
-abbrev pub substitute_made : NamesNode → Lists → Made → State → Made
-substitute_made n ls m s = made (boxed n.dressing.display (lists_meta ls) m.content) (record m.state { suppressing = s.suppressing })
+abbrev pub boxed_substitute : NamesNode → PersonLists → RenderOutput → State → RenderOutput
+boxed_substitute n ls m s = render_output (elem_content n.dressing.display (lists_meta ls) m.content) (record m.state { suppressing = s.suppressing })
 
 -- the first names that are not counted keep their forms
-abbrev pub own_made : World → NamesNode → Lists → Inherited → State → Made
-own_made w n ls inh s =
-    made (names_content w.style (is_some w.instance.sorting) w.instance.cite n ls inh) (names_state w.instance.cite n ls inh s)
+abbrev pub lists_output : RenderInput → NamesNode → PersonLists → Inherited → State → RenderOutput
+lists_output w n ls inh s =
+    render_output (names_content w.style (is_some w.instance.sorting) w.instance.cite n ls inh) (names_state w.instance.cite n ls inh s)
 
 -- the content of names, from the state after the looks for their lists: nothing, what the
 -- substitute makes, or the lists
-abbrev pub names_made : World → NamesNode → Lists → Bool → Inherited → Made → State → Made
-names_made w n ls refused inh sub s =
-    if refused then made [] s else if all_empty ls then substitute_made n ls sub s else own_made w n ls inh s
+abbrev pub lists_or_substitute : RenderInput → NamesNode → PersonLists → Bool → Inherited → RenderOutput → State → RenderOutput
+lists_or_substitute w n ls refused inh sub s =
+    if refused then render_output [] s else if all_empty ls then boxed_substitute n ls sub s else lists_output w n ls inh s

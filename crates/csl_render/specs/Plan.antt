@@ -6,14 +6,14 @@
 -- All but `asks_for_dates` is the code's own: private contracts alone cite it.
 use Rattle.std.specs.Prelude.{◌≡◌, ⊤, Bool, true, false, ◌&&◌, List, [], ◌∷◌, Option, Some, None}
 use Rattle.std.specs.Bool.{MatchBool}
-use Rattle.csl_style.specs.Node.{Full, printed, called, lacking, numbered, labelled, dated, named, shorthand, chosen, grouped, Fulls, none, more, Cases, no_cases, else_case, case}
+use Rattle.csl_style.specs.Node.{ExpandedNode, expanded_text, expanded_macro, unknown_macro, expanded_number, expanded_label, expanded_date, expanded_names, shorthand, expanded_choose, expanded_group, ExpandedNodes, no_expanded_nodes, expanded_node, ExpandedBranches, no_expanded_branches, expanded_otherwise, expanded_branch}
 use Rattle.csl_entry.specs.declared.cite.SpecialForm.{SpecialForm}
 use Rattle.csl_entry.specs.declared.cite.SpecialForm.TheVariants.{VarOnly, OnlyFirstDate, OnlyYearSuffix, SuppressAuthor}
 use Rattle.csl_context.specs.State.{State}
-use Rattle.csl_context.specs.World.{World}
-use Rattle.csl_leaves.specs.Conditions.{holds}
-use Rattle.csl_leaves.specs.Flags.{Info}
-use Rattle.csl_leaves.specs.Usages.{told}
+use Rattle.csl_context.specs.World.{RenderInput}
+use Rattle.csl_nodes.specs.Conditions.{branch_matches}
+use Rattle.csl_nodes.specs.Flags.{Info}
+use Rattle.csl_nodes.specs.UsageView.{info_view}
 use Rattle.csl_render.specs.declared.plan.NodeInfo.{NodeInfo, out-NodeInfo}
 use Rattle.csl_render.specs.declared.plan.NodePlan.{NodePlan}
 use Rattle.csl_render.specs.declared.plan.ListPlan.{ListPlan}
@@ -38,59 +38,59 @@ dry special s = record {
 }
 
 -- dry runs read the same of both states
-abbrev pub AreReadAlike : World → State → State → Type 0
+abbrev pub AreReadAlike : RenderInput → State → State → Type 0
 AreReadAlike w s t = dry w.instance.special s ≡ dry w.instance.special t
 
 -- ---- the results for a node and for the nodes inside it
 
 abbrev pub answer_of : NodeInfo → Info
-answer_of i = told (out-NodeInfo i).answer
+answer_of i = info_view (out-NodeInfo i).answer
 
 abbrev pub inside_of : NodeInfo → List NodeInfo
 inside_of i = (out-NodeInfo i).inside.items
 
-module _ (w : World) (s : State) where
+module _ (w : RenderInput) (s : State) where
   abbrev mutual
     -- what is known of the nodes inside a node: of the children of a group, the nodes of a macro,
     -- and those that a choice takes
-    pub AreInside : Full → List NodeInfo → Type 0
-    AreInside (printed t d) is = ⊤
-    AreInside (called fs d) is = AreInfos fs is
-    AreInside lacking is = ⊤
-    AreInside (numbered n) is = ⊤
-    AreInside (labelled v l) is = ⊤
-    AreInside (dated n) is = ⊤
-    AreInside (named n ss) is = ⊤
+    pub AreInside : ExpandedNode → List NodeInfo → Type 0
+    AreInside (expanded_text t d) is = ⊤
+    AreInside (expanded_macro fs d) is = AreInfos fs is
+    AreInside unknown_macro is = ⊤
+    AreInside (expanded_number n) is = ⊤
+    AreInside (expanded_label v l) is = ⊤
+    AreInside (expanded_date n) is = ⊤
+    AreInside (expanded_names n ss) is = ⊤
     AreInside (shorthand written n) is = ⊤
-    AreInside (chosen cs) is = AreTaken cs is
-    AreInside (grouped delimiter d fs) is = AreInfos fs is
+    AreInside (expanded_choose cs) is = AreTaken cs is
+    AreInside (expanded_group delimiter d fs) is = AreInfos fs is
 
     -- each is that for its node, as far as there are any
-    pub AreInfos : Fulls → List NodeInfo → Type 0
-    AreInfos none is = ⊤
-    AreInfos (more f fs) [] = ⊤
-    AreInfos (more f fs) (i ∷ is) = (answer_of i ≡ info w s f) × AreInside f (inside_of i) × AreInfos fs is
+    pub AreInfos : ExpandedNodes → List NodeInfo → Type 0
+    AreInfos no_expanded_nodes is = ⊤
+    AreInfos (expanded_node f fs) [] = ⊤
+    AreInfos (expanded_node f fs) (i ∷ is) = (answer_of i ≡ info w s f) × AreInside f (inside_of i) × AreInfos fs is
 
-    pub AreTaken : Cases → List NodeInfo → Type 0
-    AreTaken no_cases is = ⊤
-    AreTaken (else_case fs) is = AreInfos fs is
-    AreTaken (case ts fs cs) is = MatchBool (holds w s ts) (AreInfos fs is) (AreTaken cs is)
+    pub AreTaken : ExpandedBranches → List NodeInfo → Type 0
+    AreTaken no_expanded_branches is = ⊤
+    AreTaken (expanded_otherwise fs) is = AreInfos fs is
+    AreTaken (expanded_branch ts fs cs) is = MatchBool (branch_matches w s ts) (AreInfos fs is) (AreTaken cs is)
 
   -- what is known of the nodes that a choice takes, if it takes any
-  abbrev pub AreOfTaken : Option Fulls → List NodeInfo → Type 0
+  abbrev pub AreOfTaken : Option ExpandedNodes → List NodeInfo → Type 0
   AreOfTaken None is = ⊤
   AreOfTaken (Some fs) is = AreInfos fs is
 
   -- the result for a node, with those for the nodes inside it
-  abbrev pub IsInfo : Full → NodeInfo → Type 0
+  abbrev pub IsInfo : ExpandedNode → NodeInfo → Type 0
   IsInfo f i = (answer_of i ≡ info w s f) × AreInside f (inside_of i)
 
 -- ---- plans
 
 -- a plan of a node that holds for a state
-abbrev pub IsPlan : World → State → Full → NodePlan → Type 0
+abbrev pub IsPlan : RenderInput → State → ExpandedNode → NodePlan → Type 0
 IsPlan w s f p = AreReadAlike w p.at.now s × IsInfo w p.at.now f p.info.now
 
 -- a plan of some nodes; the state for which it holds may have passed
-abbrev pub ArePlans : World → Fulls → ListPlan → Type 0
+abbrev pub ArePlans : RenderInput → ExpandedNodes → ListPlan → Type 0
 ArePlans w fs p = AreInfos w p.at.now fs p.infos.now

@@ -1,45 +1,46 @@
 -- What can be rendered, a layout or a node of one, and its three calls: dry run (`info_in`), shown
--- variables (`shows_in`) and content (`tree_in`). A rendering appends the content to the innermost
--- open part of a context and leaves the state. Nothing else of the context changes (`rendered`).
+-- variables (`shows_in`) and content (`output_in`). A rendering appends the content to the innermost
+-- open part of a context and leaves the state. Nothing else of the context changes (`after_render`).
 use Rattle.std.specs.Prelude.{Bool}
 use Rattle.csl_style.specs.declared.taxonomy.Variable.{Variable}
-use Rattle.csl_style.specs.Node.{Full, FullLayout}
+use Rattle.csl_style.specs.Node.{ExpandedNode, ExpandedLayout}
 use Rattle.csl_style.specs.Node as node
 use Rattle.csl_style.specs.Style.{StyleParts}
 use Rattle.csl_style.specs.View as view
+use Rattle.csl_style.specs.Expanded.{macro_env}
 use Rattle.csl_entry.specs.Answers.{Answers}
 use Rattle.csl_context.specs.State.{State, Inherited}
-use Rattle.csl_context.specs.World.{World, env}
-use Rattle.csl_context.specs.Now.{Now, world}
-use Rattle.csl_leaves.specs.Flags.{Info, but_groups}
-use Rattle.csl_leaves.specs.Text.{Made, with_made}
-use Rattle.csl_render.specs.Tree.{info, infos, shows, any_shows, tree, layout_tree}
+use Rattle.csl_context.specs.World.{RenderInput}
+use Rattle.csl_context.specs.ContextView.{ContextView, render_input}
+use Rattle.csl_nodes.specs.Flags.{Info, without_group_flag}
+use Rattle.csl_nodes.specs.Text.{RenderOutput, with_output}
+use Rattle.csl_render.specs.Tree.{info, nodes_info, shows, any_shows, node_output, layout_output}
 
 -- a layout, or a node of one
-pub data Rendering : Type 0 where
-  whole : FullLayout → Rendering
-  part : Full → Rendering
+pub data Renderable : Type 0 where
+  of_layout : ExpandedLayout → Renderable
+  of_node : ExpandedNode → Renderable
 
-abbrev pub element_rendering : StyleParts → view.ElementView → Rendering
-element_rendering style (view.whole l) = whole (node.fill_layout (env style) l)
-element_rendering style (view.part n) = part (node.fill (env style) n)
+abbrev pub element_rendering : StyleParts → view.ElementView → Renderable
+element_rendering style (view.of_layout l) = of_layout (node.expand_layout (macro_env style) l)
+element_rendering style (view.of_node n) = of_node (node.expand (macro_env style) n)
 
-abbrev pub info_in : World → State → Rendering → Info
-info_in w s (whole l) = but_groups (infos w s l.elements)
-info_in w s (part f) = info w s f
+abbrev pub info_in : RenderInput → State → Renderable → Info
+info_in w s (of_layout l) = without_group_flag (nodes_info w s l.elements)
+info_in w s (of_node f) = info w s f
 
-abbrev pub shows_in : World → State → Variable → Rendering → Bool
-shows_in w s v (whole l) = any_shows w s v l.elements
-shows_in w s v (part f) = shows w s v f
+abbrev pub shows_in : RenderInput → State → Variable → Renderable → Bool
+shows_in w s v (of_layout l) = any_shows w s v l.elements
+shows_in w s v (of_node f) = shows w s v f
 
-abbrev pub tree_in : World → Rendering → Inherited → State → Made
-tree_in w (whole l) inh s = layout_tree w l inh s
-tree_in w (part f) inh s = tree w f inh s
+abbrev pub output_in : RenderInput → Renderable → Inherited → State → RenderOutput
+output_in w (of_layout l) inh s = layout_output w l inh s
+output_in w (of_node f) inh s = node_output w f inh s
 
 -- a context whose innermost open part is replaced by a rendering
-abbrev pub with_all_made : {T : Type 0} → Made → Now T → Now T
-with_all_made m now = record now { inner = m.content; state = m.state }
+abbrev pub with_whole_output : {T : Type 0} → RenderOutput → ContextView T → ContextView T
+with_whole_output m now = record now { inner = m.content; state = m.state }
 
 -- a context after a rendering: the innermost open part and the state change, and nothing else
-abbrev pub rendered : {T : Type 0} → (T → Answers) → Rendering → Now T → Now T
-rendered answers r now = with_made (tree_in (world answers now) r now.inherited now.state) now
+abbrev pub after_render : {T : Type 0} → (T → Answers) → Renderable → ContextView T → ContextView T
+after_render answers r now = with_output (output_in (render_input answers now) r now.inherited now.state) now

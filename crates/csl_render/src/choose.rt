@@ -3,27 +3,27 @@
 ghost use Rattle.std.specs.Prelude.{◌≡◌, ◌<◌, List, not, IfOk, OnOk, IfErr, IfSome, option_map};
 ghost use Rattle.std.specs.List.{list_all, list_any};
 ghost use Rattle.csl_style.specs.declared.taxonomy.Variable.{Variable};
-ghost use Rattle.csl_style.specs.Node.{fill, fills, size, sizes};
-ghost use Rattle.csl_style.specs.View.{views, view_branch, view_choose};
-ghost use Rattle.csl_context.specs.World.{env};
-ghost use Rattle.csl_context.specs.Now.{Runs, Reads, GivesBy, FailsSilently, world};
+ghost use Rattle.csl_style.specs.Node.{expand, expand_nodes, size, sizes};
+ghost use Rattle.csl_style.specs.View.{view_nodes, view_branch, view_choose};
+ghost use Rattle.csl_style.specs.Expanded.{macro_env};
+ghost use Rattle.csl_context.specs.ContextView.{Runs, Reads, GivesBy, FailsSilently, render_input};
 ghost use Rattle.csl_context.specs.State.{State};
-ghost use Rattle.csl_leaves.specs.Conditions.{holds, satisfies, chosen_of};
-ghost use Rattle.csl_leaves.specs.ConditionsLeft.{conditions_left, context_of, behind_first, behind_deciding};
-ghost use Rattle.csl_leaves.specs.Text.{with_made};
+ghost use Rattle.csl_nodes.specs.Conditions.{branch_matches, satisfies, chosen_children};
+ghost use Rattle.csl_nodes.specs.RemainingConditions.{remaining_conditions, context_of, after_first, after_deciding};
+ghost use Rattle.csl_nodes.specs.Text.{with_output};
 ghost use Rattle.csl_render.specs.declared.plan.NodeInfo.{NodeInfo};
 ghost use Rattle.csl_render.specs.Plan.{AreReadAlike, AreInside, IsInfo, IsPlan, AreOfTaken};
-ghost use Rattle.csl_render.specs.Rendering.{part};
-ghost use Rattle.csl_render.specs.Tree.{info, shows, tree, choice_info, choice_shows, choice_tree};
+ghost use Rattle.csl_render.specs.Rendering.{of_node};
+ghost use Rattle.csl_render.specs.Tree.{info, shows, node_output, choice_info, choice_shows, choice_output};
 
 use crate::dry_run::DryRun;
-use crate::element::{any_shows, infos, render_with_delimiter};
+use crate::element::{any_shows, nodes_info, render_with_delimiter};
 use crate::plan::{NodeInfo, NodePlan, inside_plan};
 use crate::query::Query;
 use crate::render::RenderCsl;
 use csl_context::{Context, RenderError};
 use csl_entry::EntryLike;
-use csl_leaves::{BranchConditionIter, UsageInfo, but_groups, nothing, nothing_said};
+use csl_nodes::{BranchConditionIter, UsageInfo, no_info, push_nothing, without_group_flag};
 use csl_style::{Choose, ChooseBranch, ChooseMatch, LayoutRenderingElement, Variable};
 use lit_model::Memory;
 
@@ -32,9 +32,9 @@ fn all_hold<'a, 's, T: EntryLike>(
     conditions: &mut BranchConditionIter<'a, 's, T>,
 ) -> Result<bool, RenderError>
     ensures value { IfOk result (λ holds. holds
-        ≡ list_all (λ b. b) (conditions_left T.answers conditions.old)) }
-    ensures read { OnOk result (conditions_left T.answers conditions.new
-        ≡ behind_first not (conditions_left T.answers conditions.old)) }
+        ≡ list_all (λ b. b) (remaining_conditions T.answers conditions.old)) }
+    ensures read { OnOk result (remaining_conditions T.answers conditions.new
+        ≡ after_first not (remaining_conditions T.answers conditions.old)) }
     ensures err { IfErr result (λ e. FailsSilently e (context_of conditions.old)) }
 {
     while let Some(condition) = conditions.next() {
@@ -50,9 +50,9 @@ fn any_holds<'a, 's, T: EntryLike>(
     conditions: &mut BranchConditionIter<'a, 's, T>,
 ) -> Result<bool, RenderError>
     ensures value { IfOk result (λ holds. holds
-        ≡ list_any (λ b. b) (conditions_left T.answers conditions.old)) }
-    ensures read { OnOk result (conditions_left T.answers conditions.new
-        ≡ behind_first (λ b. b) (conditions_left T.answers conditions.old)) }
+        ≡ list_any (λ b. b) (remaining_conditions T.answers conditions.old)) }
+    ensures read { OnOk result (remaining_conditions T.answers conditions.new
+        ≡ after_first (λ b. b) (remaining_conditions T.answers conditions.old)) }
     ensures err { IfErr result (λ e. FailsSilently e (context_of conditions.old)) }
 {
     while let Some(condition) = conditions.next() {
@@ -64,14 +64,14 @@ fn any_holds<'a, 's, T: EntryLike>(
 }
 
 /// Whether the conditions satisfy the match. Those behind the one that decides it are left.
-fn satisfied<'a, 's, T: EntryLike>(
+fn satisfies<'a, 's, T: EntryLike>(
     match_: ChooseMatch,
     conditions: &mut BranchConditionIter<'a, 's, T>,
 ) -> Result<bool, RenderError>
     ensures value { IfOk result (λ taken. taken
-        ≡ satisfies match_ (conditions_left T.answers conditions.old)) }
-    ensures read { OnOk result (conditions_left T.answers conditions.new
-        ≡ behind_deciding match_ (conditions_left T.answers conditions.old)) }
+        ≡ satisfies match_ (remaining_conditions T.answers conditions.old)) }
+    ensures read { OnOk result (remaining_conditions T.answers conditions.new
+        ≡ after_deciding match_ (remaining_conditions T.answers conditions.old)) }
     ensures err { IfErr result (λ e. FailsSilently e (context_of conditions.old)) }
 {
     match match_ {
@@ -85,14 +85,14 @@ fn satisfied<'a, 's, T: EntryLike>(
 }
 
 /// Whether the branch is taken, where none before it is.
-#[tactic(auto, unfolding(csl_leaves::specs::Conditions::holds))]
+#[tactic(auto, unfolding(csl_nodes::specs::Conditions::branch_matches))]
 fn holds<'s, T: EntryLike>(branch: &ChooseBranch, ctx: &Context<'s, T>) -> Result<bool, RenderError>
     ensures value { IfOk result (λ taken. taken
-        ≡ holds (world T.answers ctx.now) ctx.now.state (view_branch branch.now).tests) }
+        ≡ branch_matches (render_input T.answers ctx.now) ctx.now.state (view_branch branch.now).tests) }
     ensures err { IfErr result (λ e. FailsSilently e ctx.now) }
 {
     let mut conditions = BranchConditionIter::from_branch(branch, ctx);
-    satisfied(branch.match_, &mut conditions)
+    satisfies(branch.match_, &mut conditions)
 }
 
 /// The nodes of the first branch whose conditions satisfy its match, else those for the other
@@ -101,8 +101,8 @@ fn first_taken<'a, 's, T: EntryLike>(
     choose: &'a Choose,
     ctx: &Context<'s, T>,
 ) -> Result<Option<&'a [LayoutRenderingElement]>, RenderError>
-    ensures value { GivesBy (option_map (λ ns. views ns.now)) result (chosen_of
-        (world T.answers ctx.now) ctx.now.state (view_choose choose.now)) }
+    ensures value { GivesBy (option_map (λ ns. view_nodes ns.now)) result (chosen_children
+        (render_input T.answers ctx.now) ctx.now.state (view_choose choose.now)) }
     ensures err { IfErr result (λ e. FailsSilently e ctx.now) }
 {
     if holds(&choose.if_, ctx)? {
@@ -130,7 +130,7 @@ pub fn choose_children<'a, 's, T: EntryLike>(
     choose: &'a Choose,
     ctx: &mut Context<'s, T>,
 ) -> Result<Option<&'a [LayoutRenderingElement]>, RenderError>
-    ensures { Reads (option_map (λ ns. views ns.now)) result (chosen_of (world T.answers ctx.old)
+    ensures { Reads (option_map (λ ns. view_nodes ns.now)) result (chosen_children (render_input T.answers ctx.old)
         ctx.old.state (view_choose choose.now)) ctx.old ctx.new }
 {
     ctx.ensure_live()?;
@@ -144,32 +144,32 @@ fn taken_nodes<'s, T: EntryLike>(
     ctx: &Context<'s, T>,
 ) -> Result<Option<&'s [LayoutRenderingElement]>, Memory>
     ensures within { IfOk result (λ taken. IfSome taken (λ ns.
-        sizes (fills (env ctx.now.style) (views ns.now))
-        < size (fill (env ctx.now.style) (view_choose choose.now)))) }
-    ensures info { IfOk result (λ taken. info (world T.answers ctx.now) ctx.now.state
-        (fill (env ctx.now.style) (view_choose choose.now))
-        ≡ choice_info (world T.answers ctx.now) ctx.now.state
-        (option_map (fills (env ctx.now.style)) (option_map (λ ns. views ns.now) taken))) }
-    ensures shown { IfOk result (λ taken. (v : Variable) → shows (world T.answers ctx.now)
-        ctx.now.state v (fill (env ctx.now.style) (view_choose choose.now))
-        ≡ choice_shows (world T.answers ctx.now) ctx.now.state v
-        (option_map (fills (env ctx.now.style)) (option_map (λ ns. views ns.now) taken))) }
-    ensures made { IfOk result (λ taken. tree (world T.answers ctx.now)
-        (fill (env ctx.now.style) (view_choose choose.now)) ctx.now.inherited ctx.now.state
-        ≡ choice_tree (world T.answers ctx.now)
-        (option_map (fills (env ctx.now.style)) (option_map (λ ns. views ns.now) taken))
+        sizes (expand_nodes (macro_env ctx.now.style) (view_nodes ns.now))
+        < size (expand (macro_env ctx.now.style) (view_choose choose.now)))) }
+    ensures info { IfOk result (λ taken. info (render_input T.answers ctx.now) ctx.now.state
+        (expand (macro_env ctx.now.style) (view_choose choose.now))
+        ≡ choice_info (render_input T.answers ctx.now) ctx.now.state
+        (option_map (expand_nodes (macro_env ctx.now.style)) (option_map (λ ns. view_nodes ns.now) taken))) }
+    ensures shown { IfOk result (λ taken. (v : Variable) → shows (render_input T.answers ctx.now)
+        ctx.now.state v (expand (macro_env ctx.now.style) (view_choose choose.now))
+        ≡ choice_shows (render_input T.answers ctx.now) ctx.now.state v
+        (option_map (expand_nodes (macro_env ctx.now.style)) (option_map (λ ns. view_nodes ns.now) taken))) }
+    ensures made { IfOk result (λ taken. node_output (render_input T.answers ctx.now)
+        (expand (macro_env ctx.now.style) (view_choose choose.now)) ctx.now.inherited ctx.now.state
+        ≡ choice_output (render_input T.answers ctx.now)
+        (option_map (expand_nodes (macro_env ctx.now.style)) (option_map (λ ns. view_nodes ns.now) taken))
         ctx.now.inherited ctx.now.state) }
     ensures asked { IfOk result (λ taken. (infos : List NodeInfo)
-        → AreOfTaken (world T.answers ctx.now) ctx.now.state
-        (option_map (fills (env ctx.now.style)) (option_map (λ ns. views ns.now) taken)) infos
-        → AreInside (world T.answers ctx.now) ctx.now.state
-        (fill (env ctx.now.style) (view_choose choose.now)) infos) }
+        → AreOfTaken (render_input T.answers ctx.now) ctx.now.state
+        (option_map (expand_nodes (macro_env ctx.now.style)) (option_map (λ ns. view_nodes ns.now) taken)) infos
+        → AreInside (render_input T.answers ctx.now) ctx.now.state
+        (expand (macro_env ctx.now.style) (view_choose choose.now)) infos) }
     ensures planned { IfOk result (λ taken. (at : State)
-        → AreReadAlike (world T.answers ctx.now) at ctx.now.state → (infos : List NodeInfo)
-        → AreInside (world T.answers ctx.now) at
-        (fill (env ctx.now.style) (view_choose choose.now)) infos
-        → AreOfTaken (world T.answers ctx.now) at
-        (option_map (fills (env ctx.now.style)) (option_map (λ ns. views ns.now) taken)) infos) }
+        → AreReadAlike (render_input T.answers ctx.now) at ctx.now.state → (infos : List NodeInfo)
+        → AreInside (render_input T.answers ctx.now) at
+        (expand (macro_env ctx.now.style) (view_choose choose.now)) infos
+        → AreOfTaken (render_input T.answers ctx.now) at
+        (option_map (expand_nodes (macro_env ctx.now.style)) (option_map (λ ns. view_nodes ns.now) taken)) infos) }
 {
     match first_taken(choose, ctx) {
         Ok(taken) => Ok(taken),
@@ -178,7 +178,7 @@ fn taken_nodes<'s, T: EntryLike>(
 }
 
 impl RenderCsl for Choose {
-    ghost rendering = { λ style c. part (fill (env style) (view_choose c)) };
+    ghost rendering = { λ style c. of_node (expand (macro_env style) (view_choose c)) };
 
     fn will_have_info<'s, T: EntryLike>(
         &'s self,
@@ -209,16 +209,16 @@ pub(crate) fn choose_info<'c, 's, T: EntryLike>(
     choose: &'s Choose,
     run: &mut DryRun<'c, 's, T>,
 ) -> Result<NodeInfo, Memory>
-    ensures value { IfOk result (IsInfo (world T.answers run.old) run.old.state
-        (fill (env run.old.style) (view_choose choose.now))) }
+    ensures value { IfOk result (IsInfo (render_input T.answers run.old) run.old.state
+        (expand (macro_env run.old.style) (view_choose choose.now))) }
     ensures kept { run.new ≡ run.old }
 {
     match taken_nodes(choose, run.context())? {
         Some(nodes) => {
-            let (sum, inside) = infos(nodes, run)?;
-            Ok(NodeInfo::new(but_groups(sum), inside))
+            let (sum, inside) = nodes_info(nodes, run)?;
+            Ok(NodeInfo::new(without_group_flag(sum), inside))
         }
-        None => Ok(run.leaf(nothing_said())),
+        None => Ok(run.leaf(no_info())),
     }
 }
 
@@ -228,9 +228,9 @@ pub(crate) fn choose_shows<'c, 's, T: EntryLike>(
     choose: &'s Choose,
     query: &mut Query<'c, 's, T>,
 ) -> Result<bool, Memory>
-    ensures value { GivesBy (λ answer. answer) result (shows (world T.answers query.old.now)
+    ensures value { GivesBy (λ answer. answer) result (shows (render_input T.answers query.old.now)
         query.old.now.state query.old.variable
-        (fill (env query.old.now.style) (view_choose choose.now))) }
+        (expand (macro_env query.old.now.style) (view_choose choose.now))) }
     ensures kept { query.new ≡ query.old }
 {
     match taken_nodes(choose, query.context())? {
@@ -246,15 +246,15 @@ pub(crate) fn render_choose<'p, 's, T: EntryLike>(
     ctx: &mut Context<'s, T>,
     plan: Option<NodePlan<'p>>,
 ) -> Result<(), RenderError>
-    requires { IfSome plan (IsPlan (world T.answers ctx.old) ctx.old.state
-        (fill (env ctx.old.style) (view_choose choose.now))) }
-    ensures { Runs (λ now. with_made (tree (world T.answers now)
-        (fill (env now.style) (view_choose choose.now)) now.inherited now.state) now)
+    requires { IfSome plan (IsPlan (render_input T.answers ctx.old) ctx.old.state
+        (expand (macro_env ctx.old.style) (view_choose choose.now))) }
+    ensures { Runs (λ now. with_output (node_output (render_input T.answers now)
+        (expand (macro_env now.style) (view_choose choose.now)) now.inherited now.state) now)
         result ctx.old ctx.new }
 {
     let taken = taken_nodes(choose, ctx);
     match ctx.attempt(taken)? {
         Some(nodes) => render_with_delimiter(nodes, ctx, inside_plan(plan)),
-        None => nothing(ctx),
+        None => push_nothing(ctx),
     }
 }

@@ -3,15 +3,15 @@
 ghost use Rattle.std.specs.Prelude.{◌≡◌, true, IfOk, IfErr, option_map, string_bytes};
 ghost use Rattle.std.specs.Bool.{Decides};
 ghost use Rattle.csl_style.specs.declared.style.settings.Scope.TheVariants as scopes;
-ghost use Rattle.csl_style.specs.Named.{of_fulls};
-ghost use Rattle.csl_style.specs.Node.{fill_layout};
-ghost use Rattle.csl_style.specs.Reached.{env};
+ghost use Rattle.csl_style.specs.Named.{named_in_nodes};
+ghost use Rattle.csl_style.specs.Node.{expand_layout};
 ghost use Rattle.csl_style.specs.View.{view_layout};
-ghost use Rattle.csl_entry.specs.Alike.{Alike};
+ghost use Rattle.csl_style.specs.Expanded.{macro_env};
+ghost use Rattle.csl_entry.specs.Alike.{SameNamedAnswers};
 ghost use Rattle.csl_entry.specs.Cite.{cite_state};
-ghost use Rattle.csl_context.specs.Left.{state_left};
-ghost use Rattle.csl_render.specs.Cited.{whole_cite};
-ghost use Rattle.csl_render.specs.Printed.{citing, printed_from, made_of, Prints, PrintsSame};
+ghost use Rattle.csl_context.specs.LeftState.{left_state_view};
+ghost use Rattle.csl_render.specs.CiteContent.{whole_cite};
+ghost use Rattle.csl_render.specs.PairOutput.{cite_input, layout_output_from, output_of, Prints, PrintsSame};
 
 use crate::pair::{Pair, render_pair};
 use crate::render::RenderCsl;
@@ -30,8 +30,8 @@ pub(crate) fn render_from<'s, T: EntryLike>(
     scope: Scope,
     start: &LeftState,
 ) -> Result<Rendered, RenderError>
-    ensures ok { IfOk result (λ r. made_of r ≡ printed_from (state_left start.now)
-        (citing style.now scope (cite_state instance.entry.cite_props.now) instance.entry.sorting
+    ensures ok { IfOk result (λ r. output_of r ≡ layout_output_from (left_state_view start.now)
+        (cite_input style.now scope (cite_state instance.entry.cite_props.now) instance.entry.sorting
         instance.entry.kind (T.answers instance.entry.entry.now)) layout.now) }
     ensures err { IfErr result (λ e. e ≡ RenderError.Memory) }
 {
@@ -49,7 +49,7 @@ fn render_whole<T: EntryLike>(
     entry: &T,
     cite_props: &CiteProperties<'_>,
 ) -> Result<Rendered, RenderError>
-    ensures ok { IfOk result (λ r. made_of r ≡ whole_cite style.now scope
+    ensures ok { IfOk result (λ r. output_of r ≡ whole_cite style.now scope
         (cite_state cite_props.now) (T.answers entry.now) layout.now) }
     ensures err { IfErr result (λ e. e ≡ RenderError.Memory) }
 {
@@ -75,7 +75,7 @@ pub fn cite<T: EntryLike>(
     entry: &T,
     cite_props: &CiteProperties<'_>,
 ) -> Result<Rendered, RenderError>
-    ensures ok { IfOk result (λ r. made_of r ≡ whole_cite style.now scopes.Citation
+    ensures ok { IfOk result (λ r. output_of r ≡ whole_cite style.now scopes.Citation
         (cite_state cite_props.now) (T.answers entry.now) style.now.citation) }
     ensures err { IfErr result (λ e. e ≡ RenderError.Memory) }
 {
@@ -95,7 +95,7 @@ pub fn bibliography_entry<T: EntryLike>(
     entry: &T,
     cite_props: &CiteProperties<'_>,
 ) -> Result<Option<Rendered>, RenderError>
-    ensures ok { IfOk result (λ found. option_map made_of found
+    ensures ok { IfOk result (λ found. option_map output_of found
         ≡ option_map (whole_cite style.now scopes.Bibliography (cite_state cite_props.now)
         (T.answers entry.now)) style.now.bibliography) }
     ensures err { IfErr result (λ e. e ≡ RenderError.Memory) }
@@ -129,8 +129,8 @@ pub fn cite_pair<T: EntryLike, U: EntryLike>(
     ensures right { IfOk result (λ p. Prints (whole_cite style.now scopes.Citation
         (cite_state cite_props.now) (U.answers right.now) style.now.citation)
         p.right (string_bytes p.right_html)) }
-    ensures alike { IfOk result (λ p. Decides p.alike (Alike
-        (of_fulls (fill_layout (env style.now) (view_layout style.now.citation)).elements)
+    ensures alike { IfOk result (λ p. Decides p.alike (SameNamedAnswers
+        (named_in_nodes (expand_layout (macro_env style.now) (view_layout style.now.citation)).elements)
         (T.answers left.now) (U.answers right.now))) }
     ensures same { IfOk result (λ p. p.alike ≡ true
         → PrintsSame p.left (string_bytes p.left_html) p.right (string_bytes p.right_html)) }

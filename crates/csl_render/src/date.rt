@@ -1,18 +1,18 @@
-//! Dates (CSL 1.0.2, Date). What they make stands in `csl_leaves`.
+//! Dates (CSL 1.0.2, Date). What they make stands in `csl_nodes`.
 
-ghost use Rattle.csl_style.specs.Node.{fill, date};
+ghost use Rattle.csl_style.specs.Node.{expand, date};
 ghost use Rattle.csl_style.specs.View.{view_date};
-ghost use Rattle.csl_context.specs.World.{env};
-ghost use Rattle.csl_render.specs.Rendering.{part};
+ghost use Rattle.csl_style.specs.Expanded.{macro_env};
+ghost use Rattle.csl_render.specs.Rendering.{of_node};
 
 use crate::render::RenderCsl;
 use csl_context::{Context, RenderError};
 use csl_entry::EntryLike;
-use csl_leaves::{UsageInfo, date_info, date_shown, render_date};
+use csl_nodes::{UsageInfo, date_info, date_shows, render_date};
 use csl_style::{Date, Variable};
 
 impl RenderCsl for Date {
-    ghost rendering = { λ style d. part (fill (env style) (date (view_date d))) };
+    ghost rendering = { λ style d. of_node (expand (macro_env style) (date (view_date d))) };
 
     fn will_have_info<'s, T: EntryLike>(
         &'s self,
@@ -28,7 +28,7 @@ impl RenderCsl for Date {
         var: Variable,
     ) -> Result<bool, RenderError> {
         ctx.ensure_live()?;
-        Ok(date_shown(ctx, self, var))
+        Ok(date_shows(ctx, self, var))
     }
 
     fn render<'s, T: EntryLike>(&'s self, ctx: &mut Context<'s, T>) -> Result<(), RenderError> {

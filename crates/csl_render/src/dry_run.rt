@@ -1,16 +1,16 @@
 //! Dry runs: a context that is only read, and the results for macros that came before.
 
 ghost use Rattle.std.specs.Prelude.{◌≡◌, [], IfSome};
-ghost use Rattle.csl_context.specs.Now.{world};
-ghost use Rattle.csl_context.specs.World.{env};
-ghost use Rattle.csl_leaves.specs.Usages.{told};
+ghost use Rattle.csl_style.specs.Expanded.{macro_env};
+ghost use Rattle.csl_context.specs.ContextView.{render_input};
+ghost use Rattle.csl_nodes.specs.UsageView.{info_view};
 ghost use Rattle.csl_render.specs.DryRun.{call_info};
 ghost use Rattle.csl_render.specs.Plan.{answer_of, inside_of};
 
 use crate::plan::NodeInfo;
 use csl_context::Context;
 use csl_entry::EntryLike;
-use csl_leaves::UsageInfo;
+use csl_nodes::UsageInfo;
 use lit_model::Memory;
 use std::collections::HashMap;
 use std::marker::Model;
@@ -27,16 +27,16 @@ impl<'c, 's, T: EntryLike> Model for DryRun<'c, 's, T> {
     ghost use Rattle.std.specs.Coded.{codes};
     ghost use Rattle.csl_style.specs.contracts.element.CslMacro as of_macro;
     ghost use Rattle.csl_style.specs.contracts.element.Layout as of_layout;
-    ghost use Rattle.csl_context.specs.Now.{Now, world};
+    ghost use Rattle.csl_context.specs.ContextView.{ContextView, render_input};
     ghost use Rattle.csl_render.specs.DryRun.{HasInfos};
 
-    ghost Value = { Now T };
+    ghost Value = { ContextView T };
 
     ghost coded = { Prim.hlevel (codes, of_macro.the_row.coded, of_layout.the_row.coded) };
 
     ghost view = { λ r. r.ctx.now };
 
-    ghost invariant = { λ r. HasInfos (world T.answers r.ctx.now) r.ctx.now.state r.calls };
+    ghost invariant = { λ r. HasInfos (render_input T.answers r.ctx.now) r.ctx.now.state r.calls };
 }
 
 impl<'c, 's, T: EntryLike> DryRun<'c, 's, T> {
@@ -59,7 +59,7 @@ impl<'c, 's, T: EntryLike> DryRun<'c, 's, T> {
 
     /// The result for a node without nodes inside.
     pub(crate) fn leaf(&self, answer: (bool, UsageInfo)) -> NodeInfo
-        ensures answer { answer_of result ≡ told answer }
+        ensures answer { answer_of result ≡ info_view answer }
         ensures inside { inside_of result ≡ [] }
     {
         NodeInfo::new(answer, Vec::new(self.ctx.alloc()))
@@ -67,8 +67,8 @@ impl<'c, 's, T: EntryLike> DryRun<'c, 's, T> {
 
     /// The result for a text of the macro, if one came before.
     pub(crate) fn known_call(&self, name: &str) -> Option<(bool, UsageInfo)>
-        ensures { IfSome result (λ answer. told answer ≡ call_info (world T.answers self.now)
-            self.now.state (env self.now.style name.now)) }
+        ensures { IfSome result (λ answer. info_view answer ≡ call_info (render_input T.answers self.now)
+            self.now.state (macro_env self.now.style name.now)) }
     {
         self.calls.get(name).copied()
     }
@@ -79,8 +79,8 @@ impl<'c, 's, T: EntryLike> DryRun<'c, 's, T> {
         name: &'s str,
         answer: (bool, UsageInfo),
     ) -> Result<(), Memory>
-        requires { told answer ≡ call_info (world T.answers self.old) self.old.state
-            (env self.old.style name.now) }
+        requires { info_view answer ≡ call_info (render_input T.answers self.old) self.old.state
+            (macro_env self.old.style name.now) }
         ensures { self.new ≡ self.old }
     {
         self.calls.insert(name, answer)?;

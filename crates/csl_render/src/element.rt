@@ -1,16 +1,16 @@
 //! Nodes, and lists of nodes.
 
 ghost use Rattle.std.specs.Prelude.{◌≡◌, true, IfOk, IfSome, if◌then◌else◌};
-ghost use Rattle.csl_style.specs.Node.{fill, fills};
-ghost use Rattle.csl_style.specs.View.{view, views, view_rendering};
-ghost use Rattle.csl_context.specs.World.{env};
-ghost use Rattle.csl_context.specs.Now.{Runs, GivesBy, world};
-ghost use Rattle.csl_leaves.specs.Usages.{told};
+ghost use Rattle.csl_style.specs.Node.{expand, expand_nodes};
+ghost use Rattle.csl_style.specs.View.{view_node, view_nodes, view_rendering};
+ghost use Rattle.csl_style.specs.Expanded.{macro_env};
+ghost use Rattle.csl_context.specs.ContextView.{Runs, GivesBy, render_input};
+ghost use Rattle.csl_nodes.specs.UsageView.{info_view};
 ghost use Rattle.csl_render.specs.Names.{Macros};
 ghost use Rattle.csl_render.specs.Plan.{AreReadAlike, IsInfo, AreInfos, IsPlan, ArePlans};
-ghost use Rattle.csl_render.specs.Tree.{info, infos, shows, any_shows, is_group, tree, sum_of, delimited, admitted_made};
-ghost use Rattle.csl_render.specs.Rendering.{part, element_rendering};
-ghost use Rattle.csl_leaves.specs.Text.{with_made};
+ghost use Rattle.csl_render.specs.Tree.{info, nodes_info, shows, any_shows, is_group, node_output, nodes_output, delimited_output, delimited_child_output};
+ghost use Rattle.csl_render.specs.Rendering.{of_node, element_rendering};
+ghost use Rattle.csl_nodes.specs.Text.{with_output};
 
 use crate::choose::{choose_info, choose_shows, render_choose};
 use crate::dry_run::DryRun;
@@ -22,15 +22,15 @@ use crate::render::RenderCsl;
 use crate::text::{render_text, text_info, text_shows};
 use csl_context::{Context, RenderError};
 use csl_entry::EntryLike;
-use csl_leaves::{
-    UsageInfo, date_info, date_shown, label_info, nothing_said, number_info, number_shown,
-    render_date, render_label, render_number, with_child,
+use csl_nodes::{
+    UsageInfo, add_child_info, date_info, date_shows, label_info, no_info, number_info,
+    number_shows, render_date, render_label, render_number,
 };
 use csl_style::{LayoutRenderingElement, RenderingElement, Variable};
 use lit_model::Memory;
 
 impl RenderCsl for LayoutRenderingElement {
-    ghost rendering = { λ style e. part (fill (env style) (view e)) };
+    ghost rendering = { λ style e. of_node (expand (macro_env style) (view_node e)) };
 
     fn will_have_info<'s, T: EntryLike>(
         &'s self,
@@ -89,7 +89,7 @@ impl RenderCsl for RenderingElement {
 
 /// Whether the node is a group.
 fn is_group(node: &LayoutRenderingElement) -> bool
-    ensures { (env : Macros) → result ≡ is_group (fill env (view node.now)) }
+    ensures { (env : Macros) → result ≡ is_group (expand env (view_node node.now)) }
 {
     match node {
         LayoutRenderingElement::Text(_) => false,
@@ -108,8 +108,8 @@ pub(crate) fn node_info<'c, 's, T: EntryLike>(
     node: &'s LayoutRenderingElement,
     run: &mut DryRun<'c, 's, T>,
 ) -> Result<NodeInfo, Memory>
-    ensures value { IfOk result (IsInfo (world T.answers run.old) run.old.state
-        (fill (env run.old.style) (view node.now))) }
+    ensures value { IfOk result (IsInfo (render_input T.answers run.old) run.old.state
+        (expand (macro_env run.old.style) (view_node node.now))) }
     ensures kept { run.new ≡ run.old }
 {
     match node {
@@ -127,21 +127,21 @@ pub(crate) fn node_info<'c, 's, T: EntryLike>(
 
 /// The dry run of some nodes together, and that of each.
 #[cycle(info)]
-pub(crate) fn infos<'c, 's, T: EntryLike>(
+pub(crate) fn nodes_info<'c, 's, T: EntryLike>(
     nodes: &'s [LayoutRenderingElement],
     run: &mut DryRun<'c, 's, T>,
 ) -> Result<((bool, UsageInfo), Vec<NodeInfo>), Memory>
-    ensures sum { IfOk result (λ r. told r.0 ≡ infos (world T.answers run.old) run.old.state
-        (fills (env run.old.style) (views nodes.now))) }
-    ensures each { IfOk result (λ r. AreInfos (world T.answers run.old) run.old.state
-        (fills (env run.old.style) (views nodes.now)) r.1.items) }
+    ensures sum { IfOk result (λ r. info_view r.0 ≡ nodes_info (render_input T.answers run.old) run.old.state
+        (expand_nodes (macro_env run.old.style) (view_nodes nodes.now))) }
+    ensures each { IfOk result (λ r. AreInfos (render_input T.answers run.old) run.old.state
+        (expand_nodes (macro_env run.old.style) (view_nodes nodes.now)) r.1.items) }
     ensures kept { run.new ≡ run.old }
 {
-    let mut sum = nothing_said();
+    let mut sum = no_info();
     let mut each = Vec::with_capacity(run.context().alloc(), nodes.len())?;
     for node in nodes {
         let info = node_info(node, run)?;
-        sum = with_child(sum, info.answer, is_group(node));
+        sum = add_child_info(sum, info.answer, is_group(node));
         each.push(info)?;
     }
     Ok((sum, each))
@@ -153,20 +153,20 @@ pub(crate) fn node_shows<'c, 's, T: EntryLike>(
     node: &'s LayoutRenderingElement,
     query: &mut Query<'c, 's, T>,
 ) -> Result<bool, Memory>
-    ensures value { GivesBy (λ answer. answer) result (shows (world T.answers query.old.now)
+    ensures value { GivesBy (λ answer. answer) result (shows (render_input T.answers query.old.now)
         query.old.now.state query.old.variable
-        (fill (env query.old.now.style) (view node.now))) }
+        (expand (macro_env query.old.now.style) (view_node node.now))) }
     ensures kept { query.new ≡ query.old }
 {
     match node {
         LayoutRenderingElement::Text(text) => text_shows(text, query),
         LayoutRenderingElement::Group(group) => group_shows(group, query),
         LayoutRenderingElement::Number(number) => {
-            Ok(number_shown(query.context(), number, query.variable()))
+            Ok(number_shows(query.context(), number, query.variable()))
         }
         LayoutRenderingElement::Label(_) => Ok(false),
         LayoutRenderingElement::Date(date) => {
-            Ok(date_shown(query.context(), date, query.variable()))
+            Ok(date_shows(query.context(), date, query.variable()))
         }
         LayoutRenderingElement::Names(names) => names_show(names, query),
         LayoutRenderingElement::Choose(choose) => choose_shows(choose, query),
@@ -179,9 +179,9 @@ pub(crate) fn any_shows<'c, 's, T: EntryLike>(
     nodes: &'s [LayoutRenderingElement],
     query: &mut Query<'c, 's, T>,
 ) -> Result<bool, Memory>
-    ensures value { GivesBy (λ answer. answer) result (any_shows (world T.answers query.old.now)
+    ensures value { GivesBy (λ answer. answer) result (any_shows (render_input T.answers query.old.now)
         query.old.now.state query.old.variable
-        (fills (env query.old.now.style) (views nodes.now))) }
+        (expand_nodes (macro_env query.old.now.style) (view_nodes nodes.now))) }
     ensures kept { query.new ≡ query.old }
 {
     for node in nodes {
@@ -197,9 +197,9 @@ fn ask_node<'s, T: EntryLike>(
     node: &'s LayoutRenderingElement,
     ctx: &Context<'s, T>,
 ) -> Result<(DryState, NodeInfo), Memory>
-    ensures at { IfOk result (λ r. AreReadAlike (world T.answers ctx.now) r.0 ctx.now.state) }
-    ensures info { IfOk result (λ r. IsInfo (world T.answers ctx.now) r.0
-        (fill (env ctx.now.style) (view node.now)) r.1) }
+    ensures at { IfOk result (λ r. AreReadAlike (render_input T.answers ctx.now) r.0 ctx.now.state) }
+    ensures info { IfOk result (λ r. IsInfo (render_input T.answers ctx.now) r.0
+        (expand (macro_env ctx.now.style) (view_node node.now)) r.1) }
 {
     let at = DryState::of(ctx)?;
     let info = node_info(node, &mut DryRun::new(ctx))?;
@@ -213,10 +213,10 @@ pub(crate) fn render_node<'p, 's, T: EntryLike>(
     ctx: &mut Context<'s, T>,
     plan: Option<NodePlan<'p>>,
 ) -> Result<(), RenderError>
-    requires { IfSome plan (IsPlan (world T.answers ctx.old) ctx.old.state
-        (fill (env ctx.old.style) (view node.now))) }
-    ensures { Runs (λ now. with_made (tree (world T.answers now)
-        (fill (env now.style) (view node.now)) now.inherited now.state) now)
+    requires { IfSome plan (IsPlan (render_input T.answers ctx.old) ctx.old.state
+        (expand (macro_env ctx.old.style) (view_node node.now))) }
+    ensures { Runs (λ now. with_output (node_output (render_input T.answers now)
+        (expand (macro_env now.style) (view_node node.now)) now.inherited now.state) now)
         result ctx.old ctx.new }
 {
     match node {
@@ -237,10 +237,10 @@ pub(crate) fn render_all<'p, 's, T: EntryLike>(
     ctx: &mut Context<'s, T>,
     plan: Option<ListPlan<'p>>,
 ) -> Result<(), RenderError>
-    requires { IfSome plan (ArePlans (world T.answers ctx.old)
-        (fills (env ctx.old.style) (views nodes.now))) }
-    ensures { Runs (λ now. with_made (sum_of (world T.answers now) (fills (env now.style)
-        (views nodes.now)) now.inherited now.state) now) result ctx.old ctx.new }
+    requires { IfSome plan (ArePlans (render_input T.answers ctx.old)
+        (expand_nodes (macro_env ctx.old.style) (view_nodes nodes.now))) }
+    ensures { Runs (λ now. with_output (nodes_output (render_input T.answers now) (expand_nodes (macro_env now.style)
+        (view_nodes nodes.now)) now.inherited now.state) now) result ctx.old ctx.new }
 {
     ctx.ensure_live()?;
     let mut plan = plan;
@@ -258,10 +258,10 @@ pub(crate) fn render_with_delimiter<'p, 's, T: EntryLike>(
     ctx: &mut Context<'s, T>,
     plan: Option<ListPlan<'p>>,
 ) -> Result<(), RenderError>
-    requires { IfSome plan (ArePlans (world T.answers ctx.old)
-        (fills (env ctx.old.style) (views nodes.now))) }
-    ensures { Runs (λ now. with_made (delimited (world T.answers now) (fills (env now.style)
-        (views nodes.now)) now.inherited true now.state) now) result ctx.old ctx.new }
+    requires { IfSome plan (ArePlans (render_input T.answers ctx.old)
+        (expand_nodes (macro_env ctx.old.style) (view_nodes nodes.now))) }
+    ensures { Runs (λ now. with_output (delimited_output (render_input T.answers now) (expand_nodes (macro_env now.style)
+        (view_nodes nodes.now)) now.inherited true now.state) now) result ctx.old ctx.new }
 {
     ctx.ensure_live()?;
     let mut plan = plan;
@@ -284,14 +284,14 @@ fn render_if_it_prints<'p, 's, T: EntryLike>(
     first: bool,
     plan: Option<NodePlan<'p>>,
 ) -> Result<bool, RenderError>
-    requires { IfSome plan (IsPlan (world T.answers ctx.old) ctx.old.state
-        (fill (env ctx.old.style) (view node.now))) }
-    ensures value { GivesBy (λ answer. answer) result (info (world T.answers ctx.old)
-        ctx.old.state (fill (env ctx.old.style) (view node.now))).prints }
-    ensures after { Runs (λ now. if (info (world T.answers now) now.state
-        (fill (env now.style) (view node.now))).prints then with_made
-        (admitted_made first now.inherited (tree (world T.answers now)
-        (fill (env now.style) (view node.now)) now.inherited now.state)) now else now)
+    requires { IfSome plan (IsPlan (render_input T.answers ctx.old) ctx.old.state
+        (expand (macro_env ctx.old.style) (view_node node.now))) }
+    ensures value { GivesBy (λ answer. answer) result (info (render_input T.answers ctx.old)
+        ctx.old.state (expand (macro_env ctx.old.style) (view_node node.now))).prints }
+    ensures after { Runs (λ now. if (info (render_input T.answers now) now.state
+        (expand (macro_env now.style) (view_node node.now))).prints then with_output
+        (delimited_child_output first now.inherited (node_output (render_input T.answers now)
+        (expand (macro_env now.style) (view_node node.now)) now.inherited now.state)) now else now)
         result ctx.old ctx.new }
 {
     match plan {
@@ -312,14 +312,14 @@ fn render_by_plan<'p, 's, T: EntryLike>(
     first: bool,
     plan: NodePlan<'p>,
 ) -> Result<bool, RenderError>
-    requires { IsPlan (world T.answers ctx.old) ctx.old.state
-        (fill (env ctx.old.style) (view node.now)) plan }
-    ensures value { GivesBy (λ answer. answer) result (info (world T.answers ctx.old)
-        ctx.old.state (fill (env ctx.old.style) (view node.now))).prints }
-    ensures after { Runs (λ now. if (info (world T.answers now) now.state
-        (fill (env now.style) (view node.now))).prints then with_made
-        (admitted_made first now.inherited (tree (world T.answers now)
-        (fill (env now.style) (view node.now)) now.inherited now.state)) now else now)
+    requires { IsPlan (render_input T.answers ctx.old) ctx.old.state
+        (expand (macro_env ctx.old.style) (view_node node.now)) plan }
+    ensures value { GivesBy (λ answer. answer) result (info (render_input T.answers ctx.old)
+        ctx.old.state (expand (macro_env ctx.old.style) (view_node node.now))).prints }
+    ensures after { Runs (λ now. if (info (render_input T.answers now) now.state
+        (expand (macro_env now.style) (view_node node.now))).prints then with_output
+        (delimited_child_output first now.inherited (node_output (render_input T.answers now)
+        (expand (macro_env now.style) (view_node node.now)) now.inherited now.state)) now else now)
         result ctx.old ctx.new }
 {
     let prints = plan.prints();
@@ -339,10 +339,10 @@ fn render_admitted<'p, 's, T: EntryLike>(
     first: bool,
     plan: NodePlan<'p>,
 ) -> Result<(), RenderError>
-    requires { IsPlan (world T.answers ctx.old) ctx.old.state
-        (fill (env ctx.old.style) (view node.now)) plan }
-    ensures { Runs (λ now. with_made (admitted_made first now.inherited
-        (tree (world T.answers now) (fill (env now.style) (view node.now)) now.inherited now.state))
+    requires { IsPlan (render_input T.answers ctx.old) ctx.old.state
+        (expand (macro_env ctx.old.style) (view_node node.now)) plan }
+    ensures { Runs (λ now. with_output (delimited_child_output first now.inherited
+        (node_output (render_input T.answers now) (expand (macro_env now.style) (view_node node.now)) now.inherited now.state))
         now) result ctx.old ctx.new }
 {
     match ctx.delimiter() {

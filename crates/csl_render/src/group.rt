@@ -1,29 +1,29 @@
 //! Groups (CSL 1.0.2, Group).
 
 ghost use Rattle.std.specs.Prelude.{◌≡◌, None, IfOk, IfSome};
-ghost use Rattle.csl_tree.specs.Content.{boxed};
-ghost use Rattle.csl_style.specs.Node.{fill};
+ghost use Rattle.csl_tree.specs.Content.{elem_content};
+ghost use Rattle.csl_style.specs.Node.{expand};
 ghost use Rattle.csl_style.specs.View.{view_group};
-ghost use Rattle.csl_context.specs.World.{env};
-ghost use Rattle.csl_context.specs.Now.{Runs, GivesBy, IsInnermost, closed_by, world};
-ghost use Rattle.csl_leaves.specs.Text.{with_made};
+ghost use Rattle.csl_style.specs.Expanded.{macro_env};
+ghost use Rattle.csl_context.specs.ContextView.{Runs, GivesBy, IsInnermost, close_part_by, render_input};
+ghost use Rattle.csl_nodes.specs.Text.{with_output};
 ghost use Rattle.csl_render.specs.Plan.{AreReadAlike, IsInfo, IsPlan};
-ghost use Rattle.csl_render.specs.Tree.{shows, tree, shown_if};
-ghost use Rattle.csl_render.specs.Rendering.{part};
+ghost use Rattle.csl_render.specs.Tree.{shows, node_output, shown_if};
+ghost use Rattle.csl_render.specs.Rendering.{of_node};
 
 use crate::dry_run::DryRun;
-use crate::element::{any_shows, infos, render_with_delimiter};
+use crate::element::{any_shows, nodes_info, render_with_delimiter};
 use crate::plan::{DryState, NodeInfo, NodePlan};
 use crate::query::Query;
 use crate::render::RenderCsl;
 use csl_context::{Context, Mark, RenderError};
 use csl_entry::EntryLike;
-use csl_leaves::{UsageInfo, group_said};
+use csl_nodes::{UsageInfo, info_of_group};
 use csl_style::{Display, Group, Variable};
 use lit_model::Memory;
 
 impl RenderCsl for Group {
-    ghost rendering = { λ style g. part (fill (env style) (view_group g)) };
+    ghost rendering = { λ style g. of_node (expand (macro_env style) (view_group g)) };
 
     fn will_have_info<'s, T: EntryLike>(
         &'s self,
@@ -54,12 +54,12 @@ pub(crate) fn group_info<'c, 's, T: EntryLike>(
     group: &'s Group,
     run: &mut DryRun<'c, 's, T>,
 ) -> Result<NodeInfo, Memory>
-    ensures value { IfOk result (IsInfo (world T.answers run.old) run.old.state
-        (fill (env run.old.style) (view_group group.now))) }
+    ensures value { IfOk result (IsInfo (render_input T.answers run.old) run.old.state
+        (expand (macro_env run.old.style) (view_group group.now))) }
     ensures kept { run.new ≡ run.old }
 {
-    let (sum, inside) = infos(&group.children, run)?;
-    Ok(NodeInfo::new(group_said(sum), inside))
+    let (sum, inside) = nodes_info(&group.children, run)?;
+    Ok(NodeInfo::new(info_of_group(sum), inside))
 }
 
 /// Whether a group shows the variable.
@@ -68,9 +68,9 @@ pub(crate) fn group_shows<'c, 's, T: EntryLike>(
     group: &'s Group,
     query: &mut Query<'c, 's, T>,
 ) -> Result<bool, Memory>
-    ensures value { GivesBy (λ answer. answer) result (shows (world T.answers query.old.now)
+    ensures value { GivesBy (λ answer. answer) result (shows (render_input T.answers query.old.now)
         query.old.now.state query.old.variable
-        (fill (env query.old.now.style) (view_group group.now))) }
+        (expand (macro_env query.old.now.style) (view_group group.now))) }
     ensures kept { query.new ≡ query.old }
 {
     any_shows(&group.children, query)
@@ -81,9 +81,9 @@ fn ask_group<'s, T: EntryLike>(
     group: &'s Group,
     ctx: &Context<'s, T>,
 ) -> Result<(DryState, NodeInfo), Memory>
-    ensures at { IfOk result (λ r. AreReadAlike (world T.answers ctx.now) r.0 ctx.now.state) }
-    ensures info { IfOk result (λ r. IsInfo (world T.answers ctx.now) r.0
-        (fill (env ctx.now.style) (view_group group.now)) r.1) }
+    ensures at { IfOk result (λ r. AreReadAlike (render_input T.answers ctx.now) r.0 ctx.now.state) }
+    ensures info { IfOk result (λ r. IsInfo (render_input T.answers ctx.now) r.0
+        (expand (macro_env ctx.now.style) (view_group group.now)) r.1) }
 {
     let at = DryState::of(ctx)?;
     let info = group_info(group, &mut DryRun::new(ctx))?;
@@ -97,10 +97,10 @@ pub(crate) fn render_group<'p, 's, T: EntryLike>(
     ctx: &mut Context<'s, T>,
     plan: Option<NodePlan<'p>>,
 ) -> Result<(), RenderError>
-    requires { IfSome plan (IsPlan (world T.answers ctx.old) ctx.old.state
-        (fill (env ctx.old.style) (view_group group.now))) }
-    ensures { Runs (λ now. with_made (tree (world T.answers now)
-        (fill (env now.style) (view_group group.now)) now.inherited now.state) now)
+    requires { IfSome plan (IsPlan (render_input T.answers ctx.old) ctx.old.state
+        (expand (macro_env ctx.old.style) (view_group group.now))) }
+    ensures { Runs (λ now. with_output (node_output (render_input T.answers now)
+        (expand (macro_env now.style) (view_group group.now)) now.inherited now.state) now)
         result ctx.old ctx.new }
 {
     match plan {
@@ -120,10 +120,10 @@ fn render_group_by_plan<'p, 's, T: EntryLike>(
     ctx: &mut Context<'s, T>,
     plan: NodePlan<'p>,
 ) -> Result<(), RenderError>
-    requires { IsPlan (world T.answers ctx.old) ctx.old.state
-        (fill (env ctx.old.style) (view_group group.now)) plan }
-    ensures { Runs (λ now. with_made (tree (world T.answers now)
-        (fill (env now.style) (view_group group.now)) now.inherited now.state) now)
+    requires { IsPlan (render_input T.answers ctx.old) ctx.old.state
+        (expand (macro_env ctx.old.style) (view_group group.now)) plan }
+    ensures { Runs (λ now. with_output (node_output (render_input T.answers now)
+        (expand (macro_env now.style) (view_group group.now)) now.inherited now.state) now)
         result ctx.old ctx.new }
 {
     let usage = plan.usage();
@@ -147,7 +147,7 @@ fn close_group<'s, T: EntryLike>(
     display: Option<Display>,
 ) -> Result<(), RenderError>
     requires innermost { IsInnermost mark ctx.old }
-    ensures { Runs (closed_by (λ _ c. shown_if shows (boxed display None c)))
+    ensures { Runs (close_part_by (λ _ c. shown_if shows (elem_content display None c)))
         result ctx.old ctx.new }
 {
     ctx.ensure_live()?;

@@ -1,19 +1,19 @@
-//! Labels (CSL 1.0.2, Label). What they make stands in `csl_leaves`.
+//! Labels (CSL 1.0.2, Label). What they make stands in `csl_nodes`.
 
-ghost use Rattle.csl_style.specs.Node.{fill, label};
+ghost use Rattle.csl_style.specs.Node.{expand, label};
 ghost use Rattle.csl_style.specs.Names.{view_label};
-ghost use Rattle.csl_context.specs.World.{env};
-ghost use Rattle.csl_render.specs.Rendering.{part};
+ghost use Rattle.csl_style.specs.Expanded.{macro_env};
+ghost use Rattle.csl_render.specs.Rendering.{of_node};
 
 use crate::render::RenderCsl;
 use csl_context::{Context, RenderError};
 use csl_entry::EntryLike;
-use csl_leaves::{UsageInfo, label_info, render_label};
+use csl_nodes::{UsageInfo, label_info, render_label};
 use csl_style::{Label, Variable};
 
 impl RenderCsl for Label {
     ghost rendering = { λ style l.
-        part (fill (env style) (label l.variable (view_label l.label))) };
+        of_node (expand (macro_env style) (label l.variable (view_label l.label))) };
 
     fn will_have_info<'s, T: EntryLike>(
         &'s self,

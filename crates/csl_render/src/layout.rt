@@ -1,29 +1,29 @@
 //! Layouts (CSL 1.0.2, Layout).
 
-ghost use Rattle.csl_style.specs.Node.{fill_layout};
+ghost use Rattle.csl_style.specs.Node.{expand_layout};
 ghost use Rattle.csl_style.specs.View.{view_layout};
-ghost use Rattle.csl_context.specs.World.{env};
-ghost use Rattle.csl_render.specs.Rendering.{whole};
+ghost use Rattle.csl_style.specs.Expanded.{macro_env};
+ghost use Rattle.csl_render.specs.Rendering.{of_layout};
 
 use crate::dry_run::DryRun;
-use crate::element::{any_shows, infos, render_all};
+use crate::element::{any_shows, nodes_info, render_all};
 use crate::query::Query;
 use crate::render::RenderCsl;
 use csl_context::{Context, RenderError};
 use csl_entry::EntryLike;
-use csl_leaves::{UsageInfo, but_groups};
+use csl_nodes::{UsageInfo, without_group_flag};
 use csl_style::{Layout, Variable};
 
 impl RenderCsl for Layout {
-    ghost rendering = { λ style l. whole (fill_layout (env style) (view_layout l)) };
+    ghost rendering = { λ style l. of_layout (expand_layout (macro_env style) (view_layout l)) };
 
     fn will_have_info<'s, T: EntryLike>(
         &'s self,
         ctx: &mut Context<'s, T>,
     ) -> Result<(bool, UsageInfo), RenderError> {
-        let answers = infos(&self.elements, &mut DryRun::new(ctx));
+        let answers = nodes_info(&self.elements, &mut DryRun::new(ctx));
         let (sum, _) = ctx.attempt(answers)?;
-        Ok(but_groups(sum))
+        Ok(without_group_flag(sum))
     }
 
     fn will_render<'s, T: EntryLike>(

@@ -1,7 +1,7 @@
 //! What each node of a style makes of a cite (CSL 1.0.2, Rendering Elements): whether it prints
 //! and what it notes, whether it shows a variable, and its content, in a context that the caller
 //! lends. Here stand the nodes that hold other nodes, or call them by a macro; what the others make
-//! is in `csl_leaves`, and how persons are written in `csl_names`.
+//! is in `csl_nodes`, and how persons are written in `csl_names`.
 #![tactic(auto)]
 
 mod choose;
@@ -22,6 +22,6 @@ mod text;
 
 pub use choose::choose_children;
 pub use cites::{bibliography_entry, cite, cite_pair};
-pub use csl_leaves::{BranchConditionIter, BranchConditionPos, UsageInfo, full_sort_key};
+pub use csl_nodes::{BranchConditionIter, BranchConditionPos, UsageInfo, full_sort_key};
 pub use pair::{Pair, render_pair};
 pub use render::RenderCsl;

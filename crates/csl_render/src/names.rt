@@ -5,37 +5,37 @@ ghost use Rattle.csl_style.specs.declared.taxonomy.Variable.{Variable};
 ghost use Rattle.csl_style.specs.declared.taxonomy.NameVariable.{NameVariable};
 ghost use Rattle.csl_style.specs.Names.{NamesNode};
 ghost use Rattle.csl_style.specs.NamesParts.{names_node, names_substitutes, first_substitute, parts_node};
-ghost use Rattle.csl_style.specs.Node.{Full, fill, fills, fill_within, no_insteads, sizes, insteads_size, within};
-ghost use Rattle.csl_style.specs.View.{view, views, view_names};
+ghost use Rattle.csl_style.specs.Node.{ExpandedNode, expand, expand_nodes, expand_substitute_nodes, no_expanded_substitutes, sizes, expanded_substitutes_size, as_substitute_child};
+ghost use Rattle.csl_style.specs.View.{view_node, view_nodes, view_names};
+ghost use Rattle.csl_style.specs.Expanded.{macro_env};
 ghost use Rattle.csl_context.specs.State.{Inherited, State};
-ghost use Rattle.csl_context.specs.World.{env};
-ghost use Rattle.csl_context.specs.Now.{Runs, GivesBy, world};
-ghost use Rattle.csl_names.specs.NamesForms.{is_void};
-ghost use Rattle.csl_names.specs.NamesLists.{all_empty, found_lists};
+ghost use Rattle.csl_context.specs.ContextView.{Runs, GivesBy, render_input};
+ghost use Rattle.csl_names.specs.NamesForms.{writes_no_name};
+ghost use Rattle.csl_names.specs.NamesLists.{all_empty, peeked_lists};
 ghost use Rattle.csl_names.specs.PersonLists.{list_of};
-ghost use Rattle.csl_render.specs.Names.{Macros, author, has_variable, is_of_names, names_it, any_names_it, substitutes_it, insteads_of, standing_in, refuses_alone, is_refused, names_show, names_said, in_substitute, suppressing_from, substitute_made};
-ghost use Rattle.csl_leaves.specs.Text.{Appends, made, with_made};
-ghost use Rattle.csl_leaves.specs.Usages.{told};
+ghost use Rattle.csl_render.specs.Names.{Macros, author, has_variable, is_of_names, is_names_of, any_is_names_of, substitute_has_names_of, expanded_substitutes_of, standing_in, refuses_alone, is_refused, names_show, names_or_substitute_info, in_substitute, suppressing_from, boxed_substitute};
+ghost use Rattle.csl_nodes.specs.Text.{Appends, render_output, with_output};
+ghost use Rattle.csl_nodes.specs.UsageView.{info_view};
 ghost use Rattle.csl_render.specs.Plan.{IsInfo};
-ghost use Rattle.csl_render.specs.Rendering.{part, with_all_made};
-ghost use Rattle.csl_render.specs.Tree.{shows, tree, substitute_shows, substitute_info, substitute_tree, until_text, tries_tree, choice_info, choice_shows, names_tree, shorthand_tree};
+ghost use Rattle.csl_render.specs.Rendering.{of_node, with_whole_output};
+ghost use Rattle.csl_render.specs.Tree.{shows, node_output, substitute_shows, substitute_info, substitute_output, output_until_text, first_substitute_output, choice_info, choice_shows, names_output, shorthand_output};
 
 use crate::dry_run::DryRun;
-use crate::element::{any_shows, infos, render_node};
+use crate::element::{any_shows, nodes_info, render_node};
 use crate::plan::NodeInfo;
 use crate::query::Query;
 use crate::render::RenderCsl;
 use csl_context::{Context, RenderError};
 use csl_entry::{EntryLike, SpecialForm};
-use csl_leaves::{UsageInfo, but_groups, nothing, nothing_said};
 use csl_names::{
-    PersonList, all_empty, commit_names, found_lists, is_void, printed_lists, write_names,
+    PersonList, all_empty, commit_names, peeked_lists, resolved_lists, write_names, writes_no_name,
 };
+use csl_nodes::{UsageInfo, no_info, push_nothing, without_group_flag};
 use csl_style::{LayoutRenderingElement, NameVariable, Names, NamesParts, Variable};
 use lit_model::Memory;
 
 impl RenderCsl for Names {
-    ghost rendering = { λ style n. part (fill (env style) (view_names n)) };
+    ghost rendering = { λ style n. of_node (expand (macro_env style) (view_names n)) };
 
     fn will_have_info<'s, T: EntryLike>(
         &'s self,
@@ -62,7 +62,7 @@ impl RenderCsl for Names {
 
 /// What the lists of a names node are in a dry run.
 #[derive(Clone, Copy)]
-struct Judged {
+struct NamesSummary {
     /// Whether no list has a person.
     is_empty: bool,
     /// Whether the node is void: no name of its lists is written.
@@ -70,17 +70,20 @@ struct Judged {
 }
 
 /// Judges the lists of a names node. The looks are silent.
-fn judge<'s, T: EntryLike>(ctx: &Context<'s, T>, parts: NamesParts<'_>) -> Result<Judged, Memory>
-    ensures empty { IfOk result (λ judged. judged.is_empty ≡ all_empty (found_lists
-        (world T.answers ctx.now) ctx.now.state (parts_node parts.entry).variables)) }
-    ensures void { IfOk result (λ judged. judged.is_void ≡ is_void (parts_node parts.entry)
-        (found_lists (world T.answers ctx.now) ctx.now.state
+fn summarize_names<'s, T: EntryLike>(
+    ctx: &Context<'s, T>,
+    parts: NamesParts<'_>,
+) -> Result<NamesSummary, Memory>
+    ensures empty { IfOk result (λ judged. judged.is_empty ≡ all_empty (peeked_lists
+        (render_input T.answers ctx.now) ctx.now.state (parts_node parts.entry).variables)) }
+    ensures void { IfOk result (λ judged. judged.is_void ≡ writes_no_name (parts_node parts.entry)
+        (peeked_lists (render_input T.answers ctx.now) ctx.now.state
         (parts_node parts.entry).variables)) }
 {
-    let lists = found_lists(ctx, parts.variables)?;
-    Ok(Judged {
+    let lists = peeked_lists(ctx, parts.variables)?;
+    Ok(NamesSummary {
         is_empty: all_empty(&lists),
-        is_void: is_void(parts, &lists),
+        is_void: writes_no_name(parts, &lists),
     })
 }
 
@@ -105,8 +108,8 @@ fn is_of_names(variable: Variable, variables: &[NameVariable]) -> bool
 }
 
 /// The dry run of names that are not refused, from the dry run of their substitute.
-fn names_said(is_void: bool, said: (bool, UsageInfo)) -> (bool, UsageInfo)
-    ensures { told result ≡ names_said is_void (told said) }
+fn names_or_substitute_info(is_void: bool, said: (bool, UsageInfo)) -> (bool, UsageInfo)
+    ensures { info_view result ≡ names_or_substitute_info is_void (info_view said) }
 {
     let usage = UsageInfo {
         has_vars: true,
@@ -119,7 +122,7 @@ fn names_said(is_void: bool, said: (bool, UsageInfo)) -> (bool, UsageInfo)
 
 /// The children of the first substitute.
 fn first_nodes(names: &Names) -> Option<&[LayoutRenderingElement]>
-    ensures { option_map (λ ns. views ns.now) result
+    ensures { option_map (λ ns. view_nodes ns.now) result
         ≡ first_substitute (names_substitutes names.now) }
 {
     match names.substitute() {
@@ -135,34 +138,34 @@ fn substitute_nodes<'n, 's, T: EntryLike>(
     names: &'n Names,
     ctx: &Context<'s, T>,
 ) -> Option<&'n [LayoutRenderingElement]>
-    ensures inside { IfSome result (λ ns. sizes (fills (env ctx.now.style) (views ns.now))
-        < insteads_size (insteads_of (env ctx.now.style) names.now)) }
-    ensures said { substitute_info (world T.answers ctx.now) ctx.now.state
-        (insteads_of (env ctx.now.style) names.now)
-        ≡ choice_info (world T.answers ctx.now) ctx.now.state
-        (option_map (fills (env ctx.now.style)) (option_map (λ ns. views ns.now) result)) }
-    ensures shown { (v : Variable) → substitute_shows (world T.answers ctx.now) ctx.now.state v
-        (insteads_of (env ctx.now.style) names.now)
-        ≡ choice_shows (world T.answers ctx.now) ctx.now.state v
-        (option_map (fills (env ctx.now.style)) (option_map (λ ns. views ns.now) result)) }
-    ensures made { (inh : Inherited) → (s : State) → substitute_tree (world T.answers ctx.now)
-        (insteads_of (env ctx.now.style) names.now) inh s ≡ tries_tree (world T.answers ctx.now)
-        (option_map (fill_within (env ctx.now.style) (names_node names.now))
-        (option_map (λ ns. views ns.now) result)) inh s }
+    ensures inside { IfSome result (λ ns. sizes (expand_nodes (macro_env ctx.now.style) (view_nodes ns.now))
+        < expanded_substitutes_size (expanded_substitutes_of (macro_env ctx.now.style) names.now)) }
+    ensures said { substitute_info (render_input T.answers ctx.now) ctx.now.state
+        (expanded_substitutes_of (macro_env ctx.now.style) names.now)
+        ≡ choice_info (render_input T.answers ctx.now) ctx.now.state
+        (option_map (expand_nodes (macro_env ctx.now.style)) (option_map (λ ns. view_nodes ns.now) result)) }
+    ensures shown { (v : Variable) → substitute_shows (render_input T.answers ctx.now) ctx.now.state v
+        (expanded_substitutes_of (macro_env ctx.now.style) names.now)
+        ≡ choice_shows (render_input T.answers ctx.now) ctx.now.state v
+        (option_map (expand_nodes (macro_env ctx.now.style)) (option_map (λ ns. view_nodes ns.now) result)) }
+    ensures made { (inh : Inherited) → (s : State) → substitute_output (render_input T.answers ctx.now)
+        (expanded_substitutes_of (macro_env ctx.now.style) names.now) inh s ≡ first_substitute_output (render_input T.answers ctx.now)
+        (option_map (expand_substitute_nodes (macro_env ctx.now.style) (names_node names.now))
+        (option_map (λ ns. view_nodes ns.now) result)) inh s }
 {
     first_nodes(names)
 }
 
 /// Whether the node is names of the variable.
-fn names_it(variable: NameVariable, node: &LayoutRenderingElement) -> bool
-    ensures { (env : Macros) → result ≡ names_it variable (fill env (view node.now)) }
+fn is_names_of(variable: NameVariable, node: &LayoutRenderingElement) -> bool
+    ensures { (env : Macros) → result ≡ is_names_of variable (expand env (view_node node.now)) }
 {
     match node {
         LayoutRenderingElement::Text(_) => false,
         LayoutRenderingElement::Number(_) => false,
         LayoutRenderingElement::Label(_) => false,
         LayoutRenderingElement::Date(_) => false,
-        LayoutRenderingElement::Names(names) => are_of(variable, names),
+        LayoutRenderingElement::Names(names) => names_have_variable(variable, names),
         LayoutRenderingElement::Choose(_) => false,
         LayoutRenderingElement::Group(_) => false,
     }
@@ -170,18 +173,18 @@ fn names_it(variable: NameVariable, node: &LayoutRenderingElement) -> bool
 
 /// Whether the names are of the variable.
 #[tactic(auto, using(crate::proofs::NamesOf::names_it_by))]
-fn are_of(variable: NameVariable, names: &Names) -> bool
-    ensures { (env : Macros) → result ≡ names_it variable (fill env (view_names names.now)) }
+fn names_have_variable(variable: NameVariable, names: &Names) -> bool
+    ensures { (env : Macros) → result ≡ is_names_of variable (expand env (view_names names.now)) }
 {
     has_variable(variable, names.parts().variables)
 }
 
 /// Whether any of the nodes is a `cs:names` of this variable.
-fn any_names_it(variable: NameVariable, nodes: &[LayoutRenderingElement]) -> bool
-    ensures { (env : Macros) → result ≡ any_names_it variable (fills env (views nodes.now)) }
+fn any_is_names_of(variable: NameVariable, nodes: &[LayoutRenderingElement]) -> bool
+    ensures { (env : Macros) → result ≡ any_is_names_of variable (expand_nodes env (view_nodes nodes.now)) }
 {
     for node in nodes {
-        if names_it(variable, node) {
+        if is_names_of(variable, node) {
             return true;
         }
     }
@@ -190,11 +193,11 @@ fn any_names_it(variable: NameVariable, nodes: &[LayoutRenderingElement]) -> boo
 
 /// Whether directly in the substitute stand names of the variable.
 #[tactic(auto, using(crate::proofs::NamesOf::substitutes_by))]
-fn substitutes_it(variable: NameVariable, names: &Names) -> bool
-    ensures { (env : Macros) → result ≡ substitutes_it variable (insteads_of env names.now) }
+fn substitute_has_names_of(variable: NameVariable, names: &Names) -> bool
+    ensures { (env : Macros) → result ≡ substitute_has_names_of variable (expanded_substitutes_of env names.now) }
 {
     match first_nodes(names) {
-        Some(nodes) => any_names_it(variable, nodes),
+        Some(nodes) => any_is_names_of(variable, nodes),
         None => false,
     }
 }
@@ -202,7 +205,7 @@ fn substitutes_it(variable: NameVariable, names: &Names) -> bool
 /// Whether names are refused where that variable alone is to be shown.
 fn refuses_alone(only: Variable, names: &Names, is_empty: bool) -> bool
     ensures { (env : Macros) → result
-        ≡ refuses_alone only (names_node names.now) is_empty (insteads_of env names.now) }
+        ≡ refuses_alone only (names_node names.now) is_empty (expanded_substitutes_of env names.now) }
 {
     match only {
         Variable::Standard(_) => true,
@@ -217,7 +220,7 @@ fn refuses_alone(only: Variable, names: &Names, is_empty: bool) -> bool
 /// their substitute.
 fn has_or_substitutes(variable: NameVariable, names: &Names, is_empty: bool) -> bool
     ensures { (env : Macros) → result ≡ (has_variable variable (names_node names.now).variables
-        || (is_empty && substitutes_it variable (insteads_of env names.now))) }
+        || (is_empty && substitute_has_names_of variable (expanded_substitutes_of env names.now))) }
 {
     if has_variable(variable, names.parts().variables) {
         return true;
@@ -225,7 +228,7 @@ fn has_or_substitutes(variable: NameVariable, names: &Names, is_empty: bool) -> 
     if !is_empty {
         return false;
     }
-    substitutes_it(variable, names)
+    substitute_has_names_of(variable, names)
 }
 
 /// The dry run of names.
@@ -234,19 +237,19 @@ pub(crate) fn names_info<'c, 's, T: EntryLike>(
     names: &'s Names,
     run: &mut DryRun<'c, 's, T>,
 ) -> Result<NodeInfo, Memory>
-    ensures value { IfOk result (IsInfo (world T.answers run.old) run.old.state
-        (fill (env run.old.style) (view_names names.now))) }
+    ensures value { IfOk result (IsInfo (render_input T.answers run.old) run.old.state
+        (expand (macro_env run.old.style) (view_names names.now))) }
     ensures kept { run.new ≡ run.old }
 {
-    let judged = judge(run.context(), names.parts())?;
+    let judged = summarize_names(run.context(), names.parts())?;
     if refuses(names, run.context(), judged.is_empty)? {
-        return Ok(run.leaf(nothing_said()));
+        return Ok(run.leaf(no_info()));
     }
     if !judged.is_void {
-        return Ok(run.leaf(names_said(false, nothing_said())));
+        return Ok(run.leaf(names_or_substitute_info(false, no_info())));
     }
     let answer = substitute_info(names, run)?;
-    Ok(run.leaf(names_said(true, answer)))
+    Ok(run.leaf(names_or_substitute_info(true, answer)))
 }
 
 /// The dry run of the first substitute, which counts no group.
@@ -255,16 +258,16 @@ fn substitute_info<'c, 's, T: EntryLike>(
     names: &'s Names,
     run: &mut DryRun<'c, 's, T>,
 ) -> Result<(bool, UsageInfo), Memory>
-    ensures value { GivesBy told result (substitute_info (world T.answers run.old) run.old.state
-        (insteads_of (env run.old.style) names.now)) }
+    ensures value { GivesBy info_view result (substitute_info (render_input T.answers run.old) run.old.state
+        (expanded_substitutes_of (macro_env run.old.style) names.now)) }
     ensures kept { run.new ≡ run.old }
 {
     match substitute_nodes(names, run.context()) {
         Some(nodes) => {
-            let (sum, _) = infos(nodes, run)?;
-            Ok(but_groups(sum))
+            let (sum, _) = nodes_info(nodes, run)?;
+            Ok(without_group_flag(sum))
         }
-        None => Ok(nothing_said()),
+        None => Ok(no_info()),
     }
 }
 
@@ -274,12 +277,12 @@ pub(crate) fn names_show<'c, 's, T: EntryLike>(
     names: &'s Names,
     query: &mut Query<'c, 's, T>,
 ) -> Result<bool, Memory>
-    ensures value { GivesBy (λ answer. answer) result (shows (world T.answers query.old.now)
+    ensures value { GivesBy (λ answer. answer) result (shows (render_input T.answers query.old.now)
         query.old.now.state query.old.variable
-        (fill (env query.old.now.style) (view_names names.now))) }
+        (expand (macro_env query.old.now.style) (view_names names.now))) }
     ensures kept { query.new ≡ query.old }
 {
-    let judged = judge(query.context(), names.parts())?;
+    let judged = summarize_names(query.context(), names.parts())?;
     names_or_substitute_show(names, query, judged.is_empty)
 }
 
@@ -291,9 +294,9 @@ fn names_or_substitute_show<'c, 's, T: EntryLike>(
     is_empty: bool,
 ) -> Result<bool, Memory>
     ensures value { GivesBy (λ answer. answer) result (names_show query.old.variable
-        (names_node names.now) is_empty (substitute_shows (world T.answers query.old.now)
+        (names_node names.now) is_empty (substitute_shows (render_input T.answers query.old.now)
         query.old.now.state query.old.variable
-        (insteads_of (env query.old.now.style) names.now))) }
+        (expanded_substitutes_of (macro_env query.old.now.style) names.now))) }
     ensures kept { query.new ≡ query.old }
 {
     if is_of_names(query.variable(), names.parts().variables) {
@@ -315,10 +318,10 @@ fn refuses<'s, T: EntryLike>(
     is_empty: bool,
 ) -> Result<bool, Memory>
     ensures { GivesBy (λ refused. refused) result (is_refused ctx.now.special
-        (names_node names.now) is_empty (insteads_of (env ctx.now.style) names.now)
+        (names_node names.now) is_empty (expanded_substitutes_of (macro_env ctx.now.style) names.now)
         (names_show author (names_node names.now) is_empty (substitute_shows
-        (world T.answers ctx.now) ctx.now.state author
-        (insteads_of (env ctx.now.style) names.now)))) }
+        (render_input T.answers ctx.now) ctx.now.state author
+        (expanded_substitutes_of (macro_env ctx.now.style) names.now)))) }
 {
     match ctx.special_form() {
         None => Ok(false),
@@ -336,8 +339,8 @@ fn shows_author<'s, T: EntryLike>(
     is_empty: bool,
 ) -> Result<bool, Memory>
     ensures { GivesBy (λ shows. shows) result (names_show author (names_node names.now) is_empty
-        (substitute_shows (world T.answers ctx.now) ctx.now.state author
-        (insteads_of (env ctx.now.style) names.now))) }
+        (substitute_shows (render_input T.answers ctx.now) ctx.now.state author
+        (expanded_substitutes_of (macro_env ctx.now.style) names.now))) }
 {
     let mut query = Query::new(ctx, Variable::Name(NameVariable::Author));
     names_or_substitute_show(names, &mut query, is_empty)
@@ -349,12 +352,12 @@ pub(crate) fn render_names<'s, T: EntryLike>(
     names: &'s Names,
     ctx: &mut Context<'s, T>,
 ) -> Result<(), RenderError>
-    ensures { Runs (λ now. with_made (tree (world T.answers now)
-        (fill (env now.style) (view_names names.now)) now.inherited now.state) now)
+    ensures { Runs (λ now. with_output (node_output (render_input T.answers now)
+        (expand (macro_env now.style) (view_names names.now)) now.inherited now.state) now)
         result ctx.old ctx.new }
 {
     let parts = names.parts();
-    let lists = printed_lists(ctx, parts.variables)?;
+    let lists = resolved_lists(ctx, parts.variables)?;
     render_lists(names, ctx, &lists)?;
     Ok(())
 }
@@ -366,16 +369,16 @@ fn render_lists<'s, T: EntryLike>(
     ctx: &mut Context<'s, T>,
     lists: &[PersonList<'s>],
 ) -> Result<(), RenderError>
-    ensures { Runs (λ now. with_made (names_tree (world T.answers now) (names_node names.now)
-        (insteads_of (env now.style) names.now) now.inherited (substitute_tree (world T.answers now)
-        (insteads_of (env now.style) names.now) (in_substitute (names_node names.now) now.inherited)
+    ensures { Runs (λ now. with_output (names_output (render_input T.answers now) (names_node names.now)
+        (expanded_substitutes_of (macro_env now.style) names.now) now.inherited (substitute_output (render_input T.answers now)
+        (expanded_substitutes_of (macro_env now.style) names.now) (in_substitute (names_node names.now) now.inherited)
         (suppressing_from now.state)) (map list_of lists.now) now.state) now)
         result ctx.old ctx.new }
 {
     let is_empty = all_empty(lists);
     let refused = refuses(names, ctx, is_empty);
     if ctx.attempt(refused)? {
-        return nothing(ctx);
+        return push_nothing(ctx);
     }
     if is_empty {
         return render_substitute(names, ctx, lists);
@@ -390,30 +393,30 @@ fn render_substitute<'s, T: EntryLike>(
     ctx: &mut Context<'s, T>,
     lists: &[PersonList<'s>],
 ) -> Result<(), RenderError>
-    ensures { Runs (λ now. with_made (substitute_made (names_node names.now) (map list_of lists.now)
-        (substitute_tree (world T.answers now) (insteads_of (env now.style) names.now)
+    ensures { Runs (λ now. with_output (boxed_substitute (names_node names.now) (map list_of lists.now)
+        (substitute_output (render_input T.answers now) (expanded_substitutes_of (macro_env now.style) names.now)
         (in_substitute (names_node names.now) now.inherited) (suppressing_from now.state))
         now.state) now) result ctx.old ctx.new }
 {
     match substitute_nodes(names, ctx) {
-        Some(nodes) => render_tries(nodes, ctx, names, lists),
-        None => nothing(ctx),
+        Some(nodes) => render_first_substitute(nodes, ctx, names, lists),
+        None => push_nothing(ctx),
     }
 }
 
 /// Appends the box of names around the children of their substitute, up to the one that brings a
 /// text. Their looks suppress their variables.
 #[cycle(render)]
-fn render_tries<'s, T: EntryLike>(
+fn render_first_substitute<'s, T: EntryLike>(
     nodes: &'s [LayoutRenderingElement],
     ctx: &mut Context<'s, T>,
     names: &'s Names,
     lists: &[PersonList<'s>],
 ) -> Result<(), RenderError>
-    ensures { Runs (λ now. with_made (substitute_made (names_node names.now) (map list_of lists.now)
-        (until_text (world T.answers now) (fill_within (env now.style) (names_node names.now)
-        (views nodes.now)) (in_substitute (names_node names.now) now.inherited)
-        (made [] (suppressing_from now.state))) now.state) now) result ctx.old ctx.new }
+    ensures { Runs (λ now. with_output (boxed_substitute (names_node names.now) (map list_of lists.now)
+        (output_until_text (render_input T.answers now) (expand_substitute_nodes (macro_env now.style) (names_node names.now)
+        (view_nodes nodes.now)) (in_substitute (names_node names.now) now.inherited)
+        (render_output [] (suppressing_from now.state))) now.state) now) result ctx.old ctx.new }
 {
     let parts = names.parts();
     ctx.push_name_options(&names.options)?;
@@ -435,9 +438,9 @@ fn render_until_text<'s, T: EntryLike>(
     ctx: &mut Context<'s, T>,
     original: NamesParts<'s>,
 ) -> Result<(), RenderError>
-    ensures { Runs (λ now. with_all_made (until_text (world T.answers now)
-        (fill_within (env now.style) (parts_node original.entry) (views nodes.now)) now.inherited
-        (made now.inner now.state)) now) result ctx.old ctx.new }
+    ensures { Runs (λ now. with_whole_output (output_until_text (render_input T.answers now)
+        (expand_substitute_nodes (macro_env now.style) (parts_node original.entry) (view_nodes nodes.now)) now.inherited
+        (render_output now.inner now.state)) now) result ctx.old ctx.new }
 {
     ctx.ensure_live()?;
     for node in nodes {
@@ -451,7 +454,7 @@ fn render_until_text<'s, T: EntryLike>(
 
 /// The node, where it is names without children.
 fn shorthand(node: &LayoutRenderingElement) -> Option<&Names>
-    ensures { (original : NamesNode) → (f : Full) → within original (view node.now) f
+    ensures { (original : NamesNode) → (f : ExpandedNode) → as_substitute_child original (view_node node.now) f
         ≡ standing_in original f (option_map (λ n. names_node n.now) result) }
 {
     match node {
@@ -459,7 +462,7 @@ fn shorthand(node: &LayoutRenderingElement) -> Option<&Names>
         LayoutRenderingElement::Number(_) => None,
         LayoutRenderingElement::Label(_) => None,
         LayoutRenderingElement::Date(_) => None,
-        LayoutRenderingElement::Names(names) => childless(names),
+        LayoutRenderingElement::Names(names) => childless_names(names),
         LayoutRenderingElement::Choose(_) => None,
         LayoutRenderingElement::Group(_) => None,
     }
@@ -467,8 +470,8 @@ fn shorthand(node: &LayoutRenderingElement) -> Option<&Names>
 
 /// The names, where they have no children.
 #[tactic(auto, using(crate::proofs::NamesView::names_out))]
-fn childless(names: &Names) -> Option<&Names>
-    ensures { (original : NamesNode) → (f : Full) → within original (view_names names.now) f
+fn childless_names(names: &Names) -> Option<&Names>
+    ensures { (original : NamesNode) → (f : ExpandedNode) → as_substitute_child original (view_names names.now) f
         ≡ standing_in original f (option_map (λ n. names_node n.now) result) }
 {
     if names.is_childless() {
@@ -486,8 +489,8 @@ fn render_in_place<'s, T: EntryLike>(
     ctx: &mut Context<'s, T>,
     original: NamesParts<'s>,
 ) -> Result<(), RenderError>
-    ensures { Runs (λ now. with_made (tree (world T.answers now) (within (parts_node original.entry)
-        (view node.now) (fill (env now.style) (view node.now))) now.inherited now.state) now)
+    ensures { Runs (λ now. with_output (node_output (render_input T.answers now) (as_substitute_child (parts_node original.entry)
+        (view_node node.now) (expand (macro_env now.style) (view_node node.now))) now.inherited now.state) now)
         result ctx.old ctx.new }
 {
     match shorthand(node) {
@@ -500,7 +503,7 @@ fn render_in_place<'s, T: EntryLike>(
 #[tactic(auto, using(crate::proofs::NamesOf::unless_substituted))]
 fn refuses_shorthand<'s, T: EntryLike>(ctx: &Context<'s, T>, parts: NamesParts<'_>) -> bool
     ensures { (is_empty : Bool) → result ≡ is_refused ctx.now.special (parts_node parts.entry)
-        is_empty no_insteads (names_show author (parts_node parts.entry) is_empty false) }
+        is_empty no_expanded_substitutes (names_show author (parts_node parts.entry) is_empty false) }
 {
     match ctx.special_form() {
         None => false,
@@ -518,13 +521,13 @@ fn render_shorthand<'s, T: EntryLike>(
     ctx: &mut Context<'s, T>,
     parts: NamesParts<'s>,
 ) -> Result<(), RenderError>
-    ensures { Appends T.answers (λ w. shorthand_tree w (parts_node parts.entry))
+    ensures { Appends T.answers (λ w. shorthand_output w (parts_node parts.entry))
         result ctx.old ctx.new }
 {
-    let lists = printed_lists(ctx, parts.variables)?;
+    let lists = resolved_lists(ctx, parts.variables)?;
     let is_empty = all_empty(&lists);
     if is_empty || refuses_shorthand(ctx, parts) {
-        return nothing(ctx);
+        return push_nothing(ctx);
     }
     write_names(ctx, parts, &lists)
 }

@@ -1,18 +1,18 @@
-//! Numbers (CSL 1.0.2, Number). What they make stands in `csl_leaves`.
+//! Numbers (CSL 1.0.2, Number). What they make stands in `csl_nodes`.
 
-ghost use Rattle.csl_style.specs.Node.{fill, number};
+ghost use Rattle.csl_style.specs.Node.{expand, number};
 ghost use Rattle.csl_style.specs.View.{view_number};
-ghost use Rattle.csl_context.specs.World.{env};
-ghost use Rattle.csl_render.specs.Rendering.{part};
+ghost use Rattle.csl_style.specs.Expanded.{macro_env};
+ghost use Rattle.csl_render.specs.Rendering.{of_node};
 
 use crate::render::RenderCsl;
 use csl_context::{Context, RenderError};
 use csl_entry::EntryLike;
-use csl_leaves::{UsageInfo, number_info, number_shown, render_number};
+use csl_nodes::{UsageInfo, number_info, number_shows, render_number};
 use csl_style::{Number, Variable};
 
 impl RenderCsl for Number {
-    ghost rendering = { λ style n. part (fill (env style) (number (view_number n))) };
+    ghost rendering = { λ style n. of_node (expand (macro_env style) (number (view_number n))) };
 
     fn will_have_info<'s, T: EntryLike>(
         &'s self,
@@ -28,7 +28,7 @@ impl RenderCsl for Number {
         var: Variable,
     ) -> Result<bool, RenderError> {
         ctx.ensure_live()?;
-        Ok(number_shown(ctx, self, var))
+        Ok(number_shows(ctx, self, var))
     }
 
     fn render<'s, T: EntryLike>(&'s self, ctx: &mut Context<'s, T>) -> Result<(), RenderError> {

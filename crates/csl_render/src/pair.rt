@@ -2,20 +2,20 @@
 
 ghost use Rattle.std.specs.Prelude.{◌≡◌, true, IfOk, IfErr, string_bytes};
 ghost use Rattle.std.specs.Bool.{Decides};
-ghost use Rattle.csl_style.specs.Named.{of_fulls};
-ghost use Rattle.csl_style.specs.Node.{fill_layout};
-ghost use Rattle.csl_style.specs.Reached.{env};
+ghost use Rattle.csl_style.specs.Named.{named_in_nodes};
+ghost use Rattle.csl_style.specs.Node.{expand_layout};
 ghost use Rattle.csl_style.specs.View.{view_layout};
-ghost use Rattle.csl_entry.specs.Alike.{Alike};
+ghost use Rattle.csl_style.specs.Expanded.{macro_env};
+ghost use Rattle.csl_entry.specs.Alike.{SameNamedAnswers};
 ghost use Rattle.csl_entry.specs.Answers.{Answers};
 ghost use Rattle.csl_entry.specs.Cite.{cite_state};
-ghost use Rattle.csl_context.specs.Left.{state_left};
+ghost use Rattle.csl_context.specs.LeftState.{left_state_view};
 ghost use Rattle.csl_context.specs.State.{Inherited, State};
-ghost use Rattle.csl_context.specs.World.{World};
+ghost use Rattle.csl_context.specs.World.{RenderInput};
 ghost use Rattle.csl_render.specs.Keeps.{Keeps};
-ghost use Rattle.csl_render.specs.Printed.{citing, printed_from, Prints, PrintsSame};
-ghost use Rattle.csl_render.specs.Rendering.{Rendering, tree_in};
-ghost use Rattle.csl_render.specs.Tree.{layout_tree};
+ghost use Rattle.csl_render.specs.PairOutput.{cite_input, layout_output_from, Prints, PrintsSame};
+ghost use Rattle.csl_render.specs.Rendering.{Renderable, output_in};
+ghost use Rattle.csl_render.specs.Tree.{layout_output};
 
 use crate::cites::render_from;
 use csl_context::{LeftState, RenderError, Rendered};
@@ -40,7 +40,7 @@ pub struct Pair {
 }
 
 /// What the layout makes of a cite that begins with what another rendering left, and its HTML.
-fn print_from<'s, T: EntryLike>(
+fn render_with_html<'s, T: EntryLike>(
     alloc: Global,
     style: &'s Style,
     layout: &'s Layout,
@@ -48,8 +48,8 @@ fn print_from<'s, T: EntryLike>(
     scope: Scope,
     start: &LeftState,
 ) -> Result<(Rendered, String), RenderError>
-    ensures ok { IfOk result (λ p. Prints (printed_from (state_left start.now)
-        (citing style.now scope (cite_state instance.entry.cite_props.now) instance.entry.sorting
+    ensures ok { IfOk result (λ p. Prints (layout_output_from (left_state_view start.now)
+        (cite_input style.now scope (cite_state instance.entry.cite_props.now) instance.entry.sorting
         instance.entry.kind (T.answers instance.entry.entry.now)) layout.now)
         p.0 (string_bytes p.1)) }
     ensures err { IfErr result (λ e. e ≡ RenderError.Memory) }
@@ -67,8 +67,8 @@ fn are_alike<T: EntryLike, U: EntryLike>(
     left: &T,
     right: &U,
 ) -> Result<bool, RenderError>
-    ensures ok { IfOk result (λ alike. Decides alike (Alike
-        (of_fulls (fill_layout (env style.now) (view_layout layout.now)).elements)
+    ensures ok { IfOk result (λ alike. Decides alike (SameNamedAnswers
+        (named_in_nodes (expand_layout (macro_env style.now) (view_layout layout.now)).elements)
         (T.answers left.now) (U.answers right.now))) }
     ensures err { IfErr result (λ e. e ≡ RenderError.Memory) }
 {
@@ -102,27 +102,27 @@ pub fn render_pair<'s, T: EntryLike, U: EntryLike>(
     left: &'s T,
     right: &'s U,
 ) -> Result<Pair, RenderError>
-    ensures left { IfOk result (λ p. Prints (printed_from (state_left start.now)
-        (citing style.now scope (cite_state cite_props.now) sorting kind (T.answers left.now))
+    ensures left { IfOk result (λ p. Prints (layout_output_from (left_state_view start.now)
+        (cite_input style.now scope (cite_state cite_props.now) sorting kind (T.answers left.now))
         layout.now) p.left (string_bytes p.left_html)) }
-    ensures right { IfOk result (λ p. Prints (printed_from (state_left start.now)
-        (citing style.now scope (cite_state cite_props.now) sorting kind (U.answers right.now))
+    ensures right { IfOk result (λ p. Prints (layout_output_from (left_state_view start.now)
+        (cite_input style.now scope (cite_state cite_props.now) sorting kind (U.answers right.now))
         layout.now) p.right (string_bytes p.right_html)) }
-    ensures alike { IfOk result (λ p. Decides p.alike (Alike
-        (of_fulls (fill_layout (env style.now) (view_layout layout.now)).elements)
+    ensures alike { IfOk result (λ p. Decides p.alike (SameNamedAnswers
+        (named_in_nodes (expand_layout (macro_env style.now) (view_layout layout.now)).elements)
         (T.answers left.now) (U.answers right.now))) }
     ensures same { IfOk result (λ p. p.alike ≡ true
         → PrintsSame p.left (string_bytes p.left_html) p.right (string_bytes p.right_html)) }
     // What the state left by any node or layout keeps of the one before, in every world.
-    ensures keeps { (w : World) (r : Rendering) (inherited : Inherited) (s : State)
-        → Keeps s (tree_in w r inherited s).state }
+    ensures keeps { (w : RenderInput) (r : Renderable) (inherited : Inherited) (s : State)
+        → Keeps s (output_in w r inherited s).state }
     ensures err { IfErr result (λ e. e ≡ RenderError.Memory) }
     ensures alike_make_the_same { (a b : Answers) (inherited : Inherited) (s : State)
-        → Alike (of_fulls (fill_layout (env style.now) (view_layout layout.now)).elements) a b
-        → layout_tree (citing style.now scope (cite_state cite_props.now) sorting kind a)
-        (fill_layout (env style.now) (view_layout layout.now)) inherited s
-        ≡ layout_tree (citing style.now scope (cite_state cite_props.now) sorting kind b)
-        (fill_layout (env style.now) (view_layout layout.now)) inherited s }
+        → SameNamedAnswers (named_in_nodes (expand_layout (macro_env style.now) (view_layout layout.now)).elements) a b
+        → layout_output (cite_input style.now scope (cite_state cite_props.now) sorting kind a)
+        (expand_layout (macro_env style.now) (view_layout layout.now)) inherited s
+        ≡ layout_output (cite_input style.now scope (cite_state cite_props.now) sorting kind b)
+        (expand_layout (macro_env style.now) (view_layout layout.now)) inherited s }
 {
     let alike = are_alike(alloc, style, layout, left, right)?;
     let one = InstanceContext {
@@ -137,8 +137,8 @@ pub fn render_pair<'s, T: EntryLike, U: EntryLike>(
         sorting,
         kind,
     };
-    let first = print_from(alloc, style, layout, one, scope, start)?;
-    let second = print_from(alloc, style, layout, other, scope, start)?;
+    let first = render_with_html(alloc, style, layout, one, scope, start)?;
+    let second = render_with_html(alloc, style, layout, other, scope, start)?;
     let (left, left_html) = first;
     let (right, right_html) = second;
     Ok(Pair {

@@ -2,14 +2,14 @@
 //! rendered without another one (CSL 1.0.2, Group).
 
 ghost use Rattle.std.specs.Prelude.{◌≡◌, ◌&&◌, not, [], IfOk, IfSome, IsSomeAnd, IsTrue};
-ghost use Rattle.csl_style.specs.Node.{Full, Fulls, more};
-ghost use Rattle.csl_context.specs.Now.{world};
-ghost use Rattle.csl_leaves.specs.Usages.{told, flags_of};
+ghost use Rattle.csl_style.specs.Node.{ExpandedNode, ExpandedNodes, expanded_node};
+ghost use Rattle.csl_context.specs.ContextView.{render_input};
+ghost use Rattle.csl_nodes.specs.UsageView.{info_view, usage_flags_of};
 ghost use Rattle.csl_render.specs.Plan.{asks_for_dates, AreReadAlike, answer_of, inside_of, IsPlan, ArePlans};
 
 use csl_context::Context;
 use csl_entry::{EntryLike, SpecialForm};
-use csl_leaves::UsageInfo;
+use csl_nodes::UsageInfo;
 use csl_style::Variable;
 use lit_model::Memory;
 use std::collections::BTreeSet;
@@ -28,7 +28,7 @@ pub(crate) struct NodeInfo {
 impl NodeInfo {
     /// A result, with those for the nodes inside.
     pub(crate) fn new(answer: (bool, UsageInfo), inside: Vec<NodeInfo>) -> NodeInfo
-        ensures answer { answer_of result ≡ told answer }
+        ensures answer { answer_of result ≡ info_view answer }
         ensures inside { inside_of result ≡ inside.items }
     {
         NodeInfo { answer, inside }
@@ -92,7 +92,7 @@ fn are_suppressed<'s, T: EntryLike>(variables: &BTreeSet<Variable>, ctx: &Contex
 impl DryState {
     /// What dry runs read of the context.
     pub(crate) fn of<'s, T: EntryLike>(ctx: &Context<'s, T>) -> Result<DryState, Memory>
-        ensures { IfOk result (λ at. AreReadAlike (world T.answers ctx.now) at ctx.now.state) }
+        ensures { IfOk result (λ at. AreReadAlike (render_input T.answers ctx.now) at ctx.now.state) }
     {
         Ok(DryState {
             suppressed: ctx.suppressed().clone()?,
@@ -103,7 +103,7 @@ impl DryState {
     /// Whether dry runs read this of the context.
     #[tactic(auto, using(crate::proofs::Reading::read_alike))]
     pub(crate) fn is_of<'s, T: EntryLike>(&self, ctx: &Context<'s, T>) -> bool
-        ensures { IsTrue result → AreReadAlike (world T.answers ctx.now) self.now ctx.now.state }
+        ensures { IsTrue result → AreReadAlike (render_input T.answers ctx.now) self.now ctx.now.state }
     {
         if !is_same_mark(
             ctx.special_form(),
@@ -141,7 +141,7 @@ impl<'p> NodePlan<'p> {
 
     /// The usage flags of the node.
     pub(crate) fn usage(self) -> UsageInfo
-        ensures { flags_of result ≡ (answer_of self.entry.info.now).flags }
+        ensures { usage_flags_of result ≡ (answer_of self.entry.info.now).flags }
     {
         self.info.answer.1
     }
@@ -169,12 +169,12 @@ impl<'p> ListPlan<'p> {
     /// The plan of the first node, if there is one and it holds for the context. That of the nodes
     /// after it is left.
     pub(crate) fn next<'s, T: EntryLike>(&mut self, ctx: &Context<'s, T>) -> Option<NodePlan<'p>>
-        ensures next { (f : Full) → (fs : Fulls)
-            → ArePlans (world T.answers ctx.now) (more f fs) self.old
-            → IfSome result (IsPlan (world T.answers ctx.now) ctx.now.state f) }
-        ensures rest { (f : Full) → (fs : Fulls)
-            → ArePlans (world T.answers ctx.now) (more f fs) self.old
-            → ArePlans (world T.answers ctx.now) fs self.new }
+        ensures next { (f : ExpandedNode) → (fs : ExpandedNodes)
+            → ArePlans (render_input T.answers ctx.now) (expanded_node f fs) self.old
+            → IfSome result (IsPlan (render_input T.answers ctx.now) ctx.now.state f) }
+        ensures rest { (f : ExpandedNode) → (fs : ExpandedNodes)
+            → ArePlans (render_input T.answers ctx.now) (expanded_node f fs) self.old
+            → ArePlans (render_input T.answers ctx.now) fs self.new }
     {
         let (info, rest) = self.infos.split_first()?;
         self.infos = rest;
@@ -192,12 +192,12 @@ pub(crate) fn next_plan<'p, 's, T: EntryLike>(
     plan: &mut Option<ListPlan<'p>>,
     ctx: &Context<'s, T>,
 ) -> Option<NodePlan<'p>>
-    ensures next { (f : Full) → (fs : Fulls)
-        → IfSome plan.old (ArePlans (world T.answers ctx.now) (more f fs))
-        → IfSome result (IsPlan (world T.answers ctx.now) ctx.now.state f) }
-    ensures rest { (f : Full) → (fs : Fulls)
-        → IfSome plan.old (ArePlans (world T.answers ctx.now) (more f fs))
-        → IfSome plan.new (ArePlans (world T.answers ctx.now) fs) }
+    ensures next { (f : ExpandedNode) → (fs : ExpandedNodes)
+        → IfSome plan.old (ArePlans (render_input T.answers ctx.now) (expanded_node f fs))
+        → IfSome result (IsPlan (render_input T.answers ctx.now) ctx.now.state f) }
+    ensures rest { (f : ExpandedNode) → (fs : ExpandedNodes)
+        → IfSome plan.old (ArePlans (render_input T.answers ctx.now) (expanded_node f fs))
+        → IfSome plan.new (ArePlans (render_input T.answers ctx.now) fs) }
 {
     match plan {
         Some(plan) => plan.next(ctx),

@@ -1,8 +1,8 @@
 //! Whether nodes show one variable, in a context that is only read.
 
 ghost use Rattle.std.specs.Prelude.{◌≡◌, IfSome};
-ghost use Rattle.csl_context.specs.Now.{world};
-ghost use Rattle.csl_context.specs.World.{env};
+ghost use Rattle.csl_style.specs.Expanded.{macro_env};
+ghost use Rattle.csl_context.specs.ContextView.{render_input};
 ghost use Rattle.csl_render.specs.DryRun.{call_shows};
 
 use csl_context::Context;
@@ -25,7 +25,7 @@ impl<'c, 's, T: EntryLike> Model for Query<'c, 's, T> {
     ghost use Rattle.std.specs.Coded.{codes};
     ghost use Rattle.csl_style.specs.contracts.element.CslMacro as of_macro;
     ghost use Rattle.csl_style.specs.contracts.element.Layout as of_layout;
-    ghost use Rattle.csl_context.specs.Now.{world};
+    ghost use Rattle.csl_context.specs.ContextView.{render_input};
     ghost use Rattle.csl_render.specs.DryRun as dry_run;
     ghost use Rattle.csl_render.specs.DryRun.{HasShown};
 
@@ -36,7 +36,7 @@ impl<'c, 's, T: EntryLike> Model for Query<'c, 's, T> {
     ghost view = { λ q. record { now = q.ctx.now; variable = q.variable } };
 
     ghost invariant = { λ q.
-        HasShown (world T.answers q.ctx.now) q.ctx.now.state q.variable q.calls };
+        HasShown (render_input T.answers q.ctx.now) q.ctx.now.state q.variable q.calls };
 }
 
 impl<'c, 's, T: EntryLike> Query<'c, 's, T> {
@@ -67,16 +67,16 @@ impl<'c, 's, T: EntryLike> Query<'c, 's, T> {
 
     /// Whether a text of the macro shows the variable, if one came before.
     pub(crate) fn known_call(&self, name: &str) -> Option<bool>
-        ensures { IfSome result (λ shows. shows ≡ call_shows (world T.answers self.now.now)
-            self.now.now.state self.now.variable (env self.now.now.style name.now)) }
+        ensures { IfSome result (λ shows. shows ≡ call_shows (render_input T.answers self.now.now)
+            self.now.now.state self.now.variable (macro_env self.now.now.style name.now)) }
     {
         self.calls.get(name).copied()
     }
 
     /// Keeps whether a text of the macro shows the variable.
     pub(crate) fn keep_call(&mut self, name: &'s str, shows: bool) -> Result<(), Memory>
-        requires { shows ≡ call_shows (world T.answers self.old.now) self.old.now.state
-            self.old.variable (env self.old.now.style name.now) }
+        requires { shows ≡ call_shows (render_input T.answers self.old.now) self.old.now.state
+            self.old.variable (macro_env self.old.now.style name.now) }
         ensures { self.new ≡ self.old }
     {
         self.calls.insert(name, shows)?;

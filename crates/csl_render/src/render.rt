@@ -1,19 +1,19 @@
 //! The three calls of what can be rendered.
 
 ghost use Rattle.csl_style.specs.Style.{StyleParts};
-ghost use Rattle.csl_context.specs.Now.{Runs, Reads, world};
-ghost use Rattle.csl_leaves.specs.Usages.{told};
-ghost use Rattle.csl_render.specs.Rendering.{Rendering, info_in, shows_in, rendered};
+ghost use Rattle.csl_context.specs.ContextView.{Runs, Reads, render_input};
+ghost use Rattle.csl_nodes.specs.UsageView.{info_view};
+ghost use Rattle.csl_render.specs.Rendering.{Renderable, info_in, shows_in, after_render};
 
 use csl_context::{Context, RenderError};
 use csl_entry::EntryLike;
-use csl_leaves::UsageInfo;
+use csl_nodes::UsageInfo;
 use csl_style::Variable;
 
 /// A node of a style, or a whole layout.
 pub trait RenderCsl {
     /// What is rendered in a style, with no macro name left.
-    ghost rendering: { StyleParts → Self → Rendering };
+    ghost rendering: { StyleParts → Self → Renderable };
 
     /// Whether it would print something, and what it notes of its variables, macros and groups
     /// (CSL 1.0.2, Group). The context stays as it was.
@@ -25,7 +25,7 @@ pub trait RenderCsl {
         &'s self,
         ctx: &mut Context<'s, T>,
     ) -> Result<(bool, UsageInfo), RenderError>
-        ensures { Reads told result (info_in (world T.answers ctx.old) ctx.old.state
+        ensures { Reads info_view result (info_in (render_input T.answers ctx.old) ctx.old.state
             (rendering ctx.old.style self.now)) ctx.old ctx.new };
 
     /// Whether it would show the variable. The context stays as it was.
@@ -37,7 +37,7 @@ pub trait RenderCsl {
         ctx: &mut Context<'s, T>,
         var: Variable,
     ) -> Result<bool, RenderError>
-        ensures { Reads (λ answer. answer) result (shows_in (world T.answers ctx.old)
+        ensures { Reads (λ answer. answer) result (shows_in (render_input T.answers ctx.old)
             ctx.old.state var (rendering ctx.old.style self.now)) ctx.old ctx.new };
 
     /// Appends its content to the innermost open part and leaves its state. Nothing else of the
@@ -46,6 +46,6 @@ pub trait RenderCsl {
     /// # Errors
     /// As [`RenderCsl::will_have_info`].
     fn render<'s, T: EntryLike>(&'s self, ctx: &mut Context<'s, T>) -> Result<(), RenderError>
-        ensures { Runs (rendered T.answers (rendering ctx.old.style self.now))
+        ensures { Runs (after_render T.answers (rendering ctx.old.style self.now))
             result ctx.old ctx.new };
 }

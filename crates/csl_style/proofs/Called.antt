@@ -5,11 +5,11 @@ use Rattle.std.specs.Str.{bytes_eq}
 use Rattle.std.proofs.lemmas.Bool.Decides.{nat_tests}
 use Rattle.std.proofs.lemmas.Slice.Eq.{bytes_eq-Decides}
 use Rattle.std.proofs.lemmas.List.Elements.{Contains-get_or, Contains-append_left, Contains-append_right, Contains-append_cases}
-use Rattle.csl_style.specs.Reaches.{Graph, InRange, row_at}
+use Rattle.csl_style.specs.GraphReach.{Graph, InRange, row_at}
 use Rattle.csl_style.specs.Node.{Node, text, call, number, label, date, names, choose, group, Nodes, no_nodes, node, Branches, no_branches, otherwise, branch, Substitutes, no_substitutes, substitute}
-use Rattle.csl_style.specs.View.{Definition, definitions, views}
-use Rattle.csl_style.specs.Meaning.{place, body, is_below, calls_below, all_below, branches_below, substitutes_below}
-use Rattle.csl_style.specs.Leads.{Calls, OneCalls, BranchCalls, SubstituteCalls}
+use Rattle.csl_style.specs.View.{Definition, definitions, view_nodes}
+use Rattle.csl_style.specs.Expansion.{macro_index, macro_body, is_below, calls_below, all_below, branches_below, substitutes_below}
+use Rattle.csl_style.specs.MacroCalls.{Calls, OneCalls, BranchCalls, SubstituteCalls}
 use Rattle.csl_style.specs.Calls.{calls_in, calls_in_all, calls_in_branches, calls_in_substitutes, name_at, children_at, IsCallGraph}
 use Rattle.csl_style.specs.declared.element.CslMacro.{CslMacro}
 
@@ -17,7 +17,7 @@ use Rattle.csl_style.specs.declared.element.CslMacro.{CslMacro}
 pub record IsPlace (name : List ℕ) (ds : List Definition) (i : ℕ) : Type 0 where
   pub within : i < length ds
   pub named : name_at ds i ≡ name
-  pub holds : body name ds ≡ Some (children_at ds i)
+  pub holds : macro_body name ds ≡ Some (children_at ds i)
 
 place-by : (name : List ℕ) (d : Definition) (ds : List Definition) (i : ℕ) (b : Bool) (o : Option ℕ) → ((k : ℕ) → o ≡ Some k → IsPlace name ds k)
     → bytes_eq d.0 name ≡ b → (if b then Some 0 else option_map suc o) ≡ Some i → IsPlace name (d ∷ ds) i
@@ -30,9 +30,9 @@ place-by name d ds i false (Some k) rest e h =
     let later = rest k refl in
     rw (← z) (record { within = omega (arith, later.within); named = later.named; holds = rw e later.holds })
 
-pub place-is : (name : List ℕ) (ds : List Definition) (i : ℕ) → place name ds ≡ Some i → IsPlace name ds i
+pub place-is : (name : List ℕ) (ds : List Definition) (i : ℕ) → macro_index name ds ≡ Some i → IsPlace name ds i
 place-is name [] i h = grind arith
-place-is name (d ∷ ds) i h = place-by name d ds i (bytes_eq d.0 name) (place name ds) (place-is name ds) refl h
+place-is name (d ∷ ds) i h = place-by name d ds i (bytes_eq d.0 name) (macro_index name ds) (place-is name ds) refl h
 
 pub nothing : (q : ℕ) → Contains [] q → ⊥
 nothing q (k, less, is) = omega arith
@@ -47,9 +47,9 @@ to-option o q h = rw h (0, omega arith, refl)
 
 module _ (ds : List Definition) where
   mutual
-    node-from : (q : ℕ) (n : Node) → Contains (calls_in ds n) q → (name : List ℕ) × Calls name n × (place name ds ≡ Some q)
+    node-from : (q : ℕ) (n : Node) → Contains (calls_in ds n) q → (name : List ℕ) × Calls name n × (macro_index name ds ≡ Some q)
     node-from q (text t d) h = absurd (nothing q h)
-    node-from q (call name d) h = (name, refl, from-option (place name ds) q h)
+    node-from q (call name d) h = (name, refl, from-option (macro_index name ds) q h)
     node-from q (number n) h = absurd (nothing q h)
     node-from q (label v l) h = absurd (nothing q h)
     node-from q (date d) h = absurd (nothing q h)
@@ -57,14 +57,14 @@ module _ (ds : List Definition) where
     node-from q (choose bs) h = branches-from q bs h
     node-from q (group delimiter d ns) h = all-from q ns h
 
-    pub all-from : (q : ℕ) (ns : Nodes) → Contains (calls_in_all ds ns) q → (name : List ℕ) × OneCalls name ns × (place name ds ≡ Some q)
+    pub all-from : (q : ℕ) (ns : Nodes) → Contains (calls_in_all ds ns) q → (name : List ℕ) × OneCalls name ns × (macro_index name ds ≡ Some q)
     all-from q no_nodes h = absurd (nothing q h)
     all-from q (node n ns) h = elim (Contains-append_cases (calls_in ds n) (calls_in_all ds ns) q h) [
       | inl k ↦ let (name, calls, at') = node-from q n k in (name, inl calls, at')
       | inr k ↦ let (name, calls, at') = all-from q ns k in (name, inr calls, at')
     ]
 
-    branches-from : (q : ℕ) (bs : Branches) → Contains (calls_in_branches ds bs) q → (name : List ℕ) × BranchCalls name bs × (place name ds ≡ Some q)
+    branches-from : (q : ℕ) (bs : Branches) → Contains (calls_in_branches ds bs) q → (name : List ℕ) × BranchCalls name bs × (macro_index name ds ≡ Some q)
     branches-from q no_branches h = absurd (nothing q h)
     branches-from q (otherwise ns) h = all-from q ns h
     branches-from q (branch ts ns bs) h = elim (Contains-append_cases (calls_in_all ds ns) (calls_in_branches ds bs) q h) [
@@ -72,18 +72,18 @@ module _ (ds : List Definition) where
       | inr k ↦ let (name, calls, at') = branches-from q bs k in (name, inr calls, at')
     ]
 
-    substitutes-from : (q : ℕ) (ss : Substitutes) → Contains (calls_in_substitutes ds ss) q → (name : List ℕ) × SubstituteCalls name ss × (place name ds ≡ Some q)
+    substitutes-from : (q : ℕ) (ss : Substitutes) → Contains (calls_in_substitutes ds ss) q → (name : List ℕ) × SubstituteCalls name ss × (macro_index name ds ≡ Some q)
     substitutes-from q no_substitutes h = absurd (nothing q h)
     substitutes-from q (substitute ns ss) h = elim (Contains-append_cases (calls_in_all ds ns) (calls_in_substitutes ds ss) q h) [
       | inl k ↦ let (name, calls, at') = all-from q ns k in (name, inl calls, at')
       | inr k ↦ let (name, calls, at') = substitutes-from q ss k in (name, inr calls, at')
     ]
 
-  module _ (name : List ℕ) (q : ℕ) (p : place name ds ≡ Some q) where
+  module _ (name : List ℕ) (q : ℕ) (p : macro_index name ds ≡ Some q) where
     mutual
       node-into : (n : Node) → Calls name n → Contains (calls_in ds n) q
       node-into (text t d) c = absurd c
-      node-into (call other d) c = to-option (place other ds) q (subst (λ x. place x ds ≡ Some q) c p)
+      node-into (call other d) c = to-option (macro_index other ds) q (subst (λ x. macro_index x ds ≡ Some q) c p)
       node-into (number n) c = absurd c
       node-into (label v l) c = absurd c
       node-into (date d) c = absurd c
@@ -169,9 +169,9 @@ in-range ds g is k d less j e within =
     let found = place-is name ds to p in
     omega (arith, found.within, is.each)
 
-pub children-read : (ms : List CslMacro) (i : ℕ) (m : CslMacro) → i < length ms → m ≡ get_or ms i m → children_at (definitions ms) i ≡ views m.children.items
+pub children-read : (ms : List CslMacro) (i : ℕ) (m : CslMacro) → i < length ms → m ≡ get_or ms i m → children_at (definitions ms) i ≡ view_nodes m.children.items
 children-read [] i m less is = absurd (omega arith)
-children-read (x ∷ ms) zero m less is = ap (λ y. views y.children.items) (sym is)
+children-read (x ∷ ms) zero m less is = ap (λ y. view_nodes y.children.items) (sym is)
 children-read (x ∷ ms) (suc i) m less is = children-read ms i m (omega arith) is
 
 pub name-read : (ms : List CslMacro) (i : ℕ) (m : CslMacro) → i < length ms → m ≡ get_or ms i m → name_at (definitions ms) i ≡ string_bytes m.name

@@ -5,7 +5,7 @@ use Rattle.csl_style.specs.declared.element.Names.{Names, out-Names}
 use Rattle.csl_style.specs.declared.element.NamesChild.{NamesChild}
 use Rattle.csl_style.specs.Names.{NamesNode}
 use Rattle.csl_style.specs.Node.{is_childless}
-use Rattle.csl_style.specs.View.{Child, a_name, an_et_al, a_label, a_substitute, view_child, name_children, first_et_al, first_label, substitutes}
+use Rattle.csl_style.specs.View.{NamesChildView, a_name, an_et_al, a_label, a_substitute, view_child, name_children, first_et_al, first_label, substitutes}
 use Rattle.csl_style.specs.NamesParts.{names_node, names_substitutes}
 
 second : (a c d : Bool) → (a && false && c && d) ≡ false
@@ -31,7 +31,7 @@ fourth false false false = refl
 more-than-none : {A : Type 0} (xs : List A) → nat_eq (suc (length xs)) 0 ≡ false
 more-than-none xs = grind (arith, nat_tests)
 
-by-children : (own : NamesNode) (cs : List Child) → is_childless (record own { name_children = name_children cs; et_al = first_et_al cs; label = first_label false cs }) (substitutes cs) ≡ nat_eq (length cs) 0
+by-children : (own : NamesNode) (cs : List NamesChildView) → is_childless (record own { name_children = name_children cs; et_al = first_et_al cs; label = first_label false cs }) (substitutes cs) ≡ nat_eq (length cs) 0
 by-children own [] = refl
 by-children own (a_name n ∷ cs) = sym (more-than-none cs)
 by-children own (an_et_al e ∷ cs) = grind (arith, second, more-than-none)

@@ -2,7 +2,7 @@
 use Rattle.std.proofs.Common.{◌≡◌, Option, Some, None, unwrap_or, refl}
 use Rattle.std.specs.Option.{option_or}
 use Rattle.csl_style.specs.declared.formatting.Formatting.{Formatting}
-use Rattle.csl_style.specs.Formatting.{over}
+use Rattle.csl_style.specs.Formatting.{apply_partial}
 use Rattle.csl_style.specs.Overlaid.{IsBoth}
 
 or-or : {A : Type 0} (x y z : Option A) → option_or (option_or x y) z ≡ option_or x (option_or y z)
@@ -13,7 +13,7 @@ unwrap-or : {A : Type 0} (x y : Option A) (v : A) → unwrap_or (option_or x y) 
 unwrap-or None y v = refl
 unwrap-or (Some a) y v = refl
 
-pub over_both : (p q : Formatting) → IsBoth p q (over p q)
+pub over_both : (p q : Formatting) → IsBoth p q (apply_partial p q)
 over_both p q = record {
   over_any = λ base. rw (or-or p.font_style q.font_style base.font_style, or-or p.font_variant q.font_variant base.font_variant, or-or p.font_weight q.font_weight base.font_weight, or-or p.text_decoration q.text_decoration base.text_decoration, or-or p.vertical_align q.vertical_align base.vertical_align) refl;
   font_style = unwrap-or p.font_style q.font_style;

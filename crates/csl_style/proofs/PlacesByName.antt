@@ -8,14 +8,14 @@ use Rattle.std.specs.Str.{bytes_eq}
 use Rattle.std.proofs.lemmas.Slice.Eq.{bytes_eq-Decides}
 use Rattle.std.proofs.lemmas.List.{at_drop_more}
 use Rattle.csl_style.specs.declared.element.CslMacro.{CslMacro}
-use Rattle.csl_style.specs.View.{definitions, is_named, views}
-use Rattle.csl_style.specs.Meaning.{place, body}
+use Rattle.csl_style.specs.View.{definitions, is_named, view_nodes}
+use Rattle.csl_style.specs.Expansion.{macro_index, macro_body}
 use Rattle.csl_style.proofs.Meanings.{body-none}
 use Rattle.csl_style.proofs.Called.{place-is, children-read, length-definitions}
 
 -- the places so far, and then those of the rest
 abbrev pub found : {S : Type 0} → HashMap (String Global) ℕ S → ℕ → List CslMacro → List ℕ → Option ℕ
-found places i rest q = option_or (get_by_text places q) (option_map (λ k. i + k) (place q (definitions rest)))
+found places i rest q = option_or (get_by_text places q) (option_map (λ k. i + k) (macro_index q (definitions rest)))
 
 module _ (i : ℕ) where
   seen_cases : (b : Bool) (o p : Option ℕ) → (b ≡ true → o ≡ None → ⊥)
@@ -36,28 +36,28 @@ module _ (i : ℕ) where
   module _ (ms : List CslMacro) (m : CslMacro) (within : i < length ms) (is : m ≡ get_or ms i m) {S : Type 0} (places : HashMap (String Global) ℕ S) (q : List ℕ) where
     -- an earlier macro has the name of this one
     pub with_seen_name : is_some (get_by_text places (string_bytes m.name)) ≡ true → found places (i + 1) (drop (i + 1) ms) q ≡ found places i (drop i ms) q
-    with_seen_name h = seen_cases (bytes_eq (string_bytes m.name) q) (get_by_text places q) (place q (definitions (drop (i + 1) ms)))
+    with_seen_name h = seen_cases (bytes_eq (string_bytes m.name) q) (get_by_text places q) (macro_index q (definitions (drop (i + 1) ms)))
         (λ same none. let e = (bytes_eq-Decides (string_bytes m.name) q).0 same in let o : get_by_text places (string_bytes m.name) ≡ None = ap (get_by_text places) e ∙ none in grind arith)
-        ∙ ap (λ x. option_or (get_by_text places q) (option_map (λ k. i + k) (place q (definitions (x ∷ drop (i + 1) ms))))) is
+        ∙ ap (λ x. option_or (get_by_text places q) (option_map (λ k. i + k) (macro_index q (definitions (x ∷ drop (i + 1) ms))))) is
         ∙ sym (at_drop_more (λ rest. found places i rest q) ms i m within)
 
     -- this one is the first of its name, and its place is added
     pub with_new_name : (new : HashMap (String Global) ℕ S) → get_by_text places (string_bytes m.name) ≡ None → get_by_text new q ≡ update bytes_eq (get_by_text places) (string_bytes m.name) (Some i) q
         → found new (i + 1) (drop (i + 1) ms) q ≡ found places i (drop i ms) q
-    with_new_name new none put = ap (λ o. option_or o (option_map (λ k. (i + 1) + k) (place q (definitions (drop (i + 1) ms))))) put
-        ∙ new_cases (bytes_eq (string_bytes m.name) q) (get_by_text places q) (place q (definitions (drop (i + 1) ms)))
+    with_new_name new none put = ap (λ o. option_or o (option_map (λ k. (i + 1) + k) (macro_index q (definitions (drop (i + 1) ms))))) put
+        ∙ new_cases (bytes_eq (string_bytes m.name) q) (get_by_text places q) (macro_index q (definitions (drop (i + 1) ms)))
         (λ same. ap (get_by_text places) (sym ((bytes_eq-Decides (string_bytes m.name) q).0 same)) ∙ none)
-        ∙ ap (λ x. option_or (get_by_text places q) (option_map (λ k. i + k) (place q (definitions (x ∷ drop (i + 1) ms))))) is
+        ∙ ap (λ x. option_or (get_by_text places q) (option_map (λ k. i + k) (macro_index q (definitions (x ∷ drop (i + 1) ms))))) is
         ∙ sym (at_drop_more (λ rest. found places i rest q) ms i m within)
 
 -- what a name stands for, by the place of its first macro
-pub unplaced : (ms : List CslMacro) (name : List ℕ) → place name (definitions ms) ≡ None → body name (definitions ms) ≡ None
+pub unplaced : (ms : List CslMacro) (name : List ℕ) → macro_index name (definitions ms) ≡ None → macro_body name (definitions ms) ≡ None
 unplaced ms name h = body-none name (definitions ms) h
 
-pub placed : (ms : List CslMacro) (name : List ℕ) (i : ℕ) → place name (definitions ms) ≡ Some i → i < length ms
+pub placed : (ms : List CslMacro) (name : List ℕ) (i : ℕ) → macro_index name (definitions ms) ≡ Some i → i < length ms
 placed ms name i h = let here = place-is name (definitions ms) i h in let len = length-definitions ms in omega (arith, here.within, len)
 
-pub read : (ms : List CslMacro) (name : List ℕ) (i : ℕ) (m : CslMacro) → place name (definitions ms) ≡ Some i → m ≡ get_or ms i m → body name (definitions ms) ≡ Some (views m.children.items)
+pub read : (ms : List CslMacro) (name : List ℕ) (i : ℕ) (m : CslMacro) → macro_index name (definitions ms) ≡ Some i → m ≡ get_or ms i m → macro_body name (definitions ms) ≡ Some (view_nodes m.children.items)
 read ms name i m h is = (place-is name (definitions ms) i h).holds ∙ ap Some (children-read ms i m (placed ms name i h) is)
 
 -- the first macro of a name is the one at the name's place
@@ -67,15 +67,15 @@ find_cases x m ms i true o f rest h is = let z : 0 ≡ i = cc in ap Some (sym (i
 find_cases x m ms i false None f rest h is = grind arith
 find_cases x m ms i false (Some k) f rest h is = let z : suc k ≡ i = cc in rest k refl (is ∙ ap (λ j. get_or (x ∷ ms) j m) (sym z))
 
-pub found_at : (ms : List CslMacro) (name : List ℕ) (i : ℕ) (m : CslMacro) → place name (definitions ms) ≡ Some i → m ≡ get_or ms i m → find (is_named name) ms ≡ Some m
+pub found_at : (ms : List CslMacro) (name : List ℕ) (i : ℕ) (m : CslMacro) → macro_index name (definitions ms) ≡ Some i → m ≡ get_or ms i m → find (is_named name) ms ≡ Some m
 found_at [] name i m h is = grind arith
-found_at (x ∷ ms) name i m h is = find_cases x m ms i (is_named name x) (place name (definitions ms)) (find (is_named name) ms) (λ k e at. found_at ms name k m e at) h is
+found_at (x ∷ ms) name i m h is = find_cases x m ms i (is_named name x) (macro_index name (definitions ms)) (find (is_named name) ms) (λ k e at. found_at ms name k m e at) h is
 
 none_cases : (x : CslMacro) (b : Bool) (o : Option ℕ) (f : Option CslMacro) → (o ≡ None → f ≡ None) → (if b then Some 0 else option_map suc o) ≡ None → cond b (Some x) f ≡ None
 none_cases x true o f rest h = grind arith
 none_cases x false None f rest h = rest refl
 none_cases x false (Some k) f rest h = grind arith
 
-pub none_named : (ms : List CslMacro) (name : List ℕ) → place name (definitions ms) ≡ None → find (is_named name) ms ≡ None
+pub none_named : (ms : List CslMacro) (name : List ℕ) → macro_index name (definitions ms) ≡ None → find (is_named name) ms ≡ None
 none_named [] name h = refl
-none_named (x ∷ ms) name h = none_cases x (is_named name x) (place name (definitions ms)) (find (is_named name) ms) (λ e. none_named ms name e) h
+none_named (x ∷ ms) name h = none_cases x (is_named name x) (macro_index name (definitions ms)) (find (is_named name) ms) (λ e. none_named ms name e) h

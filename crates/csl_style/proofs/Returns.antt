@@ -3,9 +3,9 @@ use Rattle.std.proofs.Common.{◌≡◌, ℕ, ◌<◌, List, Option, Some, None,
 use Rattle.std.proofs.lemmas.Bool.Decides.{nat_tests}
 use Rattle.csl_style.specs.Node.{Node, text, call, number, label, date, names, choose, group, Nodes, no_nodes, node, Branches, no_branches, otherwise, branch, Substitutes, no_substitutes, substitute}
 use Rattle.csl_style.specs.View.{Definition}
-use Rattle.csl_style.specs.Meaning.{body, place, rank_of, is_below, calls_below, all_below, branches_below, substitutes_below, body_below, AreRanks, IsAcyclic}
-use Rattle.csl_style.specs.Leads.{Calls, OneCalls, BranchCalls, SubstituteCalls, BodyCalls, Leads, at_once, by_way_of}
-use Rattle.csl_style.specs.Cyclic.{NoneReturns}
+use Rattle.csl_style.specs.Expansion.{macro_body, macro_index, rank_of, is_below, calls_below, all_below, branches_below, substitutes_below, body_below, AreRanks, IsAcyclic}
+use Rattle.csl_style.specs.MacroCalls.{Calls, OneCalls, BranchCalls, SubstituteCalls, BodyCalls, LeadsTo, at_once, through}
+use Rattle.csl_style.specs.Cyclic.{HasNoCycle}
 use Rattle.csl_style.proofs.Meanings.{both, body-none}
 
 module _ (rank : List ℕ → Option ℕ) (r : ℕ) (name : List ℕ) where
@@ -42,38 +42,38 @@ module _ (rank : List ℕ → Option ℕ) (r : ℕ) (name : List ℕ) where
 
 module _ (ds : List Definition) (ranks : List ℕ) (ok : AreRanks ds ranks) where
   -- a macro that calls something has a rank, and what it calls is below it
-  has-rank : (a b : List ℕ) (o : Option ℕ) → place a ds ≡ o → BodyCalls b (body a ds) → (r : ℕ) × (rank_of ranks ds a ≡ Some r)
+  has-rank : (a b : List ℕ) (o : Option ℕ) → macro_index a ds ≡ o → BodyCalls b (macro_body a ds) → (r : ℕ) × (rank_of ranks ds a ≡ Some r)
   has-rank a b None p c = absurd (subst (BodyCalls b) (body-none a ds p) c)
   has-rank a b (Some i) p c = (slice_index ranks i, ap (option_map (slice_index ranks)) p)
 
-  step : (a b : List ℕ) → BodyCalls b (body a ds) → (r : ℕ) × (rank_of ranks ds a ≡ Some r) × (is_below (rank_of ranks ds b) r ≡ true)
+  step : (a b : List ℕ) → BodyCalls b (macro_body a ds) → (r : ℕ) × (rank_of ranks ds a ≡ Some r) × (is_below (rank_of ranks ds b) r ≡ true)
   step a b c =
-      let (r, e) = has-rank a b (place a ds) refl c in
-      (r, e, called-below (rank_of ranks ds) r b (body a ds) c (ok.fall a r e))
+      let (r, e) = has-rank a b (macro_index a ds) refl c in
+      (r, e, called-below (rank_of ranks ds) r b (macro_body a ds) c (ok.fall a r e))
 
   below-some : (o : Option ℕ) (q r : ℕ) → o ≡ Some q → is_below o r ≡ true → q < r
   below-some o q r e h = let k : nat_lt q r ≡ true = sym (ap (λ x. is_below x r) e) ∙ h in grind (arith, nat_tests)
 
-  falls : {a b : List ℕ} → Leads ds a b → (q : ℕ) → rank_of ranks ds b ≡ Some q → (r : ℕ) × (rank_of ranks ds a ≡ Some r) × (q < r)
+  falls : {a b : List ℕ} → LeadsTo ds a b → (q : ℕ) → rank_of ranks ds b ≡ Some q → (r : ℕ) × (rank_of ranks ds a ≡ Some r) × (q < r)
   falls (at_once {a} {b} c) q e =
       let (r, f, below) = step a b c in
       (r, f, below-some (rank_of ranks ds b) q r e below)
-  falls (by_way_of {a} {b} c more) q e =
+  falls (through {a} {b} c more) q e =
       let (m, g, less) = falls more q e in
       let (r, f, below) = step a b c in
       let less2 = below-some (rank_of ranks ds b) m r g below in
       (r, f, omega arith)
 
-  starts : {a b : List ℕ} → Leads ds a b → (r : ℕ) × (rank_of ranks ds a ≡ Some r)
-  starts (at_once {a} {b} c) = has-rank a b (place a ds) refl c
-  starts (by_way_of {a} {b} c more) = has-rank a b (place a ds) refl c
+  starts : {a b : List ℕ} → LeadsTo ds a b → (r : ℕ) × (rank_of ranks ds a ≡ Some r)
+  starts (at_once {a} {b} c) = has-rank a b (macro_index a ds) refl c
+  starts (through {a} {b} c more) = has-rank a b (macro_index a ds) refl c
 
-  returns-never : (a : List ℕ) → Leads ds a a → ⊥
+  returns-never : (a : List ℕ) → LeadsTo ds a a → ⊥
   returns-never a h =
       let (q, e) = starts h in
       let (r, f, less) = falls h q e in
       let same : q ≡ r = cc in
       omega arith
 
-pub none-returns : (ds : List Definition) → IsAcyclic ds → NoneReturns ds
+pub none-returns : (ds : List Definition) → IsAcyclic ds → HasNoCycle ds
 none-returns ds (ranks, ok) a h = returns-never ds ranks ok a h

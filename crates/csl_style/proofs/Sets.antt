@@ -1,7 +1,7 @@
 -- Sets of what is named, as functions.
 use Rattle.std.proofs.Common.{◌≡◌, Bool, true, false, refl, ap, ◌∙◌}
 use Rattle.std.specs.Prelude.{◌||◌}
-use Rattle.csl_style.specs.Named.{NamedSet, nothing_named, joined}
+use Rattle.csl_style.specs.Named.{NamedSet, empty_named_set, named_union}
 
 or_assoc : (a b c : Bool) → ((a || b) || c) ≡ (a || (b || c))
 or_assoc true b c = refl
@@ -26,20 +26,20 @@ pub or_right : (a b : Bool) → b ≡ true → (a || b) ≡ true
 or_right true b h = refl
 or_right false b h = h
 
-pub join_assoc : (a b c : NamedSet) → joined (joined a b) c ≡ joined a (joined b c)
-unfolding joined
+pub join_assoc : (a b c : NamedSet) → named_union (named_union a b) c ≡ named_union a (named_union b c)
+unfolding named_union
 join_assoc a b c = λ i q. or_assoc (a q) (b q) (c q) i
 
-pub join_none : (a : NamedSet) → joined a nothing_named ≡ a
-unfolding joined
+pub join_none : (a : NamedSet) → named_union a empty_named_set ≡ a
+unfolding named_union
 join_none a = λ i q. or_false (a q) i
 
-pub none_join : (a : NamedSet) → joined nothing_named a ≡ a
-unfolding joined
+pub none_join : (a : NamedSet) → named_union empty_named_set a ≡ a
+unfolding named_union
 none_join a = refl
 
-pub join_turn : (a b c : NamedSet) → joined (joined a b) c ≡ joined (joined a c) b
-unfolding joined
+pub join_turn : (a b c : NamedSet) → named_union (named_union a b) c ≡ named_union (named_union a c) b
+unfolding named_union
 join_turn a b c = λ i q. or_turn (a q) (b q) (c q) i
 
 or_twice : (a b : Bool) → ((a || b) || b) ≡ (a || b)
@@ -47,18 +47,18 @@ or_twice true b = refl
 or_twice false true = refl
 or_twice false false = refl
 
-pub join_twice : (a b : NamedSet) → joined (joined a b) b ≡ joined a b
-unfolding joined
+pub join_twice : (a b : NamedSet) → named_union (named_union a b) b ≡ named_union a b
+unfolding named_union
 join_twice a b = λ i q. or_twice (a q) (b q) i
 
 -- what absorbs a set still does once something is added
-pub absorbs_more : (a b c : NamedSet) → joined a c ≡ a → joined (joined a b) c ≡ joined a b
-absorbs_more a b c h = join_turn a b c ∙ ap (λ x. joined x b) h
+pub absorbs_more : (a b c : NamedSet) → named_union a c ≡ a → named_union (named_union a b) c ≡ named_union a b
+absorbs_more a b c h = join_turn a b c ∙ ap (λ x. named_union x b) h
 
 or_same : (a : Bool) → (a || a) ≡ a
 or_same true = refl
 or_same false = refl
 
-pub join_same : (a : NamedSet) → joined a a ≡ a
-unfolding joined
+pub join_same : (a : NamedSet) → named_union a a ≡ a
+unfolding named_union
 join_same a = λ i q. or_same (a q) i

@@ -6,15 +6,15 @@ use Rattle.std.specs.Prelude.{◌≡◌, ℕ, zero, suc, ◌<◌, List, [], ◌�
 use Rattle.std.specs.Option.{option_to_list}
 use Rattle.std.specs.HashMap.{HashMap, get_by_text}
 use Rattle.std.specs.declared.alloc.Global.{Global}
-use Rattle.csl_style.specs.Reaches.{Graph, row_at}
+use Rattle.csl_style.specs.GraphReach.{Graph, row_at}
 use Rattle.csl_style.specs.Node.{Node, text, call, number, label, date, names, choose, group, Nodes, no_nodes, node, Branches, no_branches, otherwise, branch, Substitutes, no_substitutes, substitute}
 use Rattle.csl_style.specs.View.{Definition}
-use Rattle.csl_style.specs.Meaning.{place}
+use Rattle.csl_style.specs.Expansion.{macro_index}
 
 abbrev mutual
   pub calls_in : List Definition → Node → List ℕ
   calls_in ds (text t d) = []
-  calls_in ds (call name d) = option_to_list (place name ds)
+  calls_in ds (call name d) = option_to_list (macro_index name ds)
   calls_in ds (number n) = []
   calls_in ds (label v l) = []
   calls_in ds (date d) = []
@@ -52,4 +52,4 @@ pub record IsCallGraph (ds : List Definition) (g : Graph) : Type 0 where
 
 -- At each name the place of its first macro, and nothing at a name without one.
 abbrev pub ArePlacesByName : {S : Type 0} → HashMap (String Global) ℕ S → List Definition → Type 0
-ArePlacesByName places ds = (name : List ℕ) → get_by_text places name ≡ place name ds
+ArePlacesByName places ds = (name : List ℕ) → get_by_text places name ≡ macro_index name ds

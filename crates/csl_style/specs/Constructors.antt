@@ -27,7 +27,7 @@ use Rattle.csl_style.specs.declared.element.Layout.{Layout}
 use Rattle.csl_style.specs.declared.element.ChooseMatch.TheVariants.{All}
 use Rattle.csl_style.specs.Dressing.{AffixTexts, Dressing, dressing_of}
 use Rattle.csl_style.specs.Node.{Tests}
-use Rattle.csl_style.specs.NamesParts.{plain}
+use Rattle.csl_style.specs.NamesParts.{no_formatting}
 
 -- ---- attributes
 
@@ -45,17 +45,17 @@ abbrev pub texts_around : List ℕ → List ℕ → AffixTexts
 texts_around prefix suffix = record { prefix = Some prefix; suffix = Some suffix }
 
 abbrev pub italic : Formatting
-italic = record plain { font_style = Some Italic }
+italic = record no_formatting { font_style = Some Italic }
 
-abbrev pub undressed : Dressing
-undressed = dressing_of plain no_affixes None
+abbrev pub no_dressing : Dressing
+no_dressing = dressing_of no_formatting no_affixes None
 
 -- ---- texts
 
 abbrev pub text_of_target : TextTarget → Text
 text_of_target t = record {
   target = t;
-  formatting = plain;
+  formatting = no_formatting;
   affixes = no_affixes;
   display = None;
   quotes = false;
@@ -72,11 +72,11 @@ text_of_term t = text_of_target (target.Term t Long false)
 -- ---- numbers and labels
 
 abbrev pub number_of : NumberOrPageVariable → Number
-number_of v = record { variable = v; form = Numeric; formatting = plain; affixes = no_affixes; display = None }
+number_of v = record { variable = v; form = Numeric; formatting = no_formatting; affixes = no_affixes; display = None }
 
 -- a label of which nothing is said, whatever it labels
 abbrev pub plain_label : VariablelessLabel
-plain_label = record { form = Long; plural = Contextual; formatting = plain; affixes = no_affixes; strip_periods = false }
+plain_label = record { form = Long; plural = Contextual; formatting = no_formatting; affixes = no_affixes; strip_periods = false }
 
 abbrev pub label_of : NumberOrPageVariable → Label
 label_of v = record { variable = v; label = plain_label }
@@ -87,7 +87,7 @@ short_label_of v = record { variable = v; label = record plain_label { form = Sh
 -- ---- dates
 
 abbrev pub date_part_of : DatePartName → DatePart
-date_part_of name = record { name = name; form = None; formatting = plain; affixes = no_affixes; strip_periods = false }
+date_part_of name = record { name = name; form = None; formatting = no_formatting; affixes = no_affixes; strip_periods = false }
 
 abbrev pub date_of : DateVariable → Vec DatePart Global → Date
 date_of v parts = record {
@@ -96,7 +96,7 @@ date_of v parts = record {
   parts = None;
   date_part = parts;
   delimiter = None;
-  formatting = plain;
+  formatting = no_formatting;
   affixes = no_affixes;
   display = None;
 }
@@ -104,7 +104,7 @@ date_of v parts = record {
 -- ---- layouts and branches
 
 abbrev pub plain_layout : Vec LayoutRenderingElement Global → Layout
-plain_layout elements = record { elements = elements; delimiter = None; formatting = plain }
+plain_layout elements = record { elements = elements; delimiter = None; formatting = no_formatting }
 
 -- a branch that asks nothing
 abbrev pub no_tests : Tests

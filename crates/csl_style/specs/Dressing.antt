@@ -7,7 +7,7 @@ use Rattle.std.specs.declared.alloc.Global.{Global}
 use Rattle.csl_style.specs.declared.formatting.Formatting.{Formatting}
 use Rattle.csl_style.specs.declared.formatting.Display.{Display}
 use Rattle.csl_style.specs.declared.affixes.Affixes.{Affixes}
-use Rattle.csl_style.specs.Formatting.{over}
+use Rattle.csl_style.specs.Formatting.{apply_partial}
 
 abbrev pub text_if : Option (String Global) → Option (List ℕ)
 text_if o = option_map string_bytes o
@@ -37,7 +37,7 @@ pub record TextDressing : Type 0 where
 -- the base; the display is their own
 abbrev pub dressing_over : Dressing → Dressing → Dressing
 dressing_over d base = record {
-  formatting = over d.formatting base.formatting;
+  formatting = apply_partial d.formatting base.formatting;
   affixes = record {
     prefix = option_or d.affixes.prefix base.affixes.prefix;
     suffix = option_or d.affixes.suffix base.affixes.suffix;

@@ -4,8 +4,8 @@
 use Rattle.std.specs.Option.{option_or}
 use Rattle.csl_style.specs.declared.formatting.Formatting.{Formatting}
 
-abbrev pub over : Formatting → Formatting → Formatting
-over p base = record {
+abbrev pub apply_partial : Formatting → Formatting → Formatting
+apply_partial p base = record {
   font_style = option_or p.font_style base.font_style;
   font_variant = option_or p.font_variant base.font_variant;
   font_weight = option_or p.font_weight base.font_weight;

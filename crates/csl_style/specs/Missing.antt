@@ -7,8 +7,8 @@ use Rattle.std.specs.Prelude.{ℕ, List, [], ◌∷◌, Option, Some, None}
 use Rattle.std.specs.Option.{option_or}
 use Rattle.csl_style.specs.Node.{Node, text, call, number, label, date, names, choose, group, Nodes, no_nodes, node, Branches, no_branches, otherwise, branch, Substitutes, no_substitutes, substitute}
 use Rattle.csl_style.specs.declared.element.Layout.{Layout}
-use Rattle.csl_style.specs.View.{Definition, definitions, view_layout, Child, a_name, an_et_al, a_label, a_substitute}
-use Rattle.csl_style.specs.Meaning.{body}
+use Rattle.csl_style.specs.View.{Definition, definitions, view_layout, NamesChildView, a_name, an_et_al, a_label, a_substitute}
+use Rattle.csl_style.specs.Expansion.{macro_body}
 use Rattle.csl_style.specs.Style.{StyleParts}
 
 abbrev unless_defined : Option Nodes → List ℕ → Option (List ℕ)
@@ -17,7 +17,7 @@ unless_defined (Some ns) name = None
 
 -- the name, if there is no macro of it
 abbrev pub if_missing : List Definition → List ℕ → Option (List ℕ)
-if_missing ds name = unless_defined (body name ds) name
+if_missing ds name = unless_defined (macro_body name ds) name
 
 abbrev mutual
   pub missing_in : List Definition → Node → Option (List ℕ)
@@ -44,7 +44,7 @@ abbrev mutual
   missing_in_substitutes ds (substitute ns ss) = option_or (missing_in_all ds ns) (missing_in_substitutes ds ss)
 
 -- in a child of names: in a substitute
-abbrev pub missing_in_child : List Definition → Child → Option (List ℕ)
+abbrev pub missing_in_child : List Definition → NamesChildView → Option (List ℕ)
 missing_in_child ds (a_name n) = None
 missing_in_child ds (an_et_al e) = None
 missing_in_child ds (a_label l) = None

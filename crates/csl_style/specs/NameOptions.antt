@@ -1,6 +1,6 @@
 -- The options of names (CSL 1.0.2, Inheritable Name Options; Name, `et-al-min` and those after it).
 -- - One set of options over another takes each option that is set, else the other's
---   (`options_over`).
+--   (`apply_options`).
 -- - Names are written by the options that are set, and else by defaults: `, ` for the delimiter and
 --   the sort separator, the long form, initialize on, contextual for both delimiter behaviours, the
 --   last name not kept, and nothing between two lists.
@@ -23,7 +23,7 @@ use Rattle.csl_style.specs.declared.names.options.InheritedNameOptions.{Inherite
 use Rattle.csl_style.specs.declared.names.options.NameOptions.{NameOptions}
 
 -- options, each of which is set or not
-pub record SetOptions : Type 0 where
+pub record PartialOptions : Type 0 where
   pub and : Option NameAnd
   pub delimiter : Option (List ℕ)
   pub delimiter_precedes_et_al : Option DelimiterBehavior
@@ -41,8 +41,8 @@ pub record SetOptions : Type 0 where
   pub names_delimiter : Option (List ℕ)
 
 -- the options that a node or a style sets
-abbrev pub own_options : InheritableNameOptions → SetOptions
-own_options o = record {
+abbrev pub partial_options : InheritableNameOptions → PartialOptions
+partial_options o = record {
   and = o.and;
   delimiter = option_map string_bytes o.delimiter;
   delimiter_precedes_et_al = o.delimiter_precedes_et_al;
@@ -61,7 +61,7 @@ own_options o = record {
 }
 
 -- the options that a node inherits
-abbrev pub inherited_options : InheritedNameOptions → SetOptions
+abbrev pub inherited_options : InheritedNameOptions → PartialOptions
 inherited_options o = record {
   and = o.and;
   delimiter = option_map (λ t. t.now) o.delimiter;
@@ -81,8 +81,8 @@ inherited_options o = record {
 }
 
 -- one set over another: each option that is set, else that of the base
-abbrev pub options_over : SetOptions → SetOptions → SetOptions
-options_over p base = record {
+abbrev pub apply_options : PartialOptions → PartialOptions → PartialOptions
+apply_options p base = record {
   and = option_or p.and base.and;
   delimiter = option_or p.delimiter base.delimiter;
   delimiter_precedes_et_al = option_or p.delimiter_precedes_et_al base.delimiter_precedes_et_al;
@@ -101,7 +101,7 @@ options_over p base = record {
 }
 
 -- the options by which names are written
-pub record UsedOptions : Type 0 where
+pub record CompleteOptions : Type 0 where
   pub and : Option NameAnd
   pub delimiter : List ℕ
   pub delimiter_precedes_et_al : DelimiterBehavior
@@ -117,8 +117,8 @@ pub record UsedOptions : Type 0 where
   pub name_as_sort_order : Option NameAsSortOrder
   pub sort_separator : List ℕ
 
-abbrev pub used_options : NameOptions → UsedOptions
-used_options o = record {
+abbrev pub complete_options : NameOptions → CompleteOptions
+complete_options o = record {
   and = o.and;
   delimiter = o.delimiter.now;
   delimiter_precedes_et_al = o.delimiter_precedes_et_al;
@@ -136,7 +136,7 @@ used_options o = record {
 }
 
 -- each option that is set, else its default
-abbrev pub with_defaults : SetOptions → UsedOptions
+abbrev pub with_defaults : PartialOptions → CompleteOptions
 with_defaults o = record {
   and = o.and;
   delimiter = unwrap_or o.delimiter (codes ", ");
@@ -155,7 +155,7 @@ with_defaults o = record {
 }
 
 -- the delimiter between the lists of two variables
-abbrev pub names_delimiter_of : SetOptions → List ℕ
+abbrev pub names_delimiter_of : PartialOptions → List ℕ
 names_delimiter_of o = unwrap_or o.names_delimiter []
 
 -- the limit of a first cite, or that of a later one, where it is set
@@ -174,7 +174,7 @@ is_cut (Some min) (Some first) use_last idx len =
     nat_le min len && (nat_le first idx && not (use_last && is_kept_last first idx len))
 
 -- whether the name at this place of a list of this length is left out
-abbrev pub is_suppressed : UsedOptions → ℕ → ℕ → Bool → Bool
+abbrev pub is_suppressed : CompleteOptions → ℕ → ℕ → Bool → Bool
 is_suppressed o idx len subsequent =
     is_cut (limit_of o.et_al_min o.et_al_subsequent_min subsequent)
     (limit_of o.et_al_use_first o.et_al_subsequent_use_first subsequent)

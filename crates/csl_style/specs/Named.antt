@@ -7,7 +7,7 @@
 -- in a substitute names its own variables and those of the node that is rendered in its place. A
 -- macro that the style lacks names nothing. The four variables of the citation (`OfCitation`) are
 -- not named. A set is a function from variables and kinds to a boolean (`NamedSet`).
--- `of_child` and `of_part` are the code's own: private contracts alone cite them.
+-- `named_in_child` and `named_in_branch` are the code's own: private contracts alone cite them.
 use Rattle.std.specs.Prelude.{ℕ, Bool, false, not, ◌&&◌, ◌||◌, List, [], ◌∷◌, Option, Some, None}
 use Rattle.std.specs.BTreeMap.{is_at}
 use Rattle.csl_style.specs.declared.taxonomy.Variable.{Variable}
@@ -21,23 +21,23 @@ use Rattle.csl_style.specs.contracts.taxonomy.VariableOrd.TheImpl.{cmp-value as 
 use Rattle.csl_style.specs.contracts.taxonomy.KindOrd.TheImpl.{cmp-value as cmp_kind}
 use Rattle.csl_style.specs.Names.{NamesNode}
 use Rattle.csl_style.specs.OfCitation.{is_of_citation}
-use Rattle.csl_style.specs.View.{Child, a_name, an_et_al, a_label, a_substitute, Part}
-use Rattle.csl_style.specs.Node.{Target, of_variable, of_term, of_value, Tests, Full, printed, called, lacking, numbered, labelled, dated, named, shorthand, chosen, grouped, Fulls, none, more, Cases, no_cases, else_case, case, Insteads, no_insteads, instead, fills}
+use Rattle.csl_style.specs.View.{NamesChildView, a_name, an_et_al, a_label, a_substitute, BranchView}
+use Rattle.csl_style.specs.Node.{Target, of_variable, of_term, of_value, Tests, ExpandedNode, expanded_text, expanded_macro, unknown_macro, expanded_number, expanded_label, expanded_date, expanded_names, shorthand, expanded_choose, expanded_group, ExpandedNodes, no_expanded_nodes, expanded_node, ExpandedBranches, no_expanded_branches, expanded_otherwise, expanded_branch, ExpandedSubstitutes, no_expanded_substitutes, expanded_substitute, expand_nodes}
 
 -- what a style may ask an entry for
-pub data Asked : Type 0 where
-  a_variable : Variable → Asked
-  a_kind : Kind → Asked
+pub data NamedItem : Type 0 where
+  a_variable : Variable → NamedItem
+  a_kind : Kind → NamedItem
 
 abbrev pub NamedSet : Type 0
-NamedSet = Asked → Bool
+NamedSet = NamedItem → Bool
 
-abbrev pub nothing_named : NamedSet
-nothing_named q = false
+abbrev pub empty_named_set : NamedSet
+empty_named_set q = false
 
 -- the union of two sets
-unfoldable pub joined : NamedSet → NamedSet → NamedSet
-joined a b q = a q || b q
+unfoldable pub named_union : NamedSet → NamedSet → NamedSet
+named_union a b q = a q || b q
 
 -- the set of one variable, or of none if it is one of the citation
 unfoldable pub the_variable : Variable → NamedSet
@@ -61,73 +61,73 @@ the_number_or_page (either.Page v) = the_variable (variable.Page v)
 -- ---- lists
 
 abbrev pub each_of : {A : Type 0} → (A → NamedSet) → List A → NamedSet
-each_of f [] = nothing_named
-each_of f (x ∷ xs) = joined (f x) (each_of f xs)
+each_of f [] = empty_named_set
+each_of f (x ∷ xs) = named_union (f x) (each_of f xs)
 
 abbrev pub each_if : {A : Type 0} → (A → NamedSet) → Option (List A) → NamedSet
-each_if f None = nothing_named
+each_if f None = empty_named_set
 each_if f (Some xs) = each_of f xs
 
 -- ---- nodes, with each macro in the place of its name
 
-abbrev pub of_target : Target → NamedSet
-of_target (of_variable v form) = the_variable v
-of_target (of_term t form plural) = nothing_named
-of_target (of_value bs) = nothing_named
+abbrev pub named_in_target : Target → NamedSet
+named_in_target (of_variable v form) = the_variable v
+named_in_target (of_term t form plural) = empty_named_set
+named_in_target (of_value bs) = empty_named_set
 
 abbrev pub date_if : Option DateVariable → NamedSet
-date_if None = nothing_named
+date_if None = empty_named_set
 date_if (Some v) = the_date v
 
 -- what the tests of a branch ask the entry; the others ask the citation
-abbrev pub of_tests : Tests → NamedSet
-of_tests t = joined (each_if the_variable t.is_numeric) (joined (each_if the_date t.is_uncertain_date) (joined (each_if the_kind t.type_) (each_if the_variable t.variable)))
+abbrev pub named_in_tests : Tests → NamedSet
+named_in_tests t = named_union (each_if the_variable t.is_numeric) (named_union (each_if the_date t.is_uncertain_date) (named_union (each_if the_kind t.type_) (each_if the_variable t.variable)))
 
-abbrev pub of_persons : NamesNode → NamedSet
-of_persons n = each_of the_name n.variables
+abbrev pub named_in_names : NamesNode → NamedSet
+named_in_names n = each_of the_name n.variables
 
 abbrev mutual
-  pub of_full : Full → NamedSet
-  of_full (printed t d) = of_target t
-  of_full (called fs d) = of_fulls fs
-  of_full lacking = nothing_named
-  of_full (numbered n) = the_number_or_page n.variable
-  of_full (labelled v l) = the_number_or_page v
-  of_full (dated n) = date_if n.variable
-  of_full (named n is) = joined (of_persons n) (of_insteads is)
-  of_full (shorthand written n) = joined (of_persons written) (of_persons n)
-  of_full (chosen cs) = of_cases cs
-  of_full (grouped delimiter d fs) = of_fulls fs
+  pub named_in_node : ExpandedNode → NamedSet
+  named_in_node (expanded_text t d) = named_in_target t
+  named_in_node (expanded_macro fs d) = named_in_nodes fs
+  named_in_node unknown_macro = empty_named_set
+  named_in_node (expanded_number n) = the_number_or_page n.variable
+  named_in_node (expanded_label v l) = the_number_or_page v
+  named_in_node (expanded_date n) = date_if n.variable
+  named_in_node (expanded_names n is) = named_union (named_in_names n) (named_in_substitutes is)
+  named_in_node (shorthand written n) = named_union (named_in_names written) (named_in_names n)
+  named_in_node (expanded_choose cs) = named_in_branches cs
+  named_in_node (expanded_group delimiter d fs) = named_in_nodes fs
 
-  pub of_fulls : Fulls → NamedSet
-  of_fulls none = nothing_named
-  of_fulls (more f fs) = joined (of_full f) (of_fulls fs)
+  pub named_in_nodes : ExpandedNodes → NamedSet
+  named_in_nodes no_expanded_nodes = empty_named_set
+  named_in_nodes (expanded_node f fs) = named_union (named_in_node f) (named_in_nodes fs)
 
   -- every branch, chosen or not
-  pub of_cases : Cases → NamedSet
-  of_cases no_cases = nothing_named
-  of_cases (else_case fs) = of_fulls fs
-  of_cases (case ts fs cs) = joined (of_tests ts) (joined (of_fulls fs) (of_cases cs))
+  pub named_in_branches : ExpandedBranches → NamedSet
+  named_in_branches no_expanded_branches = empty_named_set
+  named_in_branches (expanded_otherwise fs) = named_in_nodes fs
+  named_in_branches (expanded_branch ts fs cs) = named_union (named_in_tests ts) (named_union (named_in_nodes fs) (named_in_branches cs))
 
   -- every substitute, also those that never count
-  pub of_insteads : Insteads → NamedSet
-  of_insteads no_insteads = nothing_named
-  of_insteads (instead fs is) = joined (of_fulls fs) (of_insteads is)
+  pub named_in_substitutes : ExpandedSubstitutes → NamedSet
+  named_in_substitutes no_expanded_substitutes = empty_named_set
+  named_in_substitutes (expanded_substitute fs is) = named_union (named_in_nodes fs) (named_in_substitutes is)
 
 -- the set that the nodes of a macro's name name
-abbrev pub of_meaning : Option Fulls → NamedSet
-of_meaning None = nothing_named
-of_meaning (Some fs) = of_fulls fs
+abbrev pub named_in_macro : Option ExpandedNodes → NamedSet
+named_in_macro None = empty_named_set
+named_in_macro (Some fs) = named_in_nodes fs
 
 -- ---- as it is written
 
 -- a child of a names node, beside the node's variables
-abbrev pub of_child : (List ℕ → Option Fulls) → Child → NamedSet
-of_child env (a_name n) = nothing_named
-of_child env (an_et_al e) = nothing_named
-of_child env (a_label l) = nothing_named
-of_child env (a_substitute ns) = of_fulls (fills env ns)
+abbrev pub named_in_child : (List ℕ → Option ExpandedNodes) → NamesChildView → NamedSet
+named_in_child env (a_name n) = empty_named_set
+named_in_child env (an_et_al e) = empty_named_set
+named_in_child env (a_label l) = empty_named_set
+named_in_child env (a_substitute ns) = named_in_nodes (expand_nodes env ns)
 
 -- a branch with its tests
-abbrev pub of_part : (List ℕ → Option Fulls) → Part → NamedSet
-of_part env p = joined (of_tests p.tests) (of_fulls (fills env p.nodes))
+abbrev pub named_in_branch : (List ℕ → Option ExpandedNodes) → BranchView → NamedSet
+named_in_branch env p = named_union (named_in_tests p.tests) (named_in_nodes (expand_nodes env p.nodes))

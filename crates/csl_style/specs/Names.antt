@@ -13,7 +13,7 @@ use Rattle.csl_style.specs.declared.names.NamePartName.{NamePartName}
 use Rattle.csl_style.specs.declared.names.NamePart.{NamePart}
 use Rattle.csl_style.specs.declared.names.Name.{Name}
 use Rattle.csl_style.specs.declared.names.EtAl.{EtAl}
-use Rattle.csl_style.specs.NameOptions.{SetOptions, own_options, options_over}
+use Rattle.csl_style.specs.NameOptions.{PartialOptions, partial_options, apply_options}
 use Rattle.csl_style.specs.Dressing.{AffixTexts, affix_texts, Dressing, dressing_over}
 
 pub record NamePartNode : Type 0 where
@@ -25,12 +25,12 @@ abbrev pub view_part : NamePart → NamePartNode
 view_part p = record { name = p.name; formatting = p.formatting; affixes = affix_texts p.affixes }
 
 pub record NameNode : Type 0 where
-  pub options : SetOptions
+  pub options : PartialOptions
   pub formatting : Formatting
   pub parts : List NamePartNode
 
 abbrev pub view_name : Name → NameNode
-view_name n = record { options = own_options n.options; formatting = n.formatting; parts = map view_part n.parts.items }
+view_name n = record { options = partial_options n.options; formatting = n.formatting; parts = map view_part n.parts.items }
 
 pub record EtAlNode : Type 0 where
   pub term : OtherTerm
@@ -59,13 +59,13 @@ view_label l = record {
 -- the label of names, and whether it is after them
 pub record NamesLabel : Type 0 where
   pub label : LabelNode
-  pub is_behind : Bool
+  pub is_after : Bool
 
 -- A names node but its substitutes. It may hold several name children: the first one writes the
 -- names.
 pub record NamesNode : Type 0 where
   pub variables : List NameVariable
-  pub options : SetOptions
+  pub options : PartialOptions
   pub delimiter : Option (List ℕ)
   pub dressing : Dressing
   pub name_children : List NameNode
@@ -82,10 +82,10 @@ first_name n = first_of n.name_children
 -- A names node without children in a substitute, in the place of the node around it. It has that
 -- node's name, et al. and label, and its own variables and display. All else is its own where it is
 -- set, field by field, and that node's elsewhere.
-abbrev pub in_place_of : NamesNode → NamesNode → NamesNode
-in_place_of original own = record {
+abbrev pub shorthand_expansion : NamesNode → NamesNode → NamesNode
+shorthand_expansion original own = record {
   variables = own.variables;
-  options = options_over own.options original.options;
+  options = apply_options own.options original.options;
   delimiter = option_or own.delimiter original.delimiter;
   dressing = dressing_over own.dressing original.dressing;
   name_children = original.name_children;

@@ -17,21 +17,21 @@ use Rattle.csl_style.specs.declared.names_parts.PlacedLabel.{PlacedLabel}
 use Rattle.csl_style.specs.declared.term.OtherTerm.TheVariants.{EtAl}
 use Rattle.csl_style.specs.declared.formatting.Formatting.{Formatting}
 use Rattle.csl_style.specs.Dressing.{dressing_of, text_if}
-use Rattle.csl_style.specs.NameOptions.{own_options, inherited_options}
+use Rattle.csl_style.specs.NameOptions.{partial_options, inherited_options}
 use Rattle.csl_style.specs.Names.{NamePartNode, NameNode, EtAlNode, view_label, NamesLabel, NamesNode}
 use Rattle.csl_style.specs.Node.{Nodes, Substitutes, no_substitutes, substitute}
 use Rattle.csl_style.specs.Style.{no_options}
-use Rattle.csl_style.specs.View.{Child, view_child, name_children, first_et_al, first_label, substitutes}
+use Rattle.csl_style.specs.View.{NamesChildView, view_child, name_children, first_et_al, first_label, substitutes}
 
 -- ---- of a node as it is written
 
-abbrev pub children_of : Names → List Child
+abbrev pub children_of : Names → List NamesChildView
 children_of n = map view_child (out-Names n).children.items
 
 abbrev pub names_node : Names → NamesNode
 names_node n = record {
   variables = (out-Names n).variable.items;
-  options = own_options (out-Names n).options;
+  options = partial_options (out-Names n).options;
   delimiter = text_if (out-Names n).delimiter;
   dressing = dressing_of (out-Names n).formatting (out-Names n).affixes (out-Names n).display;
   name_children = name_children (children_of n);
@@ -68,18 +68,18 @@ parts_node p = record {
 }
 
 abbrev pub placed_label : PlacedLabel → NamesLabel
-placed_label l = record { label = view_label l.label.now; is_behind = l.is_behind }
+placed_label l = record { label = view_label l.label.now; is_after = l.is_after }
 
 -- ---- where nothing is said
 
-abbrev pub plain : Formatting
-plain = record { font_style = None; font_variant = None; font_weight = None; text_decoration = None; vertical_align = None }
+abbrev pub no_formatting : Formatting
+no_formatting = record { font_style = None; font_variant = None; font_weight = None; text_decoration = None; vertical_align = None }
 
 abbrev pub default_name : NameNode
-default_name = record { options = no_options; formatting = plain; parts = [] }
+default_name = record { options = no_options; formatting = no_formatting; parts = [] }
 
 abbrev pub default_et_al : EtAlNode
-default_et_al = record { term = EtAl; formatting = plain }
+default_et_al = record { term = EtAl; formatting = no_formatting }
 
 -- ---- the parts of a name: of each the first one counts
 

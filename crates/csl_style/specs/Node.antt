@@ -1,6 +1,6 @@
 -- The nodes of a style (CSL 1.0.2, Rendering Elements) as plain data, in two forms. As written
--- (`Node`), a text of a macro holds a name. With no name left (`Full`), it holds the macro's nodes,
--- filled too, or is `lacking` if the style has no such macro.
+-- (`Node`), a text of a macro holds a name. With no name left (`ExpandedNode`), it holds the macro's nodes,
+-- filled too, or is `unknown_macro` if the style has no such macro.
 -- A names node without children that is directly in a substitute is kept twice, as written and as
 -- rendered (`shorthand`). As rendered, it has the name, et-al and label of the names around it, and
 -- its own display. Its options, delimiter, affixes and formatting are its own where they are set,
@@ -23,7 +23,7 @@ use Rattle.csl_style.specs.declared.date.DateAnyForm.{DateAnyForm}
 use Rattle.csl_style.specs.declared.element.ChooseMatch.{ChooseMatch}
 use Rattle.csl_style.specs.declared.element.TestPosition.{TestPosition}
 use Rattle.csl_style.specs.Dressing.{AffixTexts, Dressing, TextDressing}
-use Rattle.csl_style.specs.Names.{LabelNode, NamesNode, NameNode, in_place_of}
+use Rattle.csl_style.specs.Names.{LabelNode, NamesNode, NameNode, shorthand_expansion}
 
 -- what a text prints that calls no macro
 pub data Target : Type 0 where
@@ -98,124 +98,124 @@ pub record LayoutNode : Type 0 where
 -- ---- with no name left
 
 mutual
-  pub data Full : Type 0 where
-    printed : Target → TextDressing → Full
+  pub data ExpandedNode : Type 0 where
+    expanded_text : Target → TextDressing → ExpandedNode
     -- a text of a macro, and of one that the style lacks
-    called : Fulls → TextDressing → Full
-    lacking : Full
-    numbered : NumberNode → Full
-    labelled : NumberOrPageVariable → LabelNode → Full
-    dated : DateNode → Full
-    named : NamesNode → Insteads → Full
+    expanded_macro : ExpandedNodes → TextDressing → ExpandedNode
+    unknown_macro : ExpandedNode
+    expanded_number : NumberNode → ExpandedNode
+    expanded_label : NumberOrPageVariable → LabelNode → ExpandedNode
+    expanded_date : DateNode → ExpandedNode
+    expanded_names : NamesNode → ExpandedSubstitutes → ExpandedNode
     -- a names node in a substitute, as it is written and as it is rendered
-    shorthand : NamesNode → NamesNode → Full
-    chosen : Cases → Full
-    grouped : Option (List ℕ) → Dressing → Fulls → Full
+    shorthand : NamesNode → NamesNode → ExpandedNode
+    expanded_choose : ExpandedBranches → ExpandedNode
+    expanded_group : Option (List ℕ) → Dressing → ExpandedNodes → ExpandedNode
 
-  pub data Fulls : Type 0 where
-    none : Fulls
-    more : Full → Fulls → Fulls
+  pub data ExpandedNodes : Type 0 where
+    no_expanded_nodes : ExpandedNodes
+    expanded_node : ExpandedNode → ExpandedNodes → ExpandedNodes
 
-  pub data Cases : Type 0 where
-    no_cases : Cases
-    else_case : Fulls → Cases
-    case : Tests → Fulls → Cases → Cases
+  pub data ExpandedBranches : Type 0 where
+    no_expanded_branches : ExpandedBranches
+    expanded_otherwise : ExpandedNodes → ExpandedBranches
+    expanded_branch : Tests → ExpandedNodes → ExpandedBranches → ExpandedBranches
 
-  pub data Insteads : Type 0 where
-    no_insteads : Insteads
-    instead : Fulls → Insteads → Insteads
+  pub data ExpandedSubstitutes : Type 0 where
+    no_expanded_substitutes : ExpandedSubstitutes
+    expanded_substitute : ExpandedNodes → ExpandedSubstitutes → ExpandedSubstitutes
 
-pub record FullLayout : Type 0 where
+pub record ExpandedLayout : Type 0 where
   pub delimiter : Option (List ℕ)
   pub formatting : Formatting
-  pub elements : Fulls
+  pub elements : ExpandedNodes
 
 -- ---- from the one to the other
 
-abbrev pub fill_call : TextDressing → Option Fulls → Full
-fill_call d None = lacking
-fill_call d (Some fs) = called fs d
+abbrev pub expand_call : TextDressing → Option ExpandedNodes → ExpandedNode
+expand_call d None = unknown_macro
+expand_call d (Some fs) = expanded_macro fs d
 
 abbrev is_empty : List NameNode → Bool
 is_empty [] = true
 is_empty (x ∷ xs) = false
 
-abbrev lacks_all : Substitutes → Bool
-lacks_all no_substitutes = true
-lacks_all (substitute ns ss) = false
+abbrev has_no_substitutes : Substitutes → Bool
+has_no_substitutes no_substitutes = true
+has_no_substitutes (substitute ns ss) = false
 
 -- a names node has no children
 abbrev pub is_childless : NamesNode → Substitutes → Bool
-is_childless n ss = is_empty n.name_children && is_none n.et_al && is_none n.label && lacks_all ss
+is_childless n ss = is_empty n.name_children && is_none n.et_al && is_none n.label && has_no_substitutes ss
 
 -- a child of a substitute, beside what it is elsewhere
-abbrev pub within : NamesNode → Node → Full → Full
-within original (text t d) f = f
-within original (call name d) f = f
-within original (number n) f = f
-within original (label v l) f = f
-within original (date d) f = f
-within original (names n ss) f = if is_childless n ss then shorthand n (in_place_of original n) else f
-within original (choose bs) f = f
-within original (group delimiter d ns) f = f
+abbrev pub as_substitute_child : NamesNode → Node → ExpandedNode → ExpandedNode
+as_substitute_child original (text t d) f = f
+as_substitute_child original (call name d) f = f
+as_substitute_child original (number n) f = f
+as_substitute_child original (label v l) f = f
+as_substitute_child original (date d) f = f
+as_substitute_child original (names n ss) f = if is_childless n ss then shorthand n (shorthand_expansion original n) else f
+as_substitute_child original (choose bs) f = f
+as_substitute_child original (group delimiter d ns) f = f
 
 -- A node with what each name stands for in the place of the name.
 abbrev mutual
-  pub fill : (List ℕ → Option Fulls) → Node → Full
-  fill env (text t d) = printed t d
-  fill env (call name d) = fill_call d (env name)
-  fill env (number n) = numbered n
-  fill env (label v l) = labelled v l
-  fill env (date d) = dated d
-  fill env (names n ss) = named n (fill_substitutes env n ss)
-  fill env (choose bs) = chosen (fill_branches env bs)
-  fill env (group delimiter d ns) = grouped delimiter d (fills env ns)
+  pub expand : (List ℕ → Option ExpandedNodes) → Node → ExpandedNode
+  expand env (text t d) = expanded_text t d
+  expand env (call name d) = expand_call d (env name)
+  expand env (number n) = expanded_number n
+  expand env (label v l) = expanded_label v l
+  expand env (date d) = expanded_date d
+  expand env (names n ss) = expanded_names n (expand_substitutes env n ss)
+  expand env (choose bs) = expanded_choose (expand_branches env bs)
+  expand env (group delimiter d ns) = expanded_group delimiter d (expand_nodes env ns)
 
-  pub fills : (List ℕ → Option Fulls) → Nodes → Fulls
-  fills env no_nodes = none
-  fills env (node n ns) = more (fill env n) (fills env ns)
+  pub expand_nodes : (List ℕ → Option ExpandedNodes) → Nodes → ExpandedNodes
+  expand_nodes env no_nodes = no_expanded_nodes
+  expand_nodes env (node n ns) = expanded_node (expand env n) (expand_nodes env ns)
 
-  pub fill_branches : (List ℕ → Option Fulls) → Branches → Cases
-  fill_branches env no_branches = no_cases
-  fill_branches env (otherwise ns) = else_case (fills env ns)
-  fill_branches env (branch ts ns bs) = case ts (fills env ns) (fill_branches env bs)
+  pub expand_branches : (List ℕ → Option ExpandedNodes) → Branches → ExpandedBranches
+  expand_branches env no_branches = no_expanded_branches
+  expand_branches env (otherwise ns) = expanded_otherwise (expand_nodes env ns)
+  expand_branches env (branch ts ns bs) = expanded_branch ts (expand_nodes env ns) (expand_branches env bs)
 
   -- the substitutes of a names node
-  pub fill_substitutes : (List ℕ → Option Fulls) → NamesNode → Substitutes → Insteads
-  fill_substitutes env original no_substitutes = no_insteads
-  fill_substitutes env original (substitute ns ss) = instead (fill_within env original ns) (fill_substitutes env original ss)
+  pub expand_substitutes : (List ℕ → Option ExpandedNodes) → NamesNode → Substitutes → ExpandedSubstitutes
+  expand_substitutes env original no_substitutes = no_expanded_substitutes
+  expand_substitutes env original (substitute ns ss) = expanded_substitute (expand_substitute_nodes env original ns) (expand_substitutes env original ss)
 
-  pub fill_within : (List ℕ → Option Fulls) → NamesNode → Nodes → Fulls
-  fill_within env original no_nodes = none
-  fill_within env original (node n ns) = more (within original n (fill env n)) (fill_within env original ns)
+  pub expand_substitute_nodes : (List ℕ → Option ExpandedNodes) → NamesNode → Nodes → ExpandedNodes
+  expand_substitute_nodes env original no_nodes = no_expanded_nodes
+  expand_substitute_nodes env original (node n ns) = expanded_node (as_substitute_child original n (expand env n)) (expand_substitute_nodes env original ns)
 
-abbrev pub fill_layout : (List ℕ → Option Fulls) → LayoutNode → FullLayout
-fill_layout env l = record { delimiter = l.delimiter; formatting = l.formatting; elements = fills env l.elements }
+abbrev pub expand_layout : (List ℕ → Option ExpandedNodes) → LayoutNode → ExpandedLayout
+expand_layout env l = record { delimiter = l.delimiter; formatting = l.formatting; elements = expand_nodes env l.elements }
 
 -- A count of the nodes inside, by which a recursion falls. A names node without children counts the
 -- same in a substitute and elsewhere.
 abbrev mutual
-  pub size : Full → ℕ
-  size (printed t d) = 0
-  size (called fs d) = suc (sizes fs)
-  size lacking = 0
-  size (numbered n) = 0
-  size (labelled v l) = 0
-  size (dated d) = 0
-  size (named n is) = suc (insteads_size is)
+  pub size : ExpandedNode → ℕ
+  size (expanded_text t d) = 0
+  size (expanded_macro fs d) = suc (sizes fs)
+  size unknown_macro = 0
+  size (expanded_number n) = 0
+  size (expanded_label v l) = 0
+  size (expanded_date d) = 0
+  size (expanded_names n is) = suc (expanded_substitutes_size is)
   size (shorthand written n) = 1
-  size (chosen cs) = suc (cases_size cs)
-  size (grouped delimiter d fs) = suc (sizes fs)
+  size (expanded_choose cs) = suc (expanded_branches_size cs)
+  size (expanded_group delimiter d fs) = suc (sizes fs)
 
-  pub sizes : Fulls → ℕ
-  sizes none = 0
-  sizes (more f fs) = suc (size f + sizes fs)
+  pub sizes : ExpandedNodes → ℕ
+  sizes no_expanded_nodes = 0
+  sizes (expanded_node f fs) = suc (size f + sizes fs)
 
-  pub cases_size : Cases → ℕ
-  cases_size no_cases = 0
-  cases_size (else_case fs) = suc (sizes fs)
-  cases_size (case ts fs cs) = suc (sizes fs + cases_size cs)
+  pub expanded_branches_size : ExpandedBranches → ℕ
+  expanded_branches_size no_expanded_branches = 0
+  expanded_branches_size (expanded_otherwise fs) = suc (sizes fs)
+  expanded_branches_size (expanded_branch ts fs cs) = suc (sizes fs + expanded_branches_size cs)
 
-  pub insteads_size : Insteads → ℕ
-  insteads_size no_insteads = 0
-  insteads_size (instead fs is) = suc (sizes fs + insteads_size is)
+  pub expanded_substitutes_size : ExpandedSubstitutes → ℕ
+  expanded_substitutes_size no_expanded_substitutes = 0
+  expanded_substitutes_size (expanded_substitute fs is) = suc (sizes fs + expanded_substitutes_size is)

@@ -7,11 +7,11 @@ use Rattle.csl_style.specs.declared.formatting.FontVariant.{FontVariant}
 use Rattle.csl_style.specs.declared.formatting.FontWeight.{FontWeight}
 use Rattle.csl_style.specs.declared.formatting.TextDecoration.{TextDecoration}
 use Rattle.csl_style.specs.declared.formatting.VerticalAlign.{VerticalAlign}
-use Rattle.csl_style.specs.Formatting.{over}
+use Rattle.csl_style.specs.Formatting.{apply_partial}
 
 -- Over any formatting, and over a value of each attribute, r is what p is over what q is.
 pub record IsBoth (p q r : Formatting) : Type 0 where
-  pub over_any : (base : Formatting) → over r base ≡ over p (over q base)
+  pub over_any : (base : Formatting) → apply_partial r base ≡ apply_partial p (apply_partial q base)
   pub font_style : (v : FontStyle) → unwrap_or r.font_style v ≡ unwrap_or p.font_style (unwrap_or q.font_style v)
   pub font_variant : (v : FontVariant) → unwrap_or r.font_variant v ≡ unwrap_or p.font_variant (unwrap_or q.font_variant v)
   pub font_weight : (v : FontWeight) → unwrap_or r.font_weight v ≡ unwrap_or p.font_weight (unwrap_or q.font_weight v)

@@ -8,7 +8,7 @@ use Rattle.csl_style.specs.declared.names.options.InheritableNameOptions.{Inheri
 use Rattle.csl_style.specs.declared.style.settings.Scope.{Scope}
 use Rattle.csl_style.specs.declared.style.settings.Scope.TheVariants.{Citation, Bibliography}
 use Rattle.csl_style.specs.declared.style.settings.StyleSettings.{StyleSettings}
-use Rattle.csl_style.specs.NameOptions.{SetOptions, own_options, options_over}
+use Rattle.csl_style.specs.NameOptions.{PartialOptions, partial_options, apply_options}
 
 -- the options of names that the style sets for the citation, or for the bibliography
 abbrev pub scope_names : Scope → StyleSettings → InheritableNameOptions
@@ -17,8 +17,8 @@ scope_names Bibliography s = s.bibliography_names
 
 -- the options that each names node of the scope inherits: the scope's own over those of the whole
 -- style
-abbrev pub base_options : Scope → StyleSettings → SetOptions
-base_options scope s = options_over (own_options (scope_names scope s)) (own_options s.names)
+abbrev pub base_options : Scope → StyleSettings → PartialOptions
+base_options scope s = apply_options (partial_options (scope_names scope s)) (partial_options s.names)
 
 -- whether a comma or period after a closing quote goes before it, by the first locale; false
 -- without a locale

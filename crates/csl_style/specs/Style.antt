@@ -14,9 +14,9 @@ use Rattle.csl_style.specs.declared.style.settings.StyleSettings.{StyleSettings}
 use Rattle.csl_style.specs.declared.style.settings.DemoteNonDroppingParticle.TheVariants.{DisplayAndSort}
 use Rattle.csl_style.specs.declared.style.error.StyleError.{StyleError}
 use Rattle.csl_style.specs.declared.style.error.StyleError.TheVariants.{Memory, CyclicMacro, ChicagoPageFormat}
-use Rattle.csl_style.specs.NameOptions.{SetOptions, own_options}
+use Rattle.csl_style.specs.NameOptions.{PartialOptions, partial_options}
 use Rattle.csl_style.specs.View.{Definition}
-use Rattle.csl_style.specs.Cyclic.{IsFirstCyclic, NoneReturns}
+use Rattle.csl_style.specs.Cyclic.{IsFirstCyclic, HasNoCycle}
 
 pub record StyleParts : Type 0 where
   pub settings : StyleSettings
@@ -57,7 +57,7 @@ is_chicago (Some format) = is_chicago_format format
 abbrev pub IsRefusal : Option PageRangeFormat → List Definition → StyleError → Type 0
 IsRefusal format ds Memory = ⊤
 IsRefusal format ds (CyclicMacro name) = IsFirstCyclic ds (string_bytes name)
-IsRefusal format ds ChicagoPageFormat = NoneReturns ds × (is_chicago format ≡ true)
+IsRefusal format ds ChicagoPageFormat = HasNoCycle ds × (is_chicago format ≡ true)
 
 -- what a refusal prints
 abbrev pub refusal_text : StyleError → List ℕ
@@ -66,7 +66,7 @@ refusal_text (CyclicMacro name) = codes "the macro '" ++ (string_bytes name ++ c
 refusal_text ChicagoPageFormat = codes "Chicago page formats are not supported"
 
 -- no option is set
-abbrev pub no_options : SetOptions
+abbrev pub no_options : PartialOptions
 no_options = record {
   and = None;
   delimiter = None;
@@ -90,6 +90,6 @@ pub record AreDefaults (s : StyleSettings) : Type 0 where
   pub page_range_format : s.page_range_format ≡ None
   pub demote : s.demote_non_dropping_particle ≡ DisplayAndSort
   pub hyphen : s.initialize_with_hyphen ≡ true
-  pub names : own_options s.names ≡ no_options
-  pub citation_names : own_options s.citation_names ≡ no_options
-  pub bibliography_names : own_options s.bibliography_names ≡ no_options
+  pub names : partial_options s.names ≡ no_options
+  pub citation_names : partial_options s.citation_names ≡ no_options
+  pub bibliography_names : partial_options s.bibliography_names ≡ no_options

@@ -3,7 +3,7 @@
 use Rattle.std.specs.Prelude.{ℕ, Bool, true, false, List, [], ◌∷◌, map, Option, Some, None, option_map, Vec, string_bytes}
 use Rattle.std.specs.declared.alloc.Global.{Global}
 use Rattle.csl_style.specs.Dressing.{affix_texts, dressing_of, TextDressing, text_if}
-use Rattle.csl_style.specs.NameOptions.{own_options}
+use Rattle.csl_style.specs.NameOptions.{partial_options}
 use Rattle.csl_style.specs.Names.{NameNode, view_name, EtAlNode, view_et_al, LabelNode, view_label, NamesLabel}
 use Rattle.csl_style.specs.Node.{of_variable, of_term, of_value, NumberNode, DatePartNode, DateNode, Tests, Node, text, call, number, label, date, names, choose, group, Nodes, no_nodes, node, Branches, no_branches, otherwise, branch, Substitutes, no_substitutes, substitute, LayoutNode}
 use Rattle.csl_style.specs.declared.text.Text.{Text}
@@ -63,7 +63,7 @@ view_date d = record {
 
 -- ---- the branches of a choose
 
-pub record Part : Type 0 where
+pub record BranchView : Type 0 where
   pub tests : Tests
   pub nodes : Nodes
 
@@ -71,26 +71,26 @@ abbrev branches_else : Option Nodes → Branches
 branches_else None = no_branches
 branches_else (Some ns) = otherwise ns
 
-abbrev pub branches_of : List Part → Option Nodes → Branches
+abbrev pub branches_of : List BranchView → Option Nodes → Branches
 branches_of [] o = branches_else o
 branches_of (p ∷ ps) o = branch p.tests p.nodes (branches_of ps o)
 
 -- ---- the children of names
 
-pub data Child : Type 0 where
-  a_name : NameNode → Child
-  an_et_al : EtAlNode → Child
-  a_label : LabelNode → Child
-  a_substitute : Nodes → Child
+pub data NamesChildView : Type 0 where
+  a_name : NameNode → NamesChildView
+  an_et_al : EtAlNode → NamesChildView
+  a_label : LabelNode → NamesChildView
+  a_substitute : Nodes → NamesChildView
 
-abbrev pub name_children : List Child → List NameNode
+abbrev pub name_children : List NamesChildView → List NameNode
 name_children [] = []
 name_children (a_name n ∷ cs) = n ∷ name_children cs
 name_children (an_et_al e ∷ cs) = name_children cs
 name_children (a_label l ∷ cs) = name_children cs
 name_children (a_substitute ns ∷ cs) = name_children cs
 
-abbrev pub first_et_al : List Child → Option EtAlNode
+abbrev pub first_et_al : List NamesChildView → Option EtAlNode
 first_et_al [] = None
 first_et_al (a_name n ∷ cs) = first_et_al cs
 first_et_al (an_et_al e ∷ cs) = Some e
@@ -99,14 +99,14 @@ first_et_al (a_substitute ns ∷ cs) = first_et_al cs
 
 -- The first label is after the names if a name child comes before it; `behind` is whether one came
 -- already.
-abbrev pub first_label : Bool → List Child → Option NamesLabel
+abbrev pub first_label : Bool → List NamesChildView → Option NamesLabel
 first_label behind [] = None
 first_label behind (a_name n ∷ cs) = first_label true cs
 first_label behind (an_et_al e ∷ cs) = first_label behind cs
-first_label behind (a_label l ∷ cs) = Some (record { label = l; is_behind = behind })
+first_label behind (a_label l ∷ cs) = Some (record { label = l; is_after = behind })
 first_label behind (a_substitute ns ∷ cs) = first_label behind cs
 
-abbrev pub substitutes : List Child → Substitutes
+abbrev pub substitutes : List NamesChildView → Substitutes
 substitutes [] = no_substitutes
 substitutes (a_name n ∷ cs) = substitutes cs
 substitutes (an_et_al e ∷ cs) = substitutes cs
@@ -115,7 +115,7 @@ substitutes (a_substitute ns ∷ cs) = substitute ns (substitutes cs)
 
 -- ---- one level of each, with what is inside already seen
 
-abbrev pub element_step : LayoutRenderingElement-F Node Child Node Part Node Node Nodes → Node
+abbrev pub element_step : LayoutRenderingElement-F Node NamesChildView Node BranchView Node Node Nodes → Node
 element_step (level.Text t) = view_text t
 element_step (level.Number n) = number (view_number n)
 element_step (level.LayoutRenderingElement::Label l) = label l.variable (view_label l.label)
@@ -124,13 +124,13 @@ element_step (level.Names n) = n
 element_step (level.Choose n) = n
 element_step (level.Group n) = n
 
-abbrev pub choose_step : Choose-F Node Child Node Part Node Node Nodes → Node
+abbrev pub choose_step : Choose-F Node NamesChildView Node BranchView Node Node Nodes → Node
 choose_step c = choose (branches_of (c.if_ ∷ c.else_if.items) (option_map (λ ns. nodes_of ns.items) c.otherwise))
 
 abbrev items_if : {A : Type 0} → Option (Vec A Global) → Option (List A)
 items_if o = option_map (λ v. v.items) o
 
-abbrev pub branch_step : ChooseBranch-F Node Child Node Part Node Node Nodes → Part
+abbrev pub branch_step : ChooseBranch-F Node NamesChildView Node BranchView Node Node Nodes → BranchView
 branch_step b = record {
   tests = record {
     disambiguate = b.disambiguate;
@@ -145,13 +145,13 @@ branch_step b = record {
   nodes = nodes_of b.children.items;
 }
 
-abbrev pub group_step : Group-F Node Child Node Part Node Node Nodes → Node
+abbrev pub group_step : Group-F Node NamesChildView Node BranchView Node Node Nodes → Node
 group_step g = group (text_if g.delimiter) (dressing_of g.formatting g.affixes g.display) (nodes_of g.children.items)
 
-abbrev pub names_step : Names-F Node Child Node Part Node Node Nodes → Node
+abbrev pub names_step : Names-F Node NamesChildView Node BranchView Node Node Nodes → Node
 names_step n = names (record {
   variables = n.variable.items;
-  options = own_options n.options;
+  options = partial_options n.options;
   delimiter = text_if n.delimiter;
   dressing = dressing_of n.formatting n.affixes n.display;
   name_children = name_children n.children.items;
@@ -159,59 +159,59 @@ names_step n = names (record {
   label = first_label false n.children.items;
 }) (substitutes n.children.items)
 
-abbrev pub child_step : NamesChild-F Node Child Node Part Node Node Nodes → Child
+abbrev pub child_step : NamesChild-F Node NamesChildView Node BranchView Node Node Nodes → NamesChildView
 child_step (level.Name n) = a_name (view_name n)
 child_step (level.EtAl e) = an_et_al (view_et_al e)
 child_step (level.NamesChild::Label l) = a_label (view_label l)
 child_step (level.Substitute ns) = a_substitute ns
 
-abbrev pub substitute_step : Substitute-F Node Child Node Part Node Node Nodes → Nodes
+abbrev pub substitute_step : Substitute-F Node NamesChildView Node BranchView Node Node Nodes → Nodes
 substitute_step s = nodes_of s.children.items
 
 -- ---- every level
 
-abbrev pub view : LayoutRenderingElement → Node
-view = fold-LayoutRenderingElement Node Child Node Part Node Node Nodes element_step child_step choose_step branch_step group_step names_step substitute_step
+abbrev pub view_node : LayoutRenderingElement → Node
+view_node = fold-LayoutRenderingElement Node NamesChildView Node BranchView Node Node Nodes element_step child_step choose_step branch_step group_step names_step substitute_step
 
 abbrev pub view_choose : Choose → Node
-view_choose = fold-Choose Node Child Node Part Node Node Nodes element_step child_step choose_step branch_step group_step names_step substitute_step
+view_choose = fold-Choose Node NamesChildView Node BranchView Node Node Nodes element_step child_step choose_step branch_step group_step names_step substitute_step
 
-abbrev pub view_branch : ChooseBranch → Part
-view_branch = fold-ChooseBranch Node Child Node Part Node Node Nodes element_step child_step choose_step branch_step group_step names_step substitute_step
+abbrev pub view_branch : ChooseBranch → BranchView
+view_branch = fold-ChooseBranch Node NamesChildView Node BranchView Node Node Nodes element_step child_step choose_step branch_step group_step names_step substitute_step
 
 abbrev pub view_group : Group → Node
-view_group = fold-Group Node Child Node Part Node Node Nodes element_step child_step choose_step branch_step group_step names_step substitute_step
+view_group = fold-Group Node NamesChildView Node BranchView Node Node Nodes element_step child_step choose_step branch_step group_step names_step substitute_step
 
 abbrev pub view_names : Names → Node
-view_names = fold-Names Node Child Node Part Node Node Nodes element_step child_step choose_step branch_step group_step names_step substitute_step
+view_names = fold-Names Node NamesChildView Node BranchView Node Node Nodes element_step child_step choose_step branch_step group_step names_step substitute_step
 
-abbrev pub view_child : NamesChild → Child
-view_child = fold-NamesChild Node Child Node Part Node Node Nodes element_step child_step choose_step branch_step group_step names_step substitute_step
+abbrev pub view_child : NamesChild → NamesChildView
+view_child = fold-NamesChild Node NamesChildView Node BranchView Node Node Nodes element_step child_step choose_step branch_step group_step names_step substitute_step
 
 abbrev pub view_substitute : Substitute → Nodes
-view_substitute = fold-Substitute Node Child Node Part Node Node Nodes element_step child_step choose_step branch_step group_step names_step substitute_step
+view_substitute = fold-Substitute Node NamesChildView Node BranchView Node Node Nodes element_step child_step choose_step branch_step group_step names_step substitute_step
 
-abbrev pub views : List LayoutRenderingElement → Nodes
-views es = nodes_of (map view es)
+abbrev pub view_nodes : List LayoutRenderingElement → Nodes
+view_nodes es = nodes_of (map view_node es)
 
 abbrev pub view_layout : Layout → LayoutNode
-view_layout l = record { delimiter = text_if l.delimiter; formatting = l.formatting; elements = views l.elements.items }
+view_layout l = record { delimiter = text_if l.delimiter; formatting = l.formatting; elements = view_nodes l.elements.items }
 
 -- a rendering element: a whole layout, or a node of one
 pub data ElementView : Type 0 where
-  whole : LayoutNode → ElementView
-  part : Node → ElementView
+  of_layout : LayoutNode → ElementView
+  of_node : Node → ElementView
 
 abbrev pub view_rendering : RenderingElement → ElementView
-view_rendering (rendering.Layout l) = whole (view_layout l)
-view_rendering (rendering.Other e) = part (view e)
+view_rendering (rendering.Layout l) = of_layout (view_layout l)
+view_rendering (rendering.Other e) = of_node (view_node e)
 
 -- A macro is a name and what it stands for.
 abbrev pub Definition : Type 0
 Definition = List ℕ × Nodes
 
 abbrev pub definition : CslMacro → Definition
-definition m = (string_bytes m.name, views m.children.items)
+definition m = (string_bytes m.name, view_nodes m.children.items)
 
 abbrev pub definitions : List CslMacro → List Definition
 definitions ms = map definition ms

@@ -1,7 +1,7 @@
 //! Which places of a graph lead back to themselves: the search for macros that call themselves.
 
 ghost use Rattle.std.specs.Prelude.{◌≡◌, ◌<◌, length, IfOk, IfSome, None};
-ghost use Rattle.csl_style.specs.Reaches.{InRange, IsReach, IsFirstCyclicPlace, HasRanks};
+ghost use Rattle.csl_style.specs.GraphReach.{InRange, IsReach, IsFirstCyclicPlace, HasRanks};
 
 use std::alloc::{AllocError, Global};
 

@@ -2,7 +2,7 @@
 
 ghost use Rattle.std.specs.Prelude.{◌≡◌};
 ghost use Rattle.csl_style.specs.Constructors.{italic};
-ghost use Rattle.csl_style.specs.Formatting.{over};
+ghost use Rattle.csl_style.specs.Formatting.{apply_partial};
 ghost use Rattle.csl_style.specs.Overlaid.{IsBoth};
 
 /// Whether a text is upright or slanted.
@@ -86,7 +86,7 @@ impl Formatting {
     /// result over a third one, full or not, is this over `base` over that one.
     #[tactic(auto, using(crate::proofs::Overlays::over_both))]
     pub fn apply(self, base: Formatting) -> Formatting
-        ensures value { result ≡ over self base }
+        ensures value { result ≡ apply_partial self base }
         ensures both { IsBoth self base result }
     {
         Formatting {

@@ -2,6 +2,7 @@
 #![tactic(auto)]
 
 pub mod affixes;
+mod call_graph;
 mod cycles;
 pub mod date;
 pub mod element;
@@ -13,8 +14,6 @@ pub mod names;
 mod names_parts;
 pub mod number;
 mod of_citation;
-mod places;
-mod reach;
 mod scopes;
 mod size;
 pub mod style;
@@ -22,6 +21,7 @@ mod style_ordinals;
 pub mod taxonomy;
 pub mod term;
 pub mod text;
+mod year_suffix;
 
 pub use affixes::Affixes;
 pub use csl_common::LongShortForm;

@@ -2,7 +2,7 @@
 
 ghost use Rattle.std.specs.Prelude.{◌≡◌, option_map};
 ghost use Rattle.csl_style.specs.Missing.{if_missing, missing_in, missing_in_all, missing_in_child, missing_in_layout, missing_in_macros, missing_macro};
-ghost use Rattle.csl_style.specs.View.{definitions, view, view_child, view_choose, views};
+ghost use Rattle.csl_style.specs.View.{definitions, view_node, view_child, view_choose, view_nodes};
 
 use crate::element::{Choose, CslMacro, LayoutRenderingElement, NamesChild};
 use crate::style::Style;
@@ -23,7 +23,7 @@ fn if_missing<'s>(style: &Style, name: &'s str) -> Option<&'s str>
 #[cycle(missing)]
 fn missing_in<'s>(style: &Style, element: &'s LayoutRenderingElement) -> Option<&'s str>
     ensures { option_map (λ name. name.now) result
-        ≡ missing_in (definitions style.now.macros) (view element.now) }
+        ≡ missing_in (definitions style.now.macros) (view_node element.now) }
 {
     match element {
         LayoutRenderingElement::Text(text) => match &text.target {
@@ -52,7 +52,7 @@ fn missing_in<'s>(style: &Style, element: &'s LayoutRenderingElement) -> Option<
 #[cycle(missing)]
 fn missing_in_all<'s>(style: &Style, elements: &'s [LayoutRenderingElement]) -> Option<&'s str>
     ensures { option_map (λ name. name.now) result
-        ≡ missing_in_all (definitions style.now.macros) (views elements.now) }
+        ≡ missing_in_all (definitions style.now.macros) (view_nodes elements.now) }
 {
     for element in elements {
         if let Some(name) = missing_in(style, element) {

@@ -2,11 +2,11 @@
 //! reaches (CSL 1.0.2, Rendering Elements; Macro; Choose; Substitute).
 
 ghost use Rattle.std.specs.Prelude.{◌≡◌, None, Some, IfSome, IfOk, OnOk, OnErr, IsTrue, option_map};
-ghost use Rattle.csl_style.specs.Node.{fill, fills, fill_layout};
-ghost use Rattle.csl_style.specs.View.{view, views, view_choose, view_names, view_child, view_branch, view_layout};
-ghost use Rattle.csl_style.specs.Reached.{env};
-ghost use Rattle.csl_style.specs.Named.{joined, nothing_named, the_variable, the_kind, the_name, the_date, the_number_or_page, each_of, each_if, of_full, of_fulls, of_meaning, of_child, of_part, of_tests};
-ghost use Rattle.csl_style.specs.Has.{has, Adds};
+ghost use Rattle.csl_style.specs.Node.{expand, expand_nodes, expand_layout};
+ghost use Rattle.csl_style.specs.View.{view_node, view_nodes, view_choose, view_names, view_child, view_branch, view_layout};
+ghost use Rattle.csl_style.specs.Named.{named_union, empty_named_set, the_variable, the_kind, the_name, the_date, the_number_or_page, each_of, each_if, named_in_node, named_in_nodes, named_in_macro, named_in_child, named_in_branch, named_in_tests};
+ghost use Rattle.csl_style.specs.NamedWalk.{named_set, Adds};
+ghost use Rattle.csl_style.specs.Expanded.{macro_env};
 
 use crate::element::{
     Choose, ChooseBranch, CslMacro, Layout, LayoutRenderingElement, Names, NamesChild,
@@ -35,8 +35,8 @@ pub struct Named {
 
 /// A set of nothing: six empty sets.
 #[tactic(auto, using(crate::proofs::Noted::has_nothing))]
-fn nothing(alloc: Global) -> Named
-    ensures { has result ≡ nothing_named }
+fn empty_named(alloc: Global) -> Named
+    ensures { named_set result ≡ empty_named_set }
 {
     Named {
         numbers: BTreeSet::new(alloc),
@@ -51,8 +51,8 @@ fn nothing(alloc: Global) -> Named
 /// Adds a variable, unless the citation answers it.
 #[tactic(auto, using(crate::proofs::Noted::not_noted, crate::proofs::Noted::number_noted, crate::proofs::Noted::page_noted, crate::proofs::Noted::standard_noted, crate::proofs::Noted::name_noted, crate::proofs::Noted::date_noted))]
 fn note_variable(named: &mut Named, variable: Variable) -> Result<(), Memory>
-    ensures ok { OnOk result (has named.new ≡ joined (has named.old) (the_variable variable)) }
-    ensures err { OnErr result (has named.new ≡ has named.old) }
+    ensures ok { OnOk result (named_set named.new ≡ named_union (named_set named.old) (the_variable variable)) }
+    ensures err { OnErr result (named_set named.new ≡ named_set named.old) }
 {
     if variable.is_of_citation() {
         return Ok(());
@@ -80,8 +80,8 @@ fn note_variable(named: &mut Named, variable: Variable) -> Result<(), Memory>
 /// Adds a kind.
 #[tactic(auto, using(crate::proofs::Noted::kind_noted))]
 fn note_kind(named: &mut Named, kind: Kind) -> Result<(), Memory>
-    ensures ok { OnOk result (has named.new ≡ joined (has named.old) (the_kind kind)) }
-    ensures err { OnErr result (has named.new ≡ has named.old) }
+    ensures ok { OnOk result (named_set named.new ≡ named_union (named_set named.old) (the_kind kind)) }
+    ensures err { OnErr result (named_set named.new ≡ named_set named.old) }
 {
     named.kinds.insert(kind)?;
     Ok(())
@@ -100,27 +100,26 @@ impl<'s> Model for Walk<'s> {
     ghost use Rattle.std.specs.Coded.{codes};
     ghost use Rattle.csl_style.specs.contracts.element.CslMacro as of_macro;
     ghost use Rattle.csl_style.specs.contracts.element.Layout as of_layout;
-    ghost use Rattle.csl_style.specs.Reached.{env};
-    ghost use Rattle.csl_style.specs.Has.{has, Walked, Covers};
+    ghost use Rattle.csl_style.specs.NamedWalk.{named_set, WalkView, Covers};
 
-    ghost Value = { Walked };
+    ghost Value = { WalkView };
 
     ghost coded = { Prim.hlevel (codes, of_macro.the_row.coded, of_layout.the_row.coded) };
 
     ghost view = { λ w. record { style = w.style.now; named = w.named } };
 
-    ghost invariant = { λ w. Covers (has w.named) (env w.style.now) w.seen };
+    ghost invariant = { λ w. Covers (named_set w.named) (macro_env w.style.now) w.seen };
 }
 
 impl<'s> Walk<'s> {
     /// A walk over a style that has named nothing yet.
     fn new(alloc: Global, style: &'s Style) -> Walk<'s>
         ensures style { result ≡ record { style = style.now; named = result.named } }
-        ensures none { has result.named ≡ nothing_named }
+        ensures none { named_set result.named ≡ empty_named_set }
     {
         Walk {
             style,
-            named: nothing(alloc),
+            named: empty_named(alloc),
             seen: BTreeSet::new(alloc),
         }
     }
@@ -154,18 +153,18 @@ impl<'s> Walk<'s> {
     }
 
     /// Whether the macro was seen.
-    fn knows(&self, name: &str) -> bool
+    fn has_seen(&self, name: &str) -> bool
         ensures { IsTrue result
-            → joined (has self.now.named) (of_meaning (env self.now.style name.now))
-            ≡ has self.now.named }
+            → named_union (named_set self.now.named) (named_in_macro (macro_env self.now.style name.now))
+            ≡ named_set self.now.named }
     {
         self.seen.contains(name)
     }
 
     /// Keeps in mind that a macro was seen: all that it names is named.
-    fn learn(&mut self, name: &'s str) -> Result<(), Memory>
-        requires { joined (has self.old.named) (of_meaning (env self.old.style name.now))
-            ≡ has self.old.named }
+    fn mark_seen(&mut self, name: &'s str) -> Result<(), Memory>
+        requires { named_union (named_set self.old.named) (named_in_macro (macro_env self.old.style name.now))
+            ≡ named_set self.old.named }
         ensures { OnOk result (self.new ≡ self.old) }
     {
         self.seen.insert(name)?;
@@ -175,8 +174,8 @@ impl<'s> Walk<'s> {
 
 /// Adds nothing to what a walk named.
 #[tactic(auto, using(crate::proofs::Walks::adds_nothing))]
-fn none<'s>(walk: &mut Walk<'s>) -> Result<(), Memory>
-    ensures { OnOk result (Adds nothing_named walk.old walk.new) }
+fn add_nothing<'s>(walk: &mut Walk<'s>) -> Result<(), Memory>
+    ensures { OnOk result (Adds empty_named_set walk.old walk.new) }
 {
     let _style = walk.style();
     Ok(())
@@ -194,7 +193,7 @@ fn note_variables<'s>(walk: &mut Walk<'s>, tested: &Option<Vec<Variable>>) -> Re
             }
             Ok(())
         }
-        None => none(walk),
+        None => add_nothing(walk),
     }
 }
 
@@ -210,7 +209,7 @@ fn note_dates<'s>(walk: &mut Walk<'s>, tested: &Option<Vec<DateVariable>>) -> Re
             }
             Ok(())
         }
-        None => none(walk),
+        None => add_nothing(walk),
     }
 }
 
@@ -226,7 +225,7 @@ fn note_kinds<'s>(walk: &mut Walk<'s>, tested: &Option<Vec<Kind>>) -> Result<(),
             }
             Ok(())
         }
-        None => none(walk),
+        None => add_nothing(walk),
     }
 }
 
@@ -255,7 +254,7 @@ fn note_names<'s>(walk: &mut Walk<'s>, names: &[NameVariable]) -> Result<(), Mem
 
 /// Adds what the tests of a branch ask the entry.
 fn note_tests<'s>(walk: &mut Walk<'s>, branch: &'s ChooseBranch) -> Result<(), Memory>
-    ensures { OnOk result (Adds (of_tests (view_branch branch.now).tests) walk.old walk.new) }
+    ensures { OnOk result (Adds (named_in_tests (view_branch branch.now).tests) walk.old walk.new) }
 {
     note_variables(walk, &branch.is_numeric)?;
     note_dates(walk, &branch.is_uncertain_date)?;
@@ -265,14 +264,14 @@ fn note_tests<'s>(walk: &mut Walk<'s>, branch: &'s ChooseBranch) -> Result<(), M
 }
 
 /// The macro of a name, unless it was seen or the style lacks it.
-fn unseen<'s>(walk: &Walk<'s>, name: &str) -> Option<&'s CslMacro>
-    ensures meaning { IfSome result (λ found. env walk.now.style name.now
-        ≡ Some (fills (env walk.now.style) (views found.now.children.items))) }
+fn unseen_macro<'s>(walk: &Walk<'s>, name: &str) -> Option<&'s CslMacro>
+    ensures meaning { IfSome result (λ found. macro_env walk.now.style name.now
+        ≡ Some (expand_nodes (macro_env walk.now.style) (view_nodes found.now.children.items))) }
     ensures known { result ≡ None
-        → joined (has walk.now.named) (of_meaning (env walk.now.style name.now))
-        ≡ has walk.now.named }
+        → named_union (named_set walk.now.named) (named_in_macro (macro_env walk.now.style name.now))
+        ≡ named_set walk.now.named }
 {
-    if walk.knows(name) {
+    if walk.has_seen(name) {
         return None;
     }
     walk.style().get_macro(name)
@@ -280,95 +279,95 @@ fn unseen<'s>(walk: &Walk<'s>, name: &str) -> Option<&'s CslMacro>
 
 /// Adds what an element names.
 #[cycle(named)]
-fn name_element<'s>(walk: &mut Walk<'s>, element: &'s LayoutRenderingElement) -> Result<(), Memory>
+fn visit_element<'s>(walk: &mut Walk<'s>, element: &'s LayoutRenderingElement) -> Result<(), Memory>
     ensures { OnOk result (Adds
-        (of_full (fill (env walk.old.style) (view element.now))) walk.old walk.new) }
+        (named_in_node (expand (macro_env walk.old.style) (view_node element.now))) walk.old walk.new) }
 {
     match element {
         LayoutRenderingElement::Text(text) => match &text.target {
             TextTarget::Variable { var, .. } => walk.note(*var),
-            TextTarget::Macro { name } => match unseen(walk, name.as_str()) {
+            TextTarget::Macro { name } => match unseen_macro(walk, name.as_str()) {
                 Some(found) => {
-                    name_all(walk, &found.children)?;
-                    walk.learn(name.as_str())
+                    visit_all(walk, &found.children)?;
+                    walk.mark_seen(name.as_str())
                 }
                 None => Ok(()),
             },
-            TextTarget::Term { .. } | TextTarget::Value { .. } => none(walk),
+            TextTarget::Term { .. } | TextTarget::Value { .. } => add_nothing(walk),
         },
         LayoutRenderingElement::Number(number) => note_number_or_page(walk, number.variable),
         LayoutRenderingElement::Label(label) => note_number_or_page(walk, label.variable),
         LayoutRenderingElement::Date(date) => match date.variable {
             Some(v) => walk.note(Variable::Date(v)),
-            None => none(walk),
+            None => add_nothing(walk),
         },
-        LayoutRenderingElement::Names(names) => name_names(walk, names),
-        LayoutRenderingElement::Choose(choose) => name_choose(walk, choose),
-        LayoutRenderingElement::Group(group) => name_all(walk, &group.children),
+        LayoutRenderingElement::Names(names) => visit_names(walk, names),
+        LayoutRenderingElement::Choose(choose) => visit_choose(walk, choose),
+        LayoutRenderingElement::Group(group) => visit_all(walk, &group.children),
     }
 }
 
 /// Adds what any of the elements names.
 #[cycle(named)]
-fn name_all<'s>(walk: &mut Walk<'s>, elements: &'s [LayoutRenderingElement]) -> Result<(), Memory>
+fn visit_all<'s>(walk: &mut Walk<'s>, elements: &'s [LayoutRenderingElement]) -> Result<(), Memory>
     ensures { OnOk result (Adds
-        (of_fulls (fills (env walk.old.style) (views elements.now))) walk.old walk.new) }
+        (named_in_nodes (expand_nodes (macro_env walk.old.style) (view_nodes elements.now))) walk.old walk.new) }
 {
     for element in elements {
-        name_element(walk, element)?;
+        visit_element(walk, element)?;
     }
     Ok(())
 }
 
 /// Adds what names and their substitutes name.
 #[cycle(named)]
-fn name_names<'s>(walk: &mut Walk<'s>, names: &'s Names) -> Result<(), Memory>
+fn visit_names<'s>(walk: &mut Walk<'s>, names: &'s Names) -> Result<(), Memory>
     ensures { OnOk result (Adds
-        (of_full (fill (env walk.old.style) (view_names names.now))) walk.old walk.new) }
+        (named_in_node (expand (macro_env walk.old.style) (view_names names.now))) walk.old walk.new) }
 {
     note_names(walk, &names.variable)?;
     for child in &names.children {
-        name_child(walk, child)?;
+        visit_child(walk, child)?;
     }
     Ok(())
 }
 
 /// Adds what a child of names names: a substitute.
 #[cycle(named)]
-fn name_child<'s>(walk: &mut Walk<'s>, child: &'s NamesChild) -> Result<(), Memory>
+fn visit_child<'s>(walk: &mut Walk<'s>, child: &'s NamesChild) -> Result<(), Memory>
     ensures { OnOk result (Adds
-        (of_child (env walk.old.style) (view_child child.now)) walk.old walk.new) }
+        (named_in_child (macro_env walk.old.style) (view_child child.now)) walk.old walk.new) }
 {
     match child {
-        NamesChild::Name(_) | NamesChild::EtAl(_) | NamesChild::Label(_) => none(walk),
-        NamesChild::Substitute(substitute) => name_all(walk, &substitute.children),
+        NamesChild::Name(_) | NamesChild::EtAl(_) | NamesChild::Label(_) => add_nothing(walk),
+        NamesChild::Substitute(substitute) => visit_all(walk, &substitute.children),
     }
 }
 
 /// Adds what a branch names, with its tests.
 #[cycle(named)]
-fn name_branch<'s>(walk: &mut Walk<'s>, branch: &'s ChooseBranch) -> Result<(), Memory>
+fn visit_branch<'s>(walk: &mut Walk<'s>, branch: &'s ChooseBranch) -> Result<(), Memory>
     ensures { OnOk result (Adds
-        (of_part (env walk.old.style) (view_branch branch.now)) walk.old walk.new) }
+        (named_in_branch (macro_env walk.old.style) (view_branch branch.now)) walk.old walk.new) }
 {
     note_tests(walk, branch)?;
-    name_all(walk, &branch.children)?;
+    visit_all(walk, &branch.children)?;
     Ok(())
 }
 
 /// Adds what the branches of a choice name, and what is printed where none is chosen.
 #[cycle(named)]
-fn name_choose<'s>(walk: &mut Walk<'s>, choose: &'s Choose) -> Result<(), Memory>
+fn visit_choose<'s>(walk: &mut Walk<'s>, choose: &'s Choose) -> Result<(), Memory>
     ensures { OnOk result (Adds
-        (of_full (fill (env walk.old.style) (view_choose choose.now))) walk.old walk.new) }
+        (named_in_node (expand (macro_env walk.old.style) (view_choose choose.now))) walk.old walk.new) }
 {
-    name_branch(walk, &choose.if_)?;
+    visit_branch(walk, &choose.if_)?;
     for branch in &choose.else_if {
-        name_branch(walk, branch)?;
+        visit_branch(walk, branch)?;
     }
     match &choose.otherwise {
-        Some(otherwise) => name_all(walk, otherwise),
-        None => none(walk),
+        Some(otherwise) => visit_all(walk, otherwise),
+        None => add_nothing(walk),
     }
 }
 
@@ -379,10 +378,10 @@ fn name_choose<'s>(walk: &mut Walk<'s>, choose: &'s Choose) -> Result<(), Memory
 /// # Errors
 /// [`Memory`]: there was no memory left.
 pub fn named_by(alloc: Global, style: &Style, layout: &Layout) -> Result<Named, Memory>
-    ensures { IfOk result (λ named. has named
-        ≡ of_fulls (fill_layout (env style.now) (view_layout layout.now)).elements) }
+    ensures { IfOk result (λ named. named_set named
+        ≡ named_in_nodes (expand_layout (macro_env style.now) (view_layout layout.now)).elements) }
 {
     let mut walk = Walk::new(alloc, style);
-    name_all(&mut walk, &layout.elements)?;
+    visit_all(&mut walk, &layout.elements)?;
     Ok(walk.into_named())
 }

@@ -2,8 +2,8 @@
 //! for.
 
 ghost use Rattle.std.specs.Prelude.{◌≡◌, false, map, option_map};
-ghost use Rattle.csl_style.specs.NameOptions.{own_options};
-ghost use Rattle.csl_style.specs.Names.{first_of, first_name, in_place_of, view_name, view_et_al, view_label, view_part};
+ghost use Rattle.csl_style.specs.NameOptions.{partial_options};
+ghost use Rattle.csl_style.specs.Names.{first_of, first_name, shorthand_expansion, view_name, view_et_al, view_label, view_part};
 ghost use Rattle.csl_style.specs.Node.{names, is_childless};
 ghost use Rattle.csl_style.specs.View.{view_child, view_names, view_substitute, name_children, first_et_al, first_label, substitutes};
 ghost use Rattle.csl_style.specs.NamesParts.{names_node, names_substitutes, first_substitute, parts_node, placed_label, default_name, first_part};
@@ -38,7 +38,7 @@ pub struct NamesParts<'s> {
 #[derive(Clone, Copy)]
 pub struct PlacedLabel<'s> {
     pub label: &'s VariablelessLabel,
-    pub is_behind: bool,
+    pub is_after: bool,
 }
 
 impl Names {
@@ -72,7 +72,7 @@ impl Names {
     /// variables and place on the page, and all else from itself where it is set, else from that
     /// node.
     pub fn parts_in_place_of<'s>(&'s self, original: NamesParts<'s>) -> NamesParts<'s>
-        ensures { parts_node result ≡ in_place_of (parts_node original.entry)
+        ensures { parts_node result ≡ shorthand_expansion (parts_node original.entry)
             (names_node self.now) }
     {
         NamesParts {
@@ -151,11 +151,11 @@ fn et_al_among(children: &[NamesChild]) -> Option<&EtAl>
 fn label_among(children: &[NamesChild]) -> Option<PlacedLabel<'_>>
     ensures { option_map placed_label result ≡ first_label false (map view_child children.now) }
 {
-    let mut is_behind = false;
+    let mut is_after = false;
     for child in children {
         match child {
-            NamesChild::Label(label) => return Some(PlacedLabel { label, is_behind }),
-            NamesChild::Name(_) => is_behind = true,
+            NamesChild::Label(label) => return Some(PlacedLabel { label, is_after }),
+            NamesChild::Name(_) => is_after = true,
             NamesChild::EtAl(_) | NamesChild::Substitute(_) => {}
         }
     }

@@ -1,10 +1,9 @@
 //! How large a layout is with each macro expanded in the place of its name (CSL 1.0.2, Macro).
 
 ghost use Rattle.std.specs.Prelude.{◌≡◌, ◌+◌, ◌<◌, ◌≤◌, IfSome, IfNone};
-ghost use Rattle.csl_style.specs.Node.{fill, fills, size, sizes, fill_layout};
-ghost use Rattle.csl_style.specs.View.{view, views, view_names, view_child, view_choose, view_layout};
-ghost use Rattle.csl_style.specs.Reached.{env};
-ghost use Rattle.csl_style.specs.Filled.{child_size, layout_size};
+ghost use Rattle.csl_style.specs.Node.{expand, expand_nodes, size, sizes, expand_layout};
+ghost use Rattle.csl_style.specs.View.{view_node, view_nodes, view_names, view_child, view_choose, view_layout};
+ghost use Rattle.csl_style.specs.Expanded.{child_size, layout_size, macro_env};
 
 use crate::element::{Choose, Layout, LayoutRenderingElement, Names, NamesChild};
 use crate::style::Style;
@@ -13,9 +12,9 @@ use crate::text::TextTarget;
 /// The room that is left after an element, or `None` where the element is larger than the room.
 #[cycle(size)]
 fn room_after(style: &Style, element: &LayoutRenderingElement, room: u64) -> Option<u64>
-    ensures some { IfSome result (λ left. left + size (fill (env style.now) (view element.now))
+    ensures some { IfSome result (λ left. left + size (expand (macro_env style.now) (view_node element.now))
         ≡ room) }
-    ensures none { IfNone result (room < size (fill (env style.now) (view element.now))) }
+    ensures none { IfNone result (room < size (expand (macro_env style.now) (view_node element.now))) }
 {
     match element {
         LayoutRenderingElement::Text(text) => match &text.target {
@@ -42,8 +41,8 @@ fn room_after(style: &Style, element: &LayoutRenderingElement, room: u64) -> Opt
 #[cycle(size)]
 fn room_after_all(style: &Style, elements: &[LayoutRenderingElement], room: u64) -> Option<u64>
     ensures some { IfSome result (λ left. left
-        + sizes (fills (env style.now) (views elements.now)) ≡ room) }
-    ensures none { IfNone result (room < sizes (fills (env style.now) (views elements.now))) }
+        + sizes (expand_nodes (macro_env style.now) (view_nodes elements.now)) ≡ room) }
+    ensures none { IfNone result (room < sizes (expand_nodes (macro_env style.now) (view_nodes elements.now))) }
 {
     let mut left = room;
     for element in elements {
@@ -56,8 +55,8 @@ fn room_after_all(style: &Style, elements: &[LayoutRenderingElement], room: u64)
 #[cycle(size)]
 fn room_after_names(style: &Style, names: &Names, room: u64) -> Option<u64>
     ensures some { IfSome result (λ left. left
-        + size (fill (env style.now) (view_names names.now)) ≡ room) }
-    ensures none { IfNone result (room < size (fill (env style.now) (view_names names.now))) }
+        + size (expand (macro_env style.now) (view_names names.now)) ≡ room) }
+    ensures none { IfNone result (room < size (expand (macro_env style.now) (view_names names.now))) }
 {
     let mut left = room.checked_sub(1)?;
     for child in &names.children {
@@ -70,9 +69,9 @@ fn room_after_names(style: &Style, names: &Names, room: u64) -> Option<u64>
 /// elements in it.
 #[cycle(size)]
 fn room_after_child(style: &Style, child: &NamesChild, room: u64) -> Option<u64>
-    ensures some { IfSome result (λ left. left + child_size (env style.now) (view_child child.now)
+    ensures some { IfSome result (λ left. left + child_size (macro_env style.now) (view_child child.now)
         ≡ room) }
-    ensures none { IfNone result (room < child_size (env style.now) (view_child child.now)) }
+    ensures none { IfNone result (room < child_size (macro_env style.now) (view_child child.now)) }
 {
     match child {
         NamesChild::Name(_) | NamesChild::EtAl(_) | NamesChild::Label(_) => Some(room),
@@ -86,8 +85,8 @@ fn room_after_child(style: &Style, child: &NamesChild, room: u64) -> Option<u64>
 #[cycle(size)]
 fn room_after_choose(style: &Style, choose: &Choose, room: u64) -> Option<u64>
     ensures some { IfSome result (λ left. left
-        + size (fill (env style.now) (view_choose choose.now)) ≡ room) }
-    ensures none { IfNone result (room < size (fill (env style.now) (view_choose choose.now))) }
+        + size (expand (macro_env style.now) (view_choose choose.now)) ≡ room) }
+    ensures none { IfNone result (room < size (expand (macro_env style.now) (view_choose choose.now))) }
 {
     let mut left = room_after_all(style, &choose.if_.children, room.checked_sub(2)?)?;
     for branch in &choose.else_if {
@@ -111,9 +110,9 @@ impl Style {
     /// no memory, and a number of steps that grows with the smaller of the size and `most`.
     pub fn expanded_size(&self, layout: &Layout, most: u64) -> Option<u64>
         ensures some { IfSome result (λ size. (size
-            ≡ layout_size (fill_layout (env self.now) (view_layout layout.now))) × (size ≤ most)) }
+            ≡ layout_size (expand_layout (macro_env self.now) (view_layout layout.now))) × (size ≤ most)) }
         ensures none { IfNone result (most
-            < layout_size (fill_layout (env self.now) (view_layout layout.now))) }
+            < layout_size (expand_layout (macro_env self.now) (view_layout layout.now))) }
     {
         let left = room_after_all(self, &layout.elements, most.checked_sub(1)?)?;
         Some(most - left)

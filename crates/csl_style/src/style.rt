@@ -2,22 +2,22 @@
 //! 1.0.2, Style Structure; Macro).
 
 ghost use Rattle.std.specs.Prelude.{◌≡◌, false, None, IfOk, OnOk, IfErr, map, find, option_map, option_copied};
-ghost use Rattle.csl_style.specs.Node.{fills};
-ghost use Rattle.csl_style.specs.View.{definitions, is_named, views};
-ghost use Rattle.csl_style.specs.Meaning.{body, meaning, IsAcyclic};
+ghost use Rattle.csl_style.specs.Node.{expand_nodes};
+ghost use Rattle.csl_style.specs.View.{definitions, is_named, view_nodes};
+ghost use Rattle.csl_style.specs.Expansion.{macro_body, macro_expansion, IsAcyclic};
 ghost use Rattle.csl_style.specs.Calls.{ArePlacesByName};
-ghost use Rattle.csl_style.specs.Cyclic.{NoneReturns};
+ghost use Rattle.csl_style.specs.Cyclic.{HasNoCycle};
 ghost use Rattle.csl_style.specs.Locale.{terms_of, ordinals_of};
 ghost use Rattle.csl_style.specs.Term.{term_text, term_gender};
 ghost use Rattle.csl_style.specs.Ordinal.{ordinals};
 ghost use Rattle.csl_style.specs.Date.{date_in_form};
 ghost use Rattle.csl_style.specs.Style.{style_of, layout_of, is_chicago, IsRefusal};
 
+use crate::call_graph::{call_graph, places_by_name};
 use crate::cycles::first_cyclic;
 use crate::date::{Date, DateForm};
 use crate::element::{CslMacro, Layout};
 use crate::locale::{Locale, lookup, ordinals};
-use crate::places::{call_graph, places_by_name};
 use crate::term::{Term, TermForm};
 use csl_common::GrammarGender;
 use std::alloc::Global;
@@ -54,7 +54,7 @@ impl Model for Style {
     ghost coded = { Prim.hlevel (codes, of_macro.the_row.coded, of_layout.the_row.coded) };
 
     ghost use Rattle.csl_style.specs.View.{definitions};
-    ghost use Rattle.csl_style.specs.Meaning.{IsAcyclic};
+    ghost use Rattle.csl_style.specs.Expansion.{IsAcyclic};
     ghost use Rattle.csl_style.specs.Style.{is_chicago};
     ghost use Rattle.csl_style.specs.Calls.{ArePlacesByName};
 
@@ -111,8 +111,8 @@ fn first_macro<'s>(
 ) -> Option<&'s CslMacro>
     requires { ArePlacesByName places.now (definitions macros.now) }
     ensures found { option_copied result ≡ find (is_named name.now) macros.now }
-    ensures holds { option_map (λ m. views m.now.children.items) result
-        ≡ body name.now (definitions macros.now) }
+    ensures holds { option_map (λ m. view_nodes m.now.children.items) result
+        ≡ macro_body name.now (definitions macros.now) }
 {
     let i = *places.get(name)?;
     Some(&macros[i])
@@ -138,7 +138,7 @@ impl Style {
         ensures value { IfOk result (λ style. style
             ≡ style_of settings macros.items citation bibliography locales.items) }
         ensures ranks { OnOk result (IsAcyclic (definitions macros.items)) }
-        ensures returns { OnOk result (NoneReturns (definitions macros.items)) }
+        ensures returns { OnOk result (HasNoCycle (definitions macros.items)) }
         ensures format { OnOk result (is_chicago settings.page_range_format ≡ false) }
         ensures refused { IfErr result (IsRefusal settings.page_range_format
             (definitions macros.items)) }
@@ -158,7 +158,7 @@ impl Style {
     /// that follows names learns it here.
     pub fn acyclic(&self)
         ensures ranks { IsAcyclic (definitions self.now.macros) }
-        ensures returns { NoneReturns (definitions self.now.macros) }
+        ensures returns { HasNoCycle (definitions self.now.macros) }
     {
         let _macros = &self.macros;
     }
@@ -212,10 +212,10 @@ impl Style {
     /// The first macro of a name (CSL 1.0.2, Macro).
     pub fn get_macro(&self, name: &str) -> Option<&CslMacro>
         ensures found { option_copied result ≡ find (is_named name.now) self.now.macros }
-        ensures first { option_map (λ m. views m.now.children.items) result
-            ≡ body name.now (definitions self.now.macros) }
-        ensures meaning { option_map (λ m. fills (meaning (definitions self.now.macros))
-            (views m.now.children.items)) result ≡ meaning (definitions self.now.macros) name.now }
+        ensures first { option_map (λ m. view_nodes m.now.children.items) result
+            ≡ macro_body name.now (definitions self.now.macros) }
+        ensures meaning { option_map (λ m. expand_nodes (macro_expansion (definitions self.now.macros))
+            (view_nodes m.now.children.items)) result ≡ macro_expansion (definitions self.now.macros) name.now }
     {
         first_macro(&self.macros, &self.places, name)
     }

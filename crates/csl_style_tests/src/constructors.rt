@@ -3,12 +3,12 @@
 
 ghost use Rattle.std.specs.Prelude.{◌≡◌, IfOk, None, Some, [], ◌∷◌, codes, false, map, true};
 ghost use Rattle.csl_common.specs.declared.form.LongShortForm.TheVariants.{Long};
-ghost use Rattle.csl_style.specs.Constructors.{date_of, no_tests, short_label_of, texts_around, undressed};
+ghost use Rattle.csl_style.specs.Constructors.{date_of, no_tests, short_label_of, texts_around, no_dressing};
 ghost use Rattle.csl_style.specs.Names.{view_label};
 ghost use Rattle.csl_style.specs.Node as node;
 ghost use Rattle.csl_style.specs.Node.{of_value, of_variable};
 ghost use Rattle.csl_style.specs.Style.{no_options};
-ghost use Rattle.csl_style.specs.View.{branches_of, first_et_al, first_label, name_children, substitutes, view, view_branch, view_child, view_date, views};
+ghost use Rattle.csl_style.specs.View.{branches_of, first_et_al, first_label, name_children, substitutes, view_node, view_branch, view_child, view_date, view_nodes};
 
 use crate::asserted::{assert_same, assert_text};
 use crate::made::{one, put};
@@ -35,8 +35,8 @@ const SLANTED: Formatting = Formatting {
 
 /// A text of a variable, in a formatting.
 fn variable_in(variable: Variable, formatting: Formatting) -> LayoutRenderingElement
-    ensures { view result ≡ node.text (of_variable variable Long) (record {
-      dressing = record undressed { formatting = formatting };
+    ensures { view_node result ≡ node.text (of_variable variable Long) (record {
+      dressing = record no_dressing { formatting = formatting };
       quotes = false;
       strip_periods = false;
     }) }
@@ -50,8 +50,8 @@ fn variable_in(variable: Variable, formatting: Formatting) -> LayoutRenderingEle
 
 /// Words in quotes and in parentheses.
 fn quoted(alloc: Global, words: &str) -> Result<LayoutRenderingElement, Memory>
-    ensures { IfOk result (λ made. view made ≡ node.text (of_value words.now) (record {
-      dressing = record undressed { affixes = texts_around (codes "(") (codes ")") };
+    ensures { IfOk result (λ made. view_node made ≡ node.text (of_value words.now) (record {
+      dressing = record no_dressing { affixes = texts_around (codes "(") (codes ")") };
       quotes = true;
       strip_periods = false;
     })) }
@@ -67,7 +67,7 @@ fn quoted(alloc: Global, words: &str) -> Result<LayoutRenderingElement, Memory>
 
 /// A short label of a variable.
 fn short_label(variable: NumberOrPageVariable) -> LayoutRenderingElement
-    ensures { view result ≡ node.label variable (view_label (short_label_of variable).label) }
+    ensures { view_node result ≡ node.label variable (view_label (short_label_of variable).label) }
 {
     Label::short(variable).into()
 }
@@ -78,7 +78,7 @@ fn spaced_date(
     variable: DateVariable,
     parts: Vec<DatePart>,
 ) -> Result<LayoutRenderingElement, Memory>
-    ensures { IfOk result (λ made. view made
+    ensures { IfOk result (λ made. view_node made
         ≡ node.date (record (view_date (date_of variable parts)) { delimiter = Some (codes " ") })) }
 {
     let delimiter = String::from_str(alloc, " ")?;
@@ -95,9 +95,9 @@ fn in_parentheses(
     alloc: Global,
     children: Vec<LayoutRenderingElement>,
 ) -> Result<LayoutRenderingElement, Memory>
-    ensures { IfOk result (λ made. view made ≡ node.group (Some (codes ", "))
-        (record undressed { affixes = texts_around (codes "(") (codes ")") })
-        (views children.items)) }
+    ensures { IfOk result (λ made. view_node made ≡ node.group (Some (codes ", "))
+        (record no_dressing { affixes = texts_around (codes "(") (codes ")") })
+        (view_nodes children.items)) }
 {
     let affixes = Affixes::around(alloc, "(", ")")?;
     Ok(Group {
@@ -114,11 +114,11 @@ fn names_by(
     variables: Vec<NameVariable>,
     children: Vec<NamesChild>,
 ) -> LayoutRenderingElement
-    ensures { view result ≡ node.names (record {
+    ensures { view_node result ≡ node.names (record {
       variables = variables.items;
       options = no_options;
       delimiter = None;
-      dressing = undressed;
+      dressing = no_dressing;
       name_children = name_children (map view_child children.items);
       et_al = first_et_al (map view_child children.items);
       label = first_label false (map view_child children.items);
@@ -136,7 +136,7 @@ fn names_by(
 fn of_kinds(kinds: Vec<Kind>, children: Vec<LayoutRenderingElement>) -> ChooseBranch
     ensures { view_branch result ≡ record {
       tests = record no_tests { type_ = Some kinds.items };
-      nodes = views children.items;
+      nodes = view_nodes children.items;
     } }
 {
     ChooseBranch {
@@ -152,8 +152,8 @@ fn either(
     branch: ChooseBranch,
     otherwise: Vec<LayoutRenderingElement>,
 ) -> LayoutRenderingElement
-    ensures { view result
-        ≡ node.choose (branches_of (view_branch branch ∷ []) (Some (views otherwise.items))) }
+    ensures { view_node result
+        ≡ node.choose (branches_of (view_branch branch ∷ []) (Some (view_nodes otherwise.items))) }
 {
     Choose {
         otherwise: Some(otherwise),
@@ -321,7 +321,7 @@ fn assert_names(rt: &impl Abort, element: LayoutRenderingElement) {
         );
         assert_same(rt, &names.children.len(), &4);
         let parts = names.parts();
-        assert_same(rt, &parts.label().map(|label| label.is_behind), &Some(true));
+        assert_same(rt, &parts.label().map(|label| label.is_after), &Some(true));
         assert_same(rt, &names.substitute().is_some(), &true);
     } else {
         assert_same(rt, &"another node", &"names");

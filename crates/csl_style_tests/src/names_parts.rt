@@ -127,7 +127,7 @@ fn form_of_name(parts: &NamesParts<'_>) -> Option<NameForm> {
 /// The form of the label that counts, and whether it stands behind the names.
 fn placed_label(parts: &NamesParts<'_>) -> Option<(TermForm, bool)> {
     match parts.label() {
-        Some(placed) => Some((placed.label.form, placed.is_behind)),
+        Some(placed) => Some((placed.label.form, placed.is_after)),
         None => None,
     }
 }

@@ -3,7 +3,7 @@
 ghost use Rattle.std.specs.Prelude.{◌≡◌, None};
 ghost use Rattle.csl_style.specs.Dressing.{dressing_of};
 ghost use Rattle.csl_style.specs.Node.{number};
-ghost use Rattle.csl_style.specs.View.{view};
+ghost use Rattle.csl_style.specs.View.{view_node};
 
 use crate::asserted::assert_same;
 use csl_style::{
@@ -19,7 +19,7 @@ fn number_node(
     formatting: Formatting,
     affixes: Affixes,
 ) -> LayoutRenderingElement
-    ensures { view result ≡ number (record {
+    ensures { view_node result ≡ number (record {
       variable = variable;
       form = form;
       dressing = dressing_of formatting affixes None;

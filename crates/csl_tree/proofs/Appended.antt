@@ -2,9 +2,9 @@
 use Rattle.std.proofs.Common.{◌≡◌, ℕ, ◌+◌, ◌<◌, ◌≤◌, List, [], ◌∷◌, ◌++◌, length, get_or, take, set, refl, sym, ap, ◌∙◌, append_assoc, arith}
 use Rattle.std.specs.List.{flat_map}
 use Rattle.std.proofs.lemmas.Grind.{flat_map-append}
-use Rattle.csl_tree.specs.Tokens.{Token, Solid, text, Meta, solid, opened, closed, markup, link, transparent, optional_meta, child_step, elem_step, children_step, child_tokens, elem_tokens, tokens, has_children}
+use Rattle.csl_tree.specs.Tokens.{Token, Solid, text, Meta, solid, elem_start, elem_end, markup, link, transparent, optional_meta, child_step, elem_step, children_step, child_tokens, elem_tokens, tokens, has_children}
 use Rattle.csl_tree.specs.Formatting.{same_formatting}
-use Rattle.csl_tree.specs.Content.{last_before, ◌++>◌, boxed, affixed, layer_content, child_content}
+use Rattle.csl_tree.specs.Content.{last_before, ◌++>◌, elem_content, affixed_content, layer_content, child_content}
 use Rattle.csl_tree.proofs.Joins.{join_assoc}
 use Rattle.std.proofs.Common.{Bool, true, false, not, cond, Option, vec_len, ◌==◌}
 use Rattle.std.specs.Bool.{OnFalse}
@@ -62,7 +62,7 @@ elem_child e = ap child_tokens (sym (variants.rolls-Elem e)) ∙ fold-roll-ElemC
 
 -- what follows an element joins nothing
 pub elem_apart : (e : elem.Elem) (b : List Token) → child_tokens (variants.Elem e) ++> b ≡ child_tokens (variants.Elem e) ++ b
-elem_apart e b = rw (elem_child e, elem_tokens_are e) (solid_last (solid (opened e.display (optional_meta e.meta)) ∷ tokens e.children) (closed e.display) b)
+elem_apart e b = rw (elem_child e, elem_tokens_are e) (solid_last (solid (elem_start e.display (optional_meta e.meta)) ∷ tokens e.children) (elem_end e.display) b)
 
 module _ {A B : Type 0} (f : A → List B) (xs : List A) (i : ℕ) (last : i + 1 ≡ length xs) where
   pub flat_map-last : (x : A) → x ≡ get_or xs i x → flat_map f xs ≡ flat_map f (take i xs) ++ f x
@@ -180,10 +180,10 @@ has_more (x ∷ xs) n h = let b = child_begins x in let more : not (n == 0) ≡ 
 pub has_children_is : (c : ElemChildren) → has_children (tokens c) ≡ not (vec_len c.0 == 0)
 has_children_is c = ap has_children (tokens_out c) ∙ has_more c.0.items (vec_len c.0) (omega (arith, c.0.ok.0))
 
-pub boxed_is : (d : Option Display) (m : Option Meta) (c : ElemChildren) → 0 < length c.0.items → boxed d m (tokens c) ≡ solid (opened d m) ∷ (tokens c ++ solid (closed d) ∷ [])
+pub boxed_is : (d : Option Display) (m : Option Meta) (c : ElemChildren) → 0 < length c.0.items → elem_content d m (tokens c) ≡ solid (elem_start d m) ∷ (tokens c ++ solid (elem_end d) ∷ [])
 boxed_is d m c h = let b = some c.0.items h in rw (tokens_out c ∙ b.is) refl
 
-pub elem_boxed : (xs ys : List ElemChild) (e : elem.Elem) → ys ≡ xs ++ variants.Elem e ∷ [] → flat_map child_tokens ys ≡ flat_map child_tokens xs ++> (solid (opened e.display (optional_meta e.meta)) ∷ (tokens e.children ++ solid (closed e.display) ∷ []))
+pub elem_boxed : (xs ys : List ElemChild) (e : elem.Elem) → ys ≡ xs ++ variants.Elem e ∷ [] → flat_map child_tokens ys ≡ flat_map child_tokens xs ++> (solid (elem_start e.display (optional_meta e.meta)) ∷ (tokens e.children ++ solid (elem_end e.display) ∷ []))
 elem_boxed xs ys e h = elem_pushed xs ys e h ∙ ap (λ l. flat_map child_tokens xs ++> l) (elem_child e ∙ elem_tokens_are e)
 
 no_items : (xs : List ElemChild) → flat_map child_tokens xs ≡ [] → length xs ≡ 0
@@ -198,7 +198,7 @@ pub elem_shows : (e : elem.Elem) → child_content (variants.Elem e) ≡ child_t
 elem_shows e = ap layer_content (outs-Elem e) ∙ sym (elem_child e ∙ elem_tokens_are e)
 
 -- children that are not none, between two contents
-pub affixed_is : (p s : List Token) (c : ElemChildren) → 0 < length c.0.items → affixed p s (tokens c) ≡ p ++> (tokens c ++> s)
+pub affixed_is : (p s : List Token) (c : ElemChildren) → 0 < length c.0.items → affixed_content p s (tokens c) ≡ p ++> (tokens c ++> s)
 affixed_is p s c h = let b = some c.0.items h in rw (tokens_out c ∙ b.is) refl
 
 -- three contents, one after another, behind what was there

@@ -6,8 +6,8 @@ use Rattle.std.specs.Prelude.{Option}
 use Rattle.csl_style.specs.declared.formatting.Display.{Display}
 use Rattle.csl_tree.specs.declared.formatting.Formatting.{Formatting}
 use Rattle.csl_tree.specs.Formatting.{same_formatting}
-use Rattle.csl_tree.specs.Tokens.{Token, Solid, Meta, text, solid, markup, link, transparent, opened, closed, token_text, leaf_text}
-use Rattle.csl_tree.specs.Content.{text_before, last_before, joined, ◌++>◌, text_content, markup_content, link_content, boxed, affixed, IsContent, nothing, text_then, markup_then, link_then, transparent_then, element_then}
+use Rattle.csl_tree.specs.Tokens.{Token, Solid, Meta, text, solid, markup, link, transparent, elem_start, elem_end, token_text, leaf_text}
+use Rattle.csl_tree.specs.Content.{text_before, last_before, join_tokens, ◌++>◌, text_content, markup_content, link_content, elem_content, affixed_content, IsContent, nothing, text_then, markup_then, link_then, transparent_then, element_then}
 use Rattle.csl_tree.proofs.Joins.{same_formatting-refl}
 use Rattle.csl_tree.proofs.Appended.{join_after}
 pub use Rattle.csl_tree.proofs.Joins.{join_assoc, join-none}
@@ -28,7 +28,7 @@ leaf_text-last_before : (t : Token) (b : List Token) → leaf_text (last_before 
 leaf_text-last_before (text x f) b = leaf_text-text_before x f b
 leaf_text-last_before (solid s) b = refl
 
-leaf_text-joined : (t : Token) (a b : List Token) → leaf_text (joined t a b) ≡ token_text t ++ (leaf_text a ++ leaf_text b)
+leaf_text-joined : (t : Token) (a b : List Token) → leaf_text (join_tokens t a b) ≡ token_text t ++ (leaf_text a ++ leaf_text b)
 leaf_text-joined t [] b = leaf_text-last_before t b
 leaf_text-joined t (u ∷ a) b = ap (λ l. token_text t ++ l) (leaf_text-joined u a b ∙ sym (append_assoc (token_text u) (leaf_text a) (leaf_text b)))
 
@@ -38,12 +38,12 @@ leaf_text-join [] b = refl
 leaf_text-join (t ∷ a) b = leaf_text-joined t a b ∙ sym (append_assoc (token_text t) (leaf_text a) (leaf_text b))
 
 -- an element shows the leaf text inside it
-pub leaf_text-boxed : (d : Option Display) (m : Option Meta) (c : List Token) → leaf_text (boxed d m c) ≡ leaf_text c
+pub leaf_text-boxed : (d : Option Display) (m : Option Meta) (c : List Token) → leaf_text (elem_content d m c) ≡ leaf_text c
 leaf_text-boxed d m [] = refl
-leaf_text-boxed d m (t ∷ c) = flat_map-append token_text (t ∷ c) (solid (closed d) ∷ []) ∙ append-nil (leaf_text (t ∷ c))
+leaf_text-boxed d m (t ∷ c) = flat_map-append token_text (t ∷ c) (solid (elem_end d) ∷ []) ∙ append-nil (leaf_text (t ∷ c))
 
 -- a content between two others shows the leaf text of all three
-pub leaf_text-affixed : (p s c : List Token) → 0 < length c → leaf_text (affixed p s c) ≡ leaf_text p ++ (leaf_text c ++ leaf_text s)
+pub leaf_text-affixed : (p s c : List Token) → 0 < length c → leaf_text (affixed_content p s c) ≡ leaf_text p ++ (leaf_text c ++ leaf_text s)
 leaf_text-affixed p s [] h = absurd (omega (arith, h))
 leaf_text-affixed p s (t ∷ c) h = leaf_text-join p ((t ∷ c) ++> s) ∙ ap (λ l. leaf_text p ++ l) (leaf_text-join (t ∷ c) s)
 
@@ -59,7 +59,7 @@ pub IsContent-link : (x : List ℕ) (f : Formatting) (url : List ℕ) → IsCont
 IsContent-link [] f url = nothing
 IsContent-link (b ∷ x) f url = link_then b x f url [] nothing
 
-pub IsContent-boxed : (d : Option Display) (m : Option Meta) (c : List Token) → IsContent c → IsContent (boxed d m c)
+pub IsContent-boxed : (d : Option Display) (m : Option Meta) (c : List Token) → IsContent c → IsContent (elem_content d m c)
 IsContent-boxed d m [] h = nothing
 IsContent-boxed d m (t ∷ c) h = element_then d m t c [] h nothing
 
@@ -74,19 +74,19 @@ before_content b x f (text_then e y g c h) =
 before_content b x f (markup_then e y c h) = text_then b x f (solid (markup (e ∷ y)) ∷ c) (markup_then e y c h)
 before_content b x f (link_then e y g url c h) = text_then b x f (solid (link (e ∷ y) g url) ∷ c) (link_then e y g url c h)
 before_content b x f (transparent_then n g c h) = text_then b x f (solid (transparent n g) ∷ c) (transparent_then n g c h)
-before_content b x f (element_then d m t inside c h i) = text_then b x f (solid (opened d m) ∷ (t ∷ (inside ++ solid (closed d) ∷ c))) (element_then d m t inside c h i)
+before_content b x f (element_then d m t inside c h i) = text_then b x f (solid (elem_start d m) ∷ (t ∷ (inside ++ solid (elem_end d) ∷ c))) (element_then d m t inside c h i)
 
-text_joined : (b : ℕ) (x : List ℕ) (f : Formatting) (a c : List Token) → IsContent (a ++> c) → IsContent (joined (text (b ∷ x) f) a c)
+text_joined : (b : ℕ) (x : List ℕ) (f : Formatting) (a c : List Token) → IsContent (a ++> c) → IsContent (join_tokens (text (b ∷ x) f) a c)
 text_joined b x f [] c h = before_content b x f h
-text_joined b x f (t ∷ a) c h = text_then b x f (joined t a c) h
+text_joined b x f (t ∷ a) c h = text_then b x f (join_tokens t a c) h
 
 -- what follows a token that joins nothing
-solid_joined : (s : Solid) (a c : List Token) → joined (solid s) a c ≡ solid s ∷ (a ++> c)
+solid_joined : (s : Solid) (a c : List Token) → join_tokens (solid s) a c ≡ solid s ∷ (a ++> c)
 solid_joined s [] c = refl
 solid_joined s (t ∷ a) c = refl
 
-element_joined : (d : Option Display) (m : Option Meta) (t : Token) (inside a c : List Token) → (solid (opened d m) ∷ (t ∷ (inside ++ solid (closed d) ∷ a))) ++> c ≡ solid (opened d m) ∷ (t ∷ (inside ++ solid (closed d) ∷ (a ++> c)))
-element_joined d m t inside a c = join_after (solid (opened d m) ∷ t ∷ inside) (solid (closed d)) a c ∙ ap (λ l. solid (opened d m) ∷ (t ∷ (inside ++ l))) (solid_joined (closed d) a c)
+element_joined : (d : Option Display) (m : Option Meta) (t : Token) (inside a c : List Token) → (solid (elem_start d m) ∷ (t ∷ (inside ++ solid (elem_end d) ∷ a))) ++> c ≡ solid (elem_start d m) ∷ (t ∷ (inside ++ solid (elem_end d) ∷ (a ++> c)))
+element_joined d m t inside a c = join_after (solid (elem_start d m) ∷ t ∷ inside) (solid (elem_end d)) a c ∙ ap (λ l. solid (elem_start d m) ∷ (t ∷ (inside ++ l))) (solid_joined (elem_end d) a c)
 
 pub IsContent-join : {a : List Token} (c : List Token) → IsContent a → IsContent c → IsContent (a ++> c)
 IsContent-join c nothing k = k
@@ -96,6 +96,6 @@ IsContent-join c (link_then b bs f url rest h) k = subst IsContent (sym (solid_j
 IsContent-join c (transparent_then n f rest h) k = subst IsContent (sym (solid_joined _ rest c)) (transparent_then n f (rest ++> c) (IsContent-join c h k))
 IsContent-join c (element_then d m t inside rest h i) k = subst IsContent (sym (element_joined d m t inside rest c)) (element_then d m t inside (rest ++> c) h (IsContent-join c i k))
 
-pub IsContent-affixed : (p s c : List Token) → IsContent p → IsContent s → IsContent c → IsContent (affixed p s c)
+pub IsContent-affixed : (p s c : List Token) → IsContent p → IsContent s → IsContent c → IsContent (affixed_content p s c)
 IsContent-affixed p s [] h k i = nothing
 IsContent-affixed p s (t ∷ c) h k i = IsContent-join ((t ∷ c) ++> s) h (IsContent-join s i k)

@@ -7,8 +7,8 @@ use Rattle.std.proofs.lemmas.Bool.Decides.{eqb_tells}
 use Rattle.std.proofs.lemmas.Grind.{common_steps, flat_map-append}
 use Rattle.std.proofs.lemmas.List.{append-nil, get_or-take, length-take}
 use denote.Ref.{Bor}
-use Rattle.csl_tree.specs.Escapes.{escape, escaped, is_plain, is_reserved, starts_plain, ampersand, less_than, greater_than, quotation_mark}
-use Rattle.csl_tree.specs.Marks.{without, reference_at, byte_at, texts_found, as_text, named, or_else}
+use Rattle.csl_tree.specs.Escapes.{escape, escape_all, is_plain, is_reserved, starts_plain, ampersand, less_than, greater_than, quotation_mark}
+use Rattle.csl_tree.specs.Marks.{without, reference_at, byte_at, texts_found, as_text, entity_at, or_else}
 use Rattle.csl_tree.proofs.Fronts.{without-is}
 
 -- bytes of which none is reserved
@@ -35,7 +35,7 @@ plain_byte : (b : ℕ) (more : List ℕ) → is_plain b ≡ true → byte_at (es
 plain_byte b more h = let one = escape-plain b h in rw one (rw h refl)
 
 -- a plain text is escaped as itself
-pub escaped-plain : (bs : List ℕ) → list_all is_plain bs ≡ true → escaped bs ≡ bs
+pub escaped-plain : (bs : List ℕ) → list_all is_plain bs ≡ true → escape_all bs ≡ bs
 escaped-plain [] h = refl
 escaped-plain (b ∷ bs) h =
     let one : is_plain b ≡ true = grind (arith, common_steps) in
@@ -55,10 +55,10 @@ beside-is : {A : Type 0} (b c : A) (o : Option (List ℕ)) (more : List ℕ) →
 beside-is b c None more h = absurd (cc h)
 beside-is b c (Some rest) more h = let p = same_pair b c rest more h in (p.0, ap Some p.1)
 
-pub named-is : {A : Type 0} (b c : A) (front bs more : List ℕ) → named b front bs ≡ Some (c, more) → (b ≡ c) × (bs ≡ front ++ more)
+pub named-is : {A : Type 0} (b c : A) (front bs more : List ℕ) → entity_at b front bs ≡ Some (c, more) → (b ≡ c) × (bs ≡ front ++ more)
 named-is b c front bs more h = let p = beside-is b c (without front bs) more h in (p.0, without-is front bs more p.1)
 
-one_reference : (b c : ℕ) (bs more : List ℕ) → named b (escape b) bs ≡ Some (c, more) → bs ≡ escape c ++ more
+one_reference : (b c : ℕ) (bs more : List ℕ) → entity_at b (escape b) bs ≡ Some (c, more) → bs ≡ escape c ++ more
 one_reference b c bs more h = let k = named-is b c (escape b) bs more h in k.1 ∙ ap (λ (n : ℕ). escape n ++ more) k.0
 
 pub reference_at-is : (bs : List ℕ) (c : ℕ) (more : List ℕ) → reference_at bs ≡ Some (c, more) → bs ≡ escape c ++ more
@@ -125,37 +125,37 @@ no_byte [] h k = refl
 no_byte (b ∷ bs) h k = rw h k
 
 -- of two texts, each before what begins with none
-pub texts_tell : (xs bs x y : List ℕ) → byte_at x ≡ None → byte_at y ≡ None → escaped xs ++ x ≡ escaped bs ++ y → (xs ≡ bs) × (x ≡ y)
+pub texts_tell : (xs bs x y : List ℕ) → byte_at x ≡ None → byte_at y ≡ None → escape_all xs ++ x ≡ escape_all bs ++ y → (xs ≡ bs) × (x ≡ y)
 texts_tell [] [] x y h k e = (refl, e)
 texts_tell [] (b ∷ bs) x y h k e =
-    let f : x ≡ escape b ++ (escaped bs ++ y) = e ∙ append_assoc (escape b) (escaped bs) y in
-    absurd (cc (sym h ∙ ap byte_at f ∙ byte_at-escape b (escaped bs ++ y)))
+    let f : x ≡ escape b ++ (escape_all bs ++ y) = e ∙ append_assoc (escape b) (escape_all bs) y in
+    absurd (cc (sym h ∙ ap byte_at f ∙ byte_at-escape b (escape_all bs ++ y)))
 texts_tell (a ∷ xs) [] x y h k e =
-    let f : y ≡ escape a ++ (escaped xs ++ x) = sym e ∙ append_assoc (escape a) (escaped xs) x in
-    absurd (cc (sym k ∙ ap byte_at f ∙ byte_at-escape a (escaped xs ++ x)))
+    let f : y ≡ escape a ++ (escape_all xs ++ x) = sym e ∙ append_assoc (escape a) (escape_all xs) x in
+    absurd (cc (sym k ∙ ap byte_at f ∙ byte_at-escape a (escape_all xs ++ x)))
 texts_tell (a ∷ xs) (b ∷ bs) x y h k e =
-    let f : escape a ++ (escaped xs ++ x) ≡ escape b ++ (escaped bs ++ y) = sym (append_assoc (escape a) (escaped xs) x) ∙ e ∙ append_assoc (escape b) (escaped bs) y in
-    let p = same_pair a b (escaped xs ++ x) (escaped bs ++ y) (sym (byte_at-escape a (escaped xs ++ x)) ∙ ap byte_at f ∙ byte_at-escape b (escaped bs ++ y)) in
+    let f : escape a ++ (escape_all xs ++ x) ≡ escape b ++ (escape_all bs ++ y) = sym (append_assoc (escape a) (escape_all xs) x) ∙ e ∙ append_assoc (escape b) (escape_all bs) y in
+    let p = same_pair a b (escape_all xs ++ x) (escape_all bs ++ y) (sym (byte_at-escape a (escape_all xs ++ x)) ∙ ap byte_at f ∙ byte_at-escape b (escape_all bs ++ y)) in
     let q = texts_tell xs bs x y h k p.1 in
     ((λ i. p.0 i ∷ q.0 i), q.1)
 
-pub escaped-append : (xs ys : List ℕ) → escaped (xs ++ ys) ≡ escaped xs ++ escaped ys
+pub escaped-append : (xs ys : List ℕ) → escape_all (xs ++ ys) ≡ escape_all xs ++ escape_all ys
 escaped-append xs ys = flat_map-append escape xs ys
 
-pub reference_text : (html : List ℕ) (t rest : List ℕ) → Some (t, rest) ≡ as_text (reference_at html) → (0 < length t) × (html ≡ escaped t ++ rest)
+pub reference_text : (html : List ℕ) (t rest : List ℕ) → Some (t, rest) ≡ as_text (reference_at html) → (0 < length t) × (html ≡ escape_all t ++ rest)
 reference_text html t rest h =
-    elim (reference_at html) as (λ o. reference_at html ≡ o → Some (t, rest) ≡ as_text o → (0 < length t) × (html ≡ escaped t ++ rest)) [
+    elim (reference_at html) as (λ o. reference_at html ≡ o → Some (t, rest) ≡ as_text o → (0 < length t) × (html ≡ escape_all t ++ rest)) [
       | None ↦ λ e k. absurd (cc k)
       | Some x ↦ λ e k.
           let p = same_pair t (x.0 ∷ []) rest x.1 k in
           let whole = reference_at-is html x.0 x.1 e in
-          let one : escaped (x.0 ∷ []) ≡ escape x.0 = append-nil (escape x.0) in
-          let text : escape x.0 ≡ escaped t = sym one ∙ ap escaped (sym p.0) in
+          let one : escape_all (x.0 ∷ []) ≡ escape x.0 = append-nil (escape x.0) in
+          let text : escape x.0 ≡ escape_all t = sym one ∙ ap escape_all (sym p.0) in
           let tail : x.1 ≡ rest = sym p.1 in
           (omega (arith, ap length p.0), whole ∙ (λ i. text i ++ tail i))
     ] refl h
 
-pub found_text : (html : List ℕ) (r : Option (Bor (List ℕ) × Bor (List ℕ))) → texts_found r ≡ as_text (reference_at html) → IfSome r (λ x. (0 < length x.0.now) × (html ≡ escaped x.0.now ++ x.1.now))
+pub found_text : (html : List ℕ) (r : Option (Bor (List ℕ) × Bor (List ℕ))) → texts_found r ≡ as_text (reference_at html) → IfSome r (λ x. (0 < length x.0.now) × (html ≡ escape_all x.0.now ++ x.1.now))
 found_text html None h = tt
 found_text html (Some x) h = reference_text html x.0.now x.1.now h
 
@@ -166,22 +166,22 @@ escape_long b =
       | x ∷ l ↦ λ e. omega arith
     ] refl
 
-escaped_long : (xs : List ℕ) → length xs ≤ length (escaped xs)
+escaped_long : (xs : List ℕ) → length xs ≤ length (escape_all xs)
 escaped_long [] = omega arith
-escaped_long (b ∷ xs) = omega (arith, escape_long b, escaped_long xs, length-append (escape b) (escaped xs))
+escaped_long (b ∷ xs) = omega (arith, escape_long b, escaped_long xs, length-append (escape b) (escape_all xs))
 
-pub text_shortens : (html xs rest : List ℕ) → 0 < length xs → html ≡ escaped xs ++ rest → length rest < length html
-text_shortens html xs rest h e = omega (arith, escaped_long xs, ap length e, length-append (escaped xs) rest)
+pub text_shortens : (html xs rest : List ℕ) → 0 < length xs → html ≡ escape_all xs ++ rest → length rest < length html
+text_shortens html xs rest h e = omega (arith, escaped_long xs, ap length e, length-append (escape_all xs) rest)
 
-pub texts_join : (html xs mid ys rest : List ℕ) → html ≡ escaped xs ++ mid → mid ≡ escaped ys ++ rest → html ≡ escaped (xs ++ ys) ++ rest
+pub texts_join : (html xs mid ys rest : List ℕ) → html ≡ escape_all xs ++ mid → mid ≡ escape_all ys ++ rest → html ≡ escape_all (xs ++ ys) ++ rest
 texts_join html xs mid ys rest e f =
-    e ∙ ap (λ (l : List ℕ). escaped xs ++ l) f ∙ sym (append_assoc (escaped xs) (escaped ys) rest) ∙ ap (λ (l : List ℕ). l ++ rest) (sym (escaped-append xs ys))
+    e ∙ ap (λ (l : List ℕ). escape_all xs ++ l) f ∙ sym (append_assoc (escape_all xs) (escape_all ys) rest) ∙ ap (λ (l : List ℕ). l ++ rest) (sym (escaped-append xs ys))
 
 -- ---- writing a text
 
 -- a front, a byte, and a plain text after it
-pub escaped_on : (front plain : List ℕ) (b : ℕ) → list_all is_plain plain ≡ true → escaped front ++ (escape b ++ plain) ≡ escaped (front ++ (b ∷ plain))
-escaped_on front plain b h = ap (λ (l : List ℕ). escaped front ++ (escape b ++ l)) (sym (escaped-plain plain h)) ∙ sym (escaped-append front (b ∷ plain))
+pub escaped_on : (front plain : List ℕ) (b : ℕ) → list_all is_plain plain ≡ true → escape_all front ++ (escape b ++ plain) ≡ escape_all (front ++ (b ∷ plain))
+escaped_on front plain b h = ap (λ (l : List ℕ). escape_all front ++ (escape b ++ l)) (sym (escaped-plain plain h)) ∙ sym (escaped-append front (b ∷ plain))
 
 pub fronts_on : (text front rest next plain last : List ℕ) (b : ℕ) → text ≡ front ++ rest → rest ≡ b ∷ next → next ≡ plain ++ last → text ≡ (front ++ (b ∷ plain)) ++ last
 fronts_on text front rest next plain last b e f g = e ∙ ap (λ (l : List ℕ). front ++ l) (f ∙ ap (λ (l : List ℕ). b ∷ l) g) ∙ sym (append_assoc front (b ∷ plain) last)

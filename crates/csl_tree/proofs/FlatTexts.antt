@@ -10,32 +10,32 @@ use Rattle.csl_tree.specs.Tokens.{Token, child_tokens, leaf_text, last_char}
 use Rattle.csl_tree.specs.declared.elem.ElemChild.{ElemChild}
 use Rattle.csl_tree.specs.declared.flat_items.Item.{Item}
 use Rattle.csl_tree.specs.declared.flat_items.Item.TheVariants.{Child, Mark}
-use Rattle.csl_tree.specs.Flat.{Parts, no_parts, with_tokens, with_open}
-use Rattle.csl_tree.specs.FlatItems.{parts_from, parts}
+use Rattle.csl_tree.specs.Flat.{OpenParts, only_root, with_tokens, open_part}
+use Rattle.csl_tree.specs.FlatItems.{parts_from, open_parts}
 use Rattle.csl_tree.proofs.ContentLaws.{leaf_text-join}
 use Rattle.csl_tree.proofs.LastChars.{child_spells, last_or-append, last_or-none, last_or-some, last_char-none}
 use Rattle.csl_tree.proofs.Flats.{parts_append, taken, fresh_behind}
 
-spells_from : (p : Parts) (xs : List Item) → IsUtf8 (leaf_text p.inner) → IsUtf8 (leaf_text (parts_from p xs).inner)
+spells_from : (p : OpenParts) (xs : List Item) → IsUtf8 (leaf_text p.inner) → IsUtf8 (leaf_text (parts_from p xs).inner)
 spells_from p [] h = h
 spells_from p (Child k ∷ xs) h = spells_from (with_tokens (child_tokens k) p) xs (subst IsUtf8 (sym (leaf_text-join p.inner (child_tokens k))) (IsUtf8-append _ _ h (child_spells k)))
-spells_from p (Mark ∷ xs) h = spells_from (with_open p) xs IsUtf8-nil
+spells_from p (Mark ∷ xs) h = spells_from (open_part p) xs IsUtf8-nil
 
 -- the text is UTF-8
-pub inner_spells : (xs : List Item) → IsUtf8 (leaf_text (parts xs).inner)
-inner_spells xs = spells_from no_parts xs IsUtf8-nil
+pub inner_spells : (xs : List Item) → IsUtf8 (leaf_text (open_parts xs).inner)
+inner_spells xs = spells_from only_root xs IsUtf8-nil
 
 abbrev pub end_of : List Item → Option ℕ
-end_of xs = last_char (leaf_text (parts xs).inner)
+end_of xs = last_char (leaf_text (open_parts xs).inner)
 
 -- the text of one more child
 one_more : (xs : List Item) (i : ℕ) (k : ElemChild) → i < length xs → Child k ≡ get_or xs i (Child k) → end_of (take (i + 1) xs) ≡ last_or (end_of (take i xs)) (chars (leaf_text (child_tokens k)))
 one_more xs i k h e =
     ap end_of (taken xs i (i + 1) (Child k) refl h e)
-    ∙ ap (λ (p : Parts). last_char (leaf_text p.inner)) (parts_append no_parts (take i xs) (Child k ∷ []))
-    ∙ ap last_char (leaf_text-join (parts (take i xs)).inner (child_tokens k))
-    ∙ ap (last_or None) (chars-append (leaf_text (parts (take i xs)).inner) (leaf_text (child_tokens k)) (inner_spells (take i xs)))
-    ∙ last_or-append None (chars (leaf_text (parts (take i xs)).inner)) (chars (leaf_text (child_tokens k)))
+    ∙ ap (λ (p : OpenParts). last_char (leaf_text p.inner)) (parts_append only_root (take i xs) (Child k ∷ []))
+    ∙ ap last_char (leaf_text-join (open_parts (take i xs)).inner (child_tokens k))
+    ∙ ap (last_or None) (chars-append (leaf_text (open_parts (take i xs)).inner) (leaf_text (child_tokens k)) (inner_spells (take i xs)))
+    ∙ last_or-append None (chars (leaf_text (open_parts (take i xs)).inner)) (chars (leaf_text (child_tokens k)))
 
 -- a child with text
 pub at_text : (xs : List Item) (i j : ℕ) (k : ElemChild) (o : Option ℕ) → i ≡ j + 1 → j < length xs → Child k ≡ get_or xs j (Child k) → o ≡ last_char (leaf_text (child_tokens k)) → is_some o ≡ true → end_of (take i xs) ≡ o

@@ -14,7 +14,7 @@ use Rattle.csl_style.specs.declared.formatting.VerticalAlign.TheVariants as alig
 use Rattle.csl_tree.specs.declared.formatting.Formatting.{Formatting}
 use Rattle.csl_tree.specs.Formatting.{same_formatting, style_place, variant_place, weight_place, decoration_place, align_place}
 use Rattle.csl_tree.specs.Tokens.{Token, text, solid}
-use Rattle.csl_tree.specs.Content.{text_before, last_before, joined, ◌++>◌, text_content}
+use Rattle.csl_tree.specs.Content.{text_before, last_before, join_tokens, ◌++>◌, text_content}
 
 -- the value at a place
 style_at : ℕ → FontStyle
@@ -114,7 +114,7 @@ text_before-joined x f (text y g ∷ []) c =
       | false ↦ λ h. text_before-apart x y f g c h
     ] refl
 text_before-joined x f (text y g ∷ t ∷ b) c =
-    elim (same_formatting f g) as (λ s. cond s (text (x ++ y) f ∷ t ∷ b) (text x f ∷ text y g ∷ t ∷ b) ++> c ≡ cond s (text (x ++ y) f ∷ joined t b c) (text x f ∷ text y g ∷ joined t b c)) [ true ↦ refl | false ↦ refl ]
+    elim (same_formatting f g) as (λ s. cond s (text (x ++ y) f ∷ t ∷ b) (text x f ∷ text y g ∷ t ∷ b) ++> c ≡ cond s (text (x ++ y) f ∷ join_tokens t b c) (text x f ∷ text y g ∷ join_tokens t b c)) [ true ↦ refl | false ↦ refl ]
 
 last_before-joined : (t : Token) (b c : List Token) → last_before t b ++> c ≡ last_before t (b ++> c)
 last_before-joined (text x f) b c = text_before-joined x f b c
@@ -122,17 +122,17 @@ last_before-joined (solid s) [] c = refl
 last_before-joined (solid s) (u ∷ b) c = refl
 
 -- what begins with a token is not empty
-text_before-cons : (t : Token) (x : List ℕ) (f : Formatting) (b c : List Token) → joined t (text_before x f b) c ≡ t ∷ (text_before x f b ++> c)
+text_before-cons : (t : Token) (x : List ℕ) (f : Formatting) (b c : List Token) → join_tokens t (text_before x f b) c ≡ t ∷ (text_before x f b ++> c)
 text_before-cons t x f [] c = refl
-text_before-cons t x f (text y g ∷ b) c = elim (same_formatting f g) as (λ s. joined t (cond s (text (x ++ y) f ∷ b) (text x f ∷ text y g ∷ b)) c ≡ t ∷ (cond s (text (x ++ y) f ∷ b) (text x f ∷ text y g ∷ b) ++> c)) [ true ↦ refl | false ↦ refl ]
+text_before-cons t x f (text y g ∷ b) c = elim (same_formatting f g) as (λ s. join_tokens t (cond s (text (x ++ y) f ∷ b) (text x f ∷ text y g ∷ b)) c ≡ t ∷ (cond s (text (x ++ y) f ∷ b) (text x f ∷ text y g ∷ b) ++> c)) [ true ↦ refl | false ↦ refl ]
 text_before-cons t x f (solid s ∷ b) c = refl
 
-joined-cons : (t u : Token) (a b c : List Token) → joined t (joined u a b) c ≡ t ∷ (joined u a b ++> c)
+joined-cons : (t u : Token) (a b c : List Token) → join_tokens t (join_tokens u a b) c ≡ t ∷ (join_tokens u a b ++> c)
 joined-cons t (text x f) [] b c = text_before-cons t x f b c
 joined-cons t (solid s) [] b c = refl
 joined-cons t u (v ∷ a) b c = refl
 
-joined-joined : (t : Token) (a b c : List Token) → joined t a b ++> c ≡ joined t a (b ++> c)
+joined-joined : (t : Token) (a b c : List Token) → join_tokens t a b ++> c ≡ join_tokens t a (b ++> c)
 joined-joined t [] b c = last_before-joined t b c
 joined-joined t (u ∷ a) b c = joined-cons t u a b c ∙ ap (λ l. t ∷ l) (joined-joined u a b c)
 
@@ -145,7 +145,7 @@ last_before-none : (t : Token) → last_before t [] ≡ t ∷ []
 last_before-none (text x f) = refl
 last_before-none (solid s) = refl
 
-joined-none : (t : Token) (a : List Token) → joined t a [] ≡ t ∷ a
+joined-none : (t : Token) (a : List Token) → join_tokens t a [] ≡ t ∷ a
 joined-none t [] = last_before-none t
 joined-none t (u ∷ a) = ap (λ l. t ∷ l) (joined-none u a)
 

@@ -14,11 +14,11 @@ use Rattle.csl_tree.specs.declared.elem.ElemChild.TheViews.{out-ElemChild, roll-
 use Rattle.csl_tree.specs.declared.elem.ElemChild.TheVariants as variants
 use Rattle.csl_tree.specs.declared.elem.Elem as elem
 use Rattle.csl_tree.specs.declared.elem.ElemChildren.{ElemChildren}
-use Rattle.csl_tree.specs.Links.{layer_unlinked, unlinked, kept_link, kept_links, link_address, addresses, AllowsBy}
+use Rattle.csl_tree.specs.Links.{layer_unlinked, child_without_link, kept_link, kept_links, link_address, addresses, AllowsBy}
 use Rattle.csl_tree.specs.Places.{layer_children, children_of, layer_with, with_children}
-use Rattle.csl_tree.specs.Tokens.{Token, Meta, text, solid, markup, link, transparent, opened, closed, around, optional_meta, child_tokens, token_text, leaf_text}
+use Rattle.csl_tree.specs.Tokens.{Token, Meta, text, solid, markup, link, transparent, elem_start, elem_end, elem_around, optional_meta, child_tokens, token_text, leaf_text}
 use Rattle.csl_tree.specs.Tokens as tree
-use Rattle.csl_tree.specs.Writing.{plain, plain_of}
+use Rattle.csl_tree.specs.Writing.{plain_text, plain_of}
 use Rattle.csl_tree.proofs.Appended.{elem_child}
 use Rattle.csl_tree.proofs.Trees.{elem_tokens_are, tokens_out}
 
@@ -26,7 +26,7 @@ pub kept-append : (allowed : List ℕ → Bool) (a b : List Token) → kept_link
 kept-append allowed [] b = refl
 kept-append allowed (t ∷ a) b = ap (λ l. kept_link allowed t ∷ l) (kept-append allowed a b)
 
-pub unlinked_other : (k : ElemChild) → ((t : Formatted) (u : String Global) → k ≡ variants.Link t u → ⊥) → k ≡ unlinked k
+pub unlinked_other : (k : ElemChild) → ((t : Formatted) (u : String Global) → k ≡ variants.Link t u → ⊥) → k ≡ child_without_link k
 unlinked_other k h = by_layer (out-ElemChild k) refl
   where
     by_layer : (x : ElemChild-F ElemChild elem.Elem ElemChildren) → out-ElemChild k ≡ x → k ≡ layer_unlinked x k
@@ -41,10 +41,10 @@ unlinked_other k h = by_layer (out-ElemChild k) refl
 record Around (k : ElemChild) (d w : ElemChildren) : Type 0 where
   pub display : Option Display
   pub meta : Option Meta
-  pub was : child_tokens k ≡ around display meta (tree.tokens d)
-  pub is : child_tokens (with_children k w) ≡ around display meta (tree.tokens w)
+  pub was : child_tokens k ≡ elem_around display meta (tree.tokens d)
+  pub is : child_tokens (with_children k w) ≡ elem_around display meta (tree.tokens w)
 
-elem_is : (a : elem.Elem) → child_tokens (variants.Elem a) ≡ around (elem.out-Elem a).display (optional_meta (elem.out-Elem a).meta) (tree.tokens (elem.out-Elem a).children)
+elem_is : (a : elem.Elem) → child_tokens (variants.Elem a) ≡ elem_around (elem.out-Elem a).display (optional_meta (elem.out-Elem a).meta) (tree.tokens (elem.out-Elem a).children)
 elem_is a = elem_child a ∙ elem_tokens_are a
 
 around_of : (k : ElemChild) (d w : ElemChildren) (x : ElemChild-F ElemChild elem.Elem ElemChildren) → out-ElemChild k ≡ x → Some d ≡ layer_children x → Around k d w
@@ -55,7 +55,7 @@ around_of k d w (Elem a) e c =
     record {
       display = a.display;
       meta = optional_meta a.meta;
-      was = ap child_tokens (sym rolled) ∙ elem_is a ∙ ap (λ c. around a.display (optional_meta a.meta) (tree.tokens c)) inner;
+      was = ap child_tokens (sym rolled) ∙ elem_is a ∙ ap (λ c. elem_around a.display (optional_meta a.meta) (tree.tokens c)) inner;
       is = ap (λ x. child_tokens (layer_with x k w)) e ∙ elem_is (record { children = w; display = a.display; meta = a.meta });
     }
 around_of k d w (Markup s) e c = cc
@@ -67,16 +67,16 @@ pub kept_inside : (allowed : List ℕ → Bool) (k : ElemChild) (d w : ElemChild
 kept_inside allowed k d w c e =
     let a = around_of k d w (out-ElemChild k) refl c in
     a.is
-    ∙ ap (around a.display a.meta) e
-    ∙ ap (λ l. solid (opened a.display a.meta) ∷ l) (sym (kept-append allowed (tree.tokens d) (solid (closed a.display) ∷ [])))
+    ∙ ap (elem_around a.display a.meta) e
+    ∙ ap (λ l. solid (elem_start a.display a.meta) ∷ l) (sym (kept-append allowed (tree.tokens d) (solid (elem_end a.display) ∷ [])))
     ∙ ap (kept_links allowed) (sym a.was)
 
 pub given_inside : (g : Token → List ℕ) (k : ElemChild) (d w : ElemChildren) → Some d ≡ children_of k → flat_map g (tree.tokens w) ≡ flat_map g (tree.tokens d) → flat_map g (child_tokens (with_children k w)) ≡ flat_map g (child_tokens k)
 given_inside g k d w c e =
     let a = around_of k d w (out-ElemChild k) refl c in
-    let end = solid (closed a.display) ∷ [] in
+    let end = solid (elem_end a.display) ∷ [] in
     ap (flat_map g) a.is
-    ∙ ap (λ l. g (solid (opened a.display a.meta)) ++ l) (flat_map-append g (tree.tokens w) end ∙ ap (λ l. l ++ flat_map g end) e ∙ sym (flat_map-append g (tree.tokens d) end))
+    ∙ ap (λ l. g (solid (elem_start a.display a.meta)) ++ l) (flat_map-append g (tree.tokens w) end ∙ ap (λ l. l ++ flat_map g end) e ∙ sym (flat_map-append g (tree.tokens d) end))
     ∙ ap (flat_map g) (sym a.was)
 
 -- ---- children, the first of which were visited
@@ -88,7 +88,7 @@ pub record Visited {F : Type 0} (step : F → Bor (List ℕ) → Bool → F → 
   pub items : ys ≡ done ++ drop i xs
   pub kept : (allowed : List ℕ → Bool) → AllowsBy step allowed → flat_map child_tokens done ≡ kept_links allowed (flat_map child_tokens (take i xs))
   pub leaves : leaf_text (flat_map child_tokens done) ≡ leaf_text (flat_map child_tokens (take i xs))
-  pub plains : plain (flat_map child_tokens done) ≡ plain (flat_map child_tokens (take i xs))
+  pub plains : plain_text (flat_map child_tokens done) ≡ plain_text (flat_map child_tokens (take i xs))
 
 pub none_visited : {F : Type 0} (step : F → Bor (List ℕ) → Bool → F → Type 0) (xs : List ElemChild) → Visited step xs xs 0
 none_visited step xs = record { done = []; count = refl; items = refl; kept = λ allowed by. refl; leaves = refl; plains = refl }
@@ -106,7 +106,7 @@ more_tokens : (ks : List ElemChild) (k : ElemChild) → flat_map child_tokens (k
 more_tokens ks k = flat_map-append child_tokens ks (k ∷ []) ∙ ap (λ l. flat_map child_tokens ks ++ l) (append-nil (child_tokens k))
 
 pub one_visited : {F : Type 0} (step : F → Bor (List ℕ) → Bool → F → Type 0) (xs ys : List ElemChild) (i : ℕ) (x new : ElemChild) → Visited step xs ys i → i < length xs → x ≡ get_or ys i x
-    → ((allowed : List ℕ → Bool) → AllowsBy step allowed → child_tokens new ≡ kept_links allowed (child_tokens x)) → leaf_text (child_tokens new) ≡ leaf_text (child_tokens x) → plain (child_tokens new) ≡ plain (child_tokens x)
+    → ((allowed : List ℕ → Bool) → AllowsBy step allowed → child_tokens new ≡ kept_links allowed (child_tokens x)) → leaf_text (child_tokens new) ≡ leaf_text (child_tokens x) → plain_text (child_tokens new) ≡ plain_text (child_tokens x)
     → Visited step xs (set ys i new) (suc i)
 one_visited step xs ys i x new v l is kept leaves plains =
     let here = get_or xs i x in
@@ -155,8 +155,8 @@ module _ {F : Type 0} (step : F → Bor (List ℕ) → Bool → F → Type 0) (c
   pub all_leaves : leaf_text (tree.tokens after) ≡ leaf_text (tree.tokens c)
   all_leaves = ap leaf_text all_new ∙ v.leaves ∙ ap leaf_text all_old
 
-  pub all_plains : plain (tree.tokens after) ≡ plain (tree.tokens c)
-  all_plains = ap plain all_new ∙ v.plains ∙ ap plain all_old
+  pub all_plains : plain_text (tree.tokens after) ≡ plain_text (tree.tokens c)
+  all_plains = ap plain_text all_new ∙ v.plains ∙ ap plain_text all_old
 
 -- ---- addresses
 
@@ -170,5 +170,5 @@ all_allowed allowed (solid (link bs f url) ∷ ts) =
       | false ↦ λ e. all_allowed allowed ts
     ] refl
 all_allowed allowed (solid (transparent n f) ∷ ts) = all_allowed allowed ts
-all_allowed allowed (solid (opened d m) ∷ ts) = all_allowed allowed ts
-all_allowed allowed (solid (closed d) ∷ ts) = all_allowed allowed ts
+all_allowed allowed (solid (elem_start d m) ∷ ts) = all_allowed allowed ts
+all_allowed allowed (solid (elem_end d) ∷ ts) = all_allowed allowed ts

@@ -13,7 +13,7 @@ use Rattle.csl_tree.specs.declared.elem.ElemChild.TheViews.{roll-ElemChild, roll
 use Rattle.csl_tree.specs.declared.elem.ElemChild.TheFolds.{map-ElemChild, map-Elem, map-ElemChildren, fold-roll-ElemChild, fold-roll-Elem, fold-roll-ElemChildren, ind-ElemChild}
 use Rattle.csl_tree.specs.declared.elem.Elem as elem
 use Rattle.csl_tree.specs.declared.elem.ElemChildren.{ElemChildren}
-use Rattle.csl_tree.specs.Tokens.{Token, Meta, solid, closed, around, optional_meta, child_step, elem_step, children_step, child_tokens, elem_tokens, tokens, token_text, leaf_text, last_char}
+use Rattle.csl_tree.specs.Tokens.{Token, Meta, solid, elem_end, elem_around, optional_meta, child_step, elem_step, children_step, child_tokens, elem_tokens, tokens, token_text, leaf_text, last_char}
 use Rattle.csl_style.specs.declared.formatting.Display.{Display}
 
 -- the leaf text of children in a row
@@ -37,8 +37,8 @@ all_spell (k ∷ ks) = subst IsUtf8 (sym (flat_map-append token_text (child_toke
 one_spells : (bs : List ℕ) → IsUtf8 bs → IsUtf8 (bs ++ [])
 one_spells bs h = subst IsUtf8 (sym (append-nil bs)) h
 
-around_spells : (d : Option Display) (m : Option Meta) (inside : List Token) → IsUtf8 (leaf_text inside) → IsUtf8 (leaf_text (around d m inside))
-around_spells d m inside h = subst IsUtf8 (sym (flat_map-append token_text inside (solid (closed d) ∷ []) ∙ append-nil (leaf_text inside))) h
+around_spells : (d : Option Display) (m : Option Meta) (inside : List Token) → IsUtf8 (leaf_text inside) → IsUtf8 (leaf_text (elem_around d m inside))
+around_spells d m inside h = subst IsUtf8 (sym (flat_map-append token_text inside (solid (elem_end d) ∷ []) ∙ append-nil (leaf_text inside))) h
 
 -- one level whose parts are UTF-8
 child_layer : (y : ElemChild-F ((k : ElemChild) × ChildSpells k) ((e : elem.Elem) × ElemSpells e) ((c : ElemChildren) × ChildrenSpell c)) → ChildSpells (roll-ElemChild (map-ElemChild _ _ _ ElemChild elem.Elem ElemChildren (λ e. e.0) (λ e. e.0) (λ e. e.0) y))

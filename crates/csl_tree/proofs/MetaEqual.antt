@@ -5,7 +5,7 @@ use Rattle.std.specs.Bool.{Decides}
 use Rattle.std.specs.Option.{option_eq}
 use Rattle.std.specs.Cmp.Lexicographic.{pointwise}
 use Rattle.std.specs.declared.alloc.Global.{Global}
-use Rattle.lit_model.specs.Person.{Named}
+use Rattle.lit_model.specs.Person.{PersonView}
 use Rattle.lit_model.specs.declared.person.Person.{Person}
 use Rattle.lit_model.specs.contracts.person.PersonPartialEq.TheImpl.{eq-value as eq_person}
 use Rattle.lit_model.proofs.PersonEqual.{person_decides}
@@ -42,12 +42,12 @@ variable_decides v w = search rules
 names_decide : (p q : Vec Person Global × NameVariable) → Decides (same_names p q) (names_of p ≡ names_of q)
 names_decide p q = through _ (both _ _ (pointwise_view eq_person.it _ person_decides p.0.items q.0.items) (variable_decides p.1 q.1))
     (λ h i. (h.0 i, h.1 i))
-    (λ h. (ap (λ (n : List Named × NameVariable). n.0) h, ap (λ (n : List Named × NameVariable). n.1) h))
+    (λ h. (ap (λ (n : List PersonView × NameVariable). n.0) h, ap (λ (n : List PersonView × NameVariable). n.1) h))
 
 lists_decide : (x y : List (Vec Person Global × NameVariable)) → Decides (pointwise same_names x y) (map names_of x ≡ map names_of y)
 lists_decide = pointwise_view same_names names_of names_decide
 
-abbrev names_in : Meta → List (List Named × NameVariable)
+abbrev names_in : Meta → List (List PersonView × NameVariable)
 names_in (of_names l) = l
 names_in m = []
 

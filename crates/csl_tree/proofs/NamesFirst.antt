@@ -5,7 +5,7 @@ use Rattle.std.specs.List.{flat_map, find}
 use Rattle.std.specs.Option.{option_or}
 use Rattle.csl_tree.specs.Search.{preorder, child_preorder, is_names, elem_of, layer_elem}
 use Rattle.csl_tree.specs.Places.{children_of, layer_children, child_at, no_child}
-use Rattle.csl_tree.specs.Named.{Found, absent, here, below, find_of_child, names_find, first_found, found_or, find_from, elem_at, first_names, is_found, more}
+use Rattle.csl_tree.specs.NamesSearch.{NamesPosition, absent, here, below, find_of_child, names_find, first_found, found_or, find_from, elem_at, first_names, is_found, is_nested_path}
 use Rattle.csl_tree.specs.declared.elem.ElemChild.{ElemChild}
 use Rattle.csl_tree.specs.declared.elem.ElemChild.TheOpen.{ElemChild-F, Elem-F, ElemChildren-F, Text, Elem, Markup, Link, Transparent}
 use Rattle.csl_tree.specs.declared.elem.ElemChild.TheViews.{out-ElemChild, out-roll-ElemChild, roll-ElemChild, roll-Elem, roll-ElemChildren}
@@ -21,7 +21,7 @@ abbrev elem_below : Option ElemChildren → List ℕ → Option elem.Elem
 elem_below None p = None
 elem_below (Some d) p = elem_at (Some p) d
 
-abbrev found_in : Found → ElemChild → Option elem.Elem
+abbrev found_in : NamesPosition → ElemChild → Option elem.Elem
 found_in absent k = None
 found_in here k = elem_of k
 found_in (below p) k = elem_below (children_of k) p
@@ -75,11 +75,11 @@ record From (c : ElemChildren) (ks : List ElemChild) (j : ℕ) : Type 0 where
   pub is : find is_names (flat_map child_preorder ks) ≡ elem_at (first_found j (map find_of_child ks)) c
   pub some : is_some (find is_names (flat_map child_preorder ks)) ≡ is_some (first_found j (map find_of_child ks))
 
-deeper : (c : ElemChildren) (k : ElemChild) (j : ℕ) (p : List ℕ) → k ≡ child_at c j → (n : Inside (children_of k) p) → more p ≡ true → elem_below (children_of k) p ≡ elem_at (Some (j ∷ p)) c
+deeper : (c : ElemChildren) (k : ElemChild) (j : ℕ) (p : List ℕ) → k ≡ child_at c j → (n : Inside (children_of k) p) → is_nested_path p ≡ true → elem_below (children_of k) p ≡ elem_at (Some (j ∷ p)) c
 deeper c k j [] at n m = cc
 deeper c k j (q ∷ p) at n m = ap (λ o. elem_below o (q ∷ p)) n.is ∙ ap (elem_at (Some (q ∷ p))) (sym (ap (λ y. unwrap_or (children_of y) c) (sym at) ∙ ap (λ o. unwrap_or o c) n.is))
 
-from_child : (c : ElemChildren) (k : ElemChild) (ks : List ElemChild) (j : ℕ) → FirstIn k → k ≡ child_at c j → From c ks (j + 1) → (r : Found) → find_of_child k ≡ r
+from_child : (c : ElemChildren) (k : ElemChild) (ks : List ElemChild) (j : ℕ) → FirstIn k → k ≡ child_at c j → From c ks (j + 1) → (r : NamesPosition) → find_of_child k ≡ r
     → (option_or (find is_names (child_preorder k)) (find is_names (flat_map child_preorder ks)) ≡ elem_at (found_or j r (first_found (j + 1) (map find_of_child ks))) c)
     × (is_some (option_or (find is_names (child_preorder k)) (find is_names (flat_map child_preorder ks))) ≡ is_some (found_or j r (first_found (j + 1) (map find_of_child ks))))
 from_child c k ks j one at rest absent e =
@@ -94,7 +94,7 @@ from_child c k ks j one at rest (below p) e =
     let some : is_some (find is_names (child_preorder k)) ≡ true = one.some ∙ ap is_found e in
     let stay = or_some (find is_names (child_preorder k)) (find is_names (flat_map child_preorder ks)) some in
     let n = inside (out-ElemChild k) p (sym (place.child_out k) ∙ e) in
-    let further : more p ≡ true = ap (λ o. more (paths o)) (sym n.found) ∙ find_more n.inner (ap is_some n.found) in
+    let further : is_nested_path p ≡ true = ap (λ o. is_nested_path (paths o)) (sym n.found) ∙ find_more n.inner (ap is_some n.found) in
     (stay ∙ one.is ∙ ap (λ r. found_in r k) e ∙ deeper c k j p at n further, ap is_some stay ∙ some)
 
 from_all : (c : ElemChildren) (ks : List ((k : ElemChild) × FirstIn k)) (j : ℕ) → ((m : ℕ) → m < length ks → slice_index_or (map (λ e. e.0) ks) m no_child ≡ child_at c (j + m)) → From c (map (λ e. e.0) ks) j

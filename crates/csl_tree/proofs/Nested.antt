@@ -17,9 +17,9 @@ use Rattle.csl_tree.specs.declared.elem.BufWriteFormat.TheVariants.{Html}
 use Rattle.csl_tree.specs.Content as content
 use Rattle.csl_tree.specs.Content.{IsContent}
 use Rattle.csl_tree.specs.Formatting.{same_formatting, default_formatting}
-use Rattle.csl_tree.specs.Tokens.{Token, Meta, text, solid, markup, link, transparent, opened, closed, around, optional_meta, child_step, elem_step, children_step, child_tokens, elem_tokens, tokens, token_text, leaf_text}
-use Rattle.csl_tree.specs.Html.{HtmlToken, div, span, anchor, start_tag, end_tag, characters, formatted, html_of, html, IsNested, nothing, text_then, element_then, characters_of, html_text, IsHtmlOf}
-use Rattle.csl_tree.specs.Writing.{written}
+use Rattle.csl_tree.specs.Tokens.{Token, Meta, text, solid, markup, link, transparent, elem_start, elem_end, elem_around, optional_meta, child_step, elem_step, children_step, child_tokens, elem_tokens, tokens, token_text, leaf_text}
+use Rattle.csl_tree.specs.Html.{HtmlToken, div, span, anchor, start_tag, end_tag, characters, html_of_text, html_of, html, IsNested, nothing, text_then, element_then, characters_of, html_text, IsHtmlOf}
+use Rattle.csl_tree.specs.Writing.{text_in_format}
 
 -- two nested lists in a row
 pub nested_append : {a : List HtmlToken} (b : List HtmlToken) → IsNested a → IsNested b → IsNested (a ++ b)
@@ -28,7 +28,7 @@ nested_append b (text_then bs rest h) k = text_then bs (rest ++ b) (nested_appen
 nested_append b (element_then tag inside rest h i) k =
     subst (λ (l : List HtmlToken). IsNested (start_tag tag ∷ l)) (sym (append_assoc inside (end_tag tag ∷ rest) b)) (element_then tag inside (rest ++ b) h (nested_append b i k))
 
-nested_formatted : (bs : List ℕ) (f : Formatting) → IsNested (formatted bs f)
+nested_formatted : (bs : List ℕ) (f : Formatting) → IsNested (html_of_text bs f)
 nested_formatted bs f =
     elim (same_formatting f default_formatting) as (λ s. IsNested (cond s (characters bs ∷ []) (start_tag (span f) ∷ characters bs ∷ end_tag (span f) ∷ []))) [
       | true ↦ text_then bs [] nothing
@@ -39,9 +39,9 @@ nested_formatted bs f =
 alone : (t : Token) → IsNested (html_of t) → IsNested (html (t ∷ []))
 alone t h = subst IsNested (sym (append-nil (html_of t))) h
 
-nested_around : (d : Option Display) (m : Option Meta) (inside : List Token) → IsNested (html inside) → IsNested (html (around d m inside))
-nested_around None m inside h = subst IsNested (sym (flat_map-append html_of inside (solid (closed None) ∷ []) ∙ append-nil (html inside))) h
-nested_around (Some d) m inside h = subst (λ (l : List HtmlToken). IsNested (start_tag (div d) ∷ l)) (sym (flat_map-append html_of inside (solid (closed (Some d)) ∷ []))) (element_then (div d) (html inside) [] h nothing)
+nested_around : (d : Option Display) (m : Option Meta) (inside : List Token) → IsNested (html inside) → IsNested (html (elem_around d m inside))
+nested_around None m inside h = subst IsNested (sym (flat_map-append html_of inside (solid (elem_end None) ∷ []) ∙ append-nil (html inside))) h
+nested_around (Some d) m inside h = subst (λ (l : List HtmlToken). IsNested (start_tag (div d) ∷ l)) (sym (flat_map-append html_of inside (solid (elem_end (Some d)) ∷ []))) (element_then (div d) (html inside) [] h nothing)
 
 abbrev NestedChild : ElemChild → Type 0
 NestedChild k = IsNested (html (child_tokens k))
@@ -60,7 +60,7 @@ text_nested : (bs : List ℕ) (f : Formatting) → IsNested (html (text bs f ∷
 text_nested bs f = alone (text bs f) (nested_formatted bs f)
 
 link_nested : (bs : List ℕ) (f : Formatting) (url : List ℕ) → IsNested (html (solid (link bs f url) ∷ []))
-link_nested bs f url = alone (solid (link bs f url)) (element_then (anchor url) (formatted bs f) [] (nested_formatted bs f) nothing)
+link_nested bs f url = alone (solid (link bs f url)) (element_then (anchor url) (html_of_text bs f) [] (nested_formatted bs f) nothing)
 
 -- one level whose parts are nested
 child_layer : (y : ElemChild-F ((k : ElemChild) × NestedChild k) ((e : elem.Elem) × NestedElem e) ((c : ElemChildren) × NestedChildren c)) → NestedChild (roll-ElemChild (map-ElemChild _ _ _ ElemChild elem.Elem ElemChildren (λ e. e.0) (λ e. e.0) (λ e. e.0) y))
@@ -99,7 +99,7 @@ nested_children = ind-ElemChildren NestedChild NestedElem NestedChildren
     (λ x y is. subst (λ z. NestedElem (roll-Elem z)) is (elem_layer y))
     (λ x y is. subst (λ z. NestedChildren (roll-ElemChildren z)) is (children_layer y))
 
-formatted_text : (bs : List ℕ) (f : Formatting) → html_text (formatted bs f) ≡ bs
+formatted_text : (bs : List ℕ) (f : Formatting) → html_text (html_of_text bs f) ≡ bs
 formatted_text bs f =
     elim (same_formatting f default_formatting) as (λ s. html_text (cond s (characters bs ∷ []) (start_tag (span f) ∷ characters bs ∷ end_tag (span f) ∷ [])) ≡ bs) [
       | true ↦ append-nil bs
@@ -110,12 +110,12 @@ formatted_text bs f =
 token_leaves : (t : Token) → html_text (html_of t) ≡ token_text t
 token_leaves (text bs f) = formatted_text bs f
 token_leaves (solid (markup bs)) = append-nil bs
-token_leaves (solid (link bs f url)) = flat_map-append characters_of (formatted bs f) (end_tag (anchor url) ∷ []) ∙ append-nil (html_text (formatted bs f)) ∙ formatted_text bs f
+token_leaves (solid (link bs f url)) = flat_map-append characters_of (html_of_text bs f) (end_tag (anchor url) ∷ []) ∙ append-nil (html_text (html_of_text bs f)) ∙ formatted_text bs f
 token_leaves (solid (transparent n f)) = refl
-token_leaves (solid (opened None m)) = refl
-token_leaves (solid (opened (Some d) m)) = refl
-token_leaves (solid (closed None)) = refl
-token_leaves (solid (closed (Some d))) = refl
+token_leaves (solid (elem_start None m)) = refl
+token_leaves (solid (elem_start (Some d) m)) = refl
+token_leaves (solid (elem_end None)) = refl
+token_leaves (solid (elem_end (Some d))) = refl
 
 -- the texts of the HTML are those of the leaves
 pub html_leaves : (ts : List Token) → html_text (html ts) ≡ leaf_text ts
@@ -127,18 +127,18 @@ nested_content content.nothing = nothing
 nested_content (content.text_then b bs f rest h) = nested_append (html rest) (nested_formatted (b ∷ bs) f) (nested_content h)
 nested_content (content.markup_then b bs rest h) = text_then (b ∷ bs) (html rest) (nested_content h)
 nested_content (content.link_then b bs f url rest h) =
-    nested_append (html rest) (element_then (anchor url) (formatted (b ∷ bs) f) [] (nested_formatted (b ∷ bs) f) nothing) (nested_content h)
+    nested_append (html rest) (element_then (anchor url) (html_of_text (b ∷ bs) f) [] (nested_formatted (b ∷ bs) f) nothing) (nested_content h)
 nested_content (content.transparent_then n f rest h) = nested_content h
 nested_content (content.element_then None m t inside rest h k) =
-    subst IsNested (sym (flat_map-append html_of (t ∷ inside) (solid (closed None) ∷ rest))) (nested_append (html rest) (nested_content h) (nested_content k))
+    subst IsNested (sym (flat_map-append html_of (t ∷ inside) (solid (elem_end None) ∷ rest))) (nested_append (html rest) (nested_content h) (nested_content k))
 nested_content (content.element_then (Some d) m t inside rest h k) =
-    subst (λ (l : List HtmlToken). IsNested (start_tag (div d) ∷ l)) (sym (flat_map-append html_of (t ∷ inside) (solid (closed (Some d)) ∷ rest)))
+    subst (λ (l : List HtmlToken). IsNested (start_tag (div d) ∷ l)) (sym (flat_map-append html_of (t ∷ inside) (solid (elem_end (Some d)) ∷ rest)))
     (element_then (div d) (html (t ∷ inside)) (html rest) (nested_content h) (nested_content k))
 
 -- ---- what is written is HTML of the leaf text
 
-pub tree_is_html : (c : ElemChildren) → IsHtmlOf (written Html (tokens c)) (leaf_text (tokens c))
+pub tree_is_html : (c : ElemChildren) → IsHtmlOf (text_in_format Html (tokens c)) (leaf_text (tokens c))
 tree_is_html c = record { tokens = html (tokens c); nested = nested_children c; written = refl; texts = sym (html_leaves (tokens c)) }
 
-pub content_is_html : (c : List Token) → IsContent c → IsHtmlOf (written Html c) (leaf_text c)
+pub content_is_html : (c : List Token) → IsContent c → IsHtmlOf (text_in_format Html c) (leaf_text c)
 content_is_html c is = record { tokens = html c; nested = nested_content is; written = refl; texts = sym (html_leaves c) }

@@ -7,7 +7,7 @@ use Rattle.std.proofs.lemmas.Grind.{flat_map-append}
 use Rattle.std.proofs.lemmas.List.{append-nil}
 use Rattle.csl_tree.specs.declared.marks.Element.{Element}
 use Rattle.csl_tree.specs.declared.marks.Element.TheVariants as element
-use Rattle.csl_tree.specs.Escapes.{escape, escaped}
+use Rattle.csl_tree.specs.Escapes.{escape, escape_all}
 use Rattle.csl_tree.specs.Html.{Tag, div, span, anchor, HtmlToken, start_tag, end_tag, characters, IsNested, nothing, text_then, element_then, characters_of, html_text, html_bytes_of, html_bytes, IsHtmlOf}
 use Rattle.csl_tree.specs.Marks.{Piece, start_piece, end_piece, byte_piece, piece_bytes, element_of, end_bytes}
 use Rattle.csl_tree.specs.Reading.{pieces_bytes, piece_text, pieces_text, element_place, within_after, within_after_all}
@@ -18,7 +18,7 @@ pub within-of_text : (o : List Element) (bs : List ℕ) → within_after_all o (
 within-of_text o [] = refl
 within-of_text o (b ∷ bs) = within-of_text o bs
 
-pub bytes-of_text : (bs : List ℕ) → pieces_bytes (map byte_piece bs) ≡ escaped bs
+pub bytes-of_text : (bs : List ℕ) → pieces_bytes (map byte_piece bs) ≡ escape_all bs
 bytes-of_text [] = refl
 bytes-of_text (b ∷ bs) = ap (λ (l : List ℕ). escape b ++ l) (bytes-of_text bs)
 

@@ -3,10 +3,10 @@ use Rattle.std.proofs.Common.{◌≡◌}
 use Rattle.csl_style.specs.declared.formatting.Formatting as partial
 use Rattle.csl_style.specs.Overlaid.{IsBoth}
 use Rattle.csl_tree.specs.declared.formatting.Formatting.{Formatting}
-use Rattle.csl_tree.specs.Formatting.{over}
+use Rattle.csl_tree.specs.Formatting.{apply_formatting}
 
 -- what is both over a place is the one over what the other is over it
-pub over-both : (p q both : partial.Formatting) (f : Formatting) → IsBoth p q both → over both f ≡ over p (over q f)
+pub over-both : (p q both : partial.Formatting) (f : Formatting) → IsBoth p q both → apply_formatting both f ≡ apply_formatting p (apply_formatting q f)
 over-both p q both f h =
     λ i. record {
       font_style = h.font_style f.font_style i;

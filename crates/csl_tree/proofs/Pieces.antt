@@ -5,7 +5,7 @@ use Rattle.std.proofs.lemmas.Grind.{common_steps}
 use Rattle.csl_style.specs.declared.formatting.Display.TheVariants.{Block, LeftMargin, RightInline, Indent}
 use Rattle.csl_tree.specs.declared.marks.Element.{Element}
 use Rattle.csl_tree.specs.declared.marks.Element.TheVariants as element
-use Rattle.csl_tree.specs.Escapes.{escape, escaped, is_reserved}
+use Rattle.csl_tree.specs.Escapes.{escape, escape_all, is_reserved}
 use Rattle.csl_tree.specs.Html.{div, span, anchor}
 use Rattle.csl_tree.specs.Marks.{without, reference_at, byte_at, div_at, span_at, end_at, BeginsNoStart, Piece, start_piece, end_piece, byte_piece, piece_bytes, BeginsNoPiece}
 use Rattle.csl_tree.specs.Reading.{pieces_bytes, piece_text, pieces_text, within_after, within_after_all}
@@ -66,7 +66,7 @@ unfolding reference_at
 anchors_tell u v x y h =
     let front = codes "<a href=\"" in
     let close = codes "\">" in
-    let inside = some_same (escaped u ++ (close ++ x)) (escaped v ++ (close ++ y)) (sym (without-append front (escaped u ++ (close ++ x))) ∙ ap (without front) (sym (anchor-split u x) ∙ h ∙ anchor-split v y) ∙ without-append front (escaped v ++ (close ++ y))) in
+    let inside = some_same (escape_all u ++ (close ++ x)) (escape_all v ++ (close ++ y)) (sym (without-append front (escape_all u ++ (close ++ x))) ∙ ap (without front) (sym (anchor-split u x) ∙ h ∙ anchor-split v y) ∙ without-append front (escape_all v ++ (close ++ y))) in
     let t = texts_tell u v (close ++ x) (close ++ y) refl refl inside in
     some_same x y (sym (without-append close x) ∙ ap (without close) t.1 ∙ without-append close y)
 

@@ -13,9 +13,9 @@ use Rattle.std.proofs.lemmas.Bool.{false≢true}
 use mathlib.Core.HLevel.{is_prop→PathP}
 use native.Mathlib.Nat.{ℕ_set}
 use Rattle.csl_style.specs.declared.formatting.Display.{Display}
-use Rattle.csl_tree.specs.Tokens.{Token, solid, opened, closed, around, optional_meta, child_step, elem_step, children_step, child_tokens, elem_tokens, tokens}
+use Rattle.csl_tree.specs.Tokens.{Token, solid, elem_start, elem_end, elem_around, optional_meta, child_step, elem_step, children_step, child_tokens, elem_tokens, tokens}
 use Rattle.csl_tree.specs.Places.{layer_children, children_of, layer_with, with_children}
-use Rattle.csl_tree.specs.Search.{preorder, child_preorder, has_meta, child_has_meta, layer_has_meta, elem_of, layer_elem, opens_meta, NothingNoted, TakenOut}
+use Rattle.csl_tree.specs.Search.{preorder, child_preorder, has_meta, child_has_meta, layer_has_meta, elem_of, layer_elem, opens_meta, HasNoMeta, MetaRemoved}
 use Rattle.csl_tree.specs.declared.elem.ElemMeta.{ElemMeta}
 use Rattle.csl_tree.specs.declared.elem.ElemChild.{ElemChild}
 use Rattle.csl_tree.specs.declared.elem.ElemChild.TheOpen.{ElemChild-F, Text, Elem, Markup, Link, Transparent}
@@ -45,7 +45,7 @@ same_item v i x is =
     λ j. record { ptr = v.ptr; len = v.len; cap = v.cap; alloc = v.alloc; items = e j; ok = (is_prop→PathP (λ k. v.len ≡ length (e k)) (λ k. ℕ_set v.len (length (e k))) (with_item v i x).ok.0 v.ok.0 j, v.ok.1); small = v.small }
 
 -- what was taken out of a part was taken out of the whole
-pub taken_inside : (p a t b s : List Token) → NothingNoted p → TakenOut a t b → TakenOut (p ++ (a ++ s)) t (p ++ (b ++ s))
+pub taken_inside : (p a t b s : List Token) → HasNoMeta p → MetaRemoved a t b → MetaRemoved (p ++ (a ++ s)) t (p ++ (b ++ s))
 taken_inside p a t b s none o = record {
   before = p ++ o.before;
   after = o.after ++ s;
@@ -54,7 +54,7 @@ taken_inside p a t b s none o = record {
   first = list_any-append opens_meta p o.before ∙ ap (λ b. b || list_any opens_meta o.before) none ∙ o.first;
 }
 
-pub nothing_append : (a b : List Token) → NothingNoted a → NothingNoted b → NothingNoted (a ++ b)
+pub nothing_append : (a b : List Token) → HasNoMeta a → HasNoMeta b → HasNoMeta (a ++ b)
 nothing_append a b g h = list_any-append opens_meta a b ∙ ap (λ x. x || list_any opens_meta b) g ∙ h
 
 layer_here : (x : ElemChild-F ElemChild elem.Elem ElemChildren) (o : Option elem.Elem) → layer_has_meta x ≡ true → option_map variants.Elem (option_or (find has_meta (layer_preorder x)) o) ≡ Some (roll-ElemChild x)
@@ -92,16 +92,16 @@ module _ (ks : List ElemChild) (i : ℕ) (k : ElemChild) (h : i < length ks) (is
   abbrev front : ℕ → List Token
   front n = flat_map child_tokens (take n ks)
 
-  pub nothing_more : NothingNoted (front i) → NothingNoted (child_tokens k) → NothingNoted (front (i + 1))
+  pub nothing_more : HasNoMeta (front i) → HasNoMeta (child_tokens k) → HasNoMeta (front (i + 1))
   nothing_more g n =
       let one : front (i + 1) ≡ front i ++ child_tokens k = ap (flat_map child_tokens) (take_more ks i k h) ∙ flat_map-append child_tokens (take i ks) (get_or ks i k ∷ []) ∙ ap (λ d. front i ++ (child_tokens d ++ [])) (sym is) ∙ ap (λ l. front i ++ l) (append-nil (child_tokens k)) in
-      subst NothingNoted (sym one) (nothing_append (front i) (child_tokens k) g n)
+      subst HasNoMeta (sym one) (nothing_append (front i) (child_tokens k) g n)
 
   abbrev later : List Token
   later = flat_map child_tokens (drop (i + 1) ks)
 
   -- the child itself, or what is inside it
-  pub taken_here : NothingNoted (front i) → TakenOut (flat_map child_tokens ks) (child_tokens k) (flat_map child_tokens (remove ks i))
+  pub taken_here : HasNoMeta (front i) → MetaRemoved (flat_map child_tokens ks) (child_tokens k) (flat_map child_tokens (remove ks i))
   taken_here n = record {
     before = front i;
     after = later;
@@ -110,17 +110,17 @@ module _ (ks : List ElemChild) (i : ℕ) (k : ElemChild) (h : i < length ks) (is
     first = n;
   }
 
-  pub taken_below : (t : List Token) (j : ElemChild) → NothingNoted (front i) → TakenOut (child_tokens k) t (child_tokens j) → TakenOut (flat_map child_tokens ks) t (flat_map child_tokens (set ks i j))
+  pub taken_below : (t : List Token) (j : ElemChild) → HasNoMeta (front i) → MetaRemoved (child_tokens k) t (child_tokens j) → MetaRemoved (flat_map child_tokens ks) t (flat_map child_tokens (set ks i j))
   taken_below t j n o =
-      subst (λ (a : List Token). TakenOut a t (flat_map child_tokens (set ks i j))) (sym (split_at child_tokens ks i k h is))
-      (subst (λ (b : List Token). TakenOut (front i ++ (child_tokens k ++ later)) t b) (sym (split_set child_tokens ks i j h)) (taken_inside (front i) (child_tokens k) t (child_tokens j) later n o))
+      subst (λ (a : List Token). MetaRemoved a t (flat_map child_tokens (set ks i j))) (sym (split_at child_tokens ks i k h is))
+      (subst (λ (b : List Token). MetaRemoved (front i ++ (child_tokens k ++ later)) t b) (sym (split_set child_tokens ks i j h)) (taken_inside (front i) (child_tokens k) t (child_tokens j) later n o))
 
 pub same_at : {A : Type 0} (xs : List A) (i : ℕ) (x y : A) → i < length xs → x ≡ get_or xs i x → y ≡ get_or xs i y → x ≡ y
 same_at [] i x y h p q = absurd (omega arith)
 same_at (z ∷ zs) zero x y h p q = p ∙ sym q
 same_at (z ∷ zs) (suc i) x y h p q = same_at zs i x y (omega arith) p q
 
-pub moved : {a b c d : List Token} (t : List Token) → a ≡ b → c ≡ d → TakenOut b t d → TakenOut a t c
+pub moved : {a b c d : List Token} (t : List Token) → a ≡ b → c ≡ d → MetaRemoved b t d → MetaRemoved a t c
 moved t p q o = record { before = o.before; after = o.after; was = p ∙ o.was; is = q ∙ o.is; first = o.first }
 
 none_of : (m : Option ElemMeta) → is_some m ≡ false → optional_meta m ≡ None
@@ -134,8 +134,8 @@ module _ (e : elem.Elem) (h : has_meta e ≡ false) where
   pub below_elem : find has_meta (child_preorder (variants.Elem e)) ≡ find has_meta (preorder (elem.out-Elem e).children)
   below_elem = ap (find has_meta) (child_out (variants.Elem e) ∙ ap layer_preorder (outs-Elem e)) ∙ rw h refl
 
-  pub opened_is : child_tokens (variants.Elem e) ≡ around display None (tokens (elem.out-Elem e).children)
-  opened_is = elem_child e ∙ elem_tokens_are e ∙ ap (λ m. around display m (tokens (elem.out-Elem e).children)) (none_of (elem.out-Elem e).meta h)
+  pub opened_is : child_tokens (variants.Elem e) ≡ elem_around display None (tokens (elem.out-Elem e).children)
+  opened_is = elem_child e ∙ elem_tokens_are e ∙ ap (λ m. elem_around display m (tokens (elem.out-Elem e).children)) (none_of (elem.out-Elem e).meta h)
 
 abbrev pub children_of_vec : Vec ElemChild Global → ElemChildren
 children_of_vec v = record { 0 = v }
@@ -151,15 +151,15 @@ layer_none (Transparent n f) h = refl
 pub none_in : (k : ElemChild) → None ≡ elem_of k → None ≡ option_map variants.Elem (find has_meta (child_preorder k))
 none_in k h = layer_none (out-ElemChild k) h ∙ sym (ap (λ l. option_map variants.Elem (find has_meta l)) (child_out k))
 
-layer_nothing : (k : ElemChild) (x : ElemChild-F ElemChild elem.Elem ElemChildren) → None ≡ layer_elem x → NothingNoted (child_step (map-ElemChild ElemChild elem.Elem ElemChildren (List Token) (List Token) (List Token) child_tokens elem_tokens tokens x))
+layer_nothing : (k : ElemChild) (x : ElemChild-F ElemChild elem.Elem ElemChildren) → None ≡ layer_elem x → HasNoMeta (child_step (map-ElemChild ElemChild elem.Elem ElemChildren (List Token) (List Token) (List Token) child_tokens elem_tokens tokens x))
 layer_nothing k (Text t) h = refl
 layer_nothing k (Elem e) h = cc
 layer_nothing k (Markup s) h = refl
 layer_nothing k (Link t u) h = refl
 layer_nothing k (Transparent n f) h = refl
 
-pub nothing_in : (k : ElemChild) → None ≡ elem_of k → NothingNoted (child_tokens k)
-nothing_in k h = subst NothingNoted (sym (fold_out-ElemChild (List Token) (List Token) (List Token) child_step elem_step children_step k)) (layer_nothing k (out-ElemChild k) h)
+pub nothing_in : (k : ElemChild) → None ≡ elem_of k → HasNoMeta (child_tokens k)
+nothing_in k h = subst HasNoMeta (sym (fold_out-ElemChild (List Token) (List Token) (List Token) child_step elem_step children_step k)) (layer_nothing k (out-ElemChild k) h)
 
 layer_some : (x : ElemChild-F ElemChild elem.Elem ElemChildren) (e : elem.Elem) → Some e ≡ layer_elem x → is_some (layer_children x) ≡ true
 layer_some (Text t) e h = cc
@@ -176,8 +176,8 @@ some_children k (Some d) e h = layer_some (out-ElemChild k) d e
 module _ (k : ElemChild) (d : ElemChildren) where
   record Around (w : ElemChildren) : Type 0 where
     pub display : Option Display
-    pub was : child_tokens k ≡ around display None (tokens d)
-    pub is : child_tokens (with_children k w) ≡ around display None (tokens w)
+    pub was : child_tokens k ≡ elem_around display None (tokens d)
+    pub is : child_tokens (with_children k w) ≡ elem_around display None (tokens w)
     pub same : with_children k d ≡ k
     pub found : find has_meta (child_preorder k) ≡ find has_meta (preorder d)
 
@@ -188,7 +188,7 @@ module _ (k : ElemChild) (d : ElemChildren) where
       let inner : a.children ≡ d = ap (λ o. unwrap_or o d) (sym c) in
       record {
         display = a.display;
-        was = ap child_tokens (sym rolled) ∙ opened_is a h ∙ ap (λ c. around a.display None (tokens c)) inner;
+        was = ap child_tokens (sym rolled) ∙ opened_is a h ∙ ap (λ c. elem_around a.display None (tokens c)) inner;
         is = ap (λ x. child_tokens (layer_with x k w)) e ∙ opened_is (record { children = w; display = a.display; meta = a.meta }) h;
         same = ap (λ x. layer_with x k d) e ∙ ap (λ c. variants.Elem (record { children = c; display = a.display; meta = a.meta })) (sym inner) ∙ rolled;
         found = ap (λ k. find has_meta (child_preorder k)) (sym rolled) ∙ below_elem a h ∙ ap (λ c. find has_meta (preorder c)) inner;
@@ -204,13 +204,13 @@ module _ (k : ElemChild) (d : ElemChildren) where
     pub found_inside : find has_meta (child_preorder k) ≡ find has_meta (preorder d)
     found_inside = (around_is d).found
 
-    pub taken_in : (t : List Token) (w : ElemChildren) → TakenOut (tokens d) t (tokens w) → TakenOut (child_tokens k) t (child_tokens (with_children k w))
+    pub taken_in : (t : List Token) (w : ElemChildren) → MetaRemoved (tokens d) t (tokens w) → MetaRemoved (child_tokens k) t (child_tokens (with_children k w))
     taken_in t w o =
         let a = around_is w in
-        moved t a.was a.is (taken_inside (solid (opened a.display None) ∷ []) (tokens d) t (tokens w) (solid (closed a.display) ∷ []) refl o)
+        moved t a.was a.is (taken_inside (solid (elem_start a.display None) ∷ []) (tokens d) t (tokens w) (solid (elem_end a.display) ∷ []) refl o)
 
-    pub nothing_inside : NothingNoted (tokens d) → NothingNoted (child_tokens k)
-    nothing_inside n = let a = around_is d in subst NothingNoted (sym a.was) (nothing_append (tokens d) (solid (closed a.display) ∷ []) n refl)
+    pub nothing_inside : HasNoMeta (tokens d) → HasNoMeta (child_tokens k)
+    nothing_inside n = let a = around_is d in subst HasNoMeta (sym a.was) (nothing_append (tokens d) (solid (elem_end a.display) ∷ []) n refl)
 
     pub same_inside : (w : ElemChildren) → w ≡ d → with_children k w ≡ k
     same_inside w e = ap (with_children k) e ∙ (around_is d).same

@@ -16,9 +16,9 @@ use Rattle.csl_style.specs.declared.formatting.VerticalAlign.TheVariants as alig
 use Rattle.csl_tree.specs.declared.formatting.Formatting.{Formatting}
 use Rattle.csl_tree.specs.declared.marks.Element.{Element}
 use Rattle.csl_tree.specs.declared.marks.Element.TheVariants as element
-use Rattle.csl_tree.specs.Escapes.{escaped}
+use Rattle.csl_tree.specs.Escapes.{escape_all}
 use Rattle.csl_tree.specs.Html.{div, span, anchor, css, style_css, weight_css, decoration_css, variant_css, align_css, div_start}
-use Rattle.csl_tree.specs.Marks.{end_bytes, without, after, or_else, named, reference_at, div_at, span_at, end_at, after_css, after_style, after_weight, after_decoration, after_variant, after_align, IsAfterText, IsAfterAnchor, IsStart, BeginsNoStart}
+use Rattle.csl_tree.specs.Marks.{end_bytes, without, after, or_else, entity_at, reference_at, div_at, span_at, end_at, after_css, after_style, after_weight, after_decoration, after_variant, after_align, IsAfterText, IsAfterAnchor, IsStart, BeginsNoStart}
 use Rattle.csl_tree.proofs.Fronts.{without-append, without-is}
 use Rattle.csl_tree.proofs.Escaped.{or_else-is, named-is, texts_tell}
 
@@ -137,10 +137,10 @@ after_css-is bs =
 -- ---- start tags
 
 abbrev pub anchor_bytes : List ℕ → List ℕ
-anchor_bytes url = codes "<a href=\"" ++ (escaped url ++ codes "\">")
+anchor_bytes url = codes "<a href=\"" ++ (escape_all url ++ codes "\">")
 
-pub anchor-split : (url more : List ℕ) → anchor_bytes url ++ more ≡ codes "<a href=\"" ++ (escaped url ++ Closing more)
-anchor-split url more = append_assoc (codes "<a href=\"") (escaped url ++ codes "\">") more ∙ ap (λ (l : List ℕ). codes "<a href=\"" ++ l) (append_assoc (escaped url) (codes "\">") more)
+pub anchor-split : (url more : List ℕ) → anchor_bytes url ++ more ≡ codes "<a href=\"" ++ (escape_all url ++ Closing more)
+anchor-split url more = append_assoc (codes "<a href=\"") (escape_all url ++ codes "\">") more ∙ ap (λ (l : List ℕ). codes "<a href=\"" ++ l) (append_assoc (escape_all url) (codes "\">") more)
 
 pub anchor_after : (html r s : List ℕ) → without (codes "<a href=\"") html ≡ Some r → IsAfterText r s → IsAfterAnchor html (without (codes "\">") s)
 unfolding reference_at
@@ -148,16 +148,16 @@ anchor_after html r s e p =
     let whole : html ≡ codes "<a href=\"" ++ r = without-is (codes "<a href=\"") html r e in
     elim (without (codes "\">") s) as (λ o. without (codes "\">") s ≡ o → IsAfterAnchor html o) [
       | None ↦ λ f. λ url more g.
-          let h : Some r ≡ Some (escaped url ++ Closing more) = sym e ∙ ap (without (codes "<a href=\"")) (g ∙ anchor-split url more) ∙ without-append (codes "<a href=\"") (escaped url ++ Closing more) in
-          let k : escaped p.0 ++ s ≡ escaped url ++ Closing more = sym p.1 ∙ ap (λ (o : Option (List ℕ)). unwrap_or o r) h in
+          let h : Some r ≡ Some (escape_all url ++ Closing more) = sym e ∙ ap (without (codes "<a href=\"")) (g ∙ anchor-split url more) ∙ without-append (codes "<a href=\"") (escape_all url ++ Closing more) in
+          let k : escape_all p.0 ++ s ≡ escape_all url ++ Closing more = sym p.1 ∙ ap (λ (o : Option (List ℕ)). unwrap_or o r) h in
           let t = texts_tell p.0 url s (Closing more) p.2 refl k in
           absurd (cc (sym f ∙ ap (without (codes "\">")) t.1 ∙ without-append (codes "\">") more))
       | Some rest ↦ λ f.
-          (p.0, whole ∙ ap (λ (l : List ℕ). codes "<a href=\"" ++ l) (p.1 ∙ ap (λ (l : List ℕ). escaped p.0 ++ l) (without-is (codes "\">") s rest f)) ∙ sym (anchor-split p.0 rest))
+          (p.0, whole ∙ ap (λ (l : List ℕ). codes "<a href=\"" ++ l) (p.1 ∙ ap (λ (l : List ℕ). escape_all p.0 ++ l) (without-is (codes "\">") s rest f)) ∙ sym (anchor-split p.0 rest))
     ] refl
 
 pub no_anchor : (html : List ℕ) → without (codes "<a href=\"") html ≡ None → IsAfterAnchor html None
-no_anchor html e url more g = absurd (cc (sym e ∙ ap (without (codes "<a href=\"")) (g ∙ anchor-split url more) ∙ without-append (codes "<a href=\"") (escaped url ++ Closing more)))
+no_anchor html e url more g = absurd (cc (sym e ∙ ap (without (codes "<a href=\"")) (g ∙ anchor-split url more) ∙ without-append (codes "<a href=\"") (escape_all url ++ Closing more)))
 
 pub div_at-start : (d : Display) (more : List ℕ) → div_at (div_start d ++ more) ≡ Some more
 unfolding div_at
@@ -229,13 +229,13 @@ end_at-bytes element.Div more = refl
 end_at-bytes element.Span more = refl
 end_at-bytes element.Anchor more = refl
 
-ended : (o : Element) (e : Element) (bs more : List ℕ) → named o (end_bytes o) bs ≡ Some (e, more) → bs ≡ end_bytes e ++ more
+ended : (o : Element) (e : Element) (bs more : List ℕ) → entity_at o (end_bytes o) bs ≡ Some (e, more) → bs ≡ end_bytes e ++ more
 ended o e bs more h = let k = named-is o e (end_bytes o) bs more h in k.1 ∙ ap (λ (x : Element). end_bytes x ++ more) k.0
 
 pub end_at-is : (bs : List ℕ) (e : Element) (more : List ℕ) → end_at bs ≡ Some (e, more) → bs ≡ end_bytes e ++ more
 unfolding end_at
 end_at-is bs e more h =
-    let o : Element → Option (Element × List ℕ) = λ x. named x (end_bytes x) bs in
+    let o : Element → Option (Element × List ℕ) = λ x. entity_at x (end_bytes x) bs in
     elim (or_else-is (o element.Div) (or_else (o element.Span) (o element.Anchor)) (e, more) h) [
       | inl k ↦ ended element.Div e bs more k
       | inr k ↦ elim (or_else-is (o element.Span) (o element.Anchor) (e, more) k) [

@@ -18,8 +18,8 @@ use Rattle.csl_tree.specs.declared.elem.ElemChild.TheFolds.{map-ElemChild, map-E
 use Rattle.csl_tree.specs.declared.elem.Elem as elem
 use Rattle.csl_tree.specs.declared.elem.ElemChildren.{ElemChildren}
 use Rattle.csl_tree.specs.Tokens.{tokens, elem_tokens, child_tokens}
-use Rattle.csl_tree.specs.Tree.{markup, link, transparent, Tree, nothing, text_then, leaf_then, element_then, ◌⊕◌, child_level, elem_level, children_level, child_tree, elem_tree, tree, row, tokens_of}
-use Rattle.csl_tree.specs.Simplify.{is_nothing}
+use Rattle.csl_tree.specs.Tree.{markup, link, transparent, Tree, empty_tree, text_then, leaf_then, element_then, ◌⊕◌, child_level, elem_level, children_level, child_tree, elem_tree, tree, row, tokens_of}
+use Rattle.csl_tree.specs.Simplify.{is_empty_tree}
 use Rattle.csl_tree.proofs.MetaEqual.{formatting_decides, formatted_same, metas_decide}
 use Rattle.csl_tree.proofs.TreeStep.{Held, same_child, child_out, elem_out, children_out}
 use Rattle.csl_tree.proofs.TreeTokens.{tree_out, elem_tree_out, child_tokens_are, elem_tokens_agree, tokens_are, tokens_tell}
@@ -27,26 +27,26 @@ use Rattle.csl_tree.proofs.TreeTokens.{tree_out, elem_tree_out, child_tokens_are
 -- ---- nodes in a row tell each node
 
 head_of : Tree → Tree
-head_of nothing = nothing
-head_of (text_then bs f t) = text_then bs f nothing
-head_of (leaf_then l t) = leaf_then l nothing
-head_of (element_then d m inside t) = element_then d m inside nothing
+head_of empty_tree = empty_tree
+head_of (text_then bs f t) = text_then bs f empty_tree
+head_of (leaf_then l t) = leaf_then l empty_tree
+head_of (element_then d m inside t) = element_then d m inside empty_tree
 
 rest_of : Tree → Tree
-rest_of nothing = nothing
+rest_of empty_tree = empty_tree
 rest_of (text_then bs f t) = t
 rest_of (leaf_then l t) = t
 rest_of (element_then d m inside t) = t
 
 is_element : Tree → Bool
-is_element nothing = false
+is_element empty_tree = false
 is_element (text_then bs f t) = false
 is_element (leaf_then l t) = false
 is_element (element_then d m inside t) = true
 
 -- one node, so what follows it is told from it
 abbrev IsOne : Tree → Type 0
-IsOne t = (u : Tree) → (head_of (t ⊕ u) ≡ t) × ((rest_of (t ⊕ u) ≡ u) × (is_nothing (t ⊕ u) ≡ false))
+IsOne t = (u : Tree) → (head_of (t ⊕ u) ≡ t) × ((rest_of (t ⊕ u) ≡ u) × (is_empty_tree (t ⊕ u) ≡ false))
 
 -- one level of a child, as a tree
 abbrev level_tree : ElemChild-F ElemChild elem.Elem ElemChildren → Tree
@@ -91,7 +91,7 @@ index_decides i j = search rules
 
 levels_decide : (x y : ElemChild-F ElemChild elem.Elem ElemChildren) → Held ElemTells x → Decides (same_child eq_elem.it x y) (level_tree x ≡ level_tree y)
 unfolding is_element
-levels_decide (Text a) (Text b) told = through _ (formatted_same a b) (λ h i. text_then (h.0 i) (h.1 i) nothing) (λ h. (cc h, cc h))
+levels_decide (Text a) (Text b) told = through _ (formatted_same a b) (λ h i. text_then (h.0 i) (h.1 i) empty_tree) (λ h. (cc h, cc h))
 levels_decide (Text a) (Elem f) told = apart (λ h. no_element f _ refl (sym h))
 levels_decide (Text a) (Markup b) told = apart (λ h. cc h)
 levels_decide (Text a) (Link b other) told = apart (λ h. cc h)
@@ -103,19 +103,19 @@ levels_decide (Elem e) (Link b other) told = apart (no_element e _ refl)
 levels_decide (Elem e) (Transparent j g) told = apart (no_element e _ refl)
 levels_decide (Markup a) (Text b) told = apart (λ h. cc h)
 levels_decide (Markup a) (Elem f) told = apart (λ h. no_element f _ refl (sym h))
-levels_decide (Markup a) (Markup b) told = through _ (text_decides a b) (ap (λ bs. leaf_then (markup bs) nothing)) (λ h. cc h)
+levels_decide (Markup a) (Markup b) told = through _ (text_decides a b) (ap (λ bs. leaf_then (markup bs) empty_tree)) (λ h. cc h)
 levels_decide (Markup a) (Link b other) told = apart (λ h. cc h)
 levels_decide (Markup a) (Transparent j g) told = apart (λ h. cc h)
 levels_decide (Link a url) (Text b) told = apart (λ h. cc h)
 levels_decide (Link a url) (Elem f) told = apart (λ h. no_element f _ refl (sym h))
 levels_decide (Link a url) (Markup b) told = apart (λ h. cc h)
-levels_decide (Link a url) (Link b other) told = through _ (both _ _ (formatted_same a b) (text_decides url other)) (λ h i. leaf_then (link (h.0.0 i) (h.0.1 i) (h.1 i)) nothing) (λ h. ((cc h, cc h), cc h))
+levels_decide (Link a url) (Link b other) told = through _ (both _ _ (formatted_same a b) (text_decides url other)) (λ h i. leaf_then (link (h.0.0 i) (h.0.1 i) (h.1 i)) empty_tree) (λ h. ((cc h, cc h), cc h))
 levels_decide (Link a url) (Transparent j g) told = apart (λ h. cc h)
 levels_decide (Transparent i f) (Text b) told = apart (λ h. cc h)
 levels_decide (Transparent i f) (Elem e) told = apart (λ h. no_element e _ refl (sym h))
 levels_decide (Transparent i f) (Markup b) told = apart (λ h. cc h)
 levels_decide (Transparent i f) (Link b other) told = apart (λ h. cc h)
-levels_decide (Transparent i f) (Transparent j g) told = through _ (both _ _ (index_decides i j) (formatting_decides f g)) (λ h k. leaf_then (transparent (h.0 k) (h.1 k)) nothing) (λ h. (cc h, cc h))
+levels_decide (Transparent i f) (Transparent j g) told = through _ (both _ _ (index_decides i j) (formatting_decides f g)) (λ h k. leaf_then (transparent (h.0 k) (h.1 k)) empty_tree) (λ h. (cc h, cc h))
 
 -- ---- one level whose parts tell
 
@@ -133,13 +133,13 @@ display_decides d e = search rules
 elem_told : (a : elem.Elem) → ChildrenTell a.children → ElemTells a
 elem_told a told b = subst (λ q. Decides q (elem_tree a ≡ elem_tree b)) (sym (elem_out a b)) (through _
     (both _ _ (told b.children) (both _ _ (option_same eq_display.it display_decides a.display b.display) (metas_decide a.meta b.meta)))
-    (λ h. elem_tree_out a ∙ (λ i. element_then (h.1.0 i) (h.1.1 i) (h.0 i) nothing) ∙ sym (elem_tree_out b))
+    (λ h. elem_tree_out a ∙ (λ i. element_then (h.1.0 i) (h.1.1 i) (h.0 i) empty_tree) ∙ sym (elem_tree_out b))
     (λ h. let opened = sym (elem_tree_out a) ∙ h ∙ elem_tree_out b in (cc opened, (cc opened, cc opened))))
 
 rows_decide : (ks ls : List ElemChild) → EachOf ChildTells ks → Decides (pointwise eq_child.it ks ls) (row ks ≡ row ls)
 rows_decide [] [] told = (λ h. refl, λ h. refl)
-rows_decide [] (l ∷ ls) told = apart (λ h. false≢true (sym (one_child l (row ls)).1.1 ∙ ap is_nothing (sym h)))
-rows_decide (k ∷ ks) [] told = apart (λ h. false≢true (sym (one_child k (row ks)).1.1 ∙ ap is_nothing h))
+rows_decide [] (l ∷ ls) told = apart (λ h. false≢true (sym (one_child l (row ls)).1.1 ∙ ap is_empty_tree (sym h)))
+rows_decide (k ∷ ks) [] told = apart (λ h. false≢true (sym (one_child k (row ks)).1.1 ∙ ap is_empty_tree h))
 rows_decide (k ∷ ks) (l ∷ ls) told =
     let first = one_child k (row ks) in
     let second = one_child l (row ls) in

@@ -11,20 +11,20 @@ use Rattle.csl_tree.specs.declared.elem.ElemChild.TheViews.{roll-ElemChild, roll
 use Rattle.csl_tree.specs.declared.elem.ElemChild.TheFolds.{map-ElemChild, map-Elem, map-ElemChildren, fold-roll-ElemChild, fold-roll-Elem, fold-roll-ElemChildren, fold_out-ElemChildren, fold_out-Elem, ind-ElemChild, ind-Elem, ind-ElemChildren}
 use Rattle.csl_tree.specs.declared.elem.Elem as elem
 use Rattle.csl_tree.specs.declared.elem.ElemChildren.{ElemChildren}
-use Rattle.csl_tree.specs.Tokens.{Token, Solid, Meta, text, solid, opened, closed, around, optional_meta, child_step, elem_step, children_step, child_tokens, elem_tokens, tokens}
-use Rattle.csl_tree.specs.Tree.{Leaf, markup, link, transparent, Tree, nothing, text_then, leaf_then, element_then, ◌⊕◌, child_level, elem_level, children_level, child_tree, elem_tree, tree, row, leaf_token, tokens_of}
+use Rattle.csl_tree.specs.Tokens.{Token, Solid, Meta, text, solid, elem_start, elem_end, elem_around, optional_meta, child_step, elem_step, children_step, child_tokens, elem_tokens, tokens}
+use Rattle.csl_tree.specs.Tree.{Leaf, markup, link, transparent, Tree, empty_tree, text_then, leaf_then, element_then, ◌⊕◌, child_level, elem_level, children_level, child_tree, elem_tree, tree, row, leaf_token, tokens_of}
 
 pub tree_out : (c : ElemChildren) → tree c ≡ row c.0.items
 tree_out c = fold_out-ElemChildren Tree Tree Tree child_level elem_level children_level c
 
-pub elem_tree_out : (e : elem.Elem) → elem_tree e ≡ element_then (elem.out-Elem e).display (optional_meta (elem.out-Elem e).meta) (tree (elem.out-Elem e).children) nothing
+pub elem_tree_out : (e : elem.Elem) → elem_tree e ≡ element_then (elem.out-Elem e).display (optional_meta (elem.out-Elem e).meta) (tree (elem.out-Elem e).children) empty_tree
 elem_tree_out e = fold_out-Elem Tree Tree Tree child_level elem_level children_level e
 
 pub tokens_of-⊕ : (t u : Tree) → tokens_of (t ⊕ u) ≡ tokens_of t ++ tokens_of u
-tokens_of-⊕ nothing u = refl
+tokens_of-⊕ empty_tree u = refl
 tokens_of-⊕ (text_then bs f t) u = ap (λ l. text bs f ∷ l) (tokens_of-⊕ t u)
 tokens_of-⊕ (leaf_then l t) u = ap (λ w. solid (leaf_token l) ∷ w) (tokens_of-⊕ t u)
-tokens_of-⊕ (element_then d m inside t) u = ap (λ l. around d m (tokens_of inside) ++ l) (tokens_of-⊕ t u) ∙ sym (append_assoc (around d m (tokens_of inside)) (tokens_of t) (tokens_of u))
+tokens_of-⊕ (element_then d m inside t) u = ap (λ l. elem_around d m (tokens_of inside) ++ l) (tokens_of-⊕ t u) ∙ sym (append_assoc (elem_around d m (tokens_of inside)) (tokens_of t) (tokens_of u))
 
 abbrev ChildAgrees : ElemChild → Type 0
 ChildAgrees k = child_tokens k ≡ tokens_of (child_tree k)
@@ -50,8 +50,8 @@ child_layer (Transparent n f) = fold-roll-ElemChild (List Token) (List Token) (L
 elem_layer : (y : Elem-F ((k : ElemChild) × ChildAgrees k) ((e : elem.Elem) × ElemAgrees e) ((c : ElemChildren) × ChildrenAgree c)) → ElemAgrees (roll-Elem (map-Elem _ _ _ ElemChild elem.Elem ElemChildren (λ e. e.0) (λ e. e.0) (λ e. e.0) y))
 elem_layer y =
     fold-roll-Elem (List Token) (List Token) (List Token) child_step elem_step children_step (map-Elem _ _ _ ElemChild elem.Elem ElemChildren (λ e. e.0) (λ e. e.0) (λ e. e.0) y)
-    ∙ ap (around y.display (optional_meta y.meta)) y.children.1
-    ∙ sym (append-nil (around y.display (optional_meta y.meta) (tokens_of (tree y.children.0))))
+    ∙ ap (elem_around y.display (optional_meta y.meta)) y.children.1
+    ∙ sym (append-nil (elem_around y.display (optional_meta y.meta) (tokens_of (tree y.children.0))))
     ∙ sym (ap tokens_of (fold-roll-Elem Tree Tree Tree child_level elem_level children_level (map-Elem _ _ _ ElemChild elem.Elem ElemChildren (λ e. e.0) (λ e. e.0) (λ e. e.0) y)))
 
 children_layer : (y : ElemChildren-F ((k : ElemChild) × ChildAgrees k) ((e : elem.Elem) × ElemAgrees e) ((c : ElemChildren) × ChildrenAgree c)) → ChildrenAgree (roll-ElemChildren (map-ElemChildren _ _ _ ElemChild elem.Elem ElemChildren (λ e. e.0) (λ e. e.0) (λ e. e.0) y))
@@ -92,15 +92,15 @@ Ends (text bs f ∷ l) = ⊥
 Ends (solid (Solid.markup bs) ∷ l) = ⊥
 Ends (solid (Solid.link bs f url) ∷ l) = ⊥
 Ends (solid (Solid.transparent n f) ∷ l) = ⊥
-Ends (solid (opened d m) ∷ l) = ⊥
-Ends (solid (closed d) ∷ l) = Unit {0}
+Ends (solid (elem_start d m) ∷ l) = ⊥
+Ends (solid (elem_end d) ∷ l) = Unit {0}
 
 leaf_begins : (l : Leaf) (ts : List Token) → Ends (solid (leaf_token l) ∷ ts) → ⊥
 leaf_begins (markup bs) ts h = h
 leaf_begins (link bs f url) ts h = h
 leaf_begins (transparent n f) ts h = h
 
-leaf_opens_not : (l : Leaf) (d : Option Display) (m : Option Meta) → leaf_token l ≡ opened d m → ⊥
+leaf_opens_not : (l : Leaf) (d : Option Display) (m : Option Meta) → leaf_token l ≡ elem_start d m → ⊥
 leaf_opens_not (markup bs) d m h = absurd (cc h)
 leaf_opens_not (link bs f url) d m h = absurd (cc h)
 leaf_opens_not (transparent n f) d m h = absurd (cc h)
@@ -117,17 +117,17 @@ same_leaf (transparent n f) (link cs g url) h = cc h
 same_leaf (transparent n f) (transparent k g) h = cc h
 
 -- the tokens of an element, and what follows it
-element_tokens : (d : Option Display) (m : Option Meta) (inside t : Tree) (r : List Token) → tokens_of (element_then d m inside t) ++ r ≡ solid (opened d m) ∷ (tokens_of inside ++ solid (closed d) ∷ (tokens_of t ++ r))
-element_tokens d m inside t r = ap (λ l. solid (opened d m) ∷ l) (append_assoc (tokens_of inside ++ solid (closed d) ∷ []) (tokens_of t) r ∙ append_assoc (tokens_of inside) (solid (closed d) ∷ []) (tokens_of t ++ r))
+element_tokens : (d : Option Display) (m : Option Meta) (inside t : Tree) (r : List Token) → tokens_of (element_then d m inside t) ++ r ≡ solid (elem_start d m) ∷ (tokens_of inside ++ solid (elem_end d) ∷ (tokens_of t ++ r))
+element_tokens d m inside t r = ap (λ l. solid (elem_start d m) ∷ l) (append_assoc (tokens_of inside ++ solid (elem_end d) ∷ []) (tokens_of t) r ∙ append_assoc (tokens_of inside) (solid (elem_end d) ∷ []) (tokens_of t ++ r))
 
 same_trees : (t u : Tree) (r s : List Token) → Ends r → Ends s → tokens_of t ++ r ≡ tokens_of u ++ s → (t ≡ u) × (r ≡ s)
-same_trees nothing nothing r s a b e = (refl, e)
-same_trees nothing (text_then bs f u) r s a b e = absurd (subst Ends e a)
-same_trees nothing (leaf_then l u) r s a b e = absurd (leaf_begins l _ (subst Ends e a))
-same_trees nothing (element_then d m inside u) r s a b e = absurd (subst Ends e a)
-same_trees (text_then bs f t) nothing r s a b e = absurd (subst Ends (sym e) b)
-same_trees (leaf_then l t) nothing r s a b e = absurd (leaf_begins l _ (subst Ends (sym e) b))
-same_trees (element_then d m inside t) nothing r s a b e = absurd (subst Ends (sym e) b)
+same_trees empty_tree empty_tree r s a b e = (refl, e)
+same_trees empty_tree (text_then bs f u) r s a b e = absurd (subst Ends e a)
+same_trees empty_tree (leaf_then l u) r s a b e = absurd (leaf_begins l _ (subst Ends e a))
+same_trees empty_tree (element_then d m inside u) r s a b e = absurd (subst Ends e a)
+same_trees (text_then bs f t) empty_tree r s a b e = absurd (subst Ends (sym e) b)
+same_trees (leaf_then l t) empty_tree r s a b e = absurd (leaf_begins l _ (subst Ends (sym e) b))
+same_trees (element_then d m inside t) empty_tree r s a b e = absurd (subst Ends (sym e) b)
 same_trees (text_then bs f t) (text_then cs g u) r s a b e =
     let rest : tokens_of t ++ r ≡ tokens_of u ++ s = cc e in
     let more = same_trees t u r s a b rest in
@@ -146,15 +146,15 @@ same_trees (leaf_then l t) (leaf_then k u) r s a b e =
     let x : l ≡ k = same_leaf l k same in
     let z : t ≡ u = more.0 in
     (cc (x, z), more.1)
-same_trees (leaf_then l t) (element_then d m inside u) r s a b e = let same : leaf_token l ≡ opened d m = cc e in absurd (leaf_opens_not l d m same)
+same_trees (leaf_then l t) (element_then d m inside u) r s a b e = let same : leaf_token l ≡ elem_start d m = cc e in absurd (leaf_opens_not l d m same)
 same_trees (element_then d m inside t) (text_then bs f u) r s a b e = absurd (cc e)
-same_trees (element_then d m inside t) (leaf_then l u) r s a b e = let same : leaf_token l ≡ opened d m = cc e in absurd (leaf_opens_not l d m same)
+same_trees (element_then d m inside t) (leaf_then l u) r s a b e = let same : leaf_token l ≡ elem_start d m = cc e in absurd (leaf_opens_not l d m same)
 same_trees (element_then d m inside t) (element_then c k inner u) r s a b e =
     let whole = sym (element_tokens d m inside t r) ∙ e ∙ element_tokens c k inner u s in
-    let first : opened d m ≡ opened c k = cc whole in
-    let rest : tokens_of inside ++ solid (closed d) ∷ (tokens_of t ++ r) ≡ tokens_of inner ++ solid (closed c) ∷ (tokens_of u ++ s) = cc whole in
-    let within = same_trees inside inner (solid (closed d) ∷ (tokens_of t ++ r)) (solid (closed c) ∷ (tokens_of u ++ s)) tt tt rest in
-    let then_rest : solid (closed d) ∷ (tokens_of t ++ r) ≡ solid (closed c) ∷ (tokens_of u ++ s) = within.1 in
+    let first : elem_start d m ≡ elem_start c k = cc whole in
+    let rest : tokens_of inside ++ solid (elem_end d) ∷ (tokens_of t ++ r) ≡ tokens_of inner ++ solid (elem_end c) ∷ (tokens_of u ++ s) = cc whole in
+    let within = same_trees inside inner (solid (elem_end d) ∷ (tokens_of t ++ r)) (solid (elem_end c) ∷ (tokens_of u ++ s)) tt tt rest in
+    let then_rest : solid (elem_end d) ∷ (tokens_of t ++ r) ≡ solid (elem_end c) ∷ (tokens_of u ++ s) = within.1 in
     let after : tokens_of t ++ r ≡ tokens_of u ++ s = cc then_rest in
     let more = same_trees t u r s a b after in
     let x : d ≡ c = cc first in

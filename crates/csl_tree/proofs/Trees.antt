@@ -3,7 +3,7 @@ use Rattle.std.proofs.Common.{◌≡◌, ℕ, List, [], ◌∷◌, ◌++◌, ref
 use Rattle.std.specs.List.{flat_map}
 use Rattle.std.proofs.lemmas.Grind.{flat_map-append}
 use Rattle.std.proofs.lemmas.List.Folds.{flat_map-map}
-use Rattle.csl_tree.specs.Tokens.{Token, around, optional_meta, child_step, elem_step, children_step, child_tokens, elem_tokens, tokens}
+use Rattle.csl_tree.specs.Tokens.{Token, elem_around, optional_meta, child_step, elem_step, children_step, child_tokens, elem_tokens, tokens}
 use Rattle.csl_tree.specs.declared.elem.ElemChild.TheFolds.{fold_out-ElemChildren, fold_out-Elem}
 use Rattle.csl_tree.specs.declared.elem.ElemChildren.{ElemChildren}
 use Rattle.csl_tree.specs.declared.elem.Elem as elem
@@ -20,5 +20,5 @@ flat_map-flat_map f g (x ∷ xs) = flat_map-append f (g x) (flat_map g xs) ∙ a
 pub tokens_give : (f : Token → List ℕ) (c : ElemChildren) → flat_map f (tokens c) ≡ flat_map (λ k. flat_map f (child_tokens k)) c.0.items
 tokens_give f c = ap (flat_map f) (tokens_out c) ∙ flat_map-flat_map f child_tokens c.0.items
 
-pub elem_tokens_are : (e : elem.Elem) → elem_tokens e ≡ around (elem.out-Elem e).display (optional_meta (elem.out-Elem e).meta) (tokens (elem.out-Elem e).children)
+pub elem_tokens_are : (e : elem.Elem) → elem_tokens e ≡ elem_around (elem.out-Elem e).display (optional_meta (elem.out-Elem e).meta) (tokens (elem.out-Elem e).children)
 elem_tokens_are e = fold_out-Elem (List Token) (List Token) (List Token) child_step elem_step children_step e

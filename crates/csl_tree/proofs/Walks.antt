@@ -3,7 +3,7 @@ use Rattle.std.proofs.Common.{◌≡◌, ℕ, ◌<◌, suc, zero, Bool, true, fa
 use Rattle.std.specs.Prelude.{unwrap_or}
 use Rattle.std.specs.declared.vec.Vec.{Vec}
 use Rattle.std.specs.declared.alloc.Global.{Global}
-use Rattle.csl_tree.specs.Places.{children_of, with_children, child_at, put_child, down, get_at, put_at}
+use Rattle.csl_tree.specs.Places.{children_of, with_children, child_at, put_child, descend, get_at, put_at}
 use Rattle.csl_tree.specs.declared.elem.ElemChild.{ElemChild}
 use Rattle.csl_tree.specs.declared.elem.ElemChildren.{ElemChildren}
 
@@ -37,7 +37,7 @@ module _ (path : ElemChildren → List ℕ) (goes_on : ElemChildren → Bool) (n
 
   -- where it goes on
   module _ (c d : ElemChildren) (x : ElemChild) (is : x ≡ child_at c (next c)) (has : Some d ≡ children_of x) (on : goes_on c ≡ true) where
-    down_is : down c (next c) ≡ d
+    down_is : descend c (next c) ≡ d
     down_is = ap (λ k. unwrap_or (children_of k) c) (sym is) ∙ ap (λ o. unwrap_or o c) (sym has)
 
     pub reached_down : get_at (path d) d ≡ get_at (path c) c

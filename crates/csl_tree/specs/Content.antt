@@ -10,7 +10,7 @@ use Rattle.std.specs.Borrow.{Bor}
 use Rattle.csl_style.specs.declared.formatting.Display.{Display}
 use Rattle.csl_tree.specs.declared.formatting.Formatting.{Formatting}
 use Rattle.csl_tree.specs.Formatting.{same_formatting}
-use Rattle.csl_tree.specs.Tokens.{Token, Meta, text, solid, markup, link, transparent, opened, closed, around, optional_meta, tokens}
+use Rattle.csl_tree.specs.Tokens.{Token, Meta, text, solid, markup, link, transparent, elem_start, elem_end, elem_around, optional_meta, tokens}
 use Rattle.csl_tree.specs.declared.elem.Elem as elem
 use Rattle.csl_tree.specs.declared.elem.ElemChildren.{ElemChildren}
 use Rattle.csl_tree.specs.declared.elem.ElemChild.{ElemChild}
@@ -28,15 +28,15 @@ abbrev pub last_before : Token → List Token → List Token
 last_before (text bs f) rest = text_before bs f rest
 last_before (solid s) rest = solid s ∷ rest
 
-abbrev pub joined : Token → List Token → List Token → List Token
-joined t [] b = last_before t b
-joined t (u ∷ a) b = t ∷ joined u a b
+abbrev pub join_tokens : Token → List Token → List Token → List Token
+join_tokens t [] b = last_before t b
+join_tokens t (u ∷ a) b = t ∷ join_tokens u a b
 
 -- two contents in a row, in which texts of equal formatting that meet become one
 infixr 65 ◌++>◌
 abbrev pub ◌++>◌ : List Token → List Token → List Token
 [] ++> b = b
-(t ∷ a) ++> b = joined t a b
+(t ∷ a) ++> b = join_tokens t a b
 
 -- the content of a text
 abbrev pub text_content : List ℕ → Formatting → List Token
@@ -53,9 +53,9 @@ abbrev pub lent_text : Option (Bor (List ℕ)) → Formatting → List Token
 lent_text t f = optional_text (option_map (λ s. s.now) t) f
 
 -- an element around a content, unless there is none
-abbrev pub boxed : Option Display → Option Meta → List Token → List Token
-boxed d m [] = []
-boxed d m (t ∷ ts) = around d m (t ∷ ts)
+abbrev pub elem_content : Option Display → Option Meta → List Token → List Token
+elem_content d m [] = []
+elem_content d m (t ∷ ts) = elem_around d m (t ∷ ts)
 
 -- the content of a markup
 abbrev pub markup_content : List ℕ → List Token
@@ -70,7 +70,7 @@ link_content (b ∷ bs) f url = solid (link (b ∷ bs) f url) ∷ []
 -- the content of one child: an element stands, whatever is in it
 abbrev pub layer_content : ElemChild-F ElemChild elem.Elem ElemChildren → List Token
 layer_content (Text t) = text_content (string_bytes t.text) t.formatting
-layer_content (Elem e) = around (elem.out-Elem e).display (optional_meta (elem.out-Elem e).meta) (tokens (elem.out-Elem e).children)
+layer_content (Elem e) = elem_around (elem.out-Elem e).display (optional_meta (elem.out-Elem e).meta) (tokens (elem.out-Elem e).children)
 layer_content (Markup s) = markup_content (string_bytes s)
 layer_content (Link t url) = link_content (string_bytes t.text) t.formatting (string_bytes url)
 layer_content (Transparent n f) = solid (transparent n f) ∷ []
@@ -79,9 +79,9 @@ abbrev pub child_content : ElemChild → List Token
 child_content k = layer_content (out-ElemChild k)
 
 -- a content between two others, unless there is none
-abbrev pub affixed : List Token → List Token → List Token → List Token
-affixed prefix suffix [] = []
-affixed prefix suffix (t ∷ ts) = prefix ++> ((t ∷ ts) ++> suffix)
+abbrev pub affixed_content : List Token → List Token → List Token → List Token
+affixed_content prefix suffix [] = []
+affixed_content prefix suffix (t ∷ ts) = prefix ++> ((t ∷ ts) ++> suffix)
 
 -- a content as the calls leave it: leaves that are not empty, and elements around contents that are
 -- not nothing
@@ -92,7 +92,7 @@ pub data IsContent : List Token → Type 0 where
   link_then : (b : ℕ) (bs : List ℕ) (f : Formatting) (url : List ℕ) (rest : List Token) → IsContent rest → IsContent (solid (link (b ∷ bs) f url) ∷ rest)
   transparent_then : (n : ℕ) (f : Formatting) (rest : List Token) → IsContent rest → IsContent (solid (transparent n f) ∷ rest)
   element_then : (d : Option Display) (m : Option Meta) (t : Token) (inside rest : List Token)
-      → IsContent (t ∷ inside) → IsContent rest → IsContent (solid (opened d m) ∷ (t ∷ (inside ++ solid (closed d) ∷ rest)))
+      → IsContent (t ∷ inside) → IsContent rest → IsContent (solid (elem_start d m) ∷ (t ∷ (inside ++ solid (elem_end d) ∷ rest)))
 
 -- the children show what they did, and then a further content
 abbrev pub Appends : ElemChildren → ElemChildren → List Token → Type 0

@@ -25,8 +25,8 @@ escape b =
     else (if b == quotation_mark then codes "&quot;" else b ∷ [])))
 
 -- a text in HTML
-abbrev pub escaped : List ℕ → List ℕ
-escaped bs = flat_map escape bs
+abbrev pub escape_all : List ℕ → List ℕ
+escape_all bs = flat_map escape bs
 
 abbrev pub is_reserved : ℕ → Bool
 is_reserved b = b == ampersand || (b == less_than || (b == greater_than || b == quotation_mark))

@@ -9,37 +9,37 @@ use Rattle.csl_tree.specs.Content.{◌++>◌, text_content}
 use Rattle.csl_tree.specs.declared.formatting.Formatted.{Formatted}
 
 -- the content of the innermost open part, and those of the parts around it, from the inside out
-pub record Parts : Type 0 where
+pub record OpenParts : Type 0 where
   pub inner : List Token
   pub outer : List (List Token)
 
 -- only the root is open, and it has no content
-abbrev pub no_parts : Parts
-no_parts = record { inner = []; outer = [] }
+abbrev pub only_root : OpenParts
+only_root = record { inner = []; outer = [] }
 
 -- the contents with another one appended to the innermost
-abbrev pub with_tokens : List Token → Parts → Parts
+abbrev pub with_tokens : List Token → OpenParts → OpenParts
 with_tokens c p = record { inner = p.inner ++> c; outer = p.outer }
 
 -- the contents after a part is opened
-abbrev pub with_open : Parts → Parts
-with_open p = record { inner = []; outer = p.inner ∷ p.outer }
+abbrev pub open_part : OpenParts → OpenParts
+open_part p = record { inner = []; outer = p.inner ∷ p.outer }
 
 -- the innermost part is closed, and a content made of it is appended to the part around it
-abbrev pub closed_onto : List Token → Parts → List (List Token) → Parts
-closed_onto c p [] = p
-closed_onto c p (part ∷ parts) = record { inner = part ++> c; outer = parts }
+abbrev pub close_into : List Token → OpenParts → List (List Token) → OpenParts
+close_into c p [] = p
+close_into c p (part ∷ parts) = record { inner = part ++> c; outer = parts }
 
-abbrev pub closed_as : List Token → Parts → Parts
-closed_as c p = closed_onto c p p.outer
+abbrev pub close_part : List Token → OpenParts → OpenParts
+close_part c p = close_into c p p.outer
 
 -- the innermost part is closed and dropped
-abbrev pub dropped_onto : Parts → List (List Token) → Parts
-dropped_onto p [] = p
-dropped_onto p (part ∷ parts) = record { inner = part; outer = parts }
+abbrev pub discard_into : OpenParts → List (List Token) → OpenParts
+discard_into p [] = p
+discard_into p (part ∷ parts) = record { inner = part; outer = parts }
 
-abbrev pub dropped : Parts → Parts
-dropped p = dropped_onto p p.outer
+abbrev pub discard_part : OpenParts → OpenParts
+discard_part p = discard_into p p.outer
 
 -- the content of a text, if there is one
 abbrev pub affix_content : Option Formatted → List Token

@@ -1,25 +1,25 @@
--- A row of items, children and marks, and its contents (`parts`), item by item: a child joins the
+-- A row of items, children and marks, and its contents (`open_parts`), item by item: a child joins the
 -- innermost content, and a mark opens a part. So the contents do not depend on how a text is split
 -- over items.
 -- The definitions from `plain_step` on are the code's own: private contracts alone cite them.
 use Rattle.std.specs.Prelude.{◌≡◌, ℕ, ◌+◌, ◌-◌, ◌<◌, ◌≤◌, List, [], ◌∷◌, ◌++◌, length, take, drop, get_or}
 use Rattle.csl_tree.specs.Tokens.{Token, child_tokens}
 use Rattle.csl_tree.specs.Content.{◌++>◌}
-use Rattle.csl_tree.specs.Flat.{Parts, no_parts, with_tokens, with_open}
+use Rattle.csl_tree.specs.Flat.{OpenParts, only_root, with_tokens, open_part}
 use Rattle.csl_tree.specs.declared.flat_items.Item.{Item}
 use Rattle.csl_tree.specs.declared.flat_items.Item.TheVariants.{Child, Mark}
 
 -- the contents after one more item
-abbrev pub step : Parts → Item → Parts
+abbrev pub step : OpenParts → Item → OpenParts
 step p (Child k) = with_tokens (child_tokens k) p
-step p Mark = with_open p
+step p Mark = open_part p
 
-abbrev pub parts_from : Parts → List Item → Parts
+abbrev pub parts_from : OpenParts → List Item → OpenParts
 parts_from p [] = p
 parts_from p (x ∷ xs) = parts_from (step p x) xs
 
-abbrev pub parts : List Item → Parts
-parts xs = parts_from no_parts xs
+abbrev pub open_parts : List Item → OpenParts
+open_parts xs = parts_from only_root xs
 
 -- the innermost content after one more item, where texts that meet stay apart
 abbrev pub plain_step : List Token → Item → List Token
@@ -42,8 +42,8 @@ abbrev pub run_from : ℕ → List Item → ℕ
 run_from n [] = n
 run_from n (x ∷ xs) = run_from (run_step n x) xs
 
-abbrev pub run : List Item → ℕ
-run xs = run_from 0 xs
+abbrev pub last_run_len : List Item → ℕ
+last_run_len xs = run_from 0 xs
 
 -- each item is a child
 abbrev pub IsRun : List Item → Type 0
@@ -57,11 +57,11 @@ IsLastPart xs n = (n ≤ length xs) × IsRun (drop (length xs - n) xs) × (n < l
 
 -- no texts that could be one meet in the innermost part
 abbrev pub IsJoined : List Item → Type 0
-IsJoined xs = plain_inner xs ≡ (parts xs).inner
+IsJoined xs = plain_inner xs ≡ (open_parts xs).inner
 
 -- the innermost part has no content
 abbrev pub IsFresh : List Item → Type 0
-IsFresh xs = (plain_inner xs ≡ []) × ((parts xs).inner ≡ [])
+IsFresh xs = (plain_inner xs ≡ []) × ((open_parts xs).inner ≡ [])
 
 -- the third is the first with a content joined to it
 abbrev pub JoinsAs : Item → List Token → Item → Type 0
@@ -92,5 +92,5 @@ IsApart x Mark = Unit {0}
 IsApart x (Child b) = IsApartFrom x (child_tokens b)
 
 -- the items up to a place, and those from another on
-abbrev pub kept : List Item → ℕ → ℕ → List Item
-kept xs last next = take (last + 1) xs ++ drop next xs
+abbrev pub without_range : List Item → ℕ → ℕ → List Item
+without_range xs last next = take (last + 1) xs ++ drop next xs

@@ -17,8 +17,8 @@ use Rattle.csl_style.specs.declared.formatting.Formatting as partial
 use Rattle.csl_tree.specs.declared.formatting.Formatting.{Formatting}
 
 -- each attribute that the node sets, else that of its place
-abbrev pub over : partial.Formatting → Formatting → Formatting
-over p f = record {
+abbrev pub apply_formatting : partial.Formatting → Formatting → Formatting
+apply_formatting p f = record {
   font_style = unwrap_or p.font_style f.font_style;
   font_variant = unwrap_or p.font_variant f.font_variant;
   font_weight = unwrap_or p.font_weight f.font_weight;

@@ -23,9 +23,9 @@ use Rattle.csl_style.specs.declared.formatting.TextDecoration.TheVariants as dec
 use Rattle.csl_style.specs.declared.formatting.VerticalAlign.{VerticalAlign}
 use Rattle.csl_style.specs.declared.formatting.VerticalAlign.TheVariants as align
 use Rattle.csl_tree.specs.declared.formatting.Formatting.{Formatting}
-use Rattle.csl_tree.specs.Escapes.{escaped}
+use Rattle.csl_tree.specs.Escapes.{escape_all}
 use Rattle.csl_tree.specs.Formatting.{same_formatting, default_formatting}
-use Rattle.csl_tree.specs.Tokens.{Token, text, solid, markup, link, transparent, opened, closed}
+use Rattle.csl_tree.specs.Tokens.{Token, text, solid, markup, link, transparent, elem_start, elem_end}
 
 pub data Tag : Type 0 where
   div : Display → Tag
@@ -38,18 +38,18 @@ pub data HtmlToken : Type 0 where
   characters : List ℕ → HtmlToken
 
 -- a text in its formatting, which has no span where it is the default
-abbrev pub formatted : List ℕ → Formatting → List HtmlToken
-formatted bs f = if same_formatting f default_formatting then characters bs ∷ [] else start_tag (span f) ∷ characters bs ∷ end_tag (span f) ∷ []
+abbrev pub html_of_text : List ℕ → Formatting → List HtmlToken
+html_of_text bs f = if same_formatting f default_formatting then characters bs ∷ [] else start_tag (span f) ∷ characters bs ∷ end_tag (span f) ∷ []
 
 abbrev pub html_of : Token → List HtmlToken
-html_of (text bs f) = formatted bs f
+html_of (text bs f) = html_of_text bs f
 html_of (solid (markup bs)) = characters bs ∷ []
-html_of (solid (link bs f url)) = start_tag (anchor url) ∷ (formatted bs f ++ end_tag (anchor url) ∷ [])
+html_of (solid (link bs f url)) = start_tag (anchor url) ∷ (html_of_text bs f ++ end_tag (anchor url) ∷ [])
 html_of (solid (transparent n f)) = []
-html_of (solid (opened None m)) = []
-html_of (solid (opened (Some d) m)) = start_tag (div d) ∷ []
-html_of (solid (closed None)) = []
-html_of (solid (closed (Some d))) = end_tag (div d) ∷ []
+html_of (solid (elem_start None m)) = []
+html_of (solid (elem_start (Some d) m)) = start_tag (div d) ∷ []
+html_of (solid (elem_end None)) = []
+html_of (solid (elem_end (Some d))) = end_tag (div d) ∷ []
 
 abbrev pub html : List Token → List HtmlToken
 html ts = flat_map html_of ts
@@ -107,11 +107,11 @@ div_start Indent = codes "<div style=\"padding-left: 4em;\">"
 abbrev pub html_bytes_of : HtmlToken → List ℕ
 html_bytes_of (start_tag (div d)) = div_start d
 html_bytes_of (start_tag (span f)) = codes "<span style=\"" ++ (css f ++ codes "\">")
-html_bytes_of (start_tag (anchor url)) = codes "<a href=\"" ++ (escaped url ++ codes "\">")
+html_bytes_of (start_tag (anchor url)) = codes "<a href=\"" ++ (escape_all url ++ codes "\">")
 html_bytes_of (end_tag (div d)) = codes "</div>"
 html_bytes_of (end_tag (span f)) = codes "</span>"
 html_bytes_of (end_tag (anchor url)) = codes "</a>"
-html_bytes_of (characters bs) = escaped bs
+html_bytes_of (characters bs) = escape_all bs
 
 abbrev pub html_bytes : List HtmlToken → List ℕ
 html_bytes hs = flat_map html_bytes_of hs

@@ -16,5 +16,5 @@ pub mod Stack
 pub mod Tree
 pub mod Simplify
 pub mod Places
-pub mod Named
+pub mod NamesSearch
 pub mod Search

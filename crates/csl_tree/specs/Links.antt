@@ -8,7 +8,7 @@ use Rattle.csl_tree.specs.declared.elem.ElemChild.TheViews.{out-ElemChild}
 use Rattle.csl_tree.specs.declared.elem.ElemChild.TheVariants as variants
 use Rattle.csl_tree.specs.declared.elem.Elem as elem
 use Rattle.csl_tree.specs.declared.elem.ElemChildren.{ElemChildren}
-use Rattle.csl_tree.specs.Tokens.{Token, text, solid, markup, link, transparent, opened, closed}
+use Rattle.csl_tree.specs.Tokens.{Token, text, solid, markup, link, transparent, elem_start, elem_end}
 
 -- the token, where a link of another address is its text
 abbrev pub kept_link : (List ℕ → Bool) → Token → Token
@@ -16,8 +16,8 @@ kept_link allowed (text bs f) = text bs f
 kept_link allowed (solid (markup bs)) = solid (markup bs)
 kept_link allowed (solid (link bs f url)) = if allowed url then solid (link bs f url) else text bs f
 kept_link allowed (solid (transparent n f)) = solid (transparent n f)
-kept_link allowed (solid (opened d m)) = solid (opened d m)
-kept_link allowed (solid (closed d)) = solid (closed d)
+kept_link allowed (solid (elem_start d m)) = solid (elem_start d m)
+kept_link allowed (solid (elem_end d)) = solid (elem_end d)
 
 abbrev pub kept_links : (List ℕ → Bool) → List Token → List Token
 kept_links allowed ts = map (kept_link allowed) ts
@@ -30,8 +30,8 @@ layer_unlinked (Link t u) k = variants.Text t
 layer_unlinked (Transparent n f) k = k
 
 -- the text of a link, and any other child as it is
-abbrev pub unlinked : ElemChild → ElemChild
-unlinked k = layer_unlinked (out-ElemChild k) k
+abbrev pub child_without_link : ElemChild → ElemChild
+child_without_link k = layer_unlinked (out-ElemChild k) k
 
 -- the addresses that a token leads to
 abbrev pub link_address : Token → List (List ℕ)
@@ -39,8 +39,8 @@ link_address (text bs f) = []
 link_address (solid (markup bs)) = []
 link_address (solid (link bs f url)) = url ∷ []
 link_address (solid (transparent n f)) = []
-link_address (solid (opened d m)) = []
-link_address (solid (closed d)) = []
+link_address (solid (elem_start d m)) = []
+link_address (solid (elem_end d)) = []
 
 abbrev pub addresses : List Token → List (List ℕ)
 addresses ts = flat_map link_address ts

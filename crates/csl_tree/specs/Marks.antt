@@ -5,7 +5,7 @@
 -- `as_text` are the code's own: private contracts alone cite them.
 use Rattle.std.specs.Prelude.{◌≡◌, ℕ, ◌<◌, ◌==◌, List, [], ◌∷◌, ◌++◌, length, Option, Some, None, option_map, option_and_then, unwrap_or, codes, if◌then◌else◌}
 use denote.Ref.{Bor}
-use Rattle.csl_tree.specs.Escapes.{escape, escaped, is_plain, ampersand, less_than, greater_than, quotation_mark}
+use Rattle.csl_tree.specs.Escapes.{escape, escape_all, is_plain, ampersand, less_than, greater_than, quotation_mark}
 use Rattle.csl_tree.specs.Html.{Tag, div, span, anchor, start_tag, html_bytes_of}
 use Rattle.csl_tree.specs.declared.marks.Element.{Element}
 use Rattle.csl_tree.specs.declared.marks.Element.TheVariants.{Div, Span, Anchor}
@@ -50,7 +50,7 @@ IsAfterAnchor html (Some rest) = (url : List ℕ) × (html ≡ html_bytes_of (st
 
 -- what the mark stands for, then the rest
 abbrev pub IsMark : List ℕ → Mark → List ℕ → Type 0
-IsMark html (marks.Text text) rest = (0 < length text.now) × (html ≡ escaped text.now ++ rest)
+IsMark html (marks.Text text) rest = (0 < length text.now) × (html ≡ escape_all text.now ++ rest)
 IsMark html (marks.Start e) rest = IsStart html e rest
 IsMark html (marks.End e) rest = html ≡ end_bytes e ++ rest
 
@@ -71,15 +71,15 @@ or_else None o = o
 or_else (Some x) o = Some x
 
 -- what the front stands for, and the rest
-abbrev pub named : {A : Type 0} → A → List ℕ → List ℕ → Option (A × List ℕ)
-named x front bs = option_map (λ rest. (x, rest)) (without front bs)
+abbrev pub entity_at : {A : Type 0} → A → List ℕ → List ℕ → Option (A × List ℕ)
+entity_at x front bs = option_map (λ rest. (x, rest)) (without front bs)
 
 unfoldable pub reference_at : List ℕ → Option (ℕ × List ℕ)
 reference_at bs =
-    or_else (named ampersand (codes "&amp;") bs)
-    (or_else (named less_than (codes "&lt;") bs)
-    (or_else (named greater_than (codes "&gt;") bs)
-    (named quotation_mark (codes "&quot;") bs)))
+    or_else (entity_at ampersand (codes "&amp;") bs)
+    (or_else (entity_at less_than (codes "&lt;") bs)
+    (or_else (entity_at greater_than (codes "&gt;") bs)
+    (entity_at quotation_mark (codes "&quot;") bs)))
 
 -- the first byte of a text in HTML, and the rest
 abbrev pub byte_at : List ℕ → Option (ℕ × List ℕ)
@@ -88,7 +88,7 @@ byte_at (b ∷ bs) = if is_plain b then Some (b, bs) else reference_at (b ∷ bs
 
 -- a text, then the rest, which begins with none
 abbrev pub IsAfterText : List ℕ → List ℕ → Type 0
-IsAfterText html rest = (bs : List ℕ) × (html ≡ escaped bs ++ rest) × (byte_at rest ≡ None)
+IsAfterText html rest = (bs : List ℕ) × (html ≡ escape_all bs ++ rest) × (byte_at rest ≡ None)
 
 unfoldable pub div_at : List ℕ → Option (List ℕ)
 div_at bs =
@@ -121,17 +121,17 @@ span_at bs = option_and_then (λ rest. without (codes "\">") (after_css rest)) (
 
 unfoldable pub end_at : List ℕ → Option (Element × List ℕ)
 end_at bs =
-    or_else (named Div (codes "</div>") bs)
-    (or_else (named Span (codes "</span>") bs)
-    (named Anchor (codes "</a>") bs))
+    or_else (entity_at Div (codes "</div>") bs)
+    (or_else (entity_at Span (codes "</span>") bs)
+    (entity_at Anchor (codes "</a>") bs))
 
 -- ---- the code's answers, as bytes
 
 abbrev pub rest_found : Option (Bor (List ℕ)) → Option (List ℕ)
 rest_found o = option_map (λ x. x.now) o
 
-abbrev pub found : {A : Type 0} → Option (A × Bor (List ℕ)) → Option (A × List ℕ)
-found o = option_map (λ x. (x.0, x.1.now)) o
+abbrev pub values_found : {A : Type 0} → Option (A × Bor (List ℕ)) → Option (A × List ℕ)
+values_found o = option_map (λ x. (x.0, x.1.now)) o
 
 abbrev pub texts_found : Option (Bor (List ℕ) × Bor (List ℕ)) → Option (List ℕ × List ℕ)
 texts_found o = option_map (λ x. (x.0.now, x.1.now)) o

@@ -71,17 +71,17 @@ abbrev pub put_child : ElemChildren → ℕ → ElemChild → ElemChildren
 put_child c i k = record { 0 = with_item c.0 i k }
 
 -- the children of the child at an index
-abbrev pub down : ElemChildren → ℕ → ElemChildren
-down c i = unwrap_or (children_of (child_at c i)) c
+abbrev pub descend : ElemChildren → ℕ → ElemChildren
+descend c i = unwrap_or (children_of (child_at c i)) c
 
 -- the children at the end of a path, and the tree with others there
 abbrev pub get_at : List ℕ → ElemChildren → ElemChildren
 get_at [] c = c
-get_at (i ∷ p) c = get_at p (down c i)
+get_at (i ∷ p) c = get_at p (descend c i)
 
 abbrev pub put_at : List ℕ → ElemChildren → ElemChildren → ElemChildren
 put_at [] c w = w
-put_at (i ∷ p) c w = put_child c i (with_children (child_at c i) (put_at p (down c i) w))
+put_at (i ∷ p) c w = put_child c i (with_children (child_at c i) (put_at p (descend c i) w))
 
 -- the index of the last child, and whether that is an element
 abbrev pub last : ElemChildren → ℕ

@@ -2,13 +2,13 @@
 -- right. A search returns the first element in preorder that passes its test. The *last text* is
 -- the last child if that is a text, the last text inside it if it is an element, else none.
 -- `remove_any_meta` takes out tokens that open with the first element that has a meta. The tokens
--- before and after them stay, and meet (`TakenOut`).
+-- before and after them stay, and meet (`MetaRemoved`).
 -- `child_preorder`, `layer_elem`, `elem_of`, `last_text_of`, `layer_has_meta` and `child_has_meta`
 -- are the code's own: private contracts alone cite them.
 use Rattle.std.specs.Prelude.{◌≡◌, ◌⊎◌, Bool, true, false, List, [], ◌∷◌, ◌++◌, Option, Some, None, is_some, flat_map}
 use Rattle.std.specs.Borrow.{Bor}
 use Rattle.std.specs.List.{list_any}
-use Rattle.csl_tree.specs.Tokens.{Meta, meta_of, optional_meta, Token, text, solid, markup, link, transparent, opened, closed}
+use Rattle.csl_tree.specs.Tokens.{Meta, meta_of, optional_meta, Token, text, solid, markup, link, transparent, elem_start, elem_end}
 use Rattle.csl_tree.specs.declared.formatting.Formatted.{Formatted}
 use Rattle.csl_tree.specs.declared.elem.ElemMeta.{ElemMeta}
 use Rattle.csl_tree.specs.declared.elem.ElemMeta.TheVariants as meta
@@ -71,28 +71,28 @@ abbrev pub as_child : elem.Elem → ElemChild
 as_child = variants.Elem
 
 -- what made an element
-abbrev pub made_by : elem.Elem → Option Meta
-made_by e = optional_meta (elem.out-Elem e).meta
+abbrev pub elem_meta : elem.Elem → Option Meta
+elem_meta e = optional_meta (elem.out-Elem e).meta
 
 -- a meta says what made an element
 abbrev pub IsMadeBy : ElemMeta → elem.Elem → Type 0
-IsMadeBy m e = made_by e ≡ Some (meta_of m)
+IsMadeBy m e = elem_meta e ≡ Some (meta_of m)
 
-abbrev pub of_names : Option ElemMeta → Bool
-of_names None = false
-of_names (Some (meta.Names names)) = true
-of_names (Some meta.Date) = false
-of_names (Some meta.Text) = false
-of_names (Some meta.Number) = false
-of_names (Some meta.Label) = false
-of_names (Some meta.CitationNumber) = false
-of_names (Some (meta.Name v n)) = false
-of_names (Some (meta.Entry n)) = false
-of_names (Some meta.CitationLabel) = false
+abbrev pub is_names_meta : Option ElemMeta → Bool
+is_names_meta None = false
+is_names_meta (Some (meta.Names names)) = true
+is_names_meta (Some meta.Date) = false
+is_names_meta (Some meta.Text) = false
+is_names_meta (Some meta.Number) = false
+is_names_meta (Some meta.Label) = false
+is_names_meta (Some meta.CitationNumber) = false
+is_names_meta (Some (meta.Name v n)) = false
+is_names_meta (Some (meta.Entry n)) = false
+is_names_meta (Some meta.CitationLabel) = false
 
 -- a `cs:names` made the element
 abbrev pub is_names : elem.Elem → Bool
-is_names e = of_names (elem.out-Elem e).meta
+is_names e = is_names_meta (elem.out-Elem e).meta
 
 -- the element has a meta
 abbrev pub has_meta : elem.Elem → Bool
@@ -141,18 +141,18 @@ opens_meta (text bs f) = false
 opens_meta (solid (markup bs)) = false
 opens_meta (solid (link bs f url)) = false
 opens_meta (solid (transparent n f)) = false
-opens_meta (solid (opened d m)) = is_some m
-opens_meta (solid (closed d)) = false
+opens_meta (solid (elem_start d m)) = is_some m
+opens_meta (solid (elem_end d)) = false
 
 -- no element has a meta
-abbrev pub NothingNoted : List Token → Type 0
-NothingNoted ts = list_any opens_meta ts ≡ false
+abbrev pub HasNoMeta : List Token → Type 0
+HasNoMeta ts = list_any opens_meta ts ≡ false
 
 -- Some tokens are taken out of others, and the tokens before and after them meet. No element before
 -- them has a meta.
-pub record TakenOut (old taken new : List Token) : Type 0 where
+pub record MetaRemoved (old taken new : List Token) : Type 0 where
   pub before : List Token
   pub after : List Token
   pub was : old ≡ before ++ (taken ++ after)
   pub is : new ≡ before ++ after
-  pub first : NothingNoted before
+  pub first : HasNoMeta before

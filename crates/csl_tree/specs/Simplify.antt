@@ -13,8 +13,8 @@ use Rattle.csl_style.specs.declared.formatting.Display.{Display}
 use Rattle.csl_tree.specs.declared.formatting.Formatting.{Formatting}
 use Rattle.csl_tree.specs.Formatting.{same_formatting}
 use Rattle.csl_tree.specs.declared.elem.Elem as elem
-use Rattle.csl_tree.specs.Tokens.{Meta, optional_meta, Token, text, solid, around}
-use Rattle.csl_tree.specs.Tree.{Tree, nothing, text_then, leaf_then, element_then, ◌⊕◌, tree, leaf_token}
+use Rattle.csl_tree.specs.Tokens.{Meta, optional_meta, Token, text, solid, elem_around}
+use Rattle.csl_tree.specs.Tree.{Tree, empty_tree, text_then, leaf_then, element_then, ◌⊕◌, tree, leaf_token}
 
 -- an element is plain if it has neither display nor meta
 abbrev pub is_plain : Option Display → Option Meta → Bool
@@ -22,103 +22,103 @@ is_plain None None = true
 is_plain None (Some m) = false
 is_plain (Some d) m = false
 
-abbrev pub is_nothing : Tree → Bool
-is_nothing nothing = true
-is_nothing (text_then bs f t) = false
-is_nothing (leaf_then l t) = false
-is_nothing (element_then d m inside t) = false
+abbrev pub is_empty_tree : Tree → Bool
+is_empty_tree empty_tree = true
+is_empty_tree (text_then bs f t) = false
+is_empty_tree (leaf_then l t) = false
+is_empty_tree (element_then d m inside t) = false
 
 -- a tree and a text after it, which joins a last text of equal formatting
 abbrev pub with_text : Tree → List ℕ → Formatting → Tree
-with_text nothing bs f = text_then bs f nothing
-with_text (text_then cs g t) bs f = if is_nothing t && same_formatting g f then text_then (cs ++ bs) g nothing else text_then cs g (with_text t bs f)
+with_text empty_tree bs f = text_then bs f empty_tree
+with_text (text_then cs g t) bs f = if is_empty_tree t && same_formatting g f then text_then (cs ++ bs) g empty_tree else text_then cs g (with_text t bs f)
 with_text (leaf_then l t) bs f = leaf_then l (with_text t bs f)
 with_text (element_then d m inside t) bs f = element_then d m inside (with_text t bs f)
 
 -- a round replaces a plain element by its children as they are, and any other by itself with a
 -- round inside
-abbrev pub stands_for : Option Display → Option Meta → Tree → Tree → Tree
-stands_for d m inside rounded = if is_plain d m then inside else element_then d m rounded nothing
+abbrev pub simplified_elem : Option Display → Option Meta → Tree → Tree → Tree
+simplified_elem d m inside rounded = if is_plain d m then inside else element_then d m rounded empty_tree
 
--- One round: each element is replaced (`stands_for`), and each child that is a text joins a text of
+-- One round: each element is replaced (`simplified_elem`), and each child that is a text joins a text of
 -- equal formatting before it, also one from a plain element. A text of a plain element joins none.
-abbrev pub round_behind : Tree → Tree → Tree
-round_behind before nothing = before
-round_behind before (text_then bs f t) = round_behind (with_text before bs f) t
-round_behind before (leaf_then l t) = round_behind (before ⊕ leaf_then l nothing) t
-round_behind before (element_then d m inside t) = round_behind (before ⊕ stands_for d m inside (round_behind nothing inside)) t
+abbrev pub simplify_once_after : Tree → Tree → Tree
+simplify_once_after before empty_tree = before
+simplify_once_after before (text_then bs f t) = simplify_once_after (with_text before bs f) t
+simplify_once_after before (leaf_then l t) = simplify_once_after (before ⊕ leaf_then l empty_tree) t
+simplify_once_after before (element_then d m inside t) = simplify_once_after (before ⊕ simplified_elem d m inside (simplify_once_after empty_tree inside)) t
 
-abbrev pub round : Tree → Tree
-round t = round_behind nothing t
+abbrev pub simplify_once : Tree → Tree
+simplify_once t = simplify_once_after empty_tree t
 
 -- the tree inside an element, and the element around another tree
-abbrev pub inside : elem.Elem → Tree
-inside e = tree (elem.out-Elem e).children
+abbrev pub tree_inside : elem.Elem → Tree
+tree_inside e = tree (elem.out-Elem e).children
 
 abbrev pub with_inside : elem.Elem → Tree → Tree
-with_inside e t = element_then (elem.out-Elem e).display (optional_meta (elem.out-Elem e).meta) t nothing
+with_inside e t = element_then (elem.out-Elem e).display (optional_meta (elem.out-Elem e).meta) t empty_tree
 
 -- the bytes of a text, each in its formatting
-abbrev pub apart : List ℕ → Formatting → List Token
-apart bs f = map (λ b. text (b ∷ []) f) bs
+abbrev pub styled_bytes : List ℕ → Formatting → List Token
+styled_bytes bs f = map (λ b. text (b ∷ []) f) bs
 
 -- The styled value: each byte of a text with its formatting, the other leaves, and the elements
 -- that are not plain around their own styled value. It does not show how the texts are cut, nor the
 -- plain elements.
-abbrev pub styled : Tree → List Token
-styled nothing = []
-styled (text_then bs f t) = apart bs f ++ styled t
-styled (leaf_then l t) = solid (leaf_token l) ∷ styled t
-styled (element_then d m inside t) = (if is_plain d m then styled inside else around d m (styled inside)) ++ styled t
+abbrev pub styled_value : Tree → List Token
+styled_value empty_tree = []
+styled_value (text_then bs f t) = styled_bytes bs f ++ styled_value t
+styled_value (leaf_then l t) = solid (leaf_token l) ∷ styled_value t
+styled_value (element_then d m inside t) = (if is_plain d m then styled_value inside else elem_around d m (styled_value inside)) ++ styled_value t
 
 abbrev pub begins_with : Formatting → Tree → Bool
-begins_with f nothing = false
+begins_with f empty_tree = false
 begins_with f (text_then bs g t) = same_formatting f g
 begins_with f (leaf_then l t) = false
 begins_with f (element_then d m inside t) = false
 
 -- normal: at no depth is an element plain, or are neighbouring texts of equal formatting
 abbrev pub is_normal : Tree → Bool
-is_normal nothing = true
+is_normal empty_tree = true
 is_normal (text_then bs f t) = not (begins_with f t) && is_normal t
 is_normal (leaf_then l t) = is_normal t
 is_normal (element_then d m inside t) = not (is_plain d m) && (is_normal inside && is_normal t)
 
 -- the number of nodes at all depths
-abbrev pub nodes : Tree → ℕ
-nodes nothing = 0
-nodes (text_then bs f t) = 1 + nodes t
-nodes (leaf_then l t) = 1 + nodes t
-nodes (element_then d m inside t) = 1 + (nodes inside + nodes t)
+abbrev pub node_count : Tree → ℕ
+node_count empty_tree = 0
+node_count (text_then bs f t) = 1 + node_count t
+node_count (leaf_then l t) = 1 + node_count t
+node_count (element_then d m inside t) = 1 + (node_count inside + node_count t)
 
 -- a tree after n rounds
-abbrev pub rounds : ℕ → Tree → Tree
-rounds zero t = t
-rounds (suc n) t = rounds n (round t)
+abbrev pub simplify_times : ℕ → Tree → Tree
+simplify_times zero t = t
+simplify_times (suc n) t = simplify_times n (simplify_once t)
 
 -- the normal form: as many rounds as the tree has nodes
 abbrev pub normal_form : Tree → Tree
-normal_form t = rounds (nodes t) t
+normal_form t = simplify_times (node_count t) t
 
-abbrev pub is_filled : List ℕ → Bool
-is_filled [] = false
-is_filled (b ∷ bs) = true
+abbrev pub is_nonempty_text : List ℕ → Bool
+is_nonempty_text [] = false
+is_nonempty_text (b ∷ bs) = true
 
 -- no text is empty, at any depth
 abbrev pub has_no_empty_text : Tree → Bool
-has_no_empty_text nothing = true
-has_no_empty_text (text_then bs f t) = is_filled bs && has_no_empty_text t
+has_no_empty_text empty_tree = true
+has_no_empty_text (text_then bs f t) = is_nonempty_text bs && has_no_empty_text t
 has_no_empty_text (leaf_then l t) = has_no_empty_text t
 has_no_empty_text (element_then d m inside t) = has_no_empty_text inside && has_no_empty_text t
 
 -- the formatting of a text that ends a tree
-abbrev pub ends_in : Tree → Option Formatting
-ends_in nothing = None
-ends_in (text_then bs f t) = if is_nothing t then Some f else ends_in t
-ends_in (leaf_then l t) = ends_in t
-ends_in (element_then d m inside t) = ends_in t
+abbrev pub last_formatting : Tree → Option Formatting
+last_formatting empty_tree = None
+last_formatting (text_then bs f t) = if is_empty_tree t then Some f else last_formatting t
+last_formatting (leaf_then l t) = last_formatting t
+last_formatting (element_then d m inside t) = last_formatting t
 
 -- normal, and no text that begins it has the formatting of a text before it
-abbrev pub is_normal_behind : Option Formatting → Tree → Bool
-is_normal_behind None t = is_normal t
-is_normal_behind (Some f) t = not (begins_with f t) && is_normal t
+abbrev pub is_normal_after : Option Formatting → Tree → Bool
+is_normal_after None t = is_normal t
+is_normal_after (Some f) t = not (begins_with f t) && is_normal t

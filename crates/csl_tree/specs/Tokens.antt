@@ -16,7 +16,7 @@ use Rattle.std.specs.Char.{is_whitespace, is_not_whitespace}
 use Rattle.std.specs.Str.{chars}
 use Rattle.std.specs.declared.alloc.Global.{Global}
 use Rattle.lit_model.specs.declared.person.Person.{Person}
-use Rattle.lit_model.specs.Person.{Named, named}
+use Rattle.lit_model.specs.Person.{PersonView, person_view}
 use Rattle.csl_style.specs.declared.taxonomy.NameVariable.{NameVariable}
 use Rattle.csl_style.specs.declared.formatting.Display.{Display}
 use Rattle.csl_tree.specs.declared.formatting.Formatting.{Formatting}
@@ -31,7 +31,7 @@ use Rattle.csl_tree.specs.declared.elem.ElemChildren.{ElemChildren}
 
 -- which node made an element
 pub data Meta : Type 0 where
-  of_names : List (List Named × NameVariable) → Meta
+  of_names : List (List PersonView × NameVariable) → Meta
   of_date : Meta
   of_text : Meta
   of_number : Meta
@@ -42,8 +42,8 @@ pub data Meta : Type 0 where
   of_citation_label : Meta
 
 -- the persons of a variable
-abbrev pub names_of : Vec Person Global × NameVariable → List Named × NameVariable
-names_of n = (map named n.0.items, n.1)
+abbrev pub names_of : Vec Person Global × NameVariable → List PersonView × NameVariable
+names_of n = (map person_view n.0.items, n.1)
 
 abbrev pub meta_of : ElemMeta → Meta
 meta_of (meta.Names names) = of_names (map names_of names.items)
@@ -65,8 +65,8 @@ pub data Solid : Type 0 where
   markup : List ℕ → Solid
   link : List ℕ → Formatting → List ℕ → Solid
   transparent : ℕ → Formatting → Solid
-  opened : Option Display → Option Meta → Solid
-  closed : Option Display → Solid
+  elem_start : Option Display → Option Meta → Solid
+  elem_end : Option Display → Solid
 
 pub data Token : Type 0 where
   text : List ℕ → Formatting → Token
@@ -81,8 +81,8 @@ abbrev pub link_tokens : Formatted → List ℕ → List Token
 link_tokens t url = solid (link (string_bytes t.text) t.formatting url) ∷ []
 
 -- an element around the tokens inside
-abbrev pub around : Option Display → Option Meta → List Token → List Token
-around d m inside = solid (opened d m) ∷ (inside ++ solid (closed d) ∷ [])
+abbrev pub elem_around : Option Display → Option Meta → List Token → List Token
+elem_around d m inside = solid (elem_start d m) ∷ (inside ++ solid (elem_end d) ∷ [])
 
 -- one level of a tree, with the tokens of what is inside
 abbrev pub child_step : ElemChild-F (List Token) (List Token) (List Token) → List Token
@@ -93,7 +93,7 @@ child_step (Link t url) = link_tokens t (string_bytes url)
 child_step (Transparent n f) = solid (transparent n f) ∷ []
 
 abbrev pub elem_step : Elem-F (List Token) (List Token) (List Token) → List Token
-elem_step e = around e.display (optional_meta e.meta) e.children
+elem_step e = elem_around e.display (optional_meta e.meta) e.children
 
 abbrev pub children_step : ElemChildren-F (List Token) (List Token) (List Token) → List Token
 children_step c = flat_map (λ ts. ts) c.0.items
@@ -113,8 +113,8 @@ token_text (text bs f) = bs
 token_text (solid (markup bs)) = bs
 token_text (solid (link bs f url)) = bs
 token_text (solid (transparent n f)) = []
-token_text (solid (opened d m)) = []
-token_text (solid (closed d)) = []
+token_text (solid (elem_start d m)) = []
+token_text (solid (elem_end d)) = []
 
 abbrev pub leaf_text : List Token → List ℕ
 leaf_text ts = flat_map token_text ts
@@ -145,8 +145,8 @@ is_empty_token (text bs f) = length bs == 0
 is_empty_token (solid (markup bs)) = length bs == 0
 is_empty_token (solid (link bs f url)) = length bs == 0
 is_empty_token (solid (transparent n f)) = false
-is_empty_token (solid (opened d m)) = true
-is_empty_token (solid (closed d)) = true
+is_empty_token (solid (elem_start d m)) = true
+is_empty_token (solid (elem_end d)) = true
 
 abbrev pub is_empty : List Token → Bool
 is_empty ts = list_all is_empty_token ts
@@ -161,8 +161,8 @@ token_has_content (text bs f) = has_visible bs
 token_has_content (solid (markup bs)) = has_visible bs
 token_has_content (solid (link bs f url)) = true
 token_has_content (solid (transparent n f)) = true
-token_has_content (solid (opened d m)) = false
-token_has_content (solid (closed d)) = false
+token_has_content (solid (elem_start d m)) = false
+token_has_content (solid (elem_end d)) = false
 
 abbrev pub has_content : List Token → Bool
 has_content ts = list_any token_has_content ts

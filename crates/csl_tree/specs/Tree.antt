@@ -11,7 +11,7 @@ use Rattle.csl_tree.specs.declared.elem.ElemChild.TheFolds.{fold-ElemChild, fold
 use Rattle.csl_tree.specs.declared.elem.Elem as elem
 use Rattle.csl_tree.specs.declared.elem.ElemChildren.{ElemChildren}
 use Rattle.csl_tree.specs.Tokens as tokens
-use Rattle.csl_tree.specs.Tokens.{Meta, Token, Solid, solid, optional_meta, around}
+use Rattle.csl_tree.specs.Tokens.{Meta, Token, Solid, solid, optional_meta, elem_around}
 
 -- what is no text and holds no tree
 pub data Leaf : Type 0 where
@@ -21,7 +21,7 @@ pub data Leaf : Type 0 where
 
 -- a node and the tree that follows it, or no node
 pub data Tree : Type 0 where
-  nothing : Tree
+  empty_tree : Tree
   text_then : List ℕ → Formatting → Tree → Tree
   leaf_then : Leaf → Tree → Tree
   element_then : Option Display → Option Meta → Tree → Tree → Tree
@@ -29,25 +29,25 @@ pub data Tree : Type 0 where
 -- two trees in a row
 infixr 65 ◌⊕◌
 abbrev pub ◌⊕◌ : Tree → Tree → Tree
-nothing ⊕ u = u
+empty_tree ⊕ u = u
 (text_then bs f t) ⊕ u = text_then bs f (t ⊕ u)
 (leaf_then l t) ⊕ u = leaf_then l (t ⊕ u)
 (element_then d m inside t) ⊕ u = element_then d m inside (t ⊕ u)
 
 abbrev pub in_row : List Tree → Tree
-in_row [] = nothing
+in_row [] = empty_tree
 in_row (t ∷ ts) = t ⊕ in_row ts
 
 -- one level of a tree, with the trees inside
 abbrev pub child_level : ElemChild-F Tree Tree Tree → Tree
-child_level (Text t) = text_then (string_bytes t.text) t.formatting nothing
+child_level (Text t) = text_then (string_bytes t.text) t.formatting empty_tree
 child_level (Elem inside) = inside
-child_level (Markup s) = leaf_then (markup (string_bytes s)) nothing
-child_level (Link t url) = leaf_then (link (string_bytes t.text) t.formatting (string_bytes url)) nothing
-child_level (Transparent n f) = leaf_then (transparent n f) nothing
+child_level (Markup s) = leaf_then (markup (string_bytes s)) empty_tree
+child_level (Link t url) = leaf_then (link (string_bytes t.text) t.formatting (string_bytes url)) empty_tree
+child_level (Transparent n f) = leaf_then (transparent n f) empty_tree
 
 abbrev pub elem_level : Elem-F Tree Tree Tree → Tree
-elem_level e = element_then e.display (optional_meta e.meta) e.children nothing
+elem_level e = element_then e.display (optional_meta e.meta) e.children empty_tree
 
 abbrev pub children_level : ElemChildren-F Tree Tree Tree → Tree
 children_level c = in_row c.0.items
@@ -72,7 +72,7 @@ leaf_token (link bs f url) = tokens.link bs f url
 leaf_token (transparent n f) = tokens.transparent n f
 
 abbrev pub tokens_of : Tree → List Token
-tokens_of nothing = []
+tokens_of empty_tree = []
 tokens_of (text_then bs f t) = tokens.text bs f ∷ tokens_of t
 tokens_of (leaf_then l t) = solid (leaf_token l) ∷ tokens_of t
-tokens_of (element_then d m inside t) = around d m (tokens_of inside) ++ tokens_of t
+tokens_of (element_then d m inside t) = elem_around d m (tokens_of inside) ++ tokens_of t

@@ -6,7 +6,7 @@ use Rattle.csl_style.specs.declared.formatting.Display.{Display}
 use Rattle.csl_style.specs.declared.formatting.Display.TheVariants.{Block, LeftMargin, RightInline, Indent}
 use Rattle.csl_tree.specs.declared.elem.BufWriteFormat.{BufWriteFormat}
 use Rattle.csl_tree.specs.declared.elem.BufWriteFormat.TheVariants as format
-use Rattle.csl_tree.specs.Tokens.{Token, text, solid, markup, link, transparent, opened, closed}
+use Rattle.csl_tree.specs.Tokens.{Token, text, solid, markup, link, transparent, elem_start, elem_end}
 use Rattle.csl_tree.specs.Html.{html, html_bytes}
 
 abbrev pub newline_char : ℕ
@@ -25,13 +25,13 @@ plain_of (text bs f) = bs
 plain_of (solid (markup bs)) = bs
 plain_of (solid (link bs f url)) = bs
 plain_of (solid (transparent n f)) = []
-plain_of (solid (opened d m)) = line_break d
-plain_of (solid (closed d)) = line_break d
+plain_of (solid (elem_start d m)) = line_break d
+plain_of (solid (elem_end d)) = line_break d
 
 -- the leaf text, with its line breaks
-abbrev pub plain : List Token → List ℕ
-plain ts = flat_map plain_of ts
+abbrev pub plain_text : List Token → List ℕ
+plain_text ts = flat_map plain_of ts
 
-abbrev pub written : BufWriteFormat → List Token → List ℕ
-written format.Plain ts = plain ts
-written format.Html ts = html_bytes (html ts)
+abbrev pub text_in_format : BufWriteFormat → List Token → List ℕ
+text_in_format format.Plain ts = plain_text ts
+text_in_format format.Html ts = html_bytes (html ts)

@@ -5,7 +5,7 @@ ghost use Rattle.std.specs.Prelude.{◌≡◌, ◌≤◌, ◌+◌, [], ◌∷◌
 ghost use Rattle.std.specs.Vec.{vec_capacity};
 ghost use Rattle.std.specs.Bool.{OnTrue, OnFalse};
 ghost use Rattle.std.specs.List.{flat_map};
-ghost use Rattle.csl_tree.specs.Content.{◌++>◌, text_content, lent_text, boxed, affixed, child_content, Appends, Stays};
+ghost use Rattle.csl_tree.specs.Content.{◌++>◌, text_content, lent_text, elem_content, affixed_content, child_content, Appends, Stays};
 ghost use Rattle.csl_tree.specs.Tokens.{tokens, child_tokens, text, optional_meta};
 
 use crate::elem::{Elem, ElemChild, ElemChildren, ElemMeta};
@@ -46,7 +46,7 @@ impl ElemChildren {
         meta: Option<ElemMeta>,
     ) -> Result<(), Memory>
         ensures ok { OnOk result
-            (Appends self.old self.new (boxed display (optional_meta meta) (tokens children))) }
+            (Appends self.old self.new (elem_content display (optional_meta meta) (tokens children))) }
         ensures err { OnErr result (Stays self.old self.new) }
     {
         if children.0.is_empty() {
@@ -109,7 +109,7 @@ impl ElemChildren {
         after: ElemChildren,
     ) -> Result<(), Memory>
         ensures ok { OnOk result (Appends self.old self.new
-            (affixed (tokens before) (tokens after) (tokens middle))) }
+            (affixed_content (tokens before) (tokens after) (tokens middle))) }
         ensures err { OnErr result (Stays self.old self.new) }
     {
         if middle.0.is_empty() {
@@ -172,7 +172,7 @@ impl ElemChildren {
         formatting: Formatting,
     ) -> Result<(), Memory>
         ensures ok { OnOk result (Appends self.old self.new
-            (affixed (lent_text prefix.entry formatting) (lent_text suffix.entry formatting)
+            (affixed_content (lent_text prefix.entry formatting) (lent_text suffix.entry formatting)
             (tokens children))) }
         ensures err { OnErr result (Stays self.old self.new) }
     {

@@ -1,7 +1,7 @@
 //! Copies of a tree and of its parts. A copy is equal to what it was made of.
 
 ghost use Rattle.std.specs.Prelude.{◌≡◌, map, IfOk};
-ghost use Rattle.lit_model.specs.Person.{named};
+ghost use Rattle.lit_model.specs.Person.{person_view};
 ghost use Rattle.csl_tree.specs.Tokens.{tokens, elem_tokens, child_tokens, text_tokens, names_of, meta_of, optional_meta};
 
 use crate::elem::{Elem, ElemChild, ElemChildren, ElemMeta};
@@ -25,7 +25,7 @@ impl Formatted {
 
 /// A copy of each person, in order.
 fn copy_persons(persons: &[Person], alloc: Global) -> Result<Vec<Person>, Memory>
-    ensures { IfOk result (λ copies. map named copies.items ≡ map named persons.now) }
+    ensures { IfOk result (λ copies. map person_view copies.items ≡ map person_view persons.now) }
 {
     let mut copies = Vec::with_capacity(alloc, persons.len())?;
     for person in persons {

@@ -2,9 +2,9 @@
 //! begins.
 
 ghost use Rattle.std.specs.Prelude.{◌≡◌, ◌+◌, ◌<◌, not, length, OnOk, IfOk, OnErr};
-ghost use Rattle.csl_tree.specs.Content.{text_content, child_content, boxed, affixed};
+ghost use Rattle.csl_tree.specs.Content.{text_content, child_content, elem_content, affixed_content};
 ghost use Rattle.csl_tree.specs.Tokens.{tokens, optional_meta, has_children, has_text, ends_in_white_space};
-ghost use Rattle.csl_tree.specs.Flat.{no_parts, with_tokens, with_open, closed_as, dropped, affix_content};
+ghost use Rattle.csl_tree.specs.Flat.{only_root, with_tokens, open_part, close_part, discard_part, affix_content};
 
 use crate::elem::{ElemChild, ElemChildren, ElemMeta};
 use crate::flat_items::{
@@ -27,20 +27,20 @@ pub struct FlatTree {
 
 impl Model for FlatTree {
     ghost use Rattle.std.specs.Prelude.{◌≡◌, length};
-    ghost use Rattle.csl_tree.specs.Flat.{Parts};
-    ghost use Rattle.csl_tree.specs.FlatItems.{parts};
+    ghost use Rattle.csl_tree.specs.Flat.{OpenParts};
+    ghost use Rattle.csl_tree.specs.FlatItems.{open_parts};
 
-    ghost Value = { Parts };
+    ghost Value = { OpenParts };
 
-    ghost view = { λ t. parts t.items.items };
+    ghost view = { λ t. open_parts t.items.items };
 
-    ghost invariant = { λ t. t.opened ≡ length (parts t.items.items).outer };
+    ghost invariant = { λ t. t.opened ≡ length (open_parts t.items.items).outer };
 }
 
 impl FlatTree {
     /// The root is open, and nothing stands in it. It takes no memory.
     pub fn new(alloc: Global) -> FlatTree
-        ensures { result ≡ no_parts }
+        ensures { result ≡ only_root }
     {
         FlatTree {
             alloc,
@@ -117,7 +117,7 @@ impl FlatTree {
     /// # Errors
     /// [`Memory`]: there was no memory left. The contents stay as they were.
     pub fn open(&mut self) -> Result<(), Memory>
-        ensures ok { OnOk result (self.new ≡ with_open self.old) }
+        ensures ok { OnOk result (self.new ≡ open_part self.old) }
         ensures err { OnErr result (self.new ≡ self.old) }
     {
         push_item(&mut self.items, Item::Mark)?;
@@ -136,7 +136,7 @@ impl FlatTree {
     ) -> Result<(), Memory>
         requires is_open { 0 < length self.old.outer }
         ensures ok { OnOk result
-            (self.new ≡ closed_as (boxed display (optional_meta meta) self.old.inner) self.old) }
+            (self.new ≡ close_part (elem_content display (optional_meta meta) self.old.inner) self.old) }
         ensures err { OnErr result (self.new ≡ self.old) }
     {
         close_items(&mut self.items, self.alloc, display, meta)?;
@@ -156,7 +156,7 @@ impl FlatTree {
     ) -> Result<(), Memory>
         requires is_open { 0 < length self.old.outer }
         ensures ok { OnOk result (self.new
-            ≡ closed_as (affixed (affix_content before) (affix_content after) self.old.inner) self.old) }
+            ≡ close_part (affixed_content (affix_content before) (affix_content after) self.old.inner) self.old) }
         ensures err { OnErr result (self.new ≡ self.old) }
     {
         splice_items(&mut self.items, before, after)?;
@@ -167,7 +167,7 @@ impl FlatTree {
     /// Closes the innermost part, and drops what stands in it.
     pub fn discard(&mut self)
         requires is_open { 0 < length self.old.outer }
-        ensures { self.new ≡ dropped self.old }
+        ensures { self.new ≡ discard_part self.old }
     {
         drop_part(&mut self.items);
         self.opened -= 1;

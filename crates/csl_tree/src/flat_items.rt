@@ -3,10 +3,10 @@
 ghost use Rattle.std.specs.Prelude.{◌≡◌, ◌+◌, ◌-◌, ◌<◌, ◌≤◌, ℕ, string_bytes, not, [], ◌∷◌, ◌++◌, length, get_or, set, take, drop, remove, OnOk, IfOk, IfErr, OnErr, vec_len, vec_capacity};
 ghost use Rattle.std.specs.Bool.{OnTrue, OnFalse};
 ghost use Rattle.std.specs.List.{flat_map};
-ghost use Rattle.csl_tree.specs.Content.{◌++>◌, text_content, optional_text, boxed, affixed};
+ghost use Rattle.csl_tree.specs.Content.{◌++>◌, text_content, optional_text, elem_content, affixed_content};
 ghost use Rattle.csl_tree.specs.Tokens.{tokens, child_tokens, text, text_tokens, optional_meta, leaf_text, last_char, has_children};
-ghost use Rattle.csl_tree.specs.Flat.{Parts, no_parts, with_tokens, with_open, closed_as, dropped, affix_content};
-ghost use Rattle.csl_tree.specs.FlatItems.{step, parts, plain_inner, run, IsJoined, IsFresh, IsRun, IsLastPart, kept, JoinsAs, Joins, IsSame, IsApartFrom, IsApart};
+ghost use Rattle.csl_tree.specs.Flat.{OpenParts, only_root, with_tokens, open_part, close_part, discard_part, affix_content};
+ghost use Rattle.csl_tree.specs.FlatItems.{step, open_parts, plain_inner, last_run_len, IsJoined, IsFresh, IsRun, IsLastPart, without_range, JoinsAs, Joins, IsSame, IsApartFrom, IsApart};
 ghost use Rattle.csl_tree.specs.declared.flat_items.Item.TheVariants.{Mark};
 
 use crate::content::join_last;
@@ -28,7 +28,7 @@ pub(crate) enum Item {
 
 /// Appends an item. If memory runs out, the items stay as they were.
 pub(crate) fn push_item(items: &mut Vec<Item>, item: Item) -> Result<(), Memory>
-    ensures ok { OnOk result (parts items.new.items ≡ step (parts items.old.items) item) }
+    ensures ok { OnOk result (open_parts items.new.items ≡ step (open_parts items.old.items) item) }
     ensures err { OnErr result (items.new.items ≡ items.old.items) }
 {
     items.push(item)?;
@@ -55,11 +55,11 @@ fn join_item(item: &mut Item, more: &str, formatting: Formatting) -> Result<bool
 
 /// Appends a text to the last item, if that is a text of equal formatting, and says whether it is.
 fn join_end(items: &mut Vec<Item>, more: &str, formatting: Formatting) -> Result<bool, Memory>
-    ensures joins { IfOk result (λ did. OnTrue did (parts items.new.items ≡ with_tokens (text
-        more.now formatting ∷ []) (parts items.old.items))) }
-    ensures unchanged { IfOk result (λ did. OnFalse did (parts items.new.items ≡ parts
+    ensures joins { IfOk result (λ did. OnTrue did (open_parts items.new.items ≡ with_tokens (text
+        more.now formatting ∷ []) (open_parts items.old.items))) }
+    ensures unchanged { IfOk result (λ did. OnFalse did (open_parts items.new.items ≡ open_parts
         items.old.items)) }
-    ensures err { OnErr result (parts items.new.items ≡ parts items.old.items) }
+    ensures err { OnErr result (open_parts items.new.items ≡ open_parts items.old.items) }
 {
     let len = items.len();
     if len == 0 {
@@ -74,9 +74,9 @@ fn join_end(items: &mut Vec<Item>, more: &str, formatting: Formatting) -> Result
 
 /// Appends a text that is not empty. If memory runs out, the contents stay as they were.
 fn push_text_item(items: &mut Vec<Item>, text: Formatted) -> Result<(), Memory>
-    ensures ok { OnOk result (parts items.new.items ≡ with_tokens (text_tokens text) (parts
+    ensures ok { OnOk result (open_parts items.new.items ≡ with_tokens (text_tokens text) (open_parts
         items.old.items)) }
-    ensures err { OnErr result (parts items.new.items ≡ parts items.old.items) }
+    ensures err { OnErr result (open_parts items.new.items ≡ open_parts items.old.items) }
 {
     if join_end(items, text.text.as_str(), text.formatting)? {
         return Ok(());
@@ -92,9 +92,9 @@ pub(crate) fn push_str_item(
     more: &str,
     formatting: Formatting,
 ) -> Result<(), Memory>
-    ensures ok { OnOk result (parts items.new.items ≡ with_tokens (text more.now formatting ∷
-        []) (parts items.old.items)) }
-    ensures err { OnErr result (parts items.new.items ≡ parts items.old.items) }
+    ensures ok { OnOk result (open_parts items.new.items ≡ with_tokens (text more.now formatting ∷
+        []) (open_parts items.old.items)) }
+    ensures err { OnErr result (open_parts items.new.items ≡ open_parts items.old.items) }
 {
     if join_end(items, more, formatting)? {
         return Ok(());
@@ -109,7 +109,7 @@ pub(crate) fn push_str_item(
 
 /// How many children stand behind the last mark.
 pub(crate) fn run_len(items: &[Item]) -> usize
-    ensures count { result ≡ run items.now }
+    ensures count { result ≡ last_run_len items.now }
     ensures last { IsLastPart items.now result }
     ensures begins { IsFresh (take (length items.now - result) items.now) }
 {
@@ -152,15 +152,15 @@ fn join_next(items: &mut Vec<Item>, last: usize, next: usize) -> Result<bool, Me
     requires within { (last < next) × (next < length items.old.items) }
     ensures len { length items.new.items ≡ length items.old.items }
     ensures joins { IfOk result (λ did. OnTrue did
-        (parts (kept items.new.items last (next + 1)) ≡ parts (kept items.old.items last next))) }
-    ensures moves { IfOk result (λ did. OnFalse did (parts
-        (kept items.new.items (last + 1) (next + 1)) ≡ parts (kept items.old.items last next))) }
+        (open_parts (without_range items.new.items last (next + 1)) ≡ open_parts (without_range items.old.items last next))) }
+    ensures moves { IfOk result (λ did. OnFalse did (open_parts
+        (without_range items.new.items (last + 1) (next + 1)) ≡ open_parts (without_range items.old.items last next))) }
     ensures joined { IfOk result (λ did. OnTrue did (IsJoined (take (last + 1) items.old.items)
         → IsJoined (take (last + 1) items.new.items))) }
     ensures apart { IfOk result (λ did. OnFalse did (IsJoined (take (last + 1) items.old.items)
         → IsJoined (take (last + 1 + 1) items.new.items))) }
     ensures err { OnErr result
-        (parts (kept items.new.items last next) ≡ parts (kept items.old.items last next)) }
+        (open_parts (without_range items.new.items last next) ≡ open_parts (without_range items.old.items last next)) }
 {
     let right = mem::replace(&mut items[next], Item::Mark);
     match join_onto(&mut items[last], &right) {
@@ -188,7 +188,7 @@ fn close_gap(items: &mut Vec<Item>, from: usize, to: usize)
 pub(crate) fn join_texts(items: &mut Vec<Item>, from: usize) -> Result<(), Memory>
     requires within { from ≤ length items.old.items }
     requires begins { IsFresh (take from items.old.items) }
-    ensures same { parts items.new.items ≡ parts items.old.items }
+    ensures same { open_parts items.new.items ≡ open_parts items.old.items }
     ensures joined { OnOk result (IsJoined items.new.items) }
 {
     if from == items.len() {
@@ -215,8 +215,8 @@ pub(crate) fn join_texts(items: &mut Vec<Item>, from: usize) -> Result<(), Memor
 pub(crate) fn take_part(items: &mut Vec<Item>, alloc: Global) -> Result<Vec<ElemChild>, Memory>
     ensures children { IfOk result (λ ks. flat_map child_tokens ks.items ≡ plain_inner
         items.old.items) }
-    ensures left { OnOk result (0 < length (parts items.old.items).outer → ((parts
-        items.old.items).outer ≡ (parts items.new.items).inner ∷ (parts items.new.items).outer)
+    ensures left { OnOk result (0 < length (open_parts items.old.items).outer → ((open_parts
+        items.old.items).outer ≡ (open_parts items.new.items).inner ∷ (open_parts items.new.items).outer)
         × (vec_len items.new < vec_capacity items.new)) }
     ensures err { OnErr result (items.new ≡ items.old) }
 {
@@ -241,7 +241,7 @@ pub(crate) fn take_part(items: &mut Vec<Item>, alloc: Global) -> Result<Vec<Elem
 /// Puts an item where there is room for it.
 fn put(items: &mut Vec<Item>, item: Item)
     requires room { vec_len items.old < vec_capacity items.old }
-    ensures { parts items.new.items ≡ step (parts items.old.items) item }
+    ensures { open_parts items.new.items ≡ step (open_parts items.old.items) item }
 {
     match items.push(item) {
         Ok(()) => {}
@@ -251,8 +251,8 @@ fn put(items: &mut Vec<Item>, item: Item)
 
 /// Drops the items behind the last mark, and the mark.
 pub(crate) fn drop_part(items: &mut Vec<Item>)
-    requires is_open { 0 < length (parts items.old.items).outer }
-    ensures { (parts items.old.items).outer ≡ (parts items.new.items).inner ∷ (parts
+    requires is_open { 0 < length (open_parts items.old.items).outer }
+    ensures { (open_parts items.old.items).outer ≡ (open_parts items.new.items).inner ∷ (open_parts
         items.new.items).outer }
 {
     let at = items.len() - run_len(items) - 1;
@@ -267,10 +267,10 @@ pub(crate) fn close_items(
     display: Option<Display>,
     meta: Option<ElemMeta>,
 ) -> Result<(), Memory>
-    requires is_open { 0 < length (parts items.old.items).outer }
-    ensures ok { OnOk result (parts items.new.items ≡ closed_as (boxed display (optional_meta
-        meta) (parts items.old.items).inner) (parts items.old.items)) }
-    ensures err { OnErr result (parts items.new.items ≡ parts items.old.items) }
+    requires is_open { 0 < length (open_parts items.old.items).outer }
+    ensures ok { OnOk result (open_parts items.new.items ≡ close_part (elem_content display (optional_meta
+        meta) (open_parts items.old.items).inner) (open_parts items.old.items)) }
+    ensures err { OnErr result (open_parts items.new.items ≡ open_parts items.old.items) }
 {
     let from = items.len() - run_len(items);
     join_texts(items, from)?;
@@ -294,8 +294,8 @@ fn unmark(items: &mut Vec<Item>, at: usize, text: Option<Formatted>)
     requires within { at < length items.old.items }
     requires mark { get_or items.old.items at Mark ≡ Mark }
     requires behind { IsRun (drop (at + 1) items.old.items) }
-    ensures spliced { parts items.new.items ≡ closed_as (affix_content text ++> (parts
-        items.old.items).inner) (parts items.old.items) }
+    ensures spliced { open_parts items.new.items ≡ close_part (affix_content text ++> (open_parts
+        items.old.items).inner) (open_parts items.old.items) }
     ensures room { vec_len items.new ≤ vec_len items.old }
     ensures kept { vec_capacity items.new ≡ vec_capacity items.old }
 {
@@ -316,7 +316,7 @@ fn unmark(items: &mut Vec<Item>, at: usize, text: Option<Formatted>)
 /// Puts a text behind the others, where there is room for it.
 fn put_text(items: &mut Vec<Item>, text: Option<Formatted>)
     requires room { vec_len items.old < vec_capacity items.old }
-    ensures { parts items.new.items ≡ with_tokens (affix_content text) (parts items.old.items) }
+    ensures { open_parts items.new.items ≡ with_tokens (affix_content text) (open_parts items.old.items) }
 {
     match text {
         Some(text) => {
@@ -335,10 +335,10 @@ pub(crate) fn splice_items(
     before: Option<Formatted>,
     after: Option<Formatted>,
 ) -> Result<(), Memory>
-    requires is_open { 0 < length (parts items.old.items).outer }
-    ensures ok { OnOk result (parts items.new.items ≡ closed_as (affixed (affix_content before)
-        (affix_content after) (parts items.old.items).inner) (parts items.old.items)) }
-    ensures err { OnErr result (parts items.new.items ≡ parts items.old.items) }
+    requires is_open { 0 < length (open_parts items.old.items).outer }
+    ensures ok { OnOk result (open_parts items.new.items ≡ close_part (affixed_content (affix_content before)
+        (affix_content after) (open_parts items.old.items).inner) (open_parts items.old.items)) }
+    ensures err { OnErr result (open_parts items.new.items ≡ open_parts items.old.items) }
 {
     let count = run_len(items);
     if count == 0 {
@@ -355,8 +355,8 @@ pub(crate) fn splice_items(
 /// Appends a child that shows something. If memory runs out, the contents stay as they were.
 pub(crate) fn push_child_item(items: &mut Vec<Item>, child: ElemChild) -> Result<(), Memory>
     ensures ok { OnOk result
-        (parts items.new.items ≡ with_tokens (child_tokens child) (parts items.old.items)) }
-    ensures err { OnErr result (parts items.new.items ≡ parts items.old.items) }
+        (open_parts items.new.items ≡ with_tokens (child_tokens child) (open_parts items.old.items)) }
+    ensures err { OnErr result (open_parts items.new.items ≡ open_parts items.old.items) }
 {
     match child {
         ElemChild::Text(text) => {
@@ -372,7 +372,7 @@ pub(crate) fn push_child_item(items: &mut Vec<Item>, child: ElemChild) -> Result
 
 /// Whether nothing stands in the innermost part.
 pub(crate) fn is_fresh(items: &[Item]) -> bool
-    ensures { result ≡ not (has_children (parts items.now).inner) }
+    ensures { result ≡ not (has_children (open_parts items.now).inner) }
 {
     let len = items.len();
     if len == 0 {
@@ -386,7 +386,7 @@ pub(crate) fn is_fresh(items: &[Item]) -> bool
 
 /// The last character of the text of the innermost part.
 pub(crate) fn last_char(items: &[Item]) -> Option<char>
-    ensures { result ≡ last_char (leaf_text (parts items.now).inner) }
+    ensures { result ≡ last_char (leaf_text (open_parts items.now).inner) }
 {
     let mut i = items.len();
     while i > 0 {

@@ -1,7 +1,7 @@
 //! Text in a formatting (CSL 1.0.2, Formatting).
 
 ghost use Rattle.std.specs.Prelude.{◌≡◌};
-ghost use Rattle.csl_tree.specs.Formatting.{over};
+ghost use Rattle.csl_tree.specs.Formatting.{apply_formatting};
 
 use csl_style::{FontStyle, FontVariant, FontWeight, TextDecoration, VerticalAlign, formatting};
 
@@ -18,7 +18,7 @@ pub struct Formatting {
 impl Formatting {
     /// A node's formatting over this one: each attribute that the node sets, else that of `self`.
     pub fn apply(self, other: formatting::Formatting) -> Formatting
-        ensures { result ≡ over other self }
+        ensures { result ≡ apply_formatting other self }
     {
         Formatting {
             font_style: other.font_style.unwrap_or(self.font_style),

@@ -2,9 +2,9 @@
 
 ghost use Rattle.std.specs.Prelude.{◌≡◌, Bool, List, ℕ, true};
 ghost use Rattle.std.specs.List.{list_all};
-ghost use Rattle.csl_tree.specs.Links.{AllowsBy, addresses, kept_links, unlinked};
+ghost use Rattle.csl_tree.specs.Links.{AllowsBy, addresses, kept_links, child_without_link};
 ghost use Rattle.csl_tree.specs.Tokens.{child_tokens, leaf_text, tokens};
-ghost use Rattle.csl_tree.specs.Writing.{plain};
+ghost use Rattle.csl_tree.specs.Writing.{plain_text};
 
 use crate::elem::{ElemChild, ElemChildren};
 use crate::formatting::Formatting;
@@ -13,7 +13,7 @@ use std::mem;
 impl ElemChild {
     /// The text of a link, and any other child as it is.
     fn without_link(self) -> ElemChild
-        ensures { result ≡ unlinked self }
+        ensures { result ≡ child_without_link self }
     {
         match self {
             ElemChild::Link { text, .. } => ElemChild::Text(text),
@@ -23,7 +23,7 @@ impl ElemChild {
 
     /// Makes a link its text, and leaves any other child as it is.
     fn unlink(&mut self)
-        ensures { self.new ≡ unlinked self.old }
+        ensures { self.new ≡ child_without_link self.old }
     {
         let other = ElemChild::Transparent {
             cite_idx: 0,
@@ -41,7 +41,7 @@ impl ElemChild {
         ensures kept { (allowed : List ℕ → Bool) → AllowsBy F.step allowed
             → child_tokens self.new ≡ kept_links allowed (child_tokens self.old) }
         ensures leaves { leaf_text (child_tokens self.new) ≡ leaf_text (child_tokens self.old) }
-        ensures plain { plain (child_tokens self.new) ≡ plain (child_tokens self.old) }
+        ensures plain { plain_text (child_tokens self.new) ≡ plain_text (child_tokens self.old) }
     {
         if self.as_elem().is_some() {
             self.children_mut().keep_links_by(is_allowed);
@@ -61,7 +61,7 @@ impl ElemChildren {
         ensures kept { (allowed : List ℕ → Bool) → AllowsBy F.step allowed
             → tokens self.new ≡ kept_links allowed (tokens self.old) }
         ensures leaves { leaf_text (tokens self.new) ≡ leaf_text (tokens self.old) }
-        ensures plain { plain (tokens self.new) ≡ plain (tokens self.old) }
+        ensures plain { plain_text (tokens self.new) ≡ plain_text (tokens self.old) }
     {
         for child in self.0.iter_mut() {
             child.keep_links_by(is_allowed);
@@ -77,7 +77,7 @@ impl ElemChildren {
         ensures allowed { (allowed : List ℕ → Bool) → AllowsBy F.step allowed
             → list_all allowed (addresses (tokens self.new)) ≡ true }
         ensures leaves { leaf_text (tokens self.new) ≡ leaf_text (tokens self.old) }
-        ensures plain { plain (tokens self.new) ≡ plain (tokens self.old) }
+        ensures plain { plain_text (tokens self.new) ≡ plain_text (tokens self.old) }
     {
         self.keep_links_by(&mut is_allowed);
     }

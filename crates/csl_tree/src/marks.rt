@@ -1,9 +1,9 @@
 //! What HTML begins with: a tag or a text.
 
 ghost use Rattle.std.specs.Prelude.{◌≡◌, ◌<◌, ◌++◌, length, Option, None, IfSome, IfNone};
-ghost use Rattle.csl_tree.specs.Escapes.{escaped};
+ghost use Rattle.csl_tree.specs.Escapes.{escape_all};
 ghost use Rattle.csl_tree.specs.Marks.{reference_at, byte_at, texts_found, as_text, IsAfterText};
-ghost use Rattle.csl_tree.specs.Marks.{div_at, span_at, end_at, after_weight, after_align, after_css, rest_found, found};
+ghost use Rattle.csl_tree.specs.Marks.{div_at, span_at, end_at, after_weight, after_align, after_css, rest_found, values_found};
 ghost use Rattle.csl_tree.specs.Marks.{after, IsAfterAnchor, IsStart, BeginsNoStart, IsMark, BeginsNoPiece};
 
 use crate::escapes::split_plain;
@@ -48,7 +48,7 @@ fn reference_at(html: &str) -> Option<(&'static str, &str)>
 /// The text that HTML begins with, unescaped, and the rest: as many characters as stand for
 /// themselves, or the character of one reference.
 fn text_at(html: &str) -> Option<(&str, &str)>
-    ensures found { IfSome result (λ x. (0 < length x.0.now) × (html.now ≡ escaped x.0.now ++ x.1.now)) }
+    ensures found { IfSome result (λ x. (0 < length x.0.now) × (html.now ≡ escape_all x.0.now ++ x.1.now)) }
     ensures none { IfNone result (byte_at html.now ≡ None) }
 {
     let (plain, rest) = split_plain(html);
@@ -165,7 +165,7 @@ fn start_at(html: &str) -> Option<(Element, &str)>
 /// The element whose end tag HTML begins with, and the rest.
 #[tactic(auto, unfolding(crate::specs::Marks::end_at), using(crate::proofs::Fronts::stripped))]
 fn end_at(html: &str) -> Option<(Element, &str)>
-    ensures { found result ≡ end_at html.now }
+    ensures { values_found result ≡ end_at html.now }
 {
     if let Some(rest) = html.strip_prefix("</div>") {
         return Some((Element::Div, rest));

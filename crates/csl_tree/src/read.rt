@@ -5,7 +5,7 @@ ghost use Rattle.csl_tree.specs.Html.{IsHtmlOf, IsNotHtml};
 ghost use Rattle.csl_tree.specs.Reading.{HasEnded, within_after_mark, mark_text};
 ghost use Rattle.csl_tree.specs.Tokens.{Token, tokens, leaf_text};
 ghost use Rattle.csl_tree.specs.Content.{IsContent};
-ghost use Rattle.csl_tree.specs.Writing.{written};
+ghost use Rattle.csl_tree.specs.Writing.{text_in_format};
 ghost use Rattle.csl_tree.specs.declared.elem.ElemChildren.{ElemChildren};
 ghost use Rattle.csl_tree.specs.declared.elem.BufWriteFormat.TheVariants.{Html};
 
@@ -77,9 +77,9 @@ pub fn leaf_text_of_html(alloc: Global, html: &str) -> Result<String, HtmlError>
     // HTML has one text.
     ensures unique { (x y : List ℕ) → IsHtmlOf html.now x → IsHtmlOf html.now y → x ≡ y }
     // What any tree is written as is HTML of its leaf text, empty texts in it or not.
-    ensures law { (c : ElemChildren) → IsHtmlOf (written Html (tokens c)) (leaf_text (tokens c)) }
+    ensures law { (c : ElemChildren) → IsHtmlOf (text_in_format Html (tokens c)) (leaf_text (tokens c)) }
     // And so is what any content is written as.
-    ensures content_law { (c : List Token) → IsContent c → IsHtmlOf (written Html c) (leaf_text c) }
+    ensures content_law { (c : List Token) → IsContent c → IsHtmlOf (text_in_format Html c) (leaf_text c) }
 {
     let mut reading = Reading {
         within: Vec::new(alloc),

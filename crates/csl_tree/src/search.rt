@@ -3,7 +3,7 @@
 ghost use Rattle.std.specs.Prelude.{◌≡◌, Bool, false, option_copied, option_map, IfSome, IfNone};
 ghost use Rattle.std.specs.List.{find};
 ghost use Rattle.csl_tree.specs.Tokens.{tokens, child_tokens};
-ghost use Rattle.csl_tree.specs.Search.{preorder, child_preorder, IsFirst, IsMadeBy, AnswersBy, elem_of, is_names, last_text, has_meta, child_has_meta, as_child, NothingNoted, TakenOut};
+ghost use Rattle.csl_tree.specs.Search.{preorder, child_preorder, IsFirst, IsMadeBy, AnswersBy, elem_of, is_names, last_text, has_meta, child_has_meta, as_child, HasNoMeta, MetaRemoved};
 
 use crate::elem::{Elem, ElemChild, ElemChildren, ElemMeta};
 use crate::formatting::Formatted;
@@ -87,9 +87,9 @@ impl ElemChild {
         requires { child_has_meta self.old ≡ false }
         ensures found { result ≡ option_map as_child (find has_meta (child_preorder self.old)) }
         ensures some { IfSome result (λ child.
-            TakenOut (child_tokens self.old) (child_tokens child) (child_tokens self.new)) }
+            MetaRemoved (child_tokens self.old) (child_tokens child) (child_tokens self.new)) }
         ensures none { IfNone result
-            (NothingNoted (child_tokens self.old) × (self.new ≡ self.old)) }
+            (HasNoMeta (child_tokens self.old) × (self.new ≡ self.old)) }
     {
         if self.as_elem().is_none() {
             return None;
@@ -104,8 +104,8 @@ impl ElemChildren {
     pub fn remove_any_meta(&mut self) -> Option<ElemChild>
         ensures found { result ≡ option_map as_child (find has_meta (preorder self.old)) }
         ensures some { IfSome result (λ child.
-            TakenOut (tokens self.old) (child_tokens child) (tokens self.new)) }
-        ensures none { IfNone result (NothingNoted (tokens self.old) × (self.new ≡ self.old)) }
+            MetaRemoved (tokens self.old) (child_tokens child) (tokens self.new)) }
+        ensures none { IfNone result (HasNoMeta (tokens self.old) × (self.new ≡ self.old)) }
     {
         for i in 0..self.0.len() {
             if self.0[i].has_meta() {

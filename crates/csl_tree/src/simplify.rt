@@ -5,7 +5,7 @@ ghost use Rattle.std.specs.Prelude.{◌≡◌, ◌<◌, ◌↔◌, IsTrue, OnOk,
 ghost use Rattle.std.specs.Bool.{OnFalse};
 ghost use Rattle.csl_tree.specs.Tokens.{tokens};
 ghost use Rattle.csl_tree.specs.Tree.{Tree, tree, elem_tree, child_tree, row, tokens_of};
-ghost use Rattle.csl_tree.specs.Simplify.{round, round_behind, inside, with_inside, styled, is_normal, is_normal_behind, ends_in, has_no_empty_text, normal_form, nodes};
+ghost use Rattle.csl_tree.specs.Simplify.{simplify_once, simplify_once_after, tree_inside, with_inside, styled_value, is_normal, is_normal_after, last_formatting, has_no_empty_text, normal_form, node_count};
 
 use crate::content::push_text_to;
 use crate::copies::clone_meta;
@@ -23,13 +23,13 @@ use std::alloc::Global;
 /// [`Memory`]: there was no memory left.
 #[cycle(rounds)]
 pub fn simplify_children(alloc: Global, children: &ElemChildren) -> Result<ElemChildren, Memory>
-    ensures round { IfOk result (λ r. tree r ≡ round (tree children.now)) }
-    ensures kept { IfOk result (λ r. styled (tree r) ≡ styled (tree children.now)) }
+    ensures round { IfOk result (λ r. tree r ≡ simplify_once (tree children.now)) }
+    ensures kept { IfOk result (λ r. styled_value (tree r) ≡ styled_value (tree children.now)) }
     ensures normal { IfOk result (λ r.
         (tree r ≡ tree children.now) ↔ IsTrue (is_normal (tree children.now))) }
     ensures fewer { IfOk result (λ r.
-        OnFalse (is_normal (tree children.now)) (nodes (tree r) < nodes (tree children.now))) }
-    ensures as_tokens { IfOk result (λ r. tokens r ≡ tokens_of (round (tree children.now))) }
+        OnFalse (is_normal (tree children.now)) (node_count (tree r) < node_count (tree children.now))) }
+    ensures as_tokens { IfOk result (λ r. tokens r ≡ tokens_of (simplify_once (tree children.now))) }
 {
     let mut simplified = Vec::new(alloc);
     for child in &children.0 {
@@ -43,7 +43,7 @@ impl ElemChild {
     #[cycle(rounds)]
     fn simplify_into(&self, alloc: Global, simplified: &mut Vec<ElemChild>) -> Result<(), Memory>
         ensures ok { OnOk result (row simplified.new.items
-            ≡ round_behind (row simplified.old.items) (child_tree self.now)) }
+            ≡ simplify_once_after (row simplified.old.items) (child_tree self.now)) }
     {
         match self {
             ElemChild::Text(text) => {
@@ -79,12 +79,12 @@ impl Elem {
     #[cycle(rounds)]
     pub fn simplify(&self, alloc: Global) -> Result<Elem, Memory>
         ensures round { IfOk result (λ r.
-            elem_tree r ≡ with_inside self.now (round (inside self.now))) }
-        ensures kept { IfOk result (λ r. styled (elem_tree r) ≡ styled (elem_tree self.now)) }
+            elem_tree r ≡ with_inside self.now (simplify_once (tree_inside self.now))) }
+        ensures kept { IfOk result (λ r. styled_value (elem_tree r) ≡ styled_value (elem_tree self.now)) }
         ensures normal { IfOk result (λ r.
-            (elem_tree r ≡ elem_tree self.now) ↔ IsTrue (is_normal (inside self.now))) }
-        ensures fewer { IfOk result (λ r. OnFalse (is_normal (inside self.now))
-            (nodes (elem_tree r) < nodes (elem_tree self.now))) }
+            (elem_tree r ≡ elem_tree self.now) ↔ IsTrue (is_normal (tree_inside self.now))) }
+        ensures fewer { IfOk result (λ r. OnFalse (is_normal (tree_inside self.now))
+            (node_count (elem_tree r) < node_count (elem_tree self.now))) }
     {
         let children = simplify_children(alloc, &self.children)?;
         let meta = clone_meta(&self.meta, alloc)?;
@@ -107,7 +107,7 @@ pub fn simplify_fully(alloc: Global, children: &ElemChildren) -> Result<ElemChil
     ensures normal { IfOk result (λ r. IsTrue (is_normal (tree r))) }
     ensures tells { IfOk result (λ r. (u : Tree) → IsTrue (has_no_empty_text (tree children.now))
         → IsTrue (has_no_empty_text u)
-        → (tree r ≡ normal_form u) ↔ (styled (tree children.now) ≡ styled u)) }
+        → (tree r ≡ normal_form u) ↔ (styled_value (tree children.now) ≡ styled_value u)) }
 {
     let mut simplified = simplify_children(alloc, children)?;
     while !simplified.is_normal() {
@@ -125,7 +125,7 @@ impl ElemChildren {
     {
         let mut last: Option<Formatting> = None;
         for child in &self.0 {
-            if !child.is_normal_behind(last) {
+            if !child.is_normal_after(last) {
                 return false;
             }
             last = child.text_formatting();
@@ -137,7 +137,7 @@ impl ElemChildren {
 impl ElemChild {
     /// The formatting of a text, and of nothing else.
     fn text_formatting(&self) -> Option<Formatting>
-        ensures { result ≡ ends_in (child_tree self.now) }
+        ensures { result ≡ last_formatting (child_tree self.now) }
     {
         match self {
             ElemChild::Text(text) => Some(text.formatting),
@@ -147,8 +147,8 @@ impl ElemChild {
 
     /// Whether it is normal inside, and stands apart from a text before it.
     #[cycle(normal)]
-    fn is_normal_behind(&self, last: Option<Formatting>) -> bool
-        ensures { result ≡ is_normal_behind last (child_tree self.now) }
+    fn is_normal_after(&self, last: Option<Formatting>) -> bool
+        ensures { result ≡ is_normal_after last (child_tree self.now) }
     {
         match self {
             ElemChild::Text(text) => match last {

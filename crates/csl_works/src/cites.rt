@@ -3,13 +3,13 @@
 use crate::error::WorkError;
 use crate::nodes::alone;
 use crate::refused::refusal;
-use csl_built_in::{BuiltIn, BuiltInStyle, TitleOnly, title_style};
 use csl_context::{Context, RenderError, Rendered};
 use csl_entry::{
     Alphanumerical, CiteProperties, DisambiguateState, DisambiguatedNameForm, EntryLike,
     InstanceContext, NameDisambiguationProperties, SpecialForm,
 };
 use csl_render::{Pair, RenderCsl, cite_pair};
+use csl_samples::{BuiltIn, BuiltInStyle, TitleOnly, title_style};
 use csl_style::{DateVariable, NameVariable, Scope, Style, Variable};
 use csl_tree::{BufWriteFormat, ElemChildren};
 use lit_model::{ChunkedString, Entry, Memory};
@@ -58,7 +58,7 @@ fn part(manner: Manner) -> Option<SpecialForm> {
 }
 
 /// The entry that is cited.
-fn cited(manner: Manner) -> BuiltIn {
+fn cite_text(manner: Manner) -> BuiltIn {
     match manner {
         Manner::Shortened => BuiltIn::Dependence,
         _ => BuiltIn::CrazyRich,
@@ -133,7 +133,7 @@ fn cite_of(
 
 /// A cite in a manner, in a style.
 fn cite_in(alloc: Global, style: &Style, manner: Manner) -> Result<String, WorkError> {
-    let entry = cited(manner).entry(alloc)?;
+    let entry = cite_text(manner).entry(alloc)?;
     let said = cite_of(alloc, style, &entry, manner);
     drop(entry);
     said

@@ -4,12 +4,12 @@ use crate::cites::forms;
 use crate::error::WorkError;
 use crate::nodes::alone;
 use crate::trees::{formatted, texts};
-use csl_built_in::BuiltIn;
 use csl_context::LeftState;
 use csl_entry::{
     CiteProperties, DisambiguateState, NameDisambiguationProperties, NumberOrPageVariableResult,
     NumberVariableResult, SpeculativeCiteProperties,
 };
+use csl_samples::BuiltIn;
 use csl_style::{NameVariable, StandardVariable, Variable};
 use csl_tree::{Elem, ElemChild, ElemChildren, ElemMeta};
 use lit_model::{

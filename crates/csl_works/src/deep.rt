@@ -4,8 +4,8 @@ use crate::cites::{plain, text_of};
 use crate::error::WorkError;
 use crate::nodes::{alone, layout, letter};
 use crate::trees::{elem, texts};
-use csl_built_in::TitleOnly;
 use csl_entry::{CiteProperties, DisambiguateState, InstanceContext};
+use csl_samples::TitleOnly;
 use csl_style::formatting::Formatting;
 use csl_style::{
     Affixes, Choose, ChooseBranch, ChooseMatch, Display, Group, InheritableNameOptions,

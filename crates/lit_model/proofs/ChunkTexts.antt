@@ -5,7 +5,7 @@ use Rattle.std.specs.List.{list_all}
 use Rattle.std.proofs.lemmas.List.Folds.{list_all-append}
 use Rattle.std.proofs.lemmas.List.{drop_all, drop_more}
 use Rattle.std.proofs.lemmas.Str.{chars-append, chars-nil}
-use Rattle.lit_model.specs.Chunks.{text_of, is_white_space}
+use Rattle.lit_model.specs.Chunks.{chunks_text, is_white_space}
 use Rattle.lit_model.specs.Text.{Chunk, chunk_of}
 use Rattle.lit_model.specs.declared.text.StringChunk.{StringChunk}
 
@@ -15,7 +15,7 @@ white_space-nil = ap (λ (cs : List ℕ). list_all is_whitespace cs) (sym chars-
 
 -- a chunk before the others
 white_space-cons : (c : Chunk) (cs : List Chunk) → IsUtf8 c.value → is_white_space (c ∷ cs) ≡ (list_all is_whitespace (chars c.value) && is_white_space cs)
-white_space-cons c cs u = ap (λ (ds : List ℕ). list_all is_whitespace ds) (chars-append c.value (text_of cs) u) ∙ list_all-append is_whitespace (chars c.value) (chars (text_of cs))
+white_space-cons c cs u = ap (λ (ds : List ℕ). list_all is_whitespace ds) (chars-append c.value (chunks_text cs) u) ∙ list_all-append is_whitespace (chars c.value) (chars (chunks_text cs))
 
 module _ (cs : List StringChunk) (i : ℕ) (c : StringChunk) (t : List ℕ) (b : Bool) (h : i < length cs) (is : c ≡ get_or cs i c) (is_text : t ≡ string_bytes c.value) (utf8 : IsUtf8 t) (e : b ≡ list_all is_whitespace (chars t)) where
   -- the chunk at a place, and those behind it

@@ -6,8 +6,8 @@ use Rattle.std.proofs.lemmas.Bool.{lt-ltb}
 use Rattle.std.proofs.lemmas.List.{append-nil}
 use Rattle.lit_model.specs.declared.numeric.NumericDelimiter.{NumericDelimiter}
 use Rattle.lit_model.specs.declared.numeric.NumericDelimiter.TheVariants.{Comma, Ampersand, Hyphen}
-use Rattle.lit_model.specs.Numeric.{ValueView, one, several, NumericView, Only, IsBlank, is_affix, is_delimiter, delimiter_char, SpellsInteger, SpellsIntegers, SpellsValue, SpellsAffix, Spells}
-use Rattle.lit_model.specs.NumericReading.{after, integer_from, integer_at, delimiter_of, delimiter_at, integers_at, value_at, text_from, affix_from, is_blank, numeric_from}
+use Rattle.lit_model.specs.Numeric.{ValueView, one, several, NumericView, AllChars, IsBlank, is_affix, is_delimiter, delimiter_char, SpellsInteger, SpellsIntegers, SpellsValue, SpellsAffix, Spells}
+use Rattle.lit_model.specs.NumericReading.{after_longest_prefix, integer_from, integer_at, delimiter_of, delimiter_at, integers_at, value_at, text_from, affix_from, is_blank, numeric_from}
 use Rattle.lit_model.proofs.Classes.{excluded, affix_is_other, digit_is_no_space, digit_is_no_delimiter, delimiter_is_no_space}
 use Rattle.lit_model.proofs.Pieces.{Stops, front_is, after_is, stops_by, stops_first, count_none, count_append, count_yes}
 use Rattle.lit_model.proofs.Sound.{encodes_some}
@@ -116,8 +116,8 @@ value_stops : (p : ℕ → Bool) (v : ValueView) (cs tail : List ℕ) → ((c : 
 value_stops p (one n) cs tail apart s = stops_first p is_ascii_digit cs tail apart s.digits s.nonempty
 value_stops p (several xs) cs tail apart s = begins_with_digit p xs cs tail apart s.1
 
-pub affix_only : (p : ℕ → Bool) (o : Option (List ℕ)) (cs : List ℕ) → SpellsAffix p o cs → Only p cs
-affix_only p None cs s = subst (Only p) (sym s) tt
+pub affix_only : (p : ℕ → Bool) (o : Option (List ℕ)) (cs : List ℕ) → SpellsAffix p o cs → AllChars p cs
+affix_only p None cs s = subst (AllChars p) (sym s) tt
 affix_only p (Some bytes) cs s = s.1
 
 pub affix_complete : (p : ℕ → Bool) (o : Option (List ℕ)) (cs : List ℕ) → SpellsAffix p o cs → affix_from cs ≡ o
@@ -129,7 +129,7 @@ affix_complete p (Some bytes) (c ∷ cs) s =
 
 pub blank_complete : (cs : List ℕ) → IsBlank cs → is_blank cs ≡ true
 blank_complete cs blank =
-    let none : after is_whitespace cs ≡ [] = ap (after is_whitespace) (sym (append-nil cs)) ∙ after_is is_whitespace cs [] blank tt in
+    let none : after_longest_prefix is_whitespace cs ≡ [] = ap (after_longest_prefix is_whitespace) (sym (append-nil cs)) ∙ after_is is_whitespace cs [] blank tt in
     rw none refl
 
 count_affix : (o : Option (List ℕ)) (cs : List ℕ) → SpellsAffix is_affix o cs → count_by is_delimiter cs ≡ 0
@@ -154,13 +154,13 @@ unfolding numeric_from
 numeric_complete v cs s =
     let ends = s.suffix ++ s.after in
     let rest = s.numbers ++ ends in
-    let affix : Only is_affix s.prefix = affix_only is_affix v.prefix s.prefix s.has_prefix in
-    let affix' : Only is_affix s.suffix = affix_only is_affix v.suffix s.suffix s.has_suffix in
+    let affix : AllChars is_affix s.prefix = affix_only is_affix v.prefix s.prefix s.has_prefix in
+    let affix' : AllChars is_affix s.suffix = affix_only is_affix v.suffix s.suffix s.has_suffix in
     let ends_digits : Stops is_ascii_digit ends = stops_by is_ascii_digit is_affix s.suffix s.after (λ c h. (affix_is_other c h).0) affix' (blank_stops is_ascii_digit s.after space_is_no_digit s.blank_after) in
     let ends_suffix : Stops is_affix s.after = blank_stops is_affix s.after space_is_no_affix s.blank_after in
     let ends_prefix : Stops is_affix rest = value_stops is_affix v.value s.numbers ends digit_is_no_affix s.has_value in
     let ends_blank : Stops is_whitespace (s.prefix ++ rest) = stops_by is_whitespace is_affix s.prefix rest (λ c h. (affix_is_other c h).1) affix (value_stops is_whitespace v.value s.numbers ends digit_is_no_space s.has_value) in
-    let start : after is_whitespace cs ≡ s.prefix ++ rest = ap (after is_whitespace) s.whole ∙ after_is is_whitespace s.before (s.prefix ++ rest) s.blank_before ends_blank in
+    let start : after_longest_prefix is_whitespace cs ≡ s.prefix ++ rest = ap (after_longest_prefix is_whitespace) s.whole ∙ after_is is_whitespace s.before (s.prefix ++ rest) s.blank_before ends_blank in
     let value : value_at (count_by is_delimiter s.numbers) rest ≡ Some (v.value, ends) = value_complete v.value s.numbers ends s.has_value ends_digits in
     rw (
       count_whole v cs s,

@@ -30,16 +30,16 @@ use Rattle.lit_model.specs.contracts.source.PublisherPartialEq.TheImpl.{eq-value
 use Rattle.lit_model.specs.contracts.source.QualifiedUrlPartialEq.TheImpl.{eq-value as eq_url}
 use Rattle.lit_model.specs.contracts.source.SerialNumberPartialEq.TheImpl.{eq-value as eq_serials}
 use Rattle.lit_model.specs.contracts.text.FormatStringPartialEq.TheImpl.{eq-value as eq_forms}
-use Rattle.lit_model.specs.Date.{date_parts}
+use Rattle.lit_model.specs.Date.{date_view}
 use Rattle.lit_model.specs.Entry.{parents_of, preorder}
 use Rattle.url.specs.Parts.{serialize}
 use Rattle.lit_model.specs.MaybeTyped.{maybe_view}
 use Rattle.lit_model.specs.Numeric.{numeric_view}
 use Rattle.lit_model.specs.Page.{pages_view}
-use Rattle.lit_model.specs.Person.{named, group_of}
+use Rattle.lit_model.specs.Person.{person_view, role_group}
 use Rattle.lit_model.specs.Source.{Address, address_of, AddressText, address_text, press_of, serials, language_of}
-use Rattle.lit_model.specs.Text.{forms_of}
-use Rattle.lit_model.specs.Work.{own_of, Work, work_of, works, Spelled, spelled_of, spelled}
+use Rattle.lit_model.specs.Text.{format_string_view}
+use Rattle.lit_model.specs.Work.{own_of, Work, work_of, works, Spelled, spelled_of, spelled_works}
 use Rattle.lit_model.proofs.ByValue.{both, through, option_view, option_same, text_decides}
 use Rattle.lit_model.proofs.Depth.{EachOf, depth_of, parents_less}
 use Rattle.lit_model.proofs.EntryStep.{same_people, same_groups, same_maybe_number, same_maybe_pages, eq_out}
@@ -54,13 +54,13 @@ types_decide : (a b : EntryType) → Decides (eq_type.it a b) (a ≡ b)
 types_decide a b = search rules
 
 dates_same : (a b : Date) → Decides (eq_date.it a b) (a ≡ b)
-dates_same a b = through _ (date_decides a b) (same_date a b) (ap date_parts)
+dates_same a b = through _ (date_decides a b) (same_date a b) (ap date_view)
 
-people_decide : (v w : Vec Person Global) → Decides (same_people v w) (map named v.items ≡ map named w.items)
-people_decide v w = pointwise_view eq_person.it named person_decides v.items w.items
+people_decide : (v w : Vec Person Global) → Decides (same_people v w) (map person_view v.items ≡ map person_view w.items)
+people_decide v w = pointwise_view eq_person.it person_view person_decides v.items w.items
 
-groups_decide : (v w : Vec PersonsWithRoles Global) → Decides (same_groups v w) (map group_of v.items ≡ map group_of w.items)
-groups_decide v w = pointwise_view eq_group.it group_of group_decides v.items w.items
+groups_decide : (v w : Vec PersonsWithRoles Global) → Decides (same_groups v w) (map role_group v.items ≡ map role_group w.items)
+groups_decide v w = pointwise_view eq_group.it role_group group_decides v.items w.items
 
 maybe_number_decides : (x y : MaybeTyped Numeric) → Decides (same_maybe_number x y) (maybe_view numeric_view x ≡ maybe_view numeric_view y)
 maybe_number_decides = maybe_decides of_numeric.the_row of_numeric_eq.ghosts no_dict numeric_view numeric_decides
@@ -76,23 +76,23 @@ url_text_decides a b = through _ (url_decides a b)
 tells : (a b : Entry) → spelled_of a ≡ spelled_of b → length (parents_of a) ≡ length (parents_of b)
 tells a b = ap (λ (s : Spelled). s.parent_count)
 
-same_count : (xs ys : List Entry) → map spelled xs ≡ map spelled ys → length xs ≡ length ys
+same_count : (xs ys : List Entry) → map spelled_works xs ≡ map spelled_works ys → length xs ≡ length ys
 same_count xs ys h = simp length-map at (ap length h)
 
 -- `==` of two entries, where that of their parents is known
-one_level : (a b : Entry) → Decides (pointwise eq_entry.it (parents_of a) (parents_of b)) (map spelled (parents_of a) ≡ map spelled (parents_of b)) → Decides (eq_entry.it a b) (spelled a ≡ spelled b)
-one_level a b parents = subst (λ q. Decides q (spelled a ≡ spelled b)) (sym (eq_out a b)) (through _
+one_level : (a b : Entry) → Decides (pointwise eq_entry.it (parents_of a) (parents_of b)) (map spelled_works (parents_of a) ≡ map spelled_works (parents_of b)) → Decides (eq_entry.it a b) (spelled_works a ≡ spelled_works b)
+one_level a b parents = subst (λ q. Decides q (spelled_works a ≡ spelled_works b)) (sym (eq_out a b)) (through _
     (both _ _ (text_decides (out-Entry a).key (out-Entry b).key)
     (both _ _ (types_decide (out-Entry a).entry_type (out-Entry b).entry_type)
-    (both _ _ (option_view eq_forms.it forms_of forms_decide (out-Entry a).title (out-Entry b).title)
-    (both _ _ (option_view same_people (λ v. map named v.items) people_decide (out-Entry a).authors (out-Entry b).authors)
-    (both _ _ (option_view same_people (λ v. map named v.items) people_decide (out-Entry a).editors (out-Entry b).editors)
+    (both _ _ (option_view eq_forms.it format_string_view forms_decide (out-Entry a).title (out-Entry b).title)
+    (both _ _ (option_view same_people (λ v. map person_view v.items) people_decide (out-Entry a).authors (out-Entry b).authors)
+    (both _ _ (option_view same_people (λ v. map person_view v.items) people_decide (out-Entry a).editors (out-Entry b).editors)
     (both _ _ (option_same eq_date.it dates_same (out-Entry a).date (out-Entry b).date)
     (both _ _ (option_view eq_url.it address_text url_text_decides (out-Entry a).url (out-Entry b).url)
-    (both _ _ (option_view same_groups (λ v. map group_of v.items) groups_decide (out-Entry a).affiliated (out-Entry b).affiliated)
+    (both _ _ (option_view same_groups (λ v. map role_group v.items) groups_decide (out-Entry a).affiliated (out-Entry b).affiliated)
     (both _ _ (option_view eq_press.it press_of press_decides (out-Entry a).publisher (out-Entry b).publisher)
-    (both _ _ (option_view eq_forms.it forms_of forms_decide (out-Entry a).location (out-Entry b).location)
-    (both _ _ (option_view eq_forms.it forms_of forms_decide (out-Entry a).organization (out-Entry b).organization)
+    (both _ _ (option_view eq_forms.it format_string_view forms_decide (out-Entry a).location (out-Entry b).location)
+    (both _ _ (option_view eq_forms.it format_string_view forms_decide (out-Entry a).organization (out-Entry b).organization)
     (both _ _ (option_view same_maybe_number (maybe_view numeric_view) maybe_number_decides (out-Entry a).issue (out-Entry b).issue)
     (both _ _ (option_view same_maybe_number (maybe_view numeric_view) maybe_number_decides (out-Entry a).volume (out-Entry b).volume)
     (both _ _ (option_view same_maybe_number (maybe_view numeric_view) maybe_number_decides (out-Entry a).edition (out-Entry b).edition)
@@ -100,15 +100,15 @@ one_level a b parents = subst (λ q. Decides q (spelled a ≡ spelled b)) (sym (
     (both _ _ (option_view eq_numeric.it numeric_view numeric_decides (out-Entry a).volume_total (out-Entry b).volume_total)
     (both _ _ (option_view eq_numeric.it numeric_view numeric_decides (out-Entry a).page_total (out-Entry b).page_total)
     (both _ _ (option_view same_maybe_pages (maybe_view pages_view) maybe_pages_decide (out-Entry a).page_range (out-Entry b).page_range)
-    (both _ _ (option_view eq_forms.it forms_of forms_decide (out-Entry a).runtime (out-Entry b).runtime)
+    (both _ _ (option_view eq_forms.it format_string_view forms_decide (out-Entry a).runtime (out-Entry b).runtime)
     (both _ _ (option_view eq_serials.it serials serials_decide (out-Entry a).serial_number (out-Entry b).serial_number)
     (both _ _ (option_view eq_language.it language_of language_decides (out-Entry a).language (out-Entry b).language)
-    (both _ _ (option_view eq_forms.it forms_of forms_decide (out-Entry a).archive (out-Entry b).archive)
-    (both _ _ (option_view eq_forms.it forms_of forms_decide (out-Entry a).archive_location (out-Entry b).archive_location)
-    (both _ _ (option_view eq_forms.it forms_of forms_decide (out-Entry a).call_number (out-Entry b).call_number)
-    (both _ _ (option_view eq_forms.it forms_of forms_decide (out-Entry a).note (out-Entry b).note)
-    (both _ _ (option_view eq_forms.it forms_of forms_decide (out-Entry a).abstract_ (out-Entry b).abstract_)
-    (both _ _ (option_view eq_forms.it forms_of forms_decide (out-Entry a).genre (out-Entry b).genre)
+    (both _ _ (option_view eq_forms.it format_string_view forms_decide (out-Entry a).archive (out-Entry b).archive)
+    (both _ _ (option_view eq_forms.it format_string_view forms_decide (out-Entry a).archive_location (out-Entry b).archive_location)
+    (both _ _ (option_view eq_forms.it format_string_view forms_decide (out-Entry a).call_number (out-Entry b).call_number)
+    (both _ _ (option_view eq_forms.it format_string_view forms_decide (out-Entry a).note (out-Entry b).note)
+    (both _ _ (option_view eq_forms.it format_string_view forms_decide (out-Entry a).abstract_ (out-Entry b).abstract_)
+    (both _ _ (option_view eq_forms.it format_string_view forms_decide (out-Entry a).genre (out-Entry b).genre)
     (parents))))))))))))))))))))))))))))
     (λ h.
     let count = same_count (parents_of a) (parents_of b) h.1.1.1.1.1.1.1.1.1.1.1.1.1.1.1.1.1.1.1.1.1.1.1.1.1.1.1 in
@@ -240,17 +240,17 @@ lists_decide E v P d (x ∷ xs) (y ∷ ys) p = through _ (both _ _ (d x y p.0) (
     (λ h. (cc, cc))
 
 -- of entries less deep than n
-decides_below : (n : ℕ) (a b : Entry) → depth_of a < n → Decides (eq_entry.it a b) (spelled a ≡ spelled b)
+decides_below : (n : ℕ) (a b : Entry) → depth_of a < n → Decides (eq_entry.it a b) (spelled_works a ≡ spelled_works b)
 decides_below zero a b p = absurd (omega (arith, p))
-decides_below (suc n) a b p = one_level a b (lists_decide eq_entry.it spelled (λ y. depth_of y < n) (decides_below n) (parents_of a) (parents_of b) (parents_less a n (omega (arith, p))))
+decides_below (suc n) a b p = one_level a b (lists_decide eq_entry.it spelled_works (λ y. depth_of y < n) (decides_below n) (parents_of a) (parents_of b) (parents_less a n (omega (arith, p))))
 
-pub entries_decide : (a b : Entry) → Decides (eq_entry.it a b) (spelled a ≡ spelled b)
+pub entries_decide : (a b : Entry) → Decides (eq_entry.it a b) (spelled_works a ≡ spelled_works b)
 entries_decide a b = decides_below (suc (depth_of a)) a b (omega arith)
 
 -- ---- what shows the same is spelled alike
 
 spell : Address → AddressText
-spell u = record { text = serialize u.value; visit_date = option_map date_parts u.visit_date }
+spell u = record { text = serialize u.value; visit_date = option_map date_view u.visit_date }
 
 spell_optional : (u : Option QualifiedUrl) → option_map spell (option_map address_of u) ≡ option_map address_text u
 unfolding spell
@@ -267,5 +267,5 @@ each_spelled : (es : List Entry) → map spelled_by (map work_of es) ≡ map spe
 each_spelled [] = refl
 each_spelled (e ∷ es) = λ i. spelled_as e i ∷ each_spelled es i
 
-pub shown_spelled : (a b : Entry) → works a ≡ works b → spelled a ≡ spelled b
+pub shown_spelled : (a b : Entry) → works a ≡ works b → spelled_works a ≡ spelled_works b
 shown_spelled a b h = sym (each_spelled (preorder a)) ∙ ap (map spelled_by) h ∙ each_spelled (preorder b)

@@ -1,7 +1,7 @@
 -- The longest front of a text whose characters pass a test.
 use Rattle.std.proofs.Common.{◌≡◌, ℕ, ◌+◌, ◌-◌, ◌≤◌, Bool, true, false, List, [], ◌∷◌, ◌++◌, length, take, refl, sym, ap, ◌∙◌, append_assoc, arith}
 use Rattle.std.proofs.lemmas.List.{take_at, length-append}
-use Rattle.lit_model.specs.NumericReading.{front, after}
+use Rattle.lit_model.specs.NumericReading.{longest_prefix, after_longest_prefix}
 
 -- a text without its end, where the rest is a piece and the end
 pub take_grown : (text rest next e : List ℕ) → length rest ≤ length text → text ≡ take (length text - length rest) text ++ rest → rest ≡ e ++ next → take (length text - length next) text ≡ take (length text - length rest) text ++ e
@@ -20,14 +20,14 @@ whole_grown text rest next e le whole split =
     regrouped ∙ ap (λ (x : List ℕ). x ++ next) (sym (take_grown text rest next e le whole split))
 
 -- one more character that passes
-pub front-cons_yes : (p : ℕ → Bool) (c : ℕ) (cs : List ℕ) → p c ≡ true → front p (c ∷ cs) ≡ c ∷ front p cs
+pub front-cons_yes : (p : ℕ → Bool) (c : ℕ) (cs : List ℕ) → p c ≡ true → longest_prefix p (c ∷ cs) ≡ c ∷ longest_prefix p cs
 front-cons_yes p c cs h = rw h refl
 
-pub after-cons_yes : (p : ℕ → Bool) (c : ℕ) (cs : List ℕ) → p c ≡ true → after p (c ∷ cs) ≡ after p cs
+pub after-cons_yes : (p : ℕ → Bool) (c : ℕ) (cs : List ℕ) → p c ≡ true → after_longest_prefix p (c ∷ cs) ≡ after_longest_prefix p cs
 after-cons_yes p c cs h = rw h refl
 
-pub front-cons_no : (p : ℕ → Bool) (c : ℕ) (cs : List ℕ) → p c ≡ false → front p (c ∷ cs) ≡ []
+pub front-cons_no : (p : ℕ → Bool) (c : ℕ) (cs : List ℕ) → p c ≡ false → longest_prefix p (c ∷ cs) ≡ []
 front-cons_no p c cs h = rw h refl
 
-pub after-cons_no : (p : ℕ → Bool) (c : ℕ) (cs : List ℕ) → p c ≡ false → after p (c ∷ cs) ≡ c ∷ cs
+pub after-cons_no : (p : ℕ → Bool) (c : ℕ) (cs : List ℕ) → p c ≡ false → after_longest_prefix p (c ∷ cs) ≡ c ∷ cs
 after-cons_no p c cs h = rw h refl

@@ -9,7 +9,7 @@ use Rattle.std.proofs.Math.Seq.{drop-append_seam}
 use Rattle.std.proofs.lemmas.List.{length-append}
 use Rattle.std.proofs.lemmas.Str.{encodes-append, encodes-chars, IsUtf8-past_char, chars_past_char, chars-nil}
 use Rattle.unicode.specs.GeneralCategory.{general_category}
-use Rattle.lit_model.specs.FirstNames.{is_capital, is_single_capital, without_dot, single_letter, lettered, lettered_last, ends_in_white_space, space_behind, lettered_words}
+use Rattle.lit_model.specs.FirstNames.{is_capital, is_single_capital, without_dot, single_letter, letter_or_word, last_letter_or_word, ends_in_white_space, space_behind, lettered_words}
 use Rattle.lit_model.specs.Marked.{gap_after, names_text}
 
 -- ---- one uppercase letter
@@ -41,12 +41,12 @@ dot_none (b ∷ c ∷ cs) h = ap (λ (l : List ℕ). b ∷ l) (dot_none (c ∷ c
 -- ---- a loop over the words of a name
 
 -- one word more was written
-pub next_name : (text so_far target gap after w : List ℕ) (o : Option (List ℕ)) (all more : List (List ℕ)) → all ≡ w ∷ more → o ≡ single_letter w → after ≡ gap_after text o → so_far ++ names_text text gap all ≡ target → (so_far ++ (gap ++ lettered_last text o w)) ++ names_text text after more ≡ target
+pub next_name : (text so_far target gap after w : List ℕ) (o : Option (List ℕ)) (all more : List (List ℕ)) → all ≡ w ∷ more → o ≡ single_letter w → after ≡ gap_after text o → so_far ++ names_text text gap all ≡ target → (so_far ++ (gap ++ last_letter_or_word text o w)) ++ names_text text after more ≡ target
 next_name text so_far target gap after w o all more split letter behind whole =
-    append_assoc so_far (gap ++ lettered_last text o w) (names_text text after more)
-    ∙ ap (λ (x : List ℕ). so_far ++ x) (append_assoc gap (lettered_last text o w) (names_text text after more)
-    ∙ ap (λ (x : List ℕ). gap ++ (lettered_last text o w ++ names_text text x more)) behind
-    ∙ ap (λ (p : Option (List ℕ)). gap ++ (lettered_last text p w ++ names_text text (gap_after text p) more)) letter
+    append_assoc so_far (gap ++ last_letter_or_word text o w) (names_text text after more)
+    ∙ ap (λ (x : List ℕ). so_far ++ x) (append_assoc gap (last_letter_or_word text o w) (names_text text after more)
+    ∙ ap (λ (x : List ℕ). gap ++ (last_letter_or_word text o w ++ names_text text x more)) behind
+    ∙ ap (λ (p : Option (List ℕ)). gap ++ (last_letter_or_word text p w ++ names_text text (gap_after text p) more)) letter
     ∙ ap (names_text text gap) (sym split))
     ∙ whole
 
@@ -73,7 +73,7 @@ trimmed text u =
     (encode_utf8_all parts.0, sym (encodes-append (drop_trailing_whitespace (chars text)) parts.0) ∙ ap encode_utf8_all parts.1 ∙ encodes-chars text u)
 
 -- behind a word: what is left of the text, and a space unless there is some
-gap_written : (text w : List ℕ) (o : Option (List ℕ)) → IsUtf8 text → lettered_last text o w ++ gap_after text o ≡ lettered text o w ++ space_behind text o
+gap_written : (text w : List ℕ) (o : Option (List ℕ)) → IsUtf8 text → last_letter_or_word text o w ++ gap_after text o ≡ letter_or_word text o w ++ space_behind text o
 gap_written text w None u = refl
 gap_written text w (Some letter) u = written (trimmed text u) (nat_lt (length (trim_end text)) (length text)) refl
   where
@@ -90,13 +90,13 @@ gap_written text w (Some letter) u = written (trimmed text u) (nat_lt (length (t
     written parts false h = ap (λ (x : List ℕ). (letter ++ x) ++ codes " ") (whole (trim_end text) parts.0 parts.1 h)
 
 pub written_names : (text gap w : List ℕ) (ws : List (List ℕ)) → IsUtf8 text → names_text text gap (w ∷ ws) ≡ gap ++ lettered_words text (w ∷ ws)
-written_names text gap w [] u = ap (λ (x : List ℕ). gap ++ x) (append-nil (lettered_last text (single_letter w) w))
+written_names text gap w [] u = ap (λ (x : List ℕ). gap ++ x) (append-nil (last_letter_or_word text (single_letter w) w))
 written_names text gap w (v ∷ ws) u =
     let o = single_letter w in
-    ap (λ (x : List ℕ). gap ++ x) (ap (λ (x : List ℕ). lettered_last text o w ++ x) (written_names text (gap_after text o) v ws u)
-    ∙ sym (append_assoc (lettered_last text o w) (gap_after text o) (lettered_words text (v ∷ ws)))
+    ap (λ (x : List ℕ). gap ++ x) (ap (λ (x : List ℕ). last_letter_or_word text o w ++ x) (written_names text (gap_after text o) v ws u)
+    ∙ sym (append_assoc (last_letter_or_word text o w) (gap_after text o) (lettered_words text (v ∷ ws)))
     ∙ ap (λ (x : List ℕ). x ++ lettered_words text (v ∷ ws)) (gap_written text w o u)
-    ∙ append_assoc (lettered text o w) (space_behind text o) (lettered_words text (v ∷ ws)))
+    ∙ append_assoc (letter_or_word text o w) (space_behind text o) (lettered_words text (v ∷ ws)))
 
 -- all words of a name
 pub all_written : (text : List ℕ) (ws : List (List ℕ)) → IsUtf8 text → names_text text [] ws ≡ lettered_words text ws

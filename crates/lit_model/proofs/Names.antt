@@ -9,7 +9,7 @@ use Rattle.std.proofs.lemmas.Str.Pattern.{starts_text}
 use Rattle.std.specs.Prelude.{IsCharBoundary}
 use Rattle.unicode.specs.Binary.{is_alphabetic}
 use Rattle.unicode.specs.Script.{script}
-use Rattle.lit_model.specs.Name.{is_cjk_script, letters, are_cjk, without}
+use Rattle.lit_model.specs.Name.{is_cjk_script, letters, are_cjk, strip_article}
 
 pub trans_to : (r m t : Bool) → t ≡ m → r ≡ m → r ≡ t
 trans_to r m t e h = h ∙ sym e
@@ -54,7 +54,7 @@ are_cjk-letters name given =
 -- ---- articles
 
 -- a text that does not begin with the article loses nothing
-pub without_lacking : (a s : List ℕ) → FindsTextPrefix a s None → None ≡ without a s
+pub without_lacking : (a s : List ℕ) → FindsTextPrefix a s None → None ≡ strip_article a s
 without_lacking a s h = ap (λ b. cond (b && ltb (length a) (length s)) (Some (drop (length a) s)) None) (starts_text false a s h)
 
 module _ (a s x : List ℕ) (strips : StripsPrefix (FindsTextPrefix a) s x) where
@@ -62,15 +62,15 @@ module _ (a s x : List ℕ) (strips : StripsPrefix (FindsTextPrefix a) s x) wher
   begins = sym (starts_text true a s (strips.0, strips.1, subst (λ i. IsCharBoundary s i) (sym strips.1.0) strips.1.2))
 
   -- one that is the article alone loses nothing
-  pub without_alone : length x ≡ 0 → None ≡ without a s
+  pub without_alone : length x ≡ 0 → None ≡ strip_article a s
   without_alone h =
       let cut : ltb (length a) (length s) ≡ false = grind (arith, nat_tests, strips.3, strips.1.0) in
-      let none : without a s ≡ None = ap (λ b. cond (b && ltb (length a) (length s)) (Some (drop (length a) s)) None) begins ∙ ap (λ b. cond b (Some (drop (length a) s)) None) cut in
+      let none : strip_article a s ≡ None = ap (λ b. cond (b && ltb (length a) (length s)) (Some (drop (length a) s)) None) begins ∙ ap (λ b. cond b (Some (drop (length a) s)) None) cut in
       sym none
 
   -- any other that begins with it loses it
-  pub without_more : 0 < length x → Some x ≡ without a s
+  pub without_more : 0 < length x → Some x ≡ strip_article a s
   without_more h =
       let more : ltb (length a) (length s) ≡ true = grind (arith, nat_tests, strips.3, strips.1.0) in
-      let some : without a s ≡ Some (drop (length a) s) = ap (λ b. cond (b && ltb (length a) (length s)) (Some (drop (length a) s)) None) begins ∙ ap (λ b. cond b (Some (drop (length a) s)) None) more in
+      let some : strip_article a s ≡ Some (drop (length a) s) = ap (λ b. cond (b && ltb (length a) (length s)) (Some (drop (length a) s)) None) begins ∙ ap (λ b. cond b (Some (drop (length a) s)) None) more in
       ap Some (strips.2 ∙ ap (λ i. drop i s) strips.1.0) ∙ sym some

@@ -3,7 +3,7 @@ use Rattle.std.proofs.Common.{◌≡◌, ℕ, suc, ◌+◌, Bool, true, false, L
 use Rattle.std.specs.Char.{is_ascii_digit, is_whitespace}
 use Rattle.std.proofs.lemmas.List.{append-nil}
 use Rattle.lit_model.specs.Numeric.{ValueView, NumericView, one, IsBlank}
-use Rattle.lit_model.specs.NumericReading.{after, affix_from}
+use Rattle.lit_model.specs.NumericReading.{after_longest_prefix, affix_from}
 use Rattle.lit_model.specs.Page.{PartView, ampersand, comma, escaped, single, range, is_page_affix, is_range_mark, is_separator, SpellsPage, SpellsItem, SpellsSeparator, SpellsParts, SpellsPages}
 use Rattle.lit_model.specs.PageReading.{page_at, mark_first, mark_at, separator_of, separator_at, item_from, item_at, parts_at, pages_from}
 use Rattle.lit_model.proofs.Classes.{digit_is_no_space}
@@ -93,7 +93,7 @@ no_mark_before c before rest blank no_space no_mark = ap mark_first (after_is is
 
 no_mark_at_end : (cs : List ℕ) → IsBlank cs → mark_at cs ≡ None
 unfolding mark_at
-no_mark_at_end cs blank = ap mark_first (ap (after is_whitespace) (sym (append-nil cs)) ∙ after_is is_whitespace cs [] blank tt)
+no_mark_at_end cs blank = ap mark_first (ap (after_longest_prefix is_whitespace) (sym (append-nil cs)) ∙ after_is is_whitespace cs [] blank tt)
 
 -- ---- an item
 
@@ -213,7 +213,7 @@ pages_complete (p ∷ more) cs s =
     let b = count_none is_separator is_whitespace s.after space_is_no_separator s.blank_after in
     let count : count_by is_separator cs ≡ pairs more =
     ap (count_by is_separator) s.whole ∙ omega (arith, count_append is_separator s.before (s.inner ++ s.after), count_append is_separator s.inner s.after, a, b, count_parts p more s.inner s.has_parts) in
-    let start : after is_whitespace cs ≡ s.inner ++ s.after = ap (after is_whitespace) s.whole ∙ after_is is_whitespace s.before (s.inner ++ s.after) s.blank_before (parts_no_space p more s.inner s.after s.has_parts) in
+    let start : after_longest_prefix is_whitespace cs ≡ s.inner ++ s.after = ap (after_longest_prefix is_whitespace) s.whole ∙ after_is is_whitespace s.before (s.inner ++ s.after) s.blank_before (parts_no_space p more s.inner s.after s.has_parts) in
     let ends : Ends s.after = record {
       no_affix = blank_stops is_page_affix s.after space_is_no_page_affix s.blank_after;
       no_digit = blank_stops is_ascii_digit s.after space_is_no_digit s.blank_after;

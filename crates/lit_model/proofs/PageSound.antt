@@ -5,7 +5,7 @@ use Rattle.std.specs.Char.{is_ascii_digit, is_whitespace}
 use Rattle.std.proofs.lemmas.Option.{cond_some}
 use Rattle.std.proofs.lemmas.Bool.{eqb-true}
 use Rattle.lit_model.specs.Numeric.{NumericView, one, IsBlank}
-use Rattle.lit_model.specs.NumericReading.{◌>>=◌, front, after, integer_at, affix_from, is_blank}
+use Rattle.lit_model.specs.NumericReading.{◌>>=◌, longest_prefix, after_longest_prefix, integer_at, affix_from, is_blank}
 use Rattle.lit_model.specs.Page.{PartView, ampersand, comma, single, range, is_page_affix, is_range_mark, is_separator, SpellsPage, SpellsItem, SpellsSeparator, SpellsParts, SpellsPages}
 use Rattle.lit_model.specs.PageReading.{page_at, mark_first, mark_at, separator_of, separator_first, separator_at, item_from, item_at, parts_at, pages_from}
 use Rattle.lit_model.proofs.Integers.{Only-front}
@@ -26,12 +26,12 @@ pub record Begins (P : List ℕ → Type 0) (cs rest : List ℕ) : Type 0 where
 pub page_sound : (cs : List ℕ) (x : NumericView × List ℕ) → page_at cs ≡ Some x → Begins (SpellsPage x.0) cs x.1
 unfolding page_at
 page_sound cs x h =
-    let prefix = front is_page_affix cs in
-    let b = bind_some (integer_at (after is_page_affix cs)) (λ n. Some (record { value = one n.0; prefix = affix_from (front is_page_affix cs); suffix = affix_from (front is_page_affix n.1) }, after is_page_affix n.1)) x h in
-    let s = integer_sound (after is_page_affix cs) b.0 b.1 in
-    let digits = front is_ascii_digit (after is_page_affix cs) in
-    let suffix = front is_page_affix b.0.1 in
-    let rest = after is_page_affix b.0.1 in
+    let prefix = longest_prefix is_page_affix cs in
+    let b = bind_some (integer_at (after_longest_prefix is_page_affix cs)) (λ n. Some (record { value = one n.0; prefix = affix_from (longest_prefix is_page_affix cs); suffix = affix_from (longest_prefix is_page_affix n.1) }, after_longest_prefix is_page_affix n.1)) x h in
+    let s = integer_sound (after_longest_prefix is_page_affix cs) b.0 b.1 in
+    let digits = longest_prefix is_ascii_digit (after_longest_prefix is_page_affix cs) in
+    let suffix = longest_prefix is_page_affix b.0.1 in
+    let rest = after_longest_prefix is_page_affix b.0.1 in
     let made : NumericView = record { value = one b.0.0; prefix = affix_from prefix; suffix = affix_from suffix } in
     let split : cs ≡ prefix ++ (digits ++ (suffix ++ rest)) = front_after is_page_affix cs ∙ ap (λ (y : List ℕ). prefix ++ y) (s.1 ∙ ap (λ (y : List ℕ). digits ++ y) (front_after is_page_affix b.0.1)) in
     let whole : cs ≡ (prefix ++ (digits ++ suffix)) ++ rest = split ∙ sym (append_assoc prefix (digits ++ suffix) rest ∙ ap (λ (y : List ℕ). prefix ++ y) (append_assoc digits suffix rest)) in
@@ -63,27 +63,27 @@ pub record HasCharacter (P : ℕ → Type 0) (cs rest : List ℕ) : Type 0 where
   pub blank_behind : IsBlank behind
 
 -- behind white space
-behind_space : (P : ℕ → Type 0) (cs : List ℕ) (c : ℕ) (tail rest : List ℕ) → after is_whitespace cs ≡ c ∷ tail → after is_whitespace tail ≡ rest → P c → HasCharacter P cs rest
+behind_space : (P : ℕ → Type 0) (cs : List ℕ) (c : ℕ) (tail rest : List ℕ) → after_longest_prefix is_whitespace cs ≡ c ∷ tail → after_longest_prefix is_whitespace tail ≡ rest → P c → HasCharacter P cs rest
 behind_space P cs c tail rest here ends is =
     record {
-      before = front is_whitespace cs;
+      before = longest_prefix is_whitespace cs;
       c = c;
-      behind = front is_whitespace tail;
-      whole = front_after is_whitespace cs ∙ ap (λ (r : List ℕ). front is_whitespace cs ++ r) (here ∙ ap (λ (r : List ℕ). c ∷ r) (front_after is_whitespace tail ∙ ap (λ (r : List ℕ). front is_whitespace tail ++ r) ends));
+      behind = longest_prefix is_whitespace tail;
+      whole = front_after is_whitespace cs ∙ ap (λ (r : List ℕ). longest_prefix is_whitespace cs ++ r) (here ∙ ap (λ (r : List ℕ). c ∷ r) (front_after is_whitespace tail ∙ ap (λ (r : List ℕ). longest_prefix is_whitespace tail ++ r) ends));
       blank_before = Only-front is_whitespace cs;
       is = is;
       blank_behind = Only-front is_whitespace tail;
     }
 
-mark_from : (cs : List ℕ) (tail rest : List ℕ) → after is_whitespace cs ≡ tail → mark_first tail ≡ Some rest → HasCharacter (λ c. is_range_mark c ≡ true) cs rest
+mark_from : (cs : List ℕ) (tail rest : List ℕ) → after_longest_prefix is_whitespace cs ≡ tail → mark_first tail ≡ Some rest → HasCharacter (λ c. is_range_mark c ≡ true) cs rest
 mark_from cs [] rest here h = absurd cc
 mark_from cs (c ∷ tail) rest here h =
-    let k = cond_some (is_range_mark c) (after is_whitespace tail) rest h in
+    let k = cond_some (is_range_mark c) (after_longest_prefix is_whitespace tail) rest h in
     behind_space (λ d. is_range_mark d ≡ true) cs c tail rest here k.1 k.0
 
 pub mark_sound : (cs rest : List ℕ) → mark_at cs ≡ Some rest → HasCharacter (λ c. is_range_mark c ≡ true) cs rest
 unfolding mark_at
-mark_sound cs rest h = mark_from cs (after is_whitespace cs) rest refl h
+mark_sound cs rest h = mark_from cs (after_longest_prefix is_whitespace cs) rest refl h
 
 separator_of_is : (c : ℕ) (s : PartView) → separator_of c ≡ Some s → SpellsSeparator s c
 separator_of_is c s h =
@@ -95,16 +95,16 @@ separator_of_is c s h =
       ]
     ]
 
-separator_from : (cs tail : List ℕ) (x : PartView × List ℕ) → after is_whitespace cs ≡ tail → separator_first tail ≡ Some x → HasCharacter (SpellsSeparator x.0) cs x.1
+separator_from : (cs tail : List ℕ) (x : PartView × List ℕ) → after_longest_prefix is_whitespace cs ≡ tail → separator_first tail ≡ Some x → HasCharacter (SpellsSeparator x.0) cs x.1
 separator_from cs [] x here h = absurd cc
 separator_from cs (c ∷ tail) x here h =
-    let b = bind_some (separator_of c) (λ s. Some (s, after is_whitespace tail)) x h in
-    let e = some_is (b.0, after is_whitespace tail) x b.2 in
-    subst (λ (y : PartView × List ℕ). HasCharacter (SpellsSeparator y.0) cs y.1) e (behind_space (SpellsSeparator b.0) cs c tail (after is_whitespace tail) here refl (separator_of_is c b.0 b.1))
+    let b = bind_some (separator_of c) (λ s. Some (s, after_longest_prefix is_whitespace tail)) x h in
+    let e = some_is (b.0, after_longest_prefix is_whitespace tail) x b.2 in
+    subst (λ (y : PartView × List ℕ). HasCharacter (SpellsSeparator y.0) cs y.1) e (behind_space (SpellsSeparator b.0) cs c tail (after_longest_prefix is_whitespace tail) here refl (separator_of_is c b.0 b.1))
 
 pub separator_sound : (cs : List ℕ) (x : PartView × List ℕ) → separator_at cs ≡ Some x → HasCharacter (SpellsSeparator x.0) cs x.1
 unfolding separator_at
-separator_sound cs x h = separator_from cs (after is_whitespace cs) x refl h
+separator_sound cs x h = separator_from cs (after_longest_prefix is_whitespace cs) x refl h
 
 -- ---- an item
 
@@ -160,14 +160,14 @@ parts_sound (suc k) cs x h =
 pub pages_sound : (cs : List ℕ) (parts : Parts) → pages_from cs ≡ Some parts → SpellsPages parts cs
 unfolding pages_from
 pages_sound cs parts h =
-    let b = bind_some (parts_at (count_by is_separator cs) (after is_whitespace cs)) (λ p. cond (is_blank p.1) (Some p.0) None) parts h in
+    let b = bind_some (parts_at (count_by is_separator cs) (after_longest_prefix is_whitespace cs)) (λ p. cond (is_blank p.1) (Some p.0) None) parts h in
     let g = cond_some (is_blank b.0.1) b.0.0 parts b.2 in
-    let s = parts_sound (count_by is_separator cs) (after is_whitespace cs) b.0 b.1 in
+    let s = parts_sound (count_by is_separator cs) (after_longest_prefix is_whitespace cs) b.0 b.1 in
     subst (λ (ps : Parts). SpellsPages ps cs) g.1 (record {
-      before = front is_whitespace cs;
+      before = longest_prefix is_whitespace cs;
       inner = s.text;
       after = b.0.1;
-      whole = front_after is_whitespace cs ∙ ap (λ (y : List ℕ). front is_whitespace cs ++ y) s.whole;
+      whole = front_after is_whitespace cs ∙ ap (λ (y : List ℕ). longest_prefix is_whitespace cs ++ y) s.whole;
       blank_before = Only-front is_whitespace cs;
       has_parts = s.has;
       blank_after = blank_is b.0.1 g.0;

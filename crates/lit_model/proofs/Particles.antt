@@ -8,7 +8,7 @@ use Rattle.std.proofs.lemmas.List.{length-append}
 use Rattle.std.proofs.lemmas.List.Elements.{All-from_get_or}
 use Rattle.std.proofs.lemmas.List.Splits.{slice_split_none, slice_split_at, join_with_byte-slice_split}
 use Rattle.std.proofs.lemmas.Grind.{common_steps}
-use Rattle.lit_model.specs.Name.{words, is_particle_word, particle_words, after_particle, spaced, name_particle, name_without_particle}
+use Rattle.lit_model.specs.Name.{words, is_particle_word, particle_words, after_particle, join_words, name_particle, name_without_particle}
 
 -- ---- words
 
@@ -74,18 +74,18 @@ module _ (text w after : List ℕ) (split : words text ≡ w ∷ words after) wh
 abbrev IsCut : Option (List ℕ) → List ℕ → List ℕ → Type 0
 IsCut particle rest text = MatchOption particle (text ≡ rest) (λ p. text ≡ p ++ (32 ∷ rest))
 
-cut_word : (w : List ℕ) (front : List (List ℕ)) (rest text : List ℕ) → IsCut (spaced front) rest text → IsCut (spaced (w ∷ front)) rest (w ++ (32 ∷ text))
+cut_word : (w : List ℕ) (front : List (List ℕ)) (rest text : List ℕ) → IsCut (join_words front) rest text → IsCut (join_words (w ∷ front)) rest (w ++ (32 ∷ text))
 cut_word w [] rest text h = ap (λ t. w ++ (32 ∷ t)) h
 cut_word w (v ∷ vs) rest text h = ap (λ t. w ++ (32 ∷ t)) h ∙ sym (append_assoc w (32 ∷ join_with_byte 32 (v ∷ vs)) (32 ∷ rest))
 
 abbrev front_if : Bool → List ℕ → List (List ℕ) → List (List ℕ)
 front_if b w front = if b then w ∷ front else []
 
-cut_if : (b : Bool) (w v : List ℕ) (vs : List (List ℕ)) → IsCut (spaced (particle_words (v ∷ vs))) (join_with_byte 32 (after_particle (v ∷ vs))) (join_with_byte 32 (v ∷ vs)) → IsCut (spaced (front_if b w (particle_words (v ∷ vs)))) (join_with_byte 32 (if b then after_particle (v ∷ vs) else w ∷ v ∷ vs)) (join_with_byte 32 (w ∷ v ∷ vs))
+cut_if : (b : Bool) (w v : List ℕ) (vs : List (List ℕ)) → IsCut (join_words (particle_words (v ∷ vs))) (join_with_byte 32 (after_particle (v ∷ vs))) (join_with_byte 32 (v ∷ vs)) → IsCut (join_words (front_if b w (particle_words (v ∷ vs)))) (join_with_byte 32 (if b then after_particle (v ∷ vs) else w ∷ v ∷ vs)) (join_with_byte 32 (w ∷ v ∷ vs))
 cut_if true w v vs h = cut_word w (particle_words (v ∷ vs)) (join_with_byte 32 (after_particle (v ∷ vs))) (join_with_byte 32 (v ∷ vs)) h
 cut_if false w v vs h = refl
 
-cut_words : (ws : List (List ℕ)) → IsCut (spaced (particle_words ws)) (join_with_byte 32 (after_particle ws)) (join_with_byte 32 ws)
+cut_words : (ws : List (List ℕ)) → IsCut (join_words (particle_words ws)) (join_with_byte 32 (after_particle ws)) (join_with_byte 32 ws)
 cut_words [] = refl
 cut_words (w ∷ []) = refl
 cut_words (w ∷ v ∷ vs) = cut_if (is_particle_word w) w v vs (cut_words (v ∷ vs))

@@ -7,8 +7,8 @@ use Rattle.std.specs.Str.{bytes_eq}
 use Rattle.std.specs.declared.alloc.Global.{Global}
 use Rattle.lit_model.specs.declared.person.Person.{Person}
 use Rattle.lit_model.specs.contracts.person.PersonPartialEq.TheImpl.{eq-value as eq_person}
-use Rattle.lit_model.specs.Person.{named}
-use Rattle.lit_model.specs.SamePerson.{same_named, same_people}
+use Rattle.lit_model.specs.Person.{person_view}
+use Rattle.lit_model.specs.SamePerson.{same_person, same_people}
 
 both_same : (a b c d : Bool) → a ≡ b → c ≡ d → (a && c) ≡ (b && d)
 both_same a b c d h k = λ i. h i && k i
@@ -19,7 +19,7 @@ optional_same None (Some y) = refl
 optional_same (Some x) None = refl
 optional_same (Some x) (Some y) = refl
 
-pub person_same : (p q : Person) → eq_person.it p q ≡ same_named (named p) (named q)
+pub person_same : (p q : Person) → eq_person.it p q ≡ same_person (person_view p) (person_view q)
 person_same p q =
     both_same _ _ _ _ refl
     (both_same _ _ _ _ (optional_same p.given_name q.given_name)
@@ -27,7 +27,7 @@ person_same p q =
     (both_same _ _ _ _ (optional_same p.suffix q.suffix)
     (both_same _ _ _ _ (optional_same p.alias q.alias) refl))))
 
-pub people_same : (ps qs : List Person) → pointwise eq_person.it ps qs ≡ same_people (map named ps) (map named qs)
+pub people_same : (ps qs : List Person) → pointwise eq_person.it ps qs ≡ same_people (map person_view ps) (map person_view qs)
 people_same [] [] = refl
 people_same [] (q ∷ qs) = refl
 people_same (p ∷ ps) [] = refl

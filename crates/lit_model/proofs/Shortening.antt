@@ -8,7 +8,7 @@ use Rattle.std.proofs.lemmas.List.Elements.{All-nil, All-cons}
 use Rattle.std.proofs.lemmas.List.Splits.{slice_split_none, slice_split_at}
 use Rattle.std.proofs.lemmas.Str.{encodes-append, encodes-chars, chars_from_encodes, IsUtf8-past_char, chars_past_char, chars-nil}
 use Rattle.unicode_segmentation.specs.Grapheme.{graphemes}
-use Rattle.lit_model.specs.Initials.{is_nonempty, char_words, given_words, first_grapheme, initials_of, between, word_initials, all_initials}
+use Rattle.lit_model.specs.Initials.{is_nonempty, char_words, given_words, first_grapheme, initials_of, initials_separator, word_initials, all_initials}
 use Rattle.lit_model.specs.Shortened.{gap, word_text, before_piece, before_word, end_text, words_text}
 use Rattle.lit_model.specs.declared.initials.Before.{Before}
 use Rattle.lit_model.specs.declared.initials.Before.TheVariants.{Nothing, Word, Piece}
@@ -153,7 +153,7 @@ last_word text hyphen so_far target before all none whole = ap (λ (ws : List (L
 -- what is written of a word behind its first initial
 later : (text : List ℕ) (hyphen : Bool) (g : List ℕ) (gs : List (List ℕ)) → g ++ word_text text hyphen Piece gs ≡ word_initials text hyphen (g ∷ gs)
 later text hyphen g [] = append-nil g
-later text hyphen g (h ∷ gs) = ap (λ (x : List ℕ). g ++ (between text hyphen ++ x)) (later text hyphen h gs)
+later text hyphen g (h ∷ gs) = ap (λ (x : List ℕ). g ++ (initials_separator text hyphen ++ x)) (later text hyphen h gs)
 
 module _ (text : List ℕ) (hyphen : Bool) where
   -- what stands behind a word that has initials, given the words behind it that have some

@@ -9,8 +9,8 @@ use Rattle.std.proofs.lemmas.Bool.{ltb-true, eqb-true}
 use Rattle.std.proofs.lemmas.List.{append-nil, nil_from_length}
 use Rattle.lit_model.specs.declared.numeric.NumericDelimiter.{NumericDelimiter}
 use Rattle.lit_model.specs.declared.numeric.NumericDelimiter.TheVariants.{Comma, Ampersand, Hyphen}
-use Rattle.lit_model.specs.Numeric.{ValueView, one, several, NumericView, Only, IsBlank, is_affix, is_delimiter, delimiter_char, SpellsInteger, SpellsIntegers, SpellsValue, SpellsAffix, Spells}
-use Rattle.lit_model.specs.NumericReading.{◌>>=◌, front, after, integer_from, integer_at, delimiter_of, delimiter_first, delimiter_at, integers_at, value_at, text_from, affix_from, is_blank, numeric_from}
+use Rattle.lit_model.specs.Numeric.{ValueView, one, several, NumericView, AllChars, IsBlank, is_affix, is_delimiter, delimiter_char, SpellsInteger, SpellsIntegers, SpellsValue, SpellsAffix, Spells}
+use Rattle.lit_model.specs.NumericReading.{◌>>=◌, longest_prefix, after_longest_prefix, integer_from, integer_at, delimiter_of, delimiter_first, delimiter_at, integers_at, value_at, text_from, affix_from, is_blank, numeric_from}
 use Rattle.lit_model.proofs.Integers.{Only-front}
 use Rattle.lit_model.proofs.Pieces.{bind_some, some_is, chosen, front_after}
 
@@ -25,16 +25,16 @@ integer_from_is (d ∷ ds) n h =
     let c = cond_some (nat_lt (digits_value 10 (d ∷ ds)) (2 ^ 31)) (pos (digits_value 10 (d ∷ ds))) n h in
     (omega arith, ltb-true _ _ c.0, sym c.1)
 
-pub integer_sound : (cs : List ℕ) (x : ℤ × List ℕ) → integer_at cs ≡ Some x → SpellsInteger x.0 (front is_ascii_digit cs) × (cs ≡ front is_ascii_digit cs ++ x.1)
+pub integer_sound : (cs : List ℕ) (x : ℤ × List ℕ) → integer_at cs ≡ Some x → SpellsInteger x.0 (longest_prefix is_ascii_digit cs) × (cs ≡ longest_prefix is_ascii_digit cs ++ x.1)
 unfolding integer_at
 integer_sound cs x h =
-    let b = bind_some (integer_from (front is_ascii_digit cs)) (λ n. Some (n, after is_ascii_digit cs)) x h in
-    let e = some_is (b.0, after is_ascii_digit cs) x b.2 in
-    let f = integer_from_is (front is_ascii_digit cs) b.0 b.1 in
+    let b = bind_some (integer_from (longest_prefix is_ascii_digit cs)) (λ n. Some (n, after_longest_prefix is_ascii_digit cs)) x h in
+    let e = some_is (b.0, after_longest_prefix is_ascii_digit cs) x b.2 in
+    let f = integer_from_is (longest_prefix is_ascii_digit cs) b.0 b.1 in
     let n-is : b.0 ≡ x.0 = ap (λ (y : ℤ × List ℕ). y.0) e in
-    let r-is : after is_ascii_digit cs ≡ x.1 = ap (λ (y : ℤ × List ℕ). y.1) e in (
+    let r-is : after_longest_prefix is_ascii_digit cs ≡ x.1 = ap (λ (y : ℤ × List ℕ). y.1) e in (
       record { nonempty = f.0; digits = Only-front is_ascii_digit cs; fits = f.1; is = sym n-is ∙ f.2 },
-      front_after is_ascii_digit cs ∙ ap (λ (r : List ℕ). front is_ascii_digit cs ++ r) r-is,
+      front_after is_ascii_digit cs ∙ ap (λ (r : List ℕ). longest_prefix is_ascii_digit cs ++ r) r-is,
     )
 
 -- ---- a delimiter
@@ -59,25 +59,25 @@ pub record HasDelimiter (cs : List ℕ) (d : NumericDelimiter) (rest : List ℕ)
   pub blank_before : IsBlank before
   pub blank_behind : IsBlank behind
 
-delimiter_first_sound : (cs : List ℕ) (x : NumericDelimiter × List ℕ) → delimiter_first cs ≡ Some x → cs ≡ delimiter_char x.0 ∷ (front is_whitespace (drop 1 cs) ++ x.1)
+delimiter_first_sound : (cs : List ℕ) (x : NumericDelimiter × List ℕ) → delimiter_first cs ≡ Some x → cs ≡ delimiter_char x.0 ∷ (longest_prefix is_whitespace (drop 1 cs) ++ x.1)
 delimiter_first_sound [] x h = absurd cc
 delimiter_first_sound (c ∷ cs) x h =
-    let b = bind_some (delimiter_of c) (λ d. Some (d, after is_whitespace cs)) x h in
-    let e = some_is (b.0, after is_whitespace cs) x b.2 in
+    let b = bind_some (delimiter_of c) (λ d. Some (d, after_longest_prefix is_whitespace cs)) x h in
+    let e = some_is (b.0, after_longest_prefix is_whitespace cs) x b.2 in
     let d-is : b.0 ≡ x.0 = ap (λ (y : NumericDelimiter × List ℕ). y.0) e in
-    let r-is : after is_whitespace cs ≡ x.1 = ap (λ (y : NumericDelimiter × List ℕ). y.1) e in
+    let r-is : after_longest_prefix is_whitespace cs ≡ x.1 = ap (λ (y : NumericDelimiter × List ℕ). y.1) e in
     let head : c ≡ delimiter_char x.0 = delimiter_of_is c b.0 b.1 ∙ ap delimiter_char d-is in
-    let tail : cs ≡ front is_whitespace cs ++ x.1 = front_after is_whitespace cs ∙ ap (λ (r : List ℕ). front is_whitespace cs ++ r) r-is in
+    let tail : cs ≡ longest_prefix is_whitespace cs ++ x.1 = front_after is_whitespace cs ∙ ap (λ (r : List ℕ). longest_prefix is_whitespace cs ++ r) r-is in
     ap (λ (y : ℕ). y ∷ cs) head ∙ ap (λ (y : List ℕ). delimiter_char x.0 ∷ y) tail
 
 pub delimiter_sound : (cs : List ℕ) (x : NumericDelimiter × List ℕ) → delimiter_at cs ≡ Some x → HasDelimiter cs x.0 x.1
 unfolding delimiter_at
 delimiter_sound cs x h =
-    let rest = after is_whitespace cs in
+    let rest = after_longest_prefix is_whitespace cs in
     record {
-      before = front is_whitespace cs;
-      behind = front is_whitespace (drop 1 rest);
-      whole = front_after is_whitespace cs ∙ ap (λ (r : List ℕ). front is_whitespace cs ++ r) (delimiter_first_sound rest x h);
+      before = longest_prefix is_whitespace cs;
+      behind = longest_prefix is_whitespace (drop 1 rest);
+      whole = front_after is_whitespace cs ∙ ap (λ (r : List ℕ). longest_prefix is_whitespace cs ++ r) (delimiter_first_sound rest x h);
       blank_before = Only-front is_whitespace cs;
       blank_behind = Only-front is_whitespace (drop 1 rest);
     }
@@ -110,7 +110,7 @@ unfolding integers_at
 integers_sound zero cs x h =
     let b = bind_some (integer_at cs) (λ n. Some ((n.0, None) ∷ [], n.1)) x h in
     let s = integer_sound cs b.0 b.1 in
-    subst (λ (y : Numbers × List ℕ). HasNumbers cs 0 y.0 y.1) (some_is ((b.0.0, None) ∷ [], b.0.1) x b.2) (record { text = front is_ascii_digit cs; whole = s.1; spelled = (refl, s.0); count = refl })
+    subst (λ (y : Numbers × List ℕ). HasNumbers cs 0 y.0 y.1) (some_is ((b.0.0, None) ∷ [], b.0.1) x b.2) (record { text = longest_prefix is_ascii_digit cs; whole = s.1; spelled = (refl, s.0); count = refl })
 integers_sound (suc k) cs x h =
     let b = bind_some (integer_at cs) (λ n. delimiter_at n.1 >>= λ d. integers_at k d.1 >>= λ more. Some ((n.0, Some d.0) ∷ more.0, more.1)) x h in
     let c = bind_some (delimiter_at b.0.1) (λ d. integers_at k d.1 >>= λ more. Some ((b.0.0, Some d.0) ∷ more.0, more.1)) x b.2 in
@@ -119,7 +119,7 @@ integers_sound (suc k) cs x h =
     let t = delimiter_sound b.0.1 c.0 c.1 in
     let u = integers_sound k c.0.1 e.0 e.1 in
     subst (λ (y : Numbers × List ℕ). HasNumbers cs (suc k) y.0 y.1) (some_is ((b.0.0, Some c.0.0) ∷ e.0.0, e.0.1) x e.2)
-    (more_sound cs b.0.0 (front is_ascii_digit cs) b.0.1 c.0.0 c.0.1 k e.0.0 e.0.1 s.0 s.1 t u)
+    (more_sound cs b.0.0 (longest_prefix is_ascii_digit cs) b.0.1 c.0.0 c.0.1 k e.0.0 e.0.1 s.0 s.1 t u)
 
 -- ---- a number with its texts
 
@@ -133,7 +133,7 @@ unfolding value_at
 value_sound zero cs x h =
     let b = bind_some (integer_at cs) (λ n. Some (one n.0, n.1)) x h in
     let s = integer_sound cs b.0 b.1 in
-    subst (λ (y : ValueView × List ℕ). HasValue cs y.0 y.1) (some_is (one b.0.0, b.0.1) x b.2) (record { text = front is_ascii_digit cs; whole = s.1; spelled = s.0 })
+    subst (λ (y : ValueView × List ℕ). HasValue cs y.0 y.1) (some_is (one b.0.0, b.0.1) x b.2) (record { text = longest_prefix is_ascii_digit cs; whole = s.1; spelled = s.0 })
 value_sound (suc k) cs x h =
     let b = bind_some (integers_at (suc k) cs) (λ n. Some (several n.0, n.1)) x h in
     let s = integers_sound (suc k) cs b.0 b.1 in
@@ -147,7 +147,7 @@ from_list (x ∷ xs) h = (x, xs, refl)
 pub encodes_some : (c : ℕ) (cs : List ℕ) → (b : ℕ) × (bytes : List ℕ) × (encode_utf8_all (c ∷ cs) ≡ b ∷ bytes)
 encodes_some c cs = from_list (encode_utf8_all (c ∷ cs)) (omega (arith, length-le-encodes (c ∷ cs)))
 
-pub affix_sound : (p : ℕ → Bool) (cs : List ℕ) → Only p cs → SpellsAffix p (affix_from cs) cs
+pub affix_sound : (p : ℕ → Bool) (cs : List ℕ) → AllChars p cs → SpellsAffix p (affix_from cs) cs
 affix_sound p [] only = refl
 affix_sound p (c ∷ cs) only =
     let e = encodes_some c cs in
@@ -155,33 +155,33 @@ affix_sound p (c ∷ cs) only =
 
 pub blank_is : (cs : List ℕ) → is_blank cs ≡ true → IsBlank cs
 blank_is cs h =
-    let none : after is_whitespace cs ≡ [] = nil_from_length (after is_whitespace cs) (eqb-true _ _ h) in
-    let all : cs ≡ front is_whitespace cs = front_after is_whitespace cs ∙ ap (λ (r : List ℕ). front is_whitespace cs ++ r) none ∙ append-nil (front is_whitespace cs) in
+    let none : after_longest_prefix is_whitespace cs ≡ [] = nil_from_length (after_longest_prefix is_whitespace cs) (eqb-true _ _ h) in
+    let all : cs ≡ longest_prefix is_whitespace cs = front_after is_whitespace cs ∙ ap (λ (r : List ℕ). longest_prefix is_whitespace cs ++ r) none ∙ append-nil (longest_prefix is_whitespace cs) in
     subst IsBlank (sym all) (Only-front is_whitespace cs)
 
 -- what is read of a text is spelled by it
 pub numeric_sound : (cs : List ℕ) (v : NumericView) → numeric_from cs ≡ Some v → Spells v cs
 unfolding numeric_from
 numeric_sound cs v h =
-    let start = after is_whitespace cs in
-    let b = bind_some (value_at (count_by is_delimiter cs) (after is_affix start)) (λ value. cond (is_blank (after is_affix value.1)) (Some (record { value = value.0; prefix = affix_from (front is_affix start); suffix = affix_from (front is_affix value.1) })) None) v h in
-    let made : NumericView = record { value = b.0.0; prefix = affix_from (front is_affix start); suffix = affix_from (front is_affix b.0.1) } in
-    let g = cond_some (is_blank (after is_affix b.0.1)) made v b.2 in
-    let s = value_sound (count_by is_delimiter cs) (after is_affix start) b.0 b.1 in
-    let end : b.0.1 ≡ front is_affix b.0.1 ++ after is_affix b.0.1 = front_after is_affix b.0.1 in
-    let numbers : after is_affix start ≡ s.text ++ (front is_affix b.0.1 ++ after is_affix b.0.1) = s.whole ∙ ap (λ (x : List ℕ). s.text ++ x) end in
-    let all : cs ≡ front is_whitespace cs ++ (front is_affix start ++ (s.text ++ (front is_affix b.0.1 ++ after is_affix b.0.1))) =
-    front_after is_whitespace cs ∙ ap (λ (x : List ℕ). front is_whitespace cs ++ x) (front_after is_affix start ∙ ap (λ (x : List ℕ). front is_affix start ++ x) numbers) in
+    let start = after_longest_prefix is_whitespace cs in
+    let b = bind_some (value_at (count_by is_delimiter cs) (after_longest_prefix is_affix start)) (λ value. cond (is_blank (after_longest_prefix is_affix value.1)) (Some (record { value = value.0; prefix = affix_from (longest_prefix is_affix start); suffix = affix_from (longest_prefix is_affix value.1) })) None) v h in
+    let made : NumericView = record { value = b.0.0; prefix = affix_from (longest_prefix is_affix start); suffix = affix_from (longest_prefix is_affix b.0.1) } in
+    let g = cond_some (is_blank (after_longest_prefix is_affix b.0.1)) made v b.2 in
+    let s = value_sound (count_by is_delimiter cs) (after_longest_prefix is_affix start) b.0 b.1 in
+    let end : b.0.1 ≡ longest_prefix is_affix b.0.1 ++ after_longest_prefix is_affix b.0.1 = front_after is_affix b.0.1 in
+    let numbers : after_longest_prefix is_affix start ≡ s.text ++ (longest_prefix is_affix b.0.1 ++ after_longest_prefix is_affix b.0.1) = s.whole ∙ ap (λ (x : List ℕ). s.text ++ x) end in
+    let all : cs ≡ longest_prefix is_whitespace cs ++ (longest_prefix is_affix start ++ (s.text ++ (longest_prefix is_affix b.0.1 ++ after_longest_prefix is_affix b.0.1))) =
+    front_after is_whitespace cs ∙ ap (λ (x : List ℕ). longest_prefix is_whitespace cs ++ x) (front_after is_affix start ∙ ap (λ (x : List ℕ). longest_prefix is_affix start ++ x) numbers) in
     subst (λ (w : NumericView). Spells w cs) g.1 (record {
-      before = front is_whitespace cs;
-      prefix = front is_affix start;
+      before = longest_prefix is_whitespace cs;
+      prefix = longest_prefix is_affix start;
       numbers = s.text;
-      suffix = front is_affix b.0.1;
-      after = after is_affix b.0.1;
+      suffix = longest_prefix is_affix b.0.1;
+      after = after_longest_prefix is_affix b.0.1;
       whole = all;
       blank_before = Only-front is_whitespace cs;
-      has_prefix = affix_sound is_affix (front is_affix start) (Only-front is_affix start);
+      has_prefix = affix_sound is_affix (longest_prefix is_affix start) (Only-front is_affix start);
       has_value = s.spelled;
-      has_suffix = affix_sound is_affix (front is_affix b.0.1) (Only-front is_affix b.0.1);
-      blank_after = blank_is (after is_affix b.0.1) g.0;
+      has_suffix = affix_sound is_affix (longest_prefix is_affix b.0.1) (Only-front is_affix b.0.1);
+      blank_after = blank_is (after_longest_prefix is_affix b.0.1) g.0;
     })

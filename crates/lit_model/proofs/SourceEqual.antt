@@ -4,7 +4,7 @@ use Rattle.std.specs.Prelude.{String, string_bytes, option_map, nat_eq}
 use Rattle.std.specs.Bool.{Decides, beq}
 use Rattle.std.specs.Ordering.{int_eq}
 use Rattle.std.specs.Cmp.{signed_Decides}
-use Rattle.lit_model.specs.Date.{Parts as DateParts, date_parts}
+use Rattle.lit_model.specs.Date.{DateView as DateParts, date_view}
 use Rattle.csl_common.specs.declared.season.Season.{Season}
 use Rattle.csl_common.specs.contracts.season.SeasonPartialEq.TheImpl.{eq-value as eq_season}
 use Rattle.std.specs.Str.{bytes_eq}
@@ -21,7 +21,7 @@ use Rattle.lit_model.specs.declared.source.QualifiedUrl.{QualifiedUrl}
 use Rattle.lit_model.specs.contracts.source.QualifiedUrlPartialEq.TheImpl.{eq-value as eq_url}
 use Rattle.std.specs.declared.alloc.Global.{Global}
 use Rattle.lit_model.specs.Source.{Press, press_of, Address, address_of, scheme_and_number, serials, language_of}
-use Rattle.lit_model.specs.Text.{forms_of}
+use Rattle.lit_model.specs.Text.{format_string_view}
 use Rattle.lit_model.specs.declared.source.Publisher.{Publisher}
 use Rattle.lit_model.specs.declared.source.SerialNumber.{SerialNumber}
 use Rattle.lit_model.specs.declared.source.LanguageIdentifier.{LanguageIdentifier}
@@ -34,7 +34,7 @@ use Rattle.lit_model.proofs.ByValue.{both, through, option_view, option_same, te
 use Rattle.lit_model.proofs.TextEqual.{forms_decide}
 
 pub press_decides : (a b : Publisher) → Decides (eq_press.it a b) (press_of a ≡ press_of b)
-press_decides a b = through _ (both _ _ (option_view eq_forms.it forms_of forms_decide a.name b.name) (option_view eq_forms.it forms_of forms_decide a.location b.location))
+press_decides a b = through _ (both _ _ (option_view eq_forms.it format_string_view forms_decide a.name b.name) (option_view eq_forms.it format_string_view forms_decide a.location b.location))
     (λ h. let e = h.0 in let f = h.1 in cc)
     (λ h. (ap (λ (p : Press). p.name) h, ap (λ (p : Press). p.location) h))
 
@@ -64,13 +64,13 @@ seasons a b = search rules
 truths : (p q : Bool) → Decides (beq p q) (p ≡ q)
 truths p q = search rules
 
-pub date_decides : (a b : Date) → Decides (eq_date.it a b) (date_parts a ≡ date_parts b)
+pub date_decides : (a b : Date) → Decides (eq_date.it a b) (date_view a ≡ date_view b)
 date_decides a b = through _ (both _ _ (years a.year b.year) (both _ _ (option_same nat_eq numbers a.month b.month) (both _ _ (option_same nat_eq numbers a.day b.day) (both _ _ (option_same eq_season.it seasons a.season b.season) (truths a.approximate b.approximate)))))
     (λ h. let e = h.0 in let f = h.1.0 in let g = h.1.1.0 in let j = h.1.1.1.0 in let k = h.1.1.1.1 in cc)
     (λ h. (ap (λ (d : DateParts). d.year) h, (ap (λ (d : DateParts). d.month) h, (ap (λ (d : DateParts). d.day) h, (ap (λ (d : DateParts). d.season) h, ap (λ (d : DateParts). d.approximate) h)))))
 
-pub url_decides : (a b : QualifiedUrl) → Decides (eq_url.it a b) ((serialize a.value ≡ serialize b.value) × (option_map date_parts a.visit_date ≡ option_map date_parts b.visit_date))
-url_decides a b = both _ _ (bytes_eq-Decides (serialize a.value) (serialize b.value)) (option_view eq_date.it date_parts date_decides a.visit_date b.visit_date)
+pub url_decides : (a b : QualifiedUrl) → Decides (eq_url.it a b) ((serialize a.value ≡ serialize b.value) × (option_map date_view a.visit_date ≡ option_map date_view b.visit_date))
+url_decides a b = both _ _ (bytes_eq-Decides (serialize a.value) (serialize b.value)) (option_view eq_date.it date_view date_decides a.visit_date b.visit_date)
 
 month_prop : (o : Option ℕ) → IsProp (ForSome o (λ m. m ≤ 11))
 month_prop o = Π_prop (λ x. →_prop le_prop)
@@ -79,7 +79,7 @@ day_prop : (o : Option ℕ) → IsProp (ForSome o (λ d. d ≤ 30))
 day_prop o = Π_prop (λ x. →_prop le_prop)
 
 -- dates of the same parts are the same
-pub same_date : (a b : Date) → date_parts a ≡ date_parts b → a ≡ b
+pub same_date : (a b : Date) → date_view a ≡ date_view b → a ≡ b
 same_date a b h = λ i. record {
   year = (h i).year;
   month = (h i).month;
@@ -90,14 +90,14 @@ same_date a b h = λ i. record {
   day_of_month = is_prop→PathP (λ j. ForSome (h j).day (λ d. d ≤ 30)) (λ j. day_prop (h j).day) a.day_of_month b.day_of_month i;
 }
 
-same_optional_date : (x y : Option Date) → option_map date_parts x ≡ option_map date_parts y → x ≡ y
+same_optional_date : (x y : Option Date) → option_map date_view x ≡ option_map date_view y → x ≡ y
 same_optional_date None None h = refl
 same_optional_date None (Some y) h = cc
 same_optional_date (Some x) None h = cc
-same_optional_date (Some x) (Some y) h = let e : date_parts x ≡ date_parts y = cc in ap (λ (d : Date). Some d) (same_date x y e)
+same_optional_date (Some x) (Some y) h = let e : date_view x ≡ date_view y = cc in ap (λ (d : Date). Some d) (same_date x y e)
 
 -- of addresses as the parser gives them
 pub address_decides : (a b : QualifiedUrl) → IsValid a.value → IsValid b.value → IsCanonical a.value → IsCanonical b.value → Decides (eq_url.it a b) (address_of a ≡ address_of b)
 address_decides a b valid_a valid_b canonical_a canonical_b = through _ (url_decides a b)
     (λ h. λ i. record { value = serialize_injective a.value b.value valid_a canonical_a valid_b canonical_b h.0 i; visit_date = same_optional_date a.visit_date b.visit_date h.1 i })
-    (λ h. (ap (λ (u : Address). serialize u.value) h, ap (λ (u : Address). option_map date_parts u.visit_date) h))
+    (λ h. (ap (λ (u : Address). serialize u.value) h, ap (λ (u : Address). option_map date_view u.visit_date) h))

@@ -1,7 +1,7 @@
 -- `==` of texts compares their chunks.
 use Rattle.std.proofs.Common.{◌≡◌, ap, rules}
 use Rattle.std.specs.Bool.{Decides}
-use Rattle.lit_model.specs.Text.{chunk_of, chunks, Forms, forms_of}
+use Rattle.lit_model.specs.Text.{chunk_of, chunks, FormatStringView, format_string_view}
 use Rattle.lit_model.specs.declared.text.StringChunk.{StringChunk}
 use Rattle.lit_model.specs.declared.text.ChunkedString.{ChunkedString}
 use Rattle.lit_model.specs.declared.text.FormatString.{FormatString}
@@ -17,7 +17,7 @@ chunk_decides a b = search rules
 pub chunks_decide : (a b : ChunkedString) → Decides (eq_chunks.it a b) (chunks a ≡ chunks b)
 chunks_decide a b = pointwise_view eq_chunk.it chunk_of chunk_decides a.0.items b.0.items
 
-pub forms_decide : (a b : FormatString) → Decides (eq_forms.it a b) (forms_of a ≡ forms_of b)
+pub forms_decide : (a b : FormatString) → Decides (eq_forms.it a b) (format_string_view a ≡ format_string_view b)
 forms_decide a b = through _ (both _ _ (chunks_decide a.value b.value) (option_view eq_chunks.it chunks chunks_decide a.short b.short))
     (λ h. let e = h.0 in let f = h.1 in cc)
-    (λ h. (ap (λ (t : Forms). t.value) h, ap (λ (t : Forms). t.short) h))
+    (λ h. (ap (λ (t : FormatStringView). t.value) h, ap (λ (t : FormatStringView). t.short) h))

@@ -6,7 +6,7 @@ use Rattle.std.specs.Str.{all_scalars}
 use Rattle.std.proofs.lemmas.Bool.{false≢true}
 use Rattle.std.proofs.lemmas.Str.{chars-encodes, length-le-encodes}
 use Rattle.lit_model.specs.declared.numeric.NumericDelimiter.{NumericDelimiter}
-use Rattle.lit_model.specs.Numeric.{ValueView, one, several, NumericView, Only, is_affix, SpellsInteger, SpellsIntegers, SpellsValue, SpellsAffix, Spells, IsWritableInteger, AreWritableIntegers, IsWritableValue, IsWritableAffix, IsWritable}
+use Rattle.lit_model.specs.Numeric.{ValueView, one, several, NumericView, AllChars, is_affix, SpellsInteger, SpellsIntegers, SpellsValue, SpellsAffix, Spells, IsWritableInteger, AreWritableIntegers, IsWritableValue, IsWritableAffix, IsWritable}
 
 abbrev Numbers : Type 0
 Numbers = List (ℤ × Option NumericDelimiter)
@@ -44,7 +44,7 @@ affix_writable p None cs is_scalar s = tt
 affix_writable p (Some bytes) cs is_scalar s =
     let utf8 : IsUtf8 bytes = (cs, (is_scalar, sym s.2)) in
     let same : chars bytes ≡ cs = ap chars s.2 ∙ chars-encodes cs is_scalar in
-    (utf8, omega (arith, ap length s.2, length-le-encodes cs, s.0), subst (Only p) (sym same) s.1)
+    (utf8, omega (arith, ap length s.2, length-le-encodes cs, s.0), subst (AllChars p) (sym same) s.1)
 
 pub numeric_writable : (v : NumericView) (cs : List ℕ) → all_scalars cs ≡ true → Spells v cs → IsWritable v
 numeric_writable v cs is_scalar s =

@@ -6,13 +6,13 @@ use Rattle.std.specs.List.{list_all}
 use Rattle.lit_model.specs.Text.{Chunk}
 
 -- the texts of the chunks, one after another
-abbrev pub text_of : List Chunk → List ℕ
-text_of cs = flat_map (λ c. c.value) cs
+abbrev pub chunks_text : List Chunk → List ℕ
+chunks_text cs = flat_map (λ c. c.value) cs
 
 -- the text is empty
 abbrev pub is_empty : List Chunk → Bool
-is_empty cs = length (text_of cs) == 0
+is_empty cs = length (chunks_text cs) == 0
 
 -- each character of the text is white space (Unicode White_Space); an empty text has none
 abbrev pub is_white_space : List Chunk → Bool
-is_white_space cs = list_all is_whitespace (chars (text_of cs))
+is_white_space cs = list_all is_whitespace (chars (chunks_text cs))

@@ -12,16 +12,16 @@ abbrev pub IsOnCalendar : Option ℕ → Option ℕ → Type 0
 IsOnCalendar month day = IfSome month (λ m. m ≤ 11) × IfSome day (λ d. d ≤ 30)
 
 -- the parts of a date
-pub record Parts : Type 0 where
+pub record DateView : Type 0 where
   pub year : ℤ
   pub month : Option ℕ
   pub day : Option ℕ
   pub season : Option Season
   pub approximate : Bool
 
-abbrev pub date_parts : Date → Parts
-date_parts d = record { year = d.year; month = d.month; day = d.day; season = d.season; approximate = d.approximate }
+abbrev pub date_view : Date → DateView
+date_view d = record { year = d.year; month = d.month; day = d.day; season = d.season; approximate = d.approximate }
 
 -- a date of which the year alone is known
-abbrev pub year_alone : ℤ → Parts
+abbrev pub year_alone : ℤ → DateView
 year_alone year = record { year = year; month = None; day = None; season = None; approximate = false }

@@ -67,5 +67,5 @@ optional_items None = []
 optional_items (Some v) = v.items
 
 -- the entry's own groups of further persons
-abbrev pub groups_of : Entry → List PersonsWithRoles
-groups_of e = optional_items (out-Entry e).affiliated
+abbrev pub role_groups : Entry → List PersonsWithRoles
+role_groups e = optional_items (out-Entry e).affiliated

@@ -11,7 +11,7 @@ use Rattle.ucd_category.specs.declared.GeneralCategory.TheVariants.{UppercaseLet
 use Rattle.unicode.specs.GeneralCategory.{general_category}
 use Rattle.lit_model.specs.Characters.{dot_char}
 use Rattle.lit_model.specs.Initials.{given_words}
-use Rattle.lit_model.specs.Person.{Named}
+use Rattle.lit_model.specs.Person.{PersonView}
 
 abbrev pub is_capital : GeneralCategory → Bool
 is_capital UppercaseLetter = true
@@ -34,14 +34,14 @@ abbrev pub single_letter : List ℕ → Option (List ℕ)
 single_letter word = if is_single_capital (chars (without_dot word)) then Some (without_dot word) else None
 
 -- a word as it is written: its single letter and the given text, or the word
-abbrev pub lettered : List ℕ → Option (List ℕ) → List ℕ → List ℕ
-lettered text None word = word
-lettered text (Some letter) word = letter ++ text
+abbrev pub letter_or_word : List ℕ → Option (List ℕ) → List ℕ → List ℕ
+letter_or_word text None word = word
+letter_or_word text (Some letter) word = letter ++ text
 
 -- the last word as it is written: after its single letter the text has no trailing white space
-abbrev pub lettered_last : List ℕ → Option (List ℕ) → List ℕ → List ℕ
-lettered_last text None word = word
-lettered_last text (Some letter) word = letter ++ trim_end text
+abbrev pub last_letter_or_word : List ℕ → Option (List ℕ) → List ℕ → List ℕ
+last_letter_or_word text None word = word
+last_letter_or_word text (Some letter) word = letter ++ trim_end text
 
 abbrev pub ends_in_white_space : List ℕ → Bool
 ends_in_white_space text = nat_lt (length (trim_end text)) (length text)
@@ -54,13 +54,13 @@ space_behind text (Some letter) = if ends_in_white_space text then [] else codes
 -- the words of a given name as they are written, with a space between two of them
 abbrev pub lettered_words : List ℕ → List (List ℕ) → List ℕ
 lettered_words text [] = []
-lettered_words text (w ∷ []) = lettered_last text (single_letter w) w
-lettered_words text (w ∷ v ∷ ws) = lettered text (single_letter w) w ++ (space_behind text (single_letter w) ++ lettered_words text (v ∷ ws))
+lettered_words text (w ∷ []) = last_letter_or_word text (single_letter w) w
+lettered_words text (w ∷ v ∷ ws) = letter_or_word text (single_letter w) w ++ (space_behind text (single_letter w) ++ lettered_words text (v ∷ ws))
 
 abbrev pub optional_names : List ℕ → Option (List ℕ) → List ℕ
 optional_names text None = []
 optional_names text (Some given) = lettered_words text (given_words given)
 
 -- the given name of a person, each letter in it followed by a text
-abbrev pub person_first_name : Option (List ℕ) → Named → List ℕ
+abbrev pub person_first_name : Option (List ℕ) → PersonView → List ℕ
 person_first_name text p = optional_names (unwrap_or text []) p.given_name

@@ -11,7 +11,7 @@ use Rattle.std.specs.List.{slice_split}
 use Rattle.std.specs.Str.{trim_end}
 use Rattle.unicode_segmentation.specs.Grapheme.{graphemes}
 use Rattle.lit_model.specs.Characters.{hyphen_char}
-use Rattle.lit_model.specs.Person.{Named}
+use Rattle.lit_model.specs.Person.{PersonView}
 
 abbrev pub is_nonempty : {A : Type 0} → List A → Bool
 is_nonempty [] = false
@@ -35,14 +35,14 @@ initials_of word = filter_map first_grapheme (slice_split (λ b. b == hyphen_cha
 
 -- The text between two initials of a word: the given text; where hyphens are kept, that text
 -- without its trailing white space, and a hyphen.
-abbrev pub between : List ℕ → Bool → List ℕ
-between text hyphen = if hyphen then trim_end text ++ codes "-" else text
+abbrev pub initials_separator : List ℕ → Bool → List ℕ
+initials_separator text hyphen = if hyphen then trim_end text ++ codes "-" else text
 
 -- the initials of a word
 abbrev pub word_initials : List ℕ → Bool → List (List ℕ) → List ℕ
 word_initials text hyphen [] = []
 word_initials text hyphen (g ∷ []) = g
-word_initials text hyphen (g ∷ h ∷ gs) = g ++ (between text hyphen ++ word_initials text hyphen (h ∷ gs))
+word_initials text hyphen (g ∷ h ∷ gs) = g ++ (initials_separator text hyphen ++ word_initials text hyphen (h ∷ gs))
 
 -- The initials of words that each have some. The given text follows those of each word, at the end
 -- without its trailing white space.
@@ -60,5 +60,5 @@ abbrev pub optional_initials : List ℕ → Bool → Option (List ℕ) → List 
 optional_initials text hyphen None = []
 optional_initials text hyphen (Some given) = initials text hyphen given
 
-abbrev pub person_initials : Option (List ℕ) → Bool → Named → List ℕ
+abbrev pub person_initials : Option (List ℕ) → Bool → PersonView → List ℕ
 person_initials text hyphen p = optional_initials (unwrap_or text []) hyphen p.given_name

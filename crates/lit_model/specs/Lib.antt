@@ -8,7 +8,7 @@ pub mod FirstNames
 pub mod Initials
 pub mod Marked
 pub mod MaybeTyped
-pub mod Noting
+pub mod TrackingWriter
 pub mod Name
 pub mod Numeric
 pub mod NumericReading

@@ -22,12 +22,12 @@ use Rattle.ucd_category.specs.declared.GeneralCategory.TheVariants.{LowercaseLet
 use Rattle.ucd_script.specs.declared.Script.{Script}
 use Rattle.ucd_script.specs.declared.Script.TheVariants.{Han, Hiragana, Katakana, Hangul, Bopomofo}
 use Rattle.lit_model.specs.Characters.{space_char}
-use Rattle.lit_model.specs.Person.{Named}
+use Rattle.lit_model.specs.Person.{PersonView}
 
 -- ---- institutions
 
 -- an institution has a name alone: no given name, no prefix and no suffix
-abbrev pub is_institutional : Named → Bool
+abbrev pub is_institutional : PersonView → Bool
 is_institutional p = not (is_some p.given_name) && (not (is_some p.prefix) && not (is_some p.suffix))
 
 -- ---- CJK names
@@ -50,11 +50,11 @@ abbrev pub are_cjk : List ℕ → Bool
 are_cjk cs = nat_lt 0 (length cs) && list_all (λ c. is_cjk_script (script c)) cs
 
 -- the given name, or an empty text
-abbrev pub given_or_empty : Named → List ℕ
+abbrev pub given_or_empty : PersonView → List ℕ
 given_or_empty p = unwrap_or p.given_name []
 
 -- the letters of the name and the given name together are in such scripts
-abbrev pub is_cjk : Named → Bool
+abbrev pub is_cjk : PersonView → Bool
 is_cjk p = are_cjk (letters p.name ++ letters (given_or_empty p))
 
 -- ---- particles
@@ -88,13 +88,13 @@ after_particle (w ∷ []) = w ∷ []
 after_particle (w ∷ v ∷ ws) = if is_particle_word w then after_particle (v ∷ ws) else w ∷ v ∷ ws
 
 -- words with a space between them, if there are any
-abbrev pub spaced : List (List ℕ) → Option (List ℕ)
-spaced [] = None
-spaced (w ∷ ws) = Some (join_with_byte space_char (w ∷ ws))
+abbrev pub join_words : List (List ℕ) → Option (List ℕ)
+join_words [] = None
+join_words (w ∷ ws) = Some (join_with_byte space_char (w ∷ ws))
 
 -- the particle of a name
 abbrev pub name_particle : List ℕ → Option (List ℕ)
-name_particle name = spaced (particle_words (words name))
+name_particle name = join_words (particle_words (words name))
 
 -- the name after its particle and one space
 abbrev pub name_without_particle : List ℕ → List ℕ
@@ -103,13 +103,13 @@ name_without_particle name = join_with_byte space_char (after_particle (words na
 -- ---- articles
 
 -- the text without the article, where it begins with it and more follows
-abbrev pub without : List ℕ → List ℕ → Option (List ℕ)
-without article text = if starts_with ◌==◌ text article && nat_lt (length article) (length text) then Some (drop (length article) text) else None
+abbrev pub strip_article : List ℕ → List ℕ → Option (List ℕ)
+strip_article article text = if starts_with ◌==◌ text article && nat_lt (length article) (length text) then Some (drop (length article) text) else None
 
 -- the text without the first of several articles that it begins with
-abbrev pub first_without : List (List ℕ) → List ℕ → Option (List ℕ)
-first_without [] text = None
-first_without (a ∷ articles) text = option_or (without a text) (first_without articles text)
+abbrev pub strip_any_article : List (List ℕ) → List ℕ → Option (List ℕ)
+strip_any_article [] text = None
+strip_any_article (a ∷ articles) text = option_or (strip_article a text) (strip_any_article articles text)
 
 -- the English articles, each with a space after it
 abbrev pub articles : List (List ℕ)
@@ -117,4 +117,4 @@ articles = codes "The " ∷ codes "the " ∷ codes "A " ∷ codes "a " ∷ codes
 
 -- the name without an article before it
 abbrev pub name_without_article : List ℕ → List ℕ
-name_without_article name = unwrap_or (first_without articles name) name
+name_without_article name = unwrap_or (strip_any_article articles name) name

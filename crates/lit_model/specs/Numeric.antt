@@ -56,10 +56,10 @@ only_number (n ∷ m ∷ more) = None
 
 -- whether a term beside the numbers is in the plural: beside several numbers, and beside one above
 -- 1 where they count things, such as pages or volumes
-abbrev pub plural : Bool → List ℤ → Bool
-plural counts [] = false
-plural counts (n ∷ []) = counts && int_lt (pos 1) n
-plural counts (n ∷ m ∷ more) = true
+abbrev pub is_plural_number : Bool → List ℤ → Bool
+is_plural_number counts [] = false
+is_plural_number counts (n ∷ []) = counts && int_lt (pos 1) n
+is_plural_number counts (n ∷ m ∷ more) = true
 
 -- neither a prefix nor a suffix
 abbrev pub is_bare : NumericView → Bool
@@ -81,17 +81,17 @@ abbrev pub is_affix : ℕ → Bool
 is_affix c = (not (is_ascii_digit c) && not (is_whitespace c)) && not (is_delimiter c)
 
 -- each of the characters passes the test
-abbrev pub Only : (ℕ → Bool) → List ℕ → Type 0
-Only p cs = AllByRecursion (λ c. p c ≡ true) cs
+abbrev pub AllChars : (ℕ → Bool) → List ℕ → Type 0
+AllChars p cs = AllByRecursion (λ c. p c ≡ true) cs
 
 -- white space, or nothing
 abbrev pub IsBlank : List ℕ → Type 0
-IsBlank cs = Only is_whitespace cs
+IsBlank cs = AllChars is_whitespace cs
 
 -- one digit or more, which write the number in base ten; it is below 2 ^ 31
 pub record SpellsInteger (n : ℤ) (cs : List ℕ) : Type 0 where
   pub nonempty : 0 < length cs
-  pub digits : Only is_ascii_digit cs
+  pub digits : AllChars is_ascii_digit cs
   pub fits : digits_value 10 cs < 2 ^ 31
   pub is : n ≡ pos (digits_value 10 cs)
 
@@ -112,7 +112,7 @@ SpellsValue (several numbers) cs = (2 ≤ length numbers) × SpellsIntegers numb
 -- nothing, or the characters of a prefix or a suffix that is there
 abbrev pub SpellsAffix : (ℕ → Bool) → Option (List ℕ) → List ℕ → Type 0
 SpellsAffix p None cs = cs ≡ []
-SpellsAffix p (Some bytes) cs = (0 < length cs) × Only p cs × (bytes ≡ encode_utf8_all cs)
+SpellsAffix p (Some bytes) cs = (0 < length cs) × AllChars p cs × (bytes ≡ encode_utf8_all cs)
 
 -- The characters spell the value: white space or none, the prefix, the numbers, the suffix, white
 -- space or none.
@@ -149,7 +149,7 @@ IsWritableValue (several numbers) = (2 ≤ length numbers) × AreWritableInteger
 -- a prefix or a suffix that is there has a character, and only such characters
 abbrev pub IsWritableAffix : (ℕ → Bool) → Option (List ℕ) → Type 0
 IsWritableAffix p None = ⊤
-IsWritableAffix p (Some bytes) = IsUtf8 bytes × (0 < length bytes) × Only p (chars bytes)
+IsWritableAffix p (Some bytes) = IsUtf8 bytes × (0 < length bytes) × AllChars p (chars bytes)
 
 pub record IsWritable (v : NumericView) : Type 0 where
   pub value : IsWritableValue v.value

@@ -21,14 +21,14 @@ abbrev pub rest_of : {A : Type 0} → Option (A × List ℕ) → Option (List �
 rest_of {A} o = option_map (λ (x : A × List ℕ). x.1) o
 
 -- the longest front whose characters pass the test
-abbrev pub front : (ℕ → Bool) → List ℕ → List ℕ
-front p [] = []
-front p (c ∷ cs) = if p c then c ∷ front p cs else []
+abbrev pub longest_prefix : (ℕ → Bool) → List ℕ → List ℕ
+longest_prefix p [] = []
+longest_prefix p (c ∷ cs) = if p c then c ∷ longest_prefix p cs else []
 
 -- what follows the longest front whose characters pass the test
-abbrev pub after : (ℕ → Bool) → List ℕ → List ℕ
-after p [] = []
-after p (c ∷ cs) = if p c then after p cs else c ∷ cs
+abbrev pub after_longest_prefix : (ℕ → Bool) → List ℕ → List ℕ
+after_longest_prefix p [] = []
+after_longest_prefix p (c ∷ cs) = if p c then after_longest_prefix p cs else c ∷ cs
 
 -- the number that these digits write, if there is one
 abbrev pub integer_from : List ℕ → Option ℤ
@@ -38,8 +38,8 @@ integer_from (c ∷ cs) = if nat_lt (digits_value 10 (c ∷ cs)) (2 ^ 31) then S
 -- a number at the front, and what follows it
 unfoldable pub integer_at : List ℕ → Option (ℤ × List ℕ)
 integer_at cs = do
-  n ← integer_from (front is_ascii_digit cs)
-  Some (n, after is_ascii_digit cs)
+  n ← integer_from (longest_prefix is_ascii_digit cs)
+  Some (n, after_longest_prefix is_ascii_digit cs)
 
 -- the delimiter that a character is
 abbrev pub delimiter_of : ℕ → Option NumericDelimiter
@@ -50,11 +50,11 @@ abbrev pub delimiter_first : List ℕ → Option (NumericDelimiter × List ℕ)
 delimiter_first [] = None
 delimiter_first (c ∷ cs) = do
   d ← delimiter_of c
-  Some (d, after is_whitespace cs)
+  Some (d, after_longest_prefix is_whitespace cs)
 
 -- the delimiter after white space, and what follows it and white space
 unfoldable pub delimiter_at : List ℕ → Option (NumericDelimiter × List ℕ)
-delimiter_at cs = delimiter_first (after is_whitespace cs)
+delimiter_at cs = delimiter_first (after_longest_prefix is_whitespace cs)
 
 -- this many numbers with a delimiter, one without, and what follows
 unfoldable pub integers_at : ℕ → List ℕ → Option (List (ℤ × Option NumericDelimiter) × List ℕ)
@@ -87,11 +87,11 @@ affix_from cs = text_from (encode_utf8_all cs)
 
 -- nothing but white space is left
 abbrev pub is_blank : List ℕ → Bool
-is_blank cs = length (after is_whitespace cs) == 0
+is_blank cs = length (after_longest_prefix is_whitespace cs) == 0
 
 -- the value that the characters spell, if there is one
 unfoldable pub numeric_from : List ℕ → Option NumericView
 numeric_from cs = do
-  let start = after is_whitespace cs
-  value ← value_at (count_by is_delimiter cs) (after is_affix start)
-  if is_blank (after is_affix value.1) then Some (record { value = value.0; prefix = affix_from (front is_affix start); suffix = affix_from (front is_affix value.1) }) else None
+  let start = after_longest_prefix is_whitespace cs
+  value ← value_at (count_by is_delimiter cs) (after_longest_prefix is_affix start)
+  if is_blank (after_longest_prefix is_affix value.1) then Some (record { value = value.0; prefix = affix_from (longest_prefix is_affix start); suffix = affix_from (longest_prefix is_affix value.1) }) else None

@@ -5,23 +5,23 @@ use Rattle.std.specs.Prelude.{ℕ, zero, suc, ◌==◌, if◌then◌else◌, Lis
 use Rattle.std.specs.Char.{is_whitespace}
 use Rattle.lit_model.specs.Characters.{ampersand_char, comma_char}
 use Rattle.lit_model.specs.Numeric.{NumericView, one}
-use Rattle.lit_model.specs.NumericReading.{◌>>=◌, front, after, integer_at, affix_from, is_blank}
+use Rattle.lit_model.specs.NumericReading.{◌>>=◌, longest_prefix, after_longest_prefix, integer_at, affix_from, is_blank}
 use Rattle.lit_model.specs.Page.{PartView, ampersand, comma, single, range, is_page_affix, is_range_mark, is_separator}
 
 -- a page at the front, and what follows it
 unfoldable pub page_at : List ℕ → Option (NumericView × List ℕ)
 page_at cs = do
-  n ← integer_at (after is_page_affix cs)
-  Some (record { value = one n.0; prefix = affix_from (front is_page_affix cs); suffix = affix_from (front is_page_affix n.1) }, after is_page_affix n.1)
+  n ← integer_at (after_longest_prefix is_page_affix cs)
+  Some (record { value = one n.0; prefix = affix_from (longest_prefix is_page_affix cs); suffix = affix_from (longest_prefix is_page_affix n.1) }, after_longest_prefix is_page_affix n.1)
 
 -- what follows the mark of a range at the front, and white space
 abbrev pub mark_first : List ℕ → Option (List ℕ)
 mark_first [] = None
-mark_first (c ∷ cs) = if is_range_mark c then Some (after is_whitespace cs) else None
+mark_first (c ∷ cs) = if is_range_mark c then Some (after_longest_prefix is_whitespace cs) else None
 
 -- what follows the mark of a range after white space, and white space
 unfoldable pub mark_at : List ℕ → Option (List ℕ)
-mark_at cs = mark_first (after is_whitespace cs)
+mark_at cs = mark_first (after_longest_prefix is_whitespace cs)
 
 -- the separator that a character is
 abbrev pub separator_of : ℕ → Option PartView
@@ -32,11 +32,11 @@ abbrev pub separator_first : List ℕ → Option (PartView × List ℕ)
 separator_first [] = None
 separator_first (c ∷ cs) = do
   s ← separator_of c
-  Some (s, after is_whitespace cs)
+  Some (s, after_longest_prefix is_whitespace cs)
 
 -- the separator after white space, and what follows it and white space
 unfoldable pub separator_at : List ℕ → Option (PartView × List ℕ)
-separator_at cs = separator_first (after is_whitespace cs)
+separator_at cs = separator_first (after_longest_prefix is_whitespace cs)
 
 -- a page alone, or with the page that follows a mark
 unfoldable pub item_from : NumericView × List ℕ → Option (List ℕ) → Option (PartView × List ℕ)
@@ -64,5 +64,5 @@ parts_at (suc k) cs = do
 -- the pages that the characters spell, if they spell some
 unfoldable pub pages_from : List ℕ → Option (List PartView)
 pages_from cs = do
-  parts ← parts_at (count_by is_separator cs) (after is_whitespace cs)
+  parts ← parts_at (count_by is_separator cs) (after_longest_prefix is_whitespace cs)
   if is_blank parts.1 then Some parts.0 else None

@@ -7,7 +7,7 @@ use Rattle.lit_model.specs.contracts.person.PersonRolePartialEq.TheImpl.{eq-valu
 use Rattle.lit_model.specs.declared.person.PersonsWithRoles.{PersonsWithRoles}
 
 -- a person, without where the texts lie
-pub record Named : Type 0 where
+pub record PersonView : Type 0 where
   pub name : List ℕ
   pub given_name : Option (List ℕ)
   pub prefix : Option (List ℕ)
@@ -15,8 +15,8 @@ pub record Named : Type 0 where
   pub alias : Option (List ℕ)
   pub comma_suffix : Bool
 
-abbrev pub named : Person → Named
-named p = record {
+abbrev pub person_view : Person → PersonView
+person_view p = record {
   name = string_bytes p.name;
   given_name = option_map string_bytes p.given_name;
   prefix = option_map string_bytes p.prefix;
@@ -26,10 +26,10 @@ named p = record {
 }
 
 -- a person of a name and a given name alone, and one of a name alone
-abbrev pub person_of : List ℕ → List ℕ → Named
+abbrev pub person_of : List ℕ → List ℕ → PersonView
 person_of name given = record { name = name; given_name = Some given; prefix = None; suffix = None; alias = None; comma_suffix = false }
 
-abbrev pub institution_of : List ℕ → Named
+abbrev pub institution_of : List ℕ → PersonView
 institution_of name = record { name = name; given_name = None; prefix = None; suffix = None; alias = None; comma_suffix = false }
 
 -- a role: one of those with a name, or a text
@@ -46,12 +46,12 @@ abbrev pub same_role : PersonRole → PersonRole → Bool
 same_role = eq-value.it
 
 -- persons with one role
-pub record Group : Type 0 where
-  pub names : List Named
+pub record RoleGroup : Type 0 where
+  pub names : List PersonView
   pub role : Role
 
-abbrev pub group_of : PersonsWithRoles → Group
-group_of g = record { names = map named g.names.items; role = role_of g.role }
+abbrev pub role_group : PersonsWithRoles → RoleGroup
+role_group g = record { names = map person_view g.names.items; role = role_of g.role }
 
 -- the persons of the groups whose role passes a test, in order
 abbrev pub with_role : (PersonRole → Bool) → List PersonsWithRoles → List Person

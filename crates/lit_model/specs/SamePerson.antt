@@ -6,16 +6,16 @@ use Rattle.std.specs.Bool.{beq}
 use Rattle.std.specs.Cmp.Lexicographic.{pointwise}
 use Rattle.std.specs.Option.{option_eq}
 use Rattle.std.specs.Str.{bytes_eq}
-use Rattle.lit_model.specs.Person.{Named}
+use Rattle.lit_model.specs.Person.{PersonView}
 
 -- both texts are absent, or both are there and equal
 abbrev pub same_text : Option (List ℕ) → Option (List ℕ) → Bool
 same_text = option_eq bytes_eq
 
 -- each text of the one is that of the other
-abbrev pub same_named : Named → Named → Bool
-same_named a b = bytes_eq a.name b.name && (same_text a.given_name b.given_name && (same_text a.prefix b.prefix && (same_text a.suffix b.suffix && (same_text a.alias b.alias && beq a.comma_suffix b.comma_suffix))))
+abbrev pub same_person : PersonView → PersonView → Bool
+same_person a b = bytes_eq a.name b.name && (same_text a.given_name b.given_name && (same_text a.prefix b.prefix && (same_text a.suffix b.suffix && (same_text a.alias b.alias && beq a.comma_suffix b.comma_suffix))))
 
 -- as many persons, and each shows what the one at its place shows
-abbrev pub same_people : List Named → List Named → Bool
-same_people = pointwise same_named
+abbrev pub same_people : List PersonView → List PersonView → Bool
+same_people = pointwise same_person

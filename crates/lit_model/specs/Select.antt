@@ -28,14 +28,14 @@ use Rattle.lit_model.specs.declared.select.Field.TheVariants.{Date, Url, Issue, 
 use Rattle.lit_model.specs.Entry.{parents_of}
 
 -- a clause by its lists
-pub record Rule : Type 0 where
+pub record ClauseView : Type 0 where
   pub own : List EntryType
   pub fields : List Field
   pub parent : Option (List EntryType)
   pub bind : Bind
 
-abbrev pub rule_of : Clause → Rule
-rule_of c = record { own = c.own.now; fields = c.fields.now; parent = option_map (λ types. types.now) c.parent; bind = c.bind }
+abbrev pub clause_view : Clause → ClauseView
+clause_view c = record { own = c.own.now; fields = c.fields.now; parent = option_map (λ types. types.now) c.parent; bind = c.bind }
 
 -- the two types are one
 abbrev pub same_type : EntryType → EntryType → Bool
@@ -63,7 +63,7 @@ has_parent None e = true
 has_parent (Some types) e = is_some (parent_among types e)
 
 -- the entry matches the clause
-abbrev pub fits : Entry → Rule → Bool
+abbrev pub fits : Entry → ClauseView → Bool
 fits e r = is_among (out-Entry e).entry_type r.own && (list_all (has_field e) r.fields && has_parent r.parent e)
 
 -- what a clause that matches selects
@@ -74,26 +74,26 @@ bound_by Parent None e = None
 bound_by Parent (Some types) e = parent_among types e
 
 -- what the first clause that matches selects
-abbrev pub bound_select : List Rule → Entry → Option Entry
+abbrev pub bound_select : List ClauseView → Entry → Option Entry
 bound_select rules e = option_and_then (λ r. bound_by r.bind r.parent e) (find (fits e) rules)
 
 -- some clause matches
-abbrev pub matches : List Rule → Entry → Bool
+abbrev pub matches : List ClauseView → Entry → Bool
 matches rules e = list_any (fits e) rules
 
 -- the parent of: own > parents
-abbrev pub parent_of : List EntryType → List EntryType → Rule
+abbrev pub parent_of : List EntryType → List EntryType → ClauseView
 parent_of own parents = record { own = own; fields = []; parent = Some parents; bind = Parent }
 
 -- the child of: own > parents
-abbrev pub child_of : List EntryType → List EntryType → Rule
+abbrev pub child_of : List EntryType → List EntryType → ClauseView
 child_of own parents = record { own = own; fields = []; parent = Some parents; bind = Child }
 
 -- The container is the parent of a chapter in a book, an anthology or proceedings; of a work of
 -- type Anthos in an anthology; of an entry (type Entry) in anything; of an article in proceedings,
 -- a periodical, a newspaper, a blog or a site; of anything in a work of reference, a site or a
 -- blog.
-abbrev pub container : List Rule
+abbrev pub container : List ClauseView
 container =
     parent_of (Chapter ∷ []) (Book ∷ Anthology ∷ Proceedings ∷ [])
     ∷ parent_of (Anthos ∷ []) (Anthology ∷ [])
@@ -104,19 +104,19 @@ container =
 
 -- The collection of a work without a container is the parent of a book, an anthology, proceedings,
 -- a work of reference or a report in a book, an anthology, a periodical or a work of reference.
-abbrev pub collection : List Rule
+abbrev pub collection : List ClauseView
 collection = parent_of (Book ∷ Anthology ∷ Proceedings ∷ Reference ∷ Report ∷ []) (Book ∷ Anthology ∷ Periodical ∷ Reference ∷ []) ∷ []
 
 -- the original: the parent of type Original
-abbrev pub original : List Rule
+abbrev pub original : List ClauseView
 original = parent_of [] (Original ∷ []) ∷ []
 
 -- the event at which a work was shown
-abbrev pub event : List Rule
+abbrev pub event : List ClauseView
 event = parent_of [] (Exhibition ∷ Conference ∷ Misc ∷ []) ∷ []
 
 -- the work whose volume numbers a chapter
-abbrev pub chapter : List Rule
+abbrev pub chapter : List ClauseView
 chapter =
     child_of (Anthos ∷ []) (Anthology ∷ [])
     ∷ child_of [] (Reference ∷ [])
@@ -125,11 +125,11 @@ chapter =
     ∷ []
 
 -- the work whose volume numbers a part
-abbrev pub part : List Rule
+abbrev pub part : List ClauseView
 part = child_of [] (Article ∷ Blog ∷ Book ∷ Legislation ∷ []) ∷ []
 
 -- the work whose title is the title of a volume
-abbrev pub volume_title : List Rule
+abbrev pub volume_title : List ClauseView
 volume_title =
     parent_of (Anthos ∷ []) (Anthology ∷ [])
     ∷ parent_of (of_type.Entry ∷ []) []
@@ -138,7 +138,7 @@ volume_title =
     ∷ []
 
 -- the recording: a parent's, or else the entry itself
-abbrev pub audio_video : List Rule
+abbrev pub audio_video : List ClauseView
 audio_video =
     parent_of [] (Audio ∷ Video ∷ [])
     ∷ record { own = Audio ∷ Video ∷ []; fields = []; parent = None; bind = Child }

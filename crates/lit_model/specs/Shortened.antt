@@ -3,7 +3,7 @@
 -- one.
 use Rattle.std.specs.Prelude.{ℕ, Bool, List, [], ◌∷◌, ◌++◌}
 use Rattle.std.specs.Str.{trim_end}
-use Rattle.lit_model.specs.Initials.{between}
+use Rattle.lit_model.specs.Initials.{initials_separator}
 use Rattle.lit_model.specs.declared.initials.Before.{Before}
 use Rattle.lit_model.specs.declared.initials.Before.TheVariants.{Nothing, Word, Piece}
 
@@ -11,7 +11,7 @@ use Rattle.lit_model.specs.declared.initials.Before.TheVariants.{Nothing, Word, 
 abbrev pub gap : List ℕ → Bool → Before → List ℕ
 gap text hyphen Nothing = []
 gap text hyphen Word = text
-gap text hyphen Piece = between text hyphen
+gap text hyphen Piece = initials_separator text hyphen
 
 -- the initials of one word, each after its gap
 abbrev pub word_text : List ℕ → Bool → Before → List (List ℕ) → List ℕ

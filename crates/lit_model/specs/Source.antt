@@ -4,21 +4,21 @@ use Rattle.std.specs.Prelude.{ℕ, List, map, Option, option_map, string_bytes, 
 use Rattle.std.specs.declared.alloc.Global.{Global}
 use Rattle.std.specs.BTreeMap.{get_by_text}
 use Rattle.url.specs.Parts.{Parts, serialize}
-use Rattle.lit_model.specs.Date.{Parts as DateParts, date_parts}
+use Rattle.lit_model.specs.Date.{DateView as DateParts, date_view}
 use Rattle.lit_model.specs.declared.date.Date.{Date}
 use Rattle.lit_model.specs.declared.source.Publisher.{Publisher}
 use Rattle.lit_model.specs.declared.source.QualifiedUrl.{QualifiedUrl}
 use Rattle.lit_model.specs.declared.source.SerialNumber.{SerialNumber}
 use Rattle.lit_model.specs.declared.source.LanguageIdentifier.{LanguageIdentifier}
-use Rattle.lit_model.specs.Text.{Forms, forms_of}
+use Rattle.lit_model.specs.Text.{FormatStringView, format_string_view}
 
 -- a publisher by its texts
 pub record Press : Type 0 where
-  pub name : Option Forms
-  pub location : Option Forms
+  pub name : Option FormatStringView
+  pub location : Option FormatStringView
 
 abbrev pub press_of : Publisher → Press
-press_of p = record { name = option_map forms_of p.name; location = option_map forms_of p.location }
+press_of p = record { name = option_map format_string_view p.name; location = option_map format_string_view p.location }
 
 -- an address by its parts
 pub record Address : Type 0 where
@@ -34,7 +34,7 @@ pub record AddressText : Type 0 where
   pub visit_date : Option DateParts
 
 abbrev pub address_text : QualifiedUrl → AddressText
-address_text u = record { text = serialize u.value; visit_date = option_map date_parts u.visit_date }
+address_text u = record { text = serialize u.value; visit_date = option_map date_view u.visit_date }
 
 abbrev pub scheme_and_number : String Global × String Global → List ℕ × List ℕ
 scheme_and_number e = (string_bytes e.0, string_bytes e.1)

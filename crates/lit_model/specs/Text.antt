@@ -24,18 +24,18 @@ abbrev pub chunks : ChunkedString → List Chunk
 chunks t = map chunk_of t.0.items
 
 -- a text with its short form
-pub record Forms : Type 0 where
+pub record FormatStringView : Type 0 where
   pub value : List Chunk
   pub short : Option (List Chunk)
 
-abbrev pub forms_of : FormatString → Forms
-forms_of t = record { value = chunks t.value; short = option_map chunks t.short }
+abbrev pub format_string_view : FormatString → FormatStringView
+format_string_view t = record { value = chunks t.value; short = option_map chunks t.short }
 
 -- a text in one piece that a style may change, and such a text without a short form
 abbrev pub in_one_piece : List ℕ → List Chunk
 in_one_piece text = record { value = text; kind = Normal } ∷ []
 
-abbrev pub plain_forms : List ℕ → Forms
+abbrev pub plain_forms : List ℕ → FormatStringView
 plain_forms text = record { value = in_one_piece text; short = None }
 
 -- the text in a form: the short form where it is requested and there is one

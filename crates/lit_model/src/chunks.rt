@@ -3,7 +3,7 @@
 ghost use Rattle.std.specs.Prelude.{◌≡◌, string_bytes, chars, IfOk};
 ghost use Rattle.std.specs.Char.{is_whitespace};
 ghost use Rattle.std.specs.List.{list_all};
-ghost use Rattle.lit_model.specs.Chunks.{text_of, is_empty, is_white_space};
+ghost use Rattle.lit_model.specs.Chunks.{chunks_text, is_empty, is_white_space};
 ghost use Rattle.lit_model.specs.Text.{chunks};
 
 use crate::text::ChunkedString;
@@ -16,7 +16,7 @@ impl ChunkedString {
     /// # Errors
     /// [`Memory`]: there was no memory left.
     pub fn to_text(&self, alloc: Global) -> Result<String, Memory>
-        ensures { IfOk result (λ text. string_bytes text ≡ text_of (chunks self.now)) }
+        ensures { IfOk result (λ text. string_bytes text ≡ chunks_text (chunks self.now)) }
     {
         let mut text = String::new(alloc);
         for chunk in &self.0 {

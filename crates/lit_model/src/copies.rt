@@ -5,7 +5,7 @@ ghost use Rattle.lit_model.specs.Entry.{parents_of};
 ghost use Rattle.lit_model.specs.MaybeTyped.{maybe_view};
 ghost use Rattle.lit_model.specs.Numeric.{numeric_view};
 ghost use Rattle.lit_model.specs.Page.{pages_view};
-ghost use Rattle.lit_model.specs.Person.{named, group_of};
+ghost use Rattle.lit_model.specs.Person.{person_view, role_group};
 ghost use Rattle.lit_model.specs.Source.{press_of, address_of, serials, language_of};
 ghost use Rattle.lit_model.specs.Work.{own_of, works};
 
@@ -127,8 +127,8 @@ impl Entry {
 }
 
 fn copy_people(value: &Option<Vec<Person>>, alloc: Global) -> Result<Option<Vec<Person>>, Memory>
-    ensures { IfOk result (λ copy. option_map (λ v. map named v.items) copy
-        ≡ option_map (λ v. map named v.items) value.now) }
+    ensures { IfOk result (λ copy. option_map (λ v. map person_view v.items) copy
+        ≡ option_map (λ v. map person_view v.items) value.now) }
 {
     match value {
         None => Ok(None),
@@ -143,8 +143,8 @@ fn copy_affiliated(
     value: &Option<Vec<PersonsWithRoles>>,
     alloc: Global,
 ) -> Result<Option<Vec<PersonsWithRoles>>, Memory>
-    ensures { IfOk result (λ copy. option_map (λ v. map group_of v.items) copy
-        ≡ option_map (λ v. map group_of v.items) value.now) }
+    ensures { IfOk result (λ copy. option_map (λ v. map role_group v.items) copy
+        ≡ option_map (λ v. map role_group v.items) value.now) }
 {
     match value {
         None => Ok(None),

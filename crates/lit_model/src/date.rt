@@ -18,7 +18,7 @@ pub struct Date {
 }
 
 impl Date {
-    ghost use Rattle.lit_model.specs.Date.{IsOnCalendar, date_parts, year_alone};
+    ghost use Rattle.lit_model.specs.Date.{IsOnCalendar, date_view, year_alone};
 
     /// A date, where the month is at most 11 and the day at most 30: both count from 0, so January
     /// is month 0. Otherwise `None`.
@@ -30,7 +30,7 @@ impl Date {
         approximate: bool,
     ) -> Option<Date>
         ensures calendar { IsSome result ↔ IsOnCalendar month day }
-        ensures value { IfSome result (λ d. date_parts d ≡ record {
+        ensures value { IfSome result (λ d. date_view d ≡ record {
           year = year;
           month = month;
           day = day;
@@ -52,7 +52,7 @@ impl Date {
 
     /// A date of which the year alone is known; 0 is the year before the year 1.
     pub fn of_year(year: i32) -> Date
-        ensures { date_parts result ≡ year_alone year }
+        ensures { date_view result ≡ year_alone year }
     {
         Date {
             year,
@@ -65,14 +65,14 @@ impl Date {
 
     /// The year; 0 is the year before the year 1.
     pub fn year(&self) -> i32
-        ensures { result ≡ (date_parts self.now).year }
+        ensures { result ≡ (date_view self.now).year }
     {
         self.year
     }
 
     /// The month, from 0 for January to 11, where it is known.
     pub fn month(&self) -> Option<u8>
-        ensures value { result ≡ (date_parts self.now).month }
+        ensures value { result ≡ (date_view self.now).month }
         ensures range { IfSome result (λ m. m ≤ 11) }
     {
         self.month
@@ -80,7 +80,7 @@ impl Date {
 
     /// The day, from 0 for the first of the month to 30, where it is known.
     pub fn day(&self) -> Option<u8>
-        ensures value { result ≡ (date_parts self.now).day }
+        ensures value { result ≡ (date_view self.now).day }
         ensures range { IfSome result (λ d. d ≤ 30) }
     {
         self.day
@@ -88,14 +88,14 @@ impl Date {
 
     /// The season, where it is known.
     pub fn season(&self) -> Option<Season>
-        ensures { result ≡ (date_parts self.now).season }
+        ensures { result ≡ (date_view self.now).season }
     {
         self.season
     }
 
     /// The date is about right.
     pub fn approximate(&self) -> bool
-        ensures { result ≡ (date_parts self.now).approximate }
+        ensures { result ≡ (date_view self.now).approximate }
     {
         self.approximate
     }

@@ -3,13 +3,13 @@
 ghost use Rattle.std.specs.Prelude.{◌≡◌, true, [], option_copied, chars, OnOk, OnErr, IfOk};
 ghost use Rattle.unicode.specs.GeneralCategory.{general_category};
 ghost use Rattle.std.specs.Fmt.{WritesInCalls};
-ghost use Rattle.lit_model.specs.FirstNames.{is_capital, is_single_capital, without_dot, single_letter, lettered_last, lettered_words, person_first_name};
+ghost use Rattle.lit_model.specs.FirstNames.{is_capital, is_single_capital, without_dot, single_letter, last_letter_or_word, lettered_words, person_first_name};
 ghost use Rattle.lit_model.specs.Initials.{given_words};
 ghost use Rattle.lit_model.specs.Marked.{gap_after};
-ghost use Rattle.lit_model.specs.Person.{named};
+ghost use Rattle.lit_model.specs.Person.{person_view};
 
 use crate::person::Person;
-use crate::sink::{Noting, Sink};
+use crate::sink::{Sink, TrackingWriter};
 use std::fmt;
 use unicode::properties::GeneralCategory;
 
@@ -69,19 +69,19 @@ fn gap_after<'a>(text: &'a str, letter: Option<&str>) -> &'a str
     if end < text.len() { &text[end..] } else { " " }
 }
 
-fn put_name<S: Sink>(sink: &mut S, text: &str, letter: Option<&str>, word: &str) -> fmt::Result
+fn write_name<S: Sink>(sink: &mut S, text: &str, letter: Option<&str>, word: &str) -> fmt::Result
     ensures ok { OnOk result (WritesInCalls S.write_str_gives sink.old
-        (lettered_last text.now (option_copied letter.entry) word.now) sink.new) }
+        (last_letter_or_word text.now (option_copied letter.entry) word.now) sink.new) }
     ensures kept { OnOk result (S.refused sink.new ≡ S.refused sink.old) }
     ensures err { OnErr result (S.refused sink.new ≡ true) }
 {
     match letter {
         None => sink.put(word),
-        Some(letter) => sink.put_all(&[letter, text.trim_end()]),
+        Some(letter) => sink.write_all(&[letter, text.trim_end()]),
     }
 }
 
-fn put_names<S: Sink>(sink: &mut S, text: &str, given: &str) -> fmt::Result
+fn write_names<S: Sink>(sink: &mut S, text: &str, given: &str) -> fmt::Result
     ensures ok { OnOk result (WritesInCalls S.write_str_gives sink.old
         (lettered_words text.now (given_words given.now)) sink.new) }
     ensures kept { OnOk result (S.refused sink.new ≡ S.refused sink.old) }
@@ -91,7 +91,7 @@ fn put_names<S: Sink>(sink: &mut S, text: &str, given: &str) -> fmt::Result
     for word in given.split_whitespace() {
         let letter = single_letter(word);
         sink.put(gap)?;
-        put_name(sink, text, letter, word)?;
+        write_name(sink, text, letter, word)?;
         gap = gap_after(text, letter);
     }
     Ok(())
@@ -110,14 +110,14 @@ impl Person {
         delimiter: Option<&str>,
     ) -> fmt::Result
         ensures ok { OnOk result (WritesInCalls S.write_str_gives sink.old
-            (person_first_name (option_copied delimiter.entry) (named self.now)) sink.new) }
+            (person_first_name (option_copied delimiter.entry) (person_view self.now)) sink.new) }
         ensures kept { OnOk result (S.refused sink.new ≡ S.refused sink.old) }
         ensures err { OnErr result (S.refused sink.new ≡ true) }
     {
         let text = delimiter.unwrap_or("");
         match &self.given_name {
             None => Ok(()),
-            Some(given) => put_names(sink, text, given.as_str()),
+            Some(given) => write_names(sink, text, given.as_str()),
         }
     }
 
@@ -132,9 +132,9 @@ impl Person {
         delimiter: Option<&str>,
     ) -> fmt::Result
         ensures { OnOk result (WritesInCalls W.write_str_gives w.old
-            (person_first_name (option_copied delimiter.entry) (named self.now)) w.new) }
+            (person_first_name (option_copied delimiter.entry) (person_view self.now)) w.new) }
     {
-        let mut sink = Noting::new(w);
+        let mut sink = TrackingWriter::new(w);
         let result = self.first_name_with_delimiter_into(&mut sink, delimiter);
         // It does nothing: the proof reads what `w` holds from the reference that comes back.
         sink.into_inner();

@@ -3,11 +3,11 @@
 ghost use Rattle.std.specs.Prelude.{◌≡◌, true, map, option_to_list, option_copied, OnOk, OnErr, IfOk};
 ghost use Rattle.std.specs.Fmt.{WritesInCalls};
 ghost use Rattle.lit_model.specs.Initials.{first_grapheme, initials_of, initials, person_initials};
-ghost use Rattle.lit_model.specs.Person.{named};
+ghost use Rattle.lit_model.specs.Person.{person_view};
 ghost use Rattle.lit_model.specs.Shortened.{gap, word_text, before_piece, before_word, end_text};
 
 use crate::person::Person;
-use crate::sink::{Noting, Sink};
+use crate::sink::{Sink, TrackingWriter};
 use std::fmt;
 use unicode_segmentation::UnicodeSegmentation;
 
@@ -32,7 +32,7 @@ struct Shortened<'a> {
 }
 
 impl Shortened<'_> {
-    fn put_gap<S: Sink>(&self, sink: &mut S, before: Before) -> fmt::Result
+    fn write_gap<S: Sink>(&self, sink: &mut S, before: Before) -> fmt::Result
         ensures ok { OnOk result (WritesInCalls S.write_str_gives sink.old
             (gap self.now.text.now self.now.hyphen before) sink.new) }
         ensures kept { OnOk result (S.refused sink.new ≡ S.refused sink.old) }
@@ -41,13 +41,13 @@ impl Shortened<'_> {
         match before {
             Before::Nothing => Ok(()),
             Before::Word => sink.put(self.text),
-            Before::Piece if self.hyphen => sink.put_all(&[self.text.trim_end(), "-"]),
+            Before::Piece if self.hyphen => sink.write_all(&[self.text.trim_end(), "-"]),
             Before::Piece => sink.put(self.text),
         }
     }
 
     /// Writes the initial of a piece, unless that is empty.
-    fn put_piece<S: Sink>(
+    fn write_piece<S: Sink>(
         &self,
         sink: &mut S,
         piece: &str,
@@ -64,7 +64,7 @@ impl Shortened<'_> {
         match piece.graphemes(true).next() {
             None => Ok(before),
             Some(initial) => {
-                self.put_gap(sink, before)?;
+                self.write_gap(sink, before)?;
                 sink.put(initial)?;
                 Ok(Before::Piece)
             }
@@ -72,7 +72,7 @@ impl Shortened<'_> {
     }
 
     /// Writes the initials of a word.
-    fn put_word<S: Sink>(
+    fn write_word<S: Sink>(
         &self,
         sink: &mut S,
         word: &str,
@@ -87,15 +87,15 @@ impl Shortened<'_> {
         let mut rest = word;
         let mut place = before;
         while let Some((piece, after)) = rest.split_once('-') {
-            place = self.put_piece(sink, piece, place)?;
+            place = self.write_piece(sink, piece, place)?;
             rest = after;
         }
-        let last = self.put_piece(sink, rest, place)?;
+        let last = self.write_piece(sink, rest, place)?;
         Ok(last)
     }
 
     /// Writes the initials of all words of a given name.
-    fn put_words<S: Sink>(&self, sink: &mut S, given: &str) -> fmt::Result
+    fn write_words<S: Sink>(&self, sink: &mut S, given: &str) -> fmt::Result
         ensures ok { OnOk result (WritesInCalls S.write_str_gives sink.old
             (initials self.now.text.now self.now.hyphen given.now) sink.new) }
         ensures kept { OnOk result (S.refused sink.new ≡ S.refused sink.old) }
@@ -103,14 +103,14 @@ impl Shortened<'_> {
     {
         let mut place = Before::Nothing;
         for word in given.split_whitespace() {
-            let last = self.put_word(sink, word, place)?;
+            let last = self.write_word(sink, word, place)?;
             place = last.before_word();
         }
-        self.put_end(sink, place)?;
+        self.write_end(sink, place)?;
         Ok(())
     }
 
-    fn put_end<S: Sink>(&self, sink: &mut S, place: Before) -> fmt::Result
+    fn write_end<S: Sink>(&self, sink: &mut S, place: Before) -> fmt::Result
         ensures ok { OnOk result (WritesInCalls S.write_str_gives sink.old
             (end_text self.now.text.now place) sink.new) }
         ensures kept { OnOk result (S.refused sink.new ≡ S.refused sink.old) }
@@ -150,7 +150,7 @@ impl Person {
         with_hyphen: bool,
     ) -> fmt::Result
         ensures ok { OnOk result (WritesInCalls S.write_str_gives sink.old
-            (person_initials (option_copied delimiter.entry) with_hyphen (named self.now)) sink.new) }
+            (person_initials (option_copied delimiter.entry) with_hyphen (person_view self.now)) sink.new) }
         ensures kept { OnOk result (S.refused sink.new ≡ S.refused sink.old) }
         ensures err { OnErr result (S.refused sink.new ≡ true) }
     {
@@ -162,7 +162,7 @@ impl Person {
                     text,
                     hyphen: with_hyphen,
                 };
-                shortened.put_words(sink, given.as_str())
+                shortened.write_words(sink, given.as_str())
             }
         }
     }
@@ -179,9 +179,9 @@ impl Person {
         with_hyphen: bool,
     ) -> fmt::Result
         ensures { OnOk result (WritesInCalls W.write_str_gives w.old
-            (person_initials (option_copied delimiter.entry) with_hyphen (named self.now)) w.new) }
+            (person_initials (option_copied delimiter.entry) with_hyphen (person_view self.now)) w.new) }
     {
-        let mut sink = Noting::new(w);
+        let mut sink = TrackingWriter::new(w);
         let result = self.initials_into(&mut sink, delimiter, with_hyphen);
         // It does nothing: the proof reads what `w` holds from the reference that comes back.
         sink.into_inner();

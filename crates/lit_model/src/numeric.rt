@@ -1,7 +1,7 @@
 //! Numbers as a bibliography writes them, and the forms that a style asks for.
 
 ghost use Rattle.std.specs.Prelude.{◌≡◌, Option, None, IfOk};
-ghost use Rattle.lit_model.specs.Numeric.{one, numeric_view, value_view, numbers, only_number, plural, is_bare};
+ghost use Rattle.lit_model.specs.Numeric.{one, numeric_view, value_view, numbers, only_number, is_plural_number, is_bare};
 
 mod error;
 mod form;
@@ -53,7 +53,7 @@ impl Numeric {
     /// Whether a term beside the number is in the plural: where there are several numbers, and
     /// where the number counts things (`is_number_of`: pages or volumes) and is above 1.
     pub fn is_plural(&self, is_number_of: bool) -> bool
-        ensures { result ≡ plural is_number_of (numbers (value_view self.now.value)) }
+        ensures { result ≡ is_plural_number is_number_of (numbers (value_view self.now.value)) }
     {
         match &self.value {
             NumericValue::Number(number) => is_number_of && *number > 1,

@@ -3,8 +3,8 @@
 ghost use Rattle.std.specs.Prelude.{◌≡◌, not, ◌||◌, ◌++◌, option_copied, string_bytes, chars, map, IfOk};
 ghost use Rattle.std.specs.List.{list_any, list_all};
 ghost use Rattle.unicode.specs.Binary.{is_alphabetic};
-ghost use Rattle.lit_model.specs.Name.{is_institutional, is_cjk_script, letters, are_cjk, is_cjk, is_particle_word, name_particle, name_without_particle, without, first_without, name_without_article};
-ghost use Rattle.lit_model.specs.Person.{named, person_of, institution_of, role_of, group_of};
+ghost use Rattle.lit_model.specs.Name.{is_institutional, is_cjk_script, letters, are_cjk, is_cjk, is_particle_word, name_particle, name_without_particle, strip_article, strip_any_article, name_without_article};
+ghost use Rattle.lit_model.specs.Person.{person_view, person_of, institution_of, role_of, role_group};
 ghost use Rattle.unicode.specs.Script.{script};
 
 use crate::text::copy_text;
@@ -71,7 +71,7 @@ impl Person {
     /// # Errors
     /// [`Memory`]: there was no memory left.
     pub fn new(alloc: Global, name: &str, given_name: &str) -> Result<Person, Memory>
-        ensures { IfOk result (λ person. named person ≡ person_of name.now given_name.now) }
+        ensures { IfOk result (λ person. person_view person ≡ person_of name.now given_name.now) }
     {
         let name = String::from_str(alloc, name)?;
         let given_name = String::from_str(alloc, given_name)?;
@@ -90,7 +90,7 @@ impl Person {
     /// # Errors
     /// [`Memory`]: there was no memory left.
     pub fn institution(alloc: Global, name: &str) -> Result<Person, Memory>
-        ensures { IfOk result (λ person. named person ≡ institution_of name.now) }
+        ensures { IfOk result (λ person. person_view person ≡ institution_of name.now) }
     {
         Ok(Person {
             name: String::from_str(alloc, name)?,
@@ -105,7 +105,7 @@ impl Person {
     /// An institution: no given name, no prefix and no suffix. One that is present and empty
     /// counts.
     pub fn is_institutional(&self) -> bool
-        ensures { result ≡ is_institutional (named self.now) }
+        ensures { result ≡ is_institutional (person_view self.now) }
     {
         self.given_name.is_none() && self.prefix.is_none() && self.suffix.is_none()
     }
@@ -114,7 +114,7 @@ impl Person {
     /// letter (Unicode Alphabetic), and each is of script Han, Hiragana, Katakana, Hangul or
     /// Bopomofo.
     pub fn is_cjk(&self) -> bool
-        ensures { result ≡ is_cjk (named self.now) }
+        ensures { result ≡ is_cjk (person_view self.now) }
     {
         match &self.given_name {
             Some(given) => is_cjk_name(self.name.as_str(), given.as_str()),
@@ -157,7 +157,7 @@ impl Person {
         ensures { result.now ≡ name_without_article (string_bytes self.now.name) }
     {
         let name = self.name.as_str();
-        first_without(&["The ", "the ", "A ", "a ", "An ", "an "], name).unwrap_or(name)
+        strip_any_article(&["The ", "the ", "A ", "a ", "An ", "an "], name).unwrap_or(name)
     }
 }
 
@@ -167,7 +167,7 @@ impl Person {
     /// # Errors
     /// [`Memory`]: there was no memory left.
     pub fn clone(&self, alloc: Global) -> Result<Person, Memory>
-        ensures { IfOk result (λ p. named p ≡ named self.now) }
+        ensures { IfOk result (λ p. person_view p ≡ person_view self.now) }
     {
         let name = String::from_str(alloc, self.name.as_str())?;
         let given_name = copy_text(&self.given_name, alloc)?;
@@ -228,7 +228,7 @@ impl PersonsWithRoles {
     /// # Errors
     /// [`Memory`]: there was no memory left.
     pub fn clone(&self, alloc: Global) -> Result<PersonsWithRoles, Memory>
-        ensures { IfOk result (λ g. group_of g ≡ group_of self.now) }
+        ensures { IfOk result (λ g. role_group g ≡ role_group self.now) }
     {
         let names = copy_persons(&self.names, alloc)?;
         let role = self.role.clone(alloc)?;
@@ -238,7 +238,7 @@ impl PersonsWithRoles {
 
 /// A copy of each person, in order.
 pub(crate) fn copy_persons(persons: &[Person], alloc: Global) -> Result<Vec<Person>, Memory>
-    ensures { IfOk result (λ v. map named v.items ≡ map named persons.now) }
+    ensures { IfOk result (λ v. map person_view v.items ≡ map person_view persons.now) }
 {
     let mut copies = Vec::with_capacity(alloc, persons.len())?;
     for person in persons {
@@ -252,7 +252,7 @@ pub(crate) fn copy_groups(
     groups: &[PersonsWithRoles],
     alloc: Global,
 ) -> Result<Vec<PersonsWithRoles>, Memory>
-    ensures { IfOk result (λ v. map group_of v.items ≡ map group_of groups.now) }
+    ensures { IfOk result (λ v. map role_group v.items ≡ map role_group groups.now) }
 {
     let mut copies = Vec::with_capacity(alloc, groups.len())?;
     for group in groups {
@@ -307,19 +307,19 @@ fn is_particle_word(word: &str) -> bool
 }
 
 /// The text behind the article that it begins with, where there is any.
-fn without<'a>(article: &str, text: &'a str) -> Option<&'a str>
-    ensures { option_copied result ≡ without article.now text.now }
+fn strip_article<'a>(article: &str, text: &'a str) -> Option<&'a str>
+    ensures { option_copied result ≡ strip_article article.now text.now }
 {
     let rest = text.strip_prefix(article)?;
     if rest.is_empty() { None } else { Some(rest) }
 }
 
 /// The text after the first of the articles that it begins with, if more follows.
-fn first_without<'a>(articles: &[&str], text: &'a str) -> Option<&'a str>
-    ensures { option_copied result ≡ first_without (map (λ a. a.now) articles.now) text.now }
+fn strip_any_article<'a>(articles: &[&str], text: &'a str) -> Option<&'a str>
+    ensures { option_copied result ≡ strip_any_article (map (λ a. a.now) articles.now) text.now }
 {
     for article in articles {
-        if let Some(rest) = without(article, text) {
+        if let Some(rest) = strip_article(article, text) {
             return Some(rest);
         }
     }

@@ -2,7 +2,7 @@
 
 ghost use Rattle.std.specs.Prelude.{◌≡◌, ◌<◌, Option, [], ◌∷◌, ◌++◌, None, MatchOption, IfSome, count_by, encode_utf8, length, chars, encode_utf8_all};
 ghost use Rattle.lit_model.specs.Numeric.{is_affix, is_delimiter};
-ghost use Rattle.lit_model.specs.NumericReading.{front, after, integer_at, delimiter_of, delimiter_at};
+ghost use Rattle.lit_model.specs.NumericReading.{longest_prefix, after_longest_prefix, integer_at, delimiter_of, delimiter_at};
 ghost use Rattle.lit_model.specs.NumericReading as reading;
 ghost use Rattle.lit_model.specs.Scan.{passes, read_view};
 
@@ -68,8 +68,8 @@ pub fn first(text: &str) -> Option<(char, &str)>
 
 /// The longest front whose characters are of the class, and the rest.
 pub fn split_front(text: &str, class: Class) -> (&str, &str)
-    ensures front { result.0.now ≡ encode_utf8_all (front (passes class) (chars text.now)) }
-    ensures rest { chars result.1.now ≡ after (passes class) (chars text.now) }
+    ensures front { result.0.now ≡ encode_utf8_all (longest_prefix (passes class) (chars text.now)) }
+    ensures rest { chars result.1.now ≡ after_longest_prefix (passes class) (chars text.now) }
 {
     let mut rest = text;
     while let Some((c, next)) = first(rest) {

@@ -2,9 +2,9 @@
 
 ghost use Rattle.std.specs.Prelude.{◌≡◌, ◌++◌, map, option_copied, IfOk, OnOk};
 ghost use Rattle.std.specs.List.{list_all};
-ghost use Rattle.lit_model.specs.Entry.{groups_of};
+ghost use Rattle.lit_model.specs.Entry.{role_groups};
 ghost use Rattle.lit_model.specs.Person.{same_role, with_role};
-ghost use Rattle.lit_model.specs.Select.{rule_of, is_among, has_field, has_parent, parent_among, fits, bound_by, bound_select, matches, container, collection, original, event, chapter, part, volume_title, audio_video, is_untitled_part, first_parent, container_of, collection_of, full_of};
+ghost use Rattle.lit_model.specs.Select.{clause_view, is_among, has_field, has_parent, parent_among, fits, bound_by, bound_select, matches, container, collection, original, event, chapter, part, volume_title, audio_video, is_untitled_part, first_parent, container_of, collection_of, full_of};
 
 use crate::entry::Entry;
 use crate::entry_type::EntryType;
@@ -92,7 +92,7 @@ static CONTAINER: [Clause<'static>; 5] = [
 /// The work that holds an entry: the book of a chapter, the journal of an article, the site of
 /// anything.
 fn container() -> &'static [Clause<'static>]
-    ensures { map rule_of result.now ≡ container }
+    ensures { map clause_view result.now ≡ container }
 {
     &CONTAINER
 }
@@ -117,7 +117,7 @@ static COLLECTION: [Clause<'static>; 1] = [Clause {
 
 /// The collection of a work that stands in no other.
 fn collection() -> &'static [Clause<'static>]
-    ensures { map rule_of result.now ≡ collection }
+    ensures { map clause_view result.now ≡ collection }
 {
     &COLLECTION
 }
@@ -131,7 +131,7 @@ static ORIGINAL: [Clause<'static>; 1] = [Clause {
 
 /// The work that was translated or printed again.
 fn original() -> &'static [Clause<'static>]
-    ensures { map rule_of result.now ≡ original }
+    ensures { map clause_view result.now ≡ original }
 {
     &ORIGINAL
 }
@@ -150,7 +150,7 @@ static EVENT: [Clause<'static>; 1] = [Clause {
 /// The event at which a work was shown: its first parent that is an exhibition, a conference or
 /// anything else.
 pub fn event() -> &'static [Clause<'static>]
-    ensures { map rule_of result.now ≡ event }
+    ensures { map clause_view result.now ≡ event }
 {
     &EVENT
 }
@@ -185,7 +185,7 @@ static CHAPTER: [Clause<'static>; 4] = [
 /// The work whose volume numbers a chapter: an entry of an anthology, a reference work, proceedings
 /// or a book.
 pub fn chapter() -> &'static [Clause<'static>]
-    ensures { map rule_of result.now ≡ chapter }
+    ensures { map clause_view result.now ≡ chapter }
 {
     &CHAPTER
 }
@@ -204,7 +204,7 @@ static PART: [Clause<'static>; 1] = [Clause {
 
 /// The work whose volume numbers a part: an entry of an article, a blog, a book or a law.
 pub fn part() -> &'static [Clause<'static>]
-    ensures { map rule_of result.now ≡ part }
+    ensures { map clause_view result.now ≡ part }
 {
     &PART
 }
@@ -238,7 +238,7 @@ static VOLUME_TITLE: [Clause<'static>; 4] = [
 
 /// The work whose title is the title of a volume.
 pub fn volume_title() -> &'static [Clause<'static>]
-    ensures { map rule_of result.now ≡ volume_title }
+    ensures { map clause_view result.now ≡ volume_title }
 {
     &VOLUME_TITLE
 }
@@ -260,7 +260,7 @@ static AUDIO_VIDEO: [Clause<'static>; 2] = [
 
 /// The recording: the first parent that is one, or else the entry itself where it is one.
 pub fn audio_video() -> &'static [Clause<'static>]
-    ensures { map rule_of result.now ≡ audio_video }
+    ensures { map clause_view result.now ≡ audio_video }
 {
     &AUDIO_VIDEO
 }
@@ -301,7 +301,7 @@ impl Entry {
 impl Clause<'_> {
     /// The entry has one of the types, all the fields, and a parent such as is asked for.
     fn fits(&self, entry: &Entry) -> bool
-        ensures { result ≡ fits entry.now (rule_of self.now) }
+        ensures { result ≡ fits entry.now (clause_view self.now) }
     {
         is_among(entry.entry_type, self.own)
             && entry.has_fields(self.fields)
@@ -309,7 +309,7 @@ impl Clause<'_> {
     }
 
     fn has_parent(&self, entry: &Entry) -> bool
-        ensures { result ≡ has_parent (rule_of self.now).parent entry.now }
+        ensures { result ≡ has_parent (clause_view self.now).parent entry.now }
     {
         match self.parent {
             None => true,
@@ -320,7 +320,7 @@ impl Clause<'_> {
     /// What the clause selects of an entry that fits it.
     fn bound<'e>(&self, entry: &'e Entry) -> Option<&'e Entry>
         ensures { option_copied result
-            ≡ bound_by self.now.bind (rule_of self.now).parent entry.now }
+            ≡ bound_by self.now.bind (clause_view self.now).parent entry.now }
     {
         match self.bind {
             Bind::Nothing => None,
@@ -333,7 +333,7 @@ impl Clause<'_> {
 impl Entry {
     /// Some clause matches the entry.
     pub fn matches(&self, clauses: &[Clause<'_>]) -> bool
-        ensures { result ≡ matches (map rule_of clauses.now) self.now }
+        ensures { result ≡ matches (map clause_view clauses.now) self.now }
     {
         for clause in clauses {
             if clause.fits(self) {
@@ -346,7 +346,7 @@ impl Entry {
     /// What the first clause that matches the entry selects: nothing, the entry, or its first
     /// direct parent that fits.
     pub fn bound_select(&self, clauses: &[Clause<'_>]) -> Option<&Entry>
-        ensures { option_copied result ≡ bound_select (map rule_of clauses.now) self.now }
+        ensures { option_copied result ≡ bound_select (map clause_view clauses.now) self.now }
     {
         for clause in clauses {
             if clause.fits(self) {
@@ -417,7 +417,7 @@ impl Entry {
         role: &PersonRole,
     ) -> Result<Vec<&Person>, Memory>
         ensures { IfOk result (λ v. map (λ p. p.now) v.items
-            ≡ with_role (λ r. same_role r role.now) (groups_of self.now)) }
+            ≡ with_role (λ r. same_role r role.now) (role_groups self.now)) }
     {
         let mut persons = Vec::new(alloc);
         if let Some(groups) = &self.affiliated {

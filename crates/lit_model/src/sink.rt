@@ -1,12 +1,12 @@
 //! Writers that say whether they have refused a text.
 //!
 //! `fmt::Write` tells nothing of its errors, so no contract over it can say that a call fails only
-//! where the writer refused. A [`Sink`] tells it, and [`Noting`] makes one of any writer.
+//! where the writer refused. A [`Sink`] tells it, and [`TrackingWriter`] makes one of any writer.
 
 ghost use Rattle.std.specs.Prelude.{◌≡◌, ℕ, List, Bool, false, true, OnOk, OnErr};
 ghost use Rattle.std.specs.Fmt.{WritesInCalls, WritesOnOk, WritesStyledOnOk, HasWrittenStyled, IsFlush};
 ghost use Rattle.lit_model.specs.Sink.{concat_texts};
-ghost use Rattle.lit_model.specs.Noting.{writer_of, has_refused, formatter_of, has_refused_part};
+ghost use Rattle.lit_model.specs.TrackingWriter.{writer_of, has_refused, formatter_of, has_refused_part};
 
 use std::fmt;
 
@@ -28,7 +28,7 @@ pub trait Sink: fmt::Write {
     ///
     /// # Errors
     /// [`fmt::Error`]: the writer refused one of them.
-    final fn put_all(&mut self, texts: &[&str]) -> fmt::Result
+    final fn write_all(&mut self, texts: &[&str]) -> fmt::Result
     where
         Self: Sized,
         ensures ok { OnOk result (WritesInCalls Self.write_str_gives self.old
@@ -45,18 +45,18 @@ pub trait Sink: fmt::Write {
 
 /// Any writer, with a note of its refusals.
 #[derive(Drop)]
-pub struct Noting<'a, W> {
+pub struct TrackingWriter<'a, W> {
     inner: &'a mut W,
     refused: bool,
 }
 
-impl<'a, W: fmt::Write> Noting<'a, W> {
+impl<'a, W: fmt::Write> TrackingWriter<'a, W> {
     /// A writer that has refused nothing yet.
     pub fn new(inner: &'a mut W) -> Self
         ensures lent { writer_of result ≡ inner.entry }
         ensures fresh { has_refused result ≡ false }
     {
-        Noting {
+        TrackingWriter {
             inner,
             refused: false,
         }
@@ -87,7 +87,7 @@ impl<'a, W: fmt::Write> Noting<'a, W> {
     }
 }
 
-impl<W: fmt::Write> fmt::Write for Noting<'_, W> {
+impl<W: fmt::Write> fmt::Write for TrackingWriter<'_, W> {
     ghost write_str_gives = { λ s bs t. ((writer_of t).ghost_name ≡ (writer_of s).ghost_name)
         × W.write_str_gives (writer_of s).now bs (writer_of t).now };
 
@@ -96,7 +96,7 @@ impl<W: fmt::Write> fmt::Write for Noting<'_, W> {
     }
 }
 
-impl<W: fmt::Write> Sink for Noting<'_, W> {
+impl<W: fmt::Write> Sink for TrackingWriter<'_, W> {
     ghost refused = { has_refused };
 
     fn put(&mut self, text: &str) -> fmt::Result {
@@ -106,18 +106,18 @@ impl<W: fmt::Write> Sink for Noting<'_, W> {
 
 /// A formatter as a sink, for a `Display` of what writes into sinks.
 #[derive(Drop)]
-pub struct Displaying<'a, W> {
+pub struct TrackingFormatter<'a, W> {
     inner: &'a mut fmt::Formatter<W>,
     refused: bool,
 }
 
-impl<'a, W: fmt::Write> Displaying<'a, W> {
+impl<'a, W: fmt::Write> TrackingFormatter<'a, W> {
     /// A formatter that has refused nothing yet.
     pub fn new(inner: &'a mut fmt::Formatter<W>) -> Self
         ensures lent { formatter_of result ≡ inner.entry }
         ensures fresh { has_refused_part result ≡ false }
     {
-        Displaying {
+        TrackingFormatter {
             inner,
             refused: false,
         }
@@ -148,7 +148,7 @@ impl<'a, W: fmt::Write> Displaying<'a, W> {
     }
 }
 
-impl<W: fmt::Write> fmt::Write for Displaying<'_, W> {
+impl<W: fmt::Write> fmt::Write for TrackingFormatter<'_, W> {
     ghost write_str_gives = { λ s bs t.
         ((formatter_of t).ghost_name ≡ (formatter_of s).ghost_name)
         × (IsFlush (formatter_of s).now
@@ -159,7 +159,7 @@ impl<W: fmt::Write> fmt::Write for Displaying<'_, W> {
     }
 }
 
-impl<W: fmt::Write> Sink for Displaying<'_, W> {
+impl<W: fmt::Write> Sink for TrackingFormatter<'_, W> {
     ghost refused = { has_refused_part };
 
     fn put(&mut self, text: &str) -> fmt::Result {
@@ -168,7 +168,7 @@ impl<W: fmt::Write> Sink for Displaying<'_, W> {
 }
 
 /// What has a text that a sink can take.
-pub trait Put {
+pub trait WriteTo {
     /// The bytes of the text.
     ghost text: { Self → List ℕ };
 
@@ -176,7 +176,7 @@ pub trait Put {
     ///
     /// # Errors
     /// [`fmt::Error`]: the sink refused a part of it; what it holds then is left open.
-    fn put_into<S: Sink>(&self, sink: &mut S) -> fmt::Result
+    fn write_to<S: Sink>(&self, sink: &mut S) -> fmt::Result
         ensures ok { OnOk result (WritesInCalls S.write_str_gives sink.old
             (text self.now) sink.new) }
         ensures kept { OnOk result (S.refused sink.new ≡ S.refused sink.old) }
@@ -187,23 +187,23 @@ pub trait Put {
 ///
 /// # Errors
 /// [`fmt::Error`]: the writer refused a part of it; what it holds then is left open.
-pub fn write_text<T: Put, W: fmt::Write>(text: &T, w: &mut W) -> fmt::Result
+pub fn write_text<T: WriteTo, W: fmt::Write>(text: &T, w: &mut W) -> fmt::Result
     ensures { OnOk result (WritesInCalls W.write_str_gives w.old (T.text text.now) w.new) }
 {
-    let mut sink = Noting::new(w);
-    let written = text.put_into(&mut sink);
+    let mut sink = TrackingWriter::new(w);
+    let written = text.write_to(&mut sink);
     // It does nothing: the proof reads what `w` holds from the reference that comes back.
     sink.into_inner();
     written
 }
 
 /// Writes a text as `{}` does, whatever options the formatter has.
-pub fn display_text<T: Put, W: fmt::Write>(text: &T, f: &mut fmt::Formatter<W>) -> fmt::Result
+pub fn display_text<T: WriteTo, W: fmt::Write>(text: &T, f: &mut fmt::Formatter<W>) -> fmt::Result
     ensures plain { WritesOnOk W.write_str_gives f.old result (T.text text.now) f.new }
     ensures styled { WritesStyledOnOk W.write_str_gives f.old result (T.text text.now) f.new }
 {
-    let mut sink = Displaying::new(f);
-    let displayed = text.put_into(&mut sink);
+    let mut sink = TrackingFormatter::new(f);
+    let displayed = text.write_to(&mut sink);
     // As above.
     sink.into_inner();
     displayed

@@ -1,7 +1,7 @@
 //! Texts that a style prints.
 
 ghost use Rattle.std.specs.Prelude.{◌≡◌, map, option_map, string_bytes, IfOk};
-ghost use Rattle.lit_model.specs.Text.{chunk_of, chunks, forms_of, in_one_piece, plain_forms, select};
+ghost use Rattle.lit_model.specs.Text.{chunk_of, chunks, format_string_view, in_one_piece, plain_forms, select};
 
 use csl_common::{LongShortForm, Memory};
 use std::alloc::Global;
@@ -62,7 +62,7 @@ impl FormatString {
     /// # Errors
     /// [`Memory`]: there was no memory left.
     pub fn plain(alloc: Global, text: &str) -> Result<FormatString, Memory>
-        ensures { IfOk result (λ plain. forms_of plain ≡ plain_forms text.now) }
+        ensures { IfOk result (λ plain. format_string_view plain ≡ plain_forms text.now) }
     {
         Ok(FormatString {
             value: ChunkedString::plain(alloc, text)?,
@@ -123,7 +123,7 @@ impl FormatString {
     /// # Errors
     /// [`Memory`]: there was no memory left.
     pub fn clone(&self, alloc: Global) -> Result<FormatString, Memory>
-        ensures { IfOk result (λ t. forms_of t ≡ forms_of self.now) }
+        ensures { IfOk result (λ t. format_string_view t ≡ format_string_view self.now) }
     {
         let value = self.value.clone(alloc)?;
         let short = copy_short(&self.short, alloc)?;
@@ -161,7 +161,7 @@ pub(crate) fn copy_forms(
     text: &Option<FormatString>,
     alloc: Global,
 ) -> Result<Option<FormatString>, Memory>
-    ensures { IfOk result (λ t. option_map forms_of t ≡ option_map forms_of text.now) }
+    ensures { IfOk result (λ t. option_map format_string_view t ≡ option_map format_string_view text.now) }
 {
     match text {
         None => Ok(None),

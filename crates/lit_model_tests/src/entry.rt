@@ -1,7 +1,7 @@
 //! When entries are equal.
 
 ghost use Rattle.std.specs.Prelude.{◌≡◌, ◌↔◌, IsTrue};
-ghost use Rattle.lit_model.specs.Work.{spelled, works};
+ghost use Rattle.lit_model.specs.Work.{spelled_works, works};
 
 use crate::samples::{Shown, Work, entries, put};
 use lit_model::{Entry, EntryType, Memory};
@@ -11,7 +11,7 @@ use std::process::Abort;
 /// Whether the two entries are equal: they are where they are spelled alike, of an address the
 /// text. So they are where they show the same.
 fn same_entry(a: &Entry, b: &Entry) -> bool
-    ensures spelled { IsTrue result ↔ (spelled a.now ≡ spelled b.now) }
+    ensures spelled { IsTrue result ↔ (spelled_works a.now ≡ spelled_works b.now) }
     ensures shown { works a.now ≡ works b.now → IsTrue result }
 {
     *a == *b

@@ -1,7 +1,7 @@
 //! Persons: the parts of their names, and when they are equal.
 
 ghost use Rattle.std.specs.Prelude.{◌≡◌, ◌↔◌, IsTrue};
-ghost use Rattle.lit_model.specs.Person.{named, role_of, group_of};
+ghost use Rattle.lit_model.specs.Person.{person_view, role_of, role_group};
 ghost use Rattle.lit_model.specs.contracts.person.PersonHash.TheImpl.{hash_input-value as hash_person};
 
 use crate::asserted::assert_of;
@@ -12,14 +12,14 @@ use std::process::Abort;
 
 /// Whether the two persons are equal: they are where their texts are.
 fn same_person(a: &Person, b: &Person) -> bool
-    ensures { IsTrue result ↔ (named a.now ≡ named b.now) }
+    ensures { IsTrue result ↔ (person_view a.now ≡ person_view b.now) }
 {
     *a == *b
 }
 
 /// Persons of the same texts feed a hasher the same.
 fn hashed_alike(a: &Person, b: &Person)
-    ensures { named a.now ≡ named b.now → hash_person.it a.now ≡ hash_person.it b.now }
+    ensures { person_view a.now ≡ person_view b.now → hash_person.it a.now ≡ hash_person.it b.now }
 {
     let _same = *a == *b;
 }
@@ -33,7 +33,7 @@ fn same_role(a: &PersonRole, b: &PersonRole) -> bool
 
 /// `==` of persons with a role is equality of their views.
 fn same_group(a: &PersonsWithRoles, b: &PersonsWithRoles) -> bool
-    ensures { IsTrue result ↔ (group_of a.now ≡ group_of b.now) }
+    ensures { IsTrue result ↔ (role_group a.now ≡ role_group b.now) }
 {
     *a == *b
 }

@@ -1,7 +1,7 @@
 //! Persons that show the same.
 
 use crate::samples::{assert_whether, person, put};
-use lit_model::{Memory, Person, show_same};
+use lit_model::{Memory, Person, are_same_people};
 use std::alloc::Global;
 use std::process::Abort;
 
@@ -35,7 +35,7 @@ fn person_of(alloc: Global, texts: [&str; 5], comma_suffix: bool) -> Result<Pers
 fn shows_kwan(alloc: Global, texts: [&str; 5], comma_suffix: bool) -> Result<bool, Memory> {
     let kwan = person_of(alloc, KWAN, true)?;
     let person = person_of(alloc, texts, comma_suffix)?;
-    Ok(kwan.shows_same(&person))
+    Ok(kwan.is_same_person(&person))
 }
 
 /// A person's texts, whether a comma stands before the suffix, and whether Kwan shows the same.
@@ -100,7 +100,7 @@ fn assert_lists(
 ) -> Result<(), Memory> {
     let first = people(alloc, first)?;
     let others = people(alloc, second)?;
-    assert_whether(rt, show_same(&first, &others), wanted, second);
+    assert_whether(rt, are_same_people(&first, &others), wanted, second);
     Ok(())
 }
 

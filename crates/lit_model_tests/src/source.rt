@@ -2,7 +2,7 @@
 
 ghost use Rattle.std.specs.Prelude.{◌≡◌, ◌↔◌, IsTrue, option_map};
 ghost use Rattle.lit_model.specs.Source.{press_of, address_of, serials, language_of};
-ghost use Rattle.lit_model.specs.Date.{date_parts};
+ghost use Rattle.lit_model.specs.Date.{date_view};
 ghost use Rattle.url.specs.Canonical.{IsCanonical};
 ghost use Rattle.url.specs.Parts.{serialize};
 
@@ -31,7 +31,7 @@ fn same_publisher(a: &Publisher, b: &Publisher) -> bool
 fn same_url(a: &QualifiedUrl, b: &QualifiedUrl) -> bool
     ensures texts { IsTrue result
         ↔ (serialize a.now.value ≡ serialize b.now.value)
-        × (option_map date_parts a.now.visit_date ≡ option_map date_parts b.now.visit_date) }
+        × (option_map date_view a.now.visit_date ≡ option_map date_view b.now.visit_date) }
     ensures parts { IsCanonical a.now.value
         → IsCanonical b.now.value
         → (IsTrue result ↔ (address_of a.now ≡ address_of b.now)) }

@@ -1,7 +1,7 @@
 //! Texts that a style prints: their forms, and when they are equal.
 
 ghost use Rattle.std.specs.Prelude.{◌≡◌, ◌↔◌, IsTrue};
-ghost use Rattle.lit_model.specs.Text.{chunk_of, chunks, forms_of};
+ghost use Rattle.lit_model.specs.Text.{chunk_of, chunks, format_string_view};
 
 use crate::samples::{assert_whether, chunk, text};
 use lit_model::{ChunkKind, ChunkedString, FormatString, LongShortForm, Memory, StringChunk};
@@ -23,7 +23,7 @@ fn same_chunks(a: &ChunkedString, b: &ChunkedString) -> bool
 
 /// Whether the two texts with their short forms are equal: they are where both forms are.
 fn same_forms(a: &FormatString, b: &FormatString) -> bool
-    ensures { IsTrue result ↔ (forms_of a.now ≡ forms_of b.now) }
+    ensures { IsTrue result ↔ (format_string_view a.now ≡ format_string_view b.now) }
 {
     *a == *b
 }

@@ -1,9 +1,9 @@
 //! What an entry answers to a date variable.
 
 ghost use Rattle.std.specs.Prelude.{◌≡◌, option_map, option_and_then, option_copied};
-ghost use Rattle.lit_model.specs.Date.{date_parts};
+ghost use Rattle.lit_model.specs.Date.{date_view};
 ghost use Rattle.lit_model.specs.Select.{event, original, bound_select};
-ghost use Rattle.csl_entry.specs.Answers.{behind};
+ghost use Rattle.csl_entry.specs.Answers.{cow_view};
 ghost use Rattle.csl_entry.specs.EntryDate.{date_of, date_in, visit_date};
 
 use csl_style::DateVariable;
@@ -16,7 +16,7 @@ use std::borrow::Cow;
 /// was shown; as issued, the first date along the entry and its parents; of the original, the date
 /// of the parent that was translated or printed again. It answers no other date.
 pub(crate) fn date_variable(entry: &Entry, variable: DateVariable) -> Option<Cow<'_, Date>>
-    ensures { option_map (behind date_parts) result ≡ date_of entry.now variable }
+    ensures { option_map (cow_view date_view) result ≡ date_of entry.now variable }
 {
     let date = match variable {
         DateVariable::Accessed => visit_date(entry),

@@ -2,11 +2,11 @@
 
 ghost use Rattle.std.specs.Prelude.{◌≡◌, map, option_copied, IfOk};
 ghost use Rattle.lit_model.specs.declared.person.PersonRole.TheVariants as role;
-ghost use Rattle.lit_model.specs.Person.{named};
-ghost use Rattle.lit_model.specs.Select.{rule_of, bound_select, audio_video};
-ghost use Rattle.csl_entry.specs.Answers.{behind};
+ghost use Rattle.lit_model.specs.Person.{person_view};
+ghost use Rattle.lit_model.specs.Select.{clause_view, bound_select, audio_video};
+ghost use Rattle.csl_entry.specs.Answers.{cow_view};
 ghost use Rattle.csl_entry.specs.Creators.{in_role};
-ghost use Rattle.csl_entry.specs.EntryName.{meeting, exhibition, of_found, own_authors, own_editors, is_one_of, persons_of, names_of};
+ghost use Rattle.csl_entry.specs.EntryName.{conference_clauses, exhibition, persons_of_bound, own_authors, own_editors, is_one_of, persons_of, names_of};
 
 use csl_style::NameVariable;
 use lit_model::select::audio_video;
@@ -20,7 +20,7 @@ pub(super) fn name_variable(
     entry: &Entry,
     variable: NameVariable,
 ) -> Result<Vec<Cow<'_, Person>>, Memory>
-    ensures { IfOk result (λ found. map (behind named) found.items ≡ names_of entry.now variable) }
+    ensures { IfOk result (λ found. map (cow_view person_view) found.items ≡ names_of entry.now variable) }
 {
     match variable {
         NameVariable::Author => name_answer(alloc, authors(Some(entry))),
@@ -72,7 +72,7 @@ static MEETING: [Clause<'static>; 1] = [Clause {
 
 /// The proceedings or the conference that an entry stands in.
 fn meeting() -> &'static [Clause<'static>]
-    ensures { map rule_of result.now ≡ meeting }
+    ensures { map clause_view result.now ≡ conference_clauses }
 {
     &MEETING
 }
@@ -86,7 +86,7 @@ static EXHIBITION: [Clause<'static>; 1] = [Clause {
 
 /// The exhibition that an entry stands in.
 fn exhibition() -> &'static [Clause<'static>]
-    ensures { map rule_of result.now ≡ exhibition }
+    ensures { map clause_view result.now ≡ exhibition }
 {
     &EXHIBITION
 }
@@ -100,7 +100,7 @@ fn recording(entry: &Entry) -> Option<&Entry>
 
 /// The authors of the work that was found; nobody where none was.
 fn authors(work: Option<&Entry>) -> &[Person]
-    ensures { result.now ≡ of_found own_authors (option_copied work.entry) }
+    ensures { result.now ≡ persons_of_bound own_authors (option_copied work.entry) }
 {
     match work {
         Some(work) => work.authors().unwrap_or(&[]),
@@ -110,7 +110,7 @@ fn authors(work: Option<&Entry>) -> &[Person]
 
 /// The editors of the work that was found; nobody where none was.
 fn editors(work: Option<&Entry>) -> &[Person]
-    ensures { result.now ≡ of_found own_editors (option_copied work.entry) }
+    ensures { result.now ≡ persons_of_bound own_editors (option_copied work.entry) }
 {
     match work {
         Some(work) => work.editors().unwrap_or(&[]),
@@ -130,7 +130,7 @@ fn editors_or_of_container(entry: &Entry) -> &[Person]
 
 /// Persons of the entry as an answer, each borrowed.
 fn name_answer(alloc: Global, persons: &[Person]) -> Result<Vec<Cow<'_, Person>>, Memory>
-    ensures { IfOk result (λ found. map (behind named) found.items ≡ map named persons.now) }
+    ensures { IfOk result (λ found. map (cow_view person_view) found.items ≡ map person_view persons.now) }
 {
     let mut found = Vec::with_capacity(alloc, persons.len())?;
     for person in persons {
@@ -144,8 +144,8 @@ fn reference_answer<'a>(
     alloc: Global,
     persons: &[&'a Person],
 ) -> Result<Vec<Cow<'a, Person>>, Memory>
-    ensures { IfOk result (λ found. map (behind named) found.items
-        ≡ map named (map (λ p. p.now) persons.now)) }
+    ensures { IfOk result (λ found. map (cow_view person_view) found.items
+        ≡ map person_view (map (λ p. p.now) persons.now)) }
 {
     let mut found = Vec::with_capacity(alloc, persons.len())?;
     for person in persons {
@@ -160,8 +160,8 @@ fn in_role<'a>(
     work: Option<&'a Entry>,
     role: &PersonRole,
 ) -> Result<Vec<Cow<'a, Person>>, Memory>
-    ensures { IfOk result (λ found. map (behind named) found.items
-        ≡ map named (of_found (in_role role.now) (option_copied work.entry))) }
+    ensures { IfOk result (λ found. map (cow_view person_view) found.items
+        ≡ map person_view (persons_of_bound (in_role role.now) (option_copied work.entry))) }
 {
     match work {
         Some(work) => {
@@ -174,7 +174,7 @@ fn in_role<'a>(
 
 /// The entry's own editors who are among its translators too.
 fn editor_translators(alloc: Global, entry: &Entry) -> Result<Vec<Cow<'_, Person>>, Memory>
-    ensures { IfOk result (λ found. map (behind named) found.items
+    ensures { IfOk result (λ found. map (cow_view person_view) found.items
         ≡ names_of entry.now NameVariable.EditorTranslator) }
 {
     let mut found = Vec::new(alloc);

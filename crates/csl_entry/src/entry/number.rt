@@ -3,7 +3,7 @@
 ghost use Rattle.std.specs.Prelude.{◌≡◌, IfOk, option_map, option_copied};
 ghost use Rattle.lit_model.specs.MaybeTyped.{maybe_view, typed};
 ghost use Rattle.lit_model.specs.Numeric.{numeric_view};
-ghost use Rattle.csl_entry.specs.Answers.{behind};
+ghost use Rattle.csl_entry.specs.Answers.{cow_view};
 ghost use Rattle.csl_entry.specs.EntryNumber.{number_of, number_answer, numeric_answer, serial_answer, first_page_of, chapter_number, collection_number, own_number, part_number, printing_number, version_number, volume_number};
 
 use crate::numeric_text::numeric_or_text;
@@ -21,7 +21,7 @@ pub(crate) fn number_variable(
     entry: &Entry,
     variable: NumberVariable,
 ) -> Result<Option<MaybeTyped<Cow<'_, Numeric>>>, Memory>
-    ensures { IfOk result (λ found. option_map (maybe_view (behind numeric_view)) found
+    ensures { IfOk result (λ found. option_map (maybe_view (cow_view numeric_view)) found
         ≡ number_of entry.now variable) }
 {
     match variable {
@@ -50,7 +50,7 @@ fn number_answer(
     alloc: Global,
     found: Option<&MaybeTyped<Numeric>>,
 ) -> Result<Option<MaybeTyped<Cow<'_, Numeric>>>, Memory>
-    ensures { IfOk result (λ r. option_map (maybe_view (behind numeric_view)) r
+    ensures { IfOk result (λ r. option_map (maybe_view (cow_view numeric_view)) r
         ≡ number_answer (option_copied found.entry)) }
 {
     match found {
@@ -65,7 +65,7 @@ fn number_answer(
 
 /// A number that is no text, borrowed.
 fn numeric_answer(found: Option<&Numeric>) -> Option<MaybeTyped<Cow<'_, Numeric>>>
-    ensures { option_map (maybe_view (behind numeric_view)) result
+    ensures { option_map (maybe_view (cow_view numeric_view)) result
         ≡ option_map (λ n. typed (numeric_view n)) (option_copied found.entry) }
 {
     match found {
@@ -79,7 +79,7 @@ fn serial_answer<'a>(
     alloc: Global,
     found: Option<&str>,
 ) -> Result<Option<MaybeTyped<Cow<'a, Numeric>>>, Memory>
-    ensures { IfOk result (λ r. option_map (maybe_view (behind numeric_view)) r
+    ensures { IfOk result (λ r. option_map (maybe_view (cow_view numeric_view)) r
         ≡ serial_answer (option_copied found.entry)) }
 {
     let Some(text) = found else {
@@ -109,7 +109,7 @@ fn collection_number(entry: &Entry) -> Option<&MaybeTyped<Numeric>>
 
 /// The work's own serial number, or else a chapter's own chapter.
 fn own_number(alloc: Global, entry: &Entry) -> Result<Option<MaybeTyped<Cow<'_, Numeric>>>, Memory>
-    ensures { IfOk result (λ r. option_map (maybe_view (behind numeric_view)) r
+    ensures { IfOk result (λ r. option_map (maybe_view (cow_view numeric_view)) r
         ≡ own_number entry.now) }
 {
     match entry.keyed_serial_number("serial") {

@@ -1,12 +1,12 @@
 //! The standard variables of an entry (CSL 1.0.2, Appendix IV: Variables, Standard Variables).
 
 ghost use Rattle.std.specs.Prelude.{◌≡◌, IfOk, map, option_and_then, option_copied, option_map, Some};
-ghost use Rattle.csl_entry.specs.Answers.{behind};
+ghost use Rattle.csl_entry.specs.Answers.{cow_view};
 ghost use Rattle.csl_entry.specs.Chunk as spec;
 ghost use Rattle.csl_entry.specs.CitationLabel.{label};
-ghost use Rattle.csl_entry.specs.EntryStandard.{own_location, own_publisher, own_title, press_name, press_place, repository, in_form, language_answer, standard_of, verbatim, web_address};
+ghost use Rattle.csl_entry.specs.EntryStandard.{own_location, own_publisher, own_title, press_name, press_place, repository, in_form, language_answer, standard_of, verbatim_chunk, web_address};
 ghost use Rattle.lit_model.specs.declared.text.ChunkKind.TheVariants.{Normal};
-ghost use Rattle.lit_model.specs.Select.{rule_of};
+ghost use Rattle.lit_model.specs.Select.{clause_view};
 ghost use Rattle.lit_model.specs.Text.{chunks};
 
 use crate::chunk::one_chunk;
@@ -30,7 +30,7 @@ static REPOSITORY: [Clause<'static>; 1] = [Clause {
 
 /// The repository that an entry stands in: its first parent that is one.
 fn repository() -> &'static [Clause<'static>]
-    ensures { map rule_of result.now ≡ repository }
+    ensures { map clause_view result.now ≡ repository }
 {
     &REPOSITORY
 }
@@ -43,7 +43,7 @@ pub(crate) fn standard_variable(
     form: LongShortForm,
     variable: StandardVariable,
 ) -> Result<Option<Cow<'_, ChunkedString>>, Memory>
-    ensures { IfOk result (λ found. option_map (behind chunks) found
+    ensures { IfOk result (λ found. option_map (cow_view chunks) found
         ≡ standard_of entry.now form variable) }
 {
     match variable {
@@ -53,7 +53,7 @@ pub(crate) fn standard_variable(
         StandardVariable::ArchiveLocation => Ok(in_form(entry.archive_location(), form)),
         StandardVariable::Authority => Ok(in_form(entry.organization(), form)),
         StandardVariable::CallNumber => Ok(in_form(entry.call_number(), form)),
-        StandardVariable::CitationKey => verbatim(alloc, Some(entry.key())),
+        StandardVariable::CitationKey => verbatim_chunk(alloc, Some(entry.key())),
         StandardVariable::CitationLabel => label_answer(alloc, entry),
         StandardVariable::CollectionTitle => Ok(in_form(title_of(entry.get_collection()), form)),
         StandardVariable::ContainerTitle => Ok(in_form(title_of(entry.get_container()), form)),
@@ -61,14 +61,14 @@ pub(crate) fn standard_variable(
             Ok(in_form(title_of(entry.get_container()), LongShortForm::Short))
         }
         StandardVariable::Dimensions => Ok(in_form(entry.runtime(), form)),
-        StandardVariable::DOI => verbatim(alloc, entry.doi()),
+        StandardVariable::DOI => verbatim_chunk(alloc, entry.doi()),
         StandardVariable::Event | StandardVariable::EventTitle => {
             Ok(in_form(title_of(entry.bound_select(event())), form))
         }
         StandardVariable::EventPlace => Ok(in_form(location_of(entry.bound_select(event())), form)),
         StandardVariable::Genre => Ok(in_form(entry.map(|work| work.genre.as_ref()), form)),
-        StandardVariable::ISBN => verbatim(alloc, entry.isbn()),
-        StandardVariable::ISSN => verbatim(alloc, entry.issn()),
+        StandardVariable::ISBN => verbatim_chunk(alloc, entry.isbn()),
+        StandardVariable::ISSN => verbatim_chunk(alloc, entry.issn()),
         StandardVariable::Language => language_answer(
             alloc,
             entry.map(|work| work.language.as_ref()),
@@ -81,8 +81,8 @@ pub(crate) fn standard_variable(
             Ok(in_form(press_place(publisher_of(entry.get_original())), form))
         }
         StandardVariable::OriginalTitle => Ok(in_form(title_of(entry.get_original()), form)),
-        StandardVariable::PMCID => verbatim(alloc, entry.pmcid()),
-        StandardVariable::PMID => verbatim(alloc, entry.pmid()),
+        StandardVariable::PMCID => verbatim_chunk(alloc, entry.pmcid()),
+        StandardVariable::PMID => verbatim_chunk(alloc, entry.pmid()),
         StandardVariable::Publisher => Ok(in_form(
             press_name(entry.map(|work| work.publisher.as_ref())),
             form,
@@ -94,7 +94,7 @@ pub(crate) fn standard_variable(
         StandardVariable::Source => Ok(in_form(title_of(entry.bound_select(repository())), form)),
         StandardVariable::Title => Ok(in_form(entry.title(), form)),
         StandardVariable::TitleShort => Ok(in_form(entry.title(), LongShortForm::Short)),
-        StandardVariable::URL => verbatim(alloc, web_address(entry.url_any())),
+        StandardVariable::URL => verbatim_chunk(alloc, web_address(entry.url_any())),
         StandardVariable::VolumeTitle => {
             Ok(in_form(title_of(entry.bound_select(volume_title())), form))
         }
@@ -117,15 +117,18 @@ pub(crate) fn standard_variable(
 
 /// The text in the form that is asked for, as the entry holds it.
 fn in_form(text: Option<&FormatString>, form: LongShortForm) -> Option<Cow<'_, ChunkedString>>
-    ensures { option_map (behind chunks) result ≡ in_form form (option_copied text.entry) }
+    ensures { option_map (cow_view chunks) result ≡ in_form form (option_copied text.entry) }
 {
     Some(Cow::Borrowed(text?.select(form)))
 }
 
 /// The text as one piece that no style changes, where it is known.
-fn verbatim<'t>(alloc: Global, text: Option<&str>) -> Result<Option<Cow<'t, ChunkedString>>, Memory>
-    ensures { IfOk result (λ found. option_map (behind chunks) found
-        ≡ verbatim (option_copied text.entry)) }
+fn verbatim_chunk<'t>(
+    alloc: Global,
+    text: Option<&str>,
+) -> Result<Option<Cow<'t, ChunkedString>>, Memory>
+    ensures { IfOk result (λ found. option_map (cow_view chunks) found
+        ≡ verbatim_chunk (option_copied text.entry)) }
 {
     match text {
         None => Ok(None),
@@ -142,7 +145,7 @@ fn language_answer<'t>(
     alloc: Global,
     language: Option<&LanguageIdentifier>,
 ) -> Result<Option<Cow<'t, ChunkedString>>, Memory>
-    ensures { IfOk result (λ found. option_map (behind chunks) found
+    ensures { IfOk result (λ found. option_map (cow_view chunks) found
         ≡ language_answer (option_copied language.entry)) }
 {
     match language {
@@ -157,7 +160,7 @@ fn language_answer<'t>(
 
 /// The label of an entry as one piece.
 fn label_answer<'t>(alloc: Global, entry: &Entry) -> Result<Option<Cow<'t, ChunkedString>>, Memory>
-    ensures { IfOk result (λ found. option_map (behind chunks) found
+    ensures { IfOk result (λ found. option_map (cow_view chunks) found
         ≡ Some (spec.one_chunk Normal (label 3 entry.now))) }
 {
     let text = Alphanumerical::new().citation(alloc, entry)?;

@@ -2,11 +2,11 @@
 //! (CSL 1.0.2, Name: form, initialize, et-al-min and those after it).
 
 ghost use Rattle.std.specs.Prelude.{◌≡◌, map, length, IfOk};
-ghost use Rattle.csl_style.specs.NameOptions.{used_options, own_options, inherited_options};
+ghost use Rattle.csl_style.specs.NameOptions.{complete_options, partial_options, inherited_options};
 ghost use Rattle.csl_style.specs.Names.{view_name};
 ghost use Rattle.csl_style.specs.NamesParts.{parts_node};
 ghost use Rattle.csl_style.specs.View.{view_child, name_children};
-ghost use Rattle.csl_names.specs.NamesForms.{is_initialized, form_by, default_form, form_in, list_forms, default_forms, shown_count, count_of, counted, hides_all, name_hides, each_hides, is_void};
+ghost use Rattle.csl_names.specs.NamesForms.{is_initialized, form_by, default_form, form_in, list_forms, default_forms, shown_count, count_of, saturated_count, hides_all, name_hides, each_hides, writes_no_name};
 ghost use Rattle.csl_names.specs.PersonLists.{list_of};
 
 use crate::names::lists::{PersonList, all_empty};
@@ -17,7 +17,7 @@ use std::alloc::Global;
 
 /// The form of each name that is shown.
 pub(crate) fn default_form(options: NameOptions<'_>) -> DisambiguatedNameForm
-    ensures { result ≡ default_form (used_options options.entry) }
+    ensures { result ≡ default_form (complete_options options.entry) }
 {
     let initialized = options.initialize && options.initialize_with.is_some();
     match options.form {
@@ -46,7 +46,7 @@ fn form_in(
     len: usize,
     place: usize,
 ) -> Option<DisambiguatedNameForm>
-    ensures { result ≡ form_in (used_options options.entry) later len place }
+    ensures { result ≡ form_in (complete_options options.entry) later len place }
 {
     if options.is_suppressed(place, len, later) {
         None
@@ -63,7 +63,7 @@ fn list_forms(
     len: usize,
 ) -> Result<Vec<Option<DisambiguatedNameForm>>, Memory>
     ensures { IfOk result (λ forms. forms.items
-        ≡ list_forms (used_options options.entry) later len) }
+        ≡ list_forms (complete_options options.entry) later len) }
 {
     let forms = (0..len)
         .map(|place| form_in(options, later, len, place))
@@ -79,7 +79,7 @@ pub(crate) fn default_forms(
     lists: &[PersonList<'_>],
 ) -> Result<Vec<Vec<Option<DisambiguatedNameForm>>>, Memory>
     ensures { IfOk result (λ forms. map (λ f. f.items) forms.items
-        ≡ default_forms (used_options options.entry) later (map list_of lists.now)) }
+        ≡ default_forms (complete_options options.entry) later (map list_of lists.now)) }
 {
     let mut forms = Vec::with_capacity(alloc, lists.len())?;
     for list in lists {
@@ -91,7 +91,7 @@ pub(crate) fn default_forms(
 
 /// The number of names of a list so long that are not left out.
 fn shown_count(options: NameOptions<'_>, later: bool, len: usize) -> usize
-    ensures { result ≡ shown_count (used_options options.entry) later len }
+    ensures { result ≡ shown_count (complete_options options.entry) later len }
 {
     (0..len)
         .filter(|place| !options.is_suppressed(*place, len, later))
@@ -100,7 +100,7 @@ fn shown_count(options: NameOptions<'_>, later: bool, len: usize) -> usize
 
 /// The names of all lists that are not left out, at most `usize::MAX`.
 pub(crate) fn count_of(options: NameOptions<'_>, later: bool, lists: &[PersonList<'_>]) -> usize
-    ensures { result ≡ counted (count_of (used_options options.entry) later
+    ensures { result ≡ saturated_count (count_of (complete_options options.entry) later
         (map list_of lists.now)) }
 {
     let mut count: usize = 0;
@@ -159,8 +159,8 @@ fn each_hides(
 }
 
 /// Whether a names node writes no name of these lists, by its own options.
-pub fn is_void(parts: NamesParts<'_>, lists: &[PersonList<'_>]) -> bool
-    ensures { result ≡ is_void (parts_node parts.entry) (map list_of lists.now) }
+pub fn writes_no_name(parts: NamesParts<'_>, lists: &[PersonList<'_>]) -> bool
+    ensures { result ≡ writes_no_name (parts_node parts.entry) (map list_of lists.now) }
 {
     if all_empty(lists) {
         return true;

@@ -2,11 +2,11 @@
 //! Name Variables: editortranslator).
 
 ghost use Rattle.std.specs.Prelude.{◌≡◌, [], ◌∷◌, ◌++◌, map, IfOk, OnOk};
-ghost use Rattle.lit_model.specs.Person.{Named, named};
-ghost use Rattle.csl_entry.specs.Answers.{behind};
-ghost use Rattle.csl_context.specs.World.{name_look};
-ghost use Rattle.csl_context.specs.Now.{Runs, GivesBy, world};
-ghost use Rattle.csl_names.specs.NamesLists.{has_none, all_empty, is_pair, merges, merged, found_lists, each_printed, all_looked, printed_lists, lists_state};
+ghost use Rattle.lit_model.specs.Person.{PersonView, person_view};
+ghost use Rattle.csl_entry.specs.Answers.{cow_view};
+ghost use Rattle.csl_context.specs.World.{peek_names};
+ghost use Rattle.csl_context.specs.ContextView.{Runs, GivesBy, render_input};
+ghost use Rattle.csl_names.specs.NamesLists.{has_none, all_empty, is_pair, may_merge, merged_lists, peeked_lists, each_resolved, state_after_resolve_all, resolved_lists, lists_state};
 ghost use Rattle.csl_names.specs.PersonLists.{list_of, lists_view};
 
 use csl_context::{Context, RenderError};
@@ -41,8 +41,8 @@ fn is_pair(variables: &[NameVariable]) -> bool
 
 /// Whether the persons of these variables may be one list: editors and translators, where the style
 /// has a term for who is both.
-fn merges<T>(ctx: &Context<'_, T>, variables: &[NameVariable]) -> bool
-    ensures { result ≡ merges ctx.now.style variables.now }
+fn may_merge<T>(ctx: &Context<'_, T>, variables: &[NameVariable]) -> bool
+    ensures { result ≡ may_merge ctx.now.style variables.now }
 {
     let both = Term::Name(NameVariable::EditorTranslator);
     is_pair(variables) && ctx.term(both, TermForm::Long, false).is_some()
@@ -50,14 +50,14 @@ fn merges<T>(ctx: &Context<'_, T>, variables: &[NameVariable]) -> bool
 
 /// The lists of editors and translators: an empty one is dropped, and two of the same persons are
 /// one.
-fn merged<'a>(
+fn merged_lists<'a>(
     alloc: Global,
     editors: Vec<Cow<'a, Person>>,
     translators: Vec<Cow<'a, Person>>,
 ) -> Result<Vec<PersonList<'a>>, Memory>
     ensures { IfOk result (λ lists. map list_of lists.items
-        ≡ merged (map (behind named) editors.entry.items)
-        (map (behind named) translators.entry.items)) }
+        ≡ merged_lists (map (cow_view person_view) editors.entry.items)
+        (map (cow_view person_view) translators.entry.items)) }
 {
     let mut lists = Vec::with_capacity(alloc, 2)?;
     if editors.is_empty() {
@@ -86,7 +86,7 @@ fn add<'a>(
     variable: NameVariable,
 ) -> Result<(), Memory>
     ensures { OnOk result (lists_view lists.new ≡ lists_view lists.old
-        ++ (map (behind named) persons.entry.items, variable) ∷ []) }
+        ++ (map (cow_view person_view) persons.entry.items, variable) ∷ []) }
 {
     lists.push((persons, variable))?;
     Ok(())
@@ -97,8 +97,8 @@ fn peek_names<'s, T: EntryLike>(
     ctx: &Context<'s, T>,
     variable: NameVariable,
 ) -> Result<Vec<Cow<'s, Person>>, Memory>
-    ensures { GivesBy (λ found. map (behind named) found.items) result
-        (name_look (world T.answers ctx.now) ctx.now.state variable) }
+    ensures { GivesBy (λ found. map (cow_view person_view) found.items) result
+        (peek_names (render_input T.answers ctx.now) ctx.now.state variable) }
 {
     match ctx.peek_name_variable(variable) {
         Ok(found) => Ok(found),
@@ -107,14 +107,14 @@ fn peek_names<'s, T: EntryLike>(
 }
 
 /// The list of each variable, by looks for printing.
-fn each_printed<'s, T: EntryLike>(
+fn each_resolved<'s, T: EntryLike>(
     ctx: &mut Context<'s, T>,
     variables: &[NameVariable],
 ) -> Result<Vec<PersonList<'s>>, RenderError>
     ensures value { GivesBy lists_view result
-        (each_printed (world T.answers ctx.old) ctx.old.state variables.now) }
+        (each_resolved (render_input T.answers ctx.old) ctx.old.state variables.now) }
     ensures after { Runs (λ now. record now {
-      state = all_looked (world T.answers now) now.state variables.now;
+      state = state_after_resolve_all (render_input T.answers now) now.state variables.now;
     }) result ctx.old ctx.new }
 {
     ctx.ensure_live()?;
@@ -131,12 +131,12 @@ fn each_printed<'s, T: EntryLike>(
 ///
 /// # Errors
 /// [`Memory`]: there was no memory left, or the entry said so, or the context had failed.
-pub fn found_lists<'s, T: EntryLike>(
+pub fn peeked_lists<'s, T: EntryLike>(
     ctx: &Context<'s, T>,
     variables: &[NameVariable],
 ) -> Result<Vec<PersonList<'s>>, Memory>
     ensures { GivesBy lists_view result
-        (found_lists (world T.answers ctx.now) ctx.now.state variables.now) }
+        (peeked_lists (render_input T.answers ctx.now) ctx.now.state variables.now) }
 {
     let mut lists = Vec::new(ctx.alloc());
     for variable in variables {
@@ -151,20 +151,20 @@ pub fn found_lists<'s, T: EntryLike>(
 /// # Errors
 /// [`RenderError::Memory`]: there was no memory left, or the entry said so. The context has failed.
 /// [`RenderError::Failed`]: the context had failed before.
-pub fn printed_lists<'s, T: EntryLike>(
+pub fn resolved_lists<'s, T: EntryLike>(
     ctx: &mut Context<'s, T>,
     variables: &[NameVariable],
 ) -> Result<Vec<PersonList<'s>>, RenderError>
     ensures value { GivesBy lists_view result
-        (printed_lists (world T.answers ctx.old) ctx.old.state variables.now) }
+        (resolved_lists (render_input T.answers ctx.old) ctx.old.state variables.now) }
     ensures after { Runs (λ now. record now {
-      state = lists_state (world T.answers now) now.state variables.now;
+      state = lists_state (render_input T.answers now) now.state variables.now;
     }) result ctx.old ctx.new }
 {
-    if merges(ctx, variables) {
+    if may_merge(ctx, variables) {
         let editors = ctx.resolve_name_variable(NameVariable::Editor)?;
         let translators = ctx.resolve_name_variable(NameVariable::Translator)?;
-        return ctx.attempt(merged(ctx.alloc(), editors, translators));
+        return ctx.attempt(merged_lists(ctx.alloc(), editors, translators));
     }
-    each_printed(ctx, variables)
+    each_resolved(ctx, variables)
 }

@@ -2,18 +2,18 @@
 
 ghost use Rattle.std.specs.Prelude.{◌≡◌, [], Some, true, map, is_some, decimal, IfOk};
 ghost use Rattle.std.specs.Bool.{OnFalse};
-ghost use Rattle.lit_model.specs.Person.{named};
+ghost use Rattle.lit_model.specs.Person.{person_view};
 ghost use Rattle.csl_style.specs.NameOptions.{inherited_options};
 ghost use Rattle.csl_style.specs.Names.{view_name, view_et_al};
 ghost use Rattle.csl_style.specs.NamesParts.{parts_node, default_name, default_et_al};
-ghost use Rattle.csl_tree.specs.Content.{◌++>◌, boxed};
+ghost use Rattle.csl_tree.specs.Content.{◌++>◌, elem_content};
 ghost use Rattle.csl_tree.specs.Tokens.{meta_of};
-ghost use Rattle.csl_entry.specs.Answers.{behind};
+ghost use Rattle.csl_entry.specs.Answers.{cow_view};
 ghost use Rattle.csl_context.specs.Texts.{text_in};
-ghost use Rattle.csl_context.specs.Now.{Runs, IsInnermost, closed_by, with_content};
-ghost use Rattle.csl_names.specs.KeptForms.{forms_in, keeping, keeping_by};
-ghost use Rattle.csl_names.specs.NamesContent.{names_how, with_lists, written_by, names_content, names_state, lists_meta};
-ghost use Rattle.csl_names.specs.NamesStyles.{names_of};
+ghost use Rattle.csl_context.specs.ContextView.{Runs, IsInnermost, close_part_by, with_content};
+ghost use Rattle.csl_names.specs.CiteForms.{forms_in, with_first_forms, with_first_forms_by};
+ghost use Rattle.csl_names.specs.NamesContent.{names_style, with_lists, names_body, names_content, names_state, lists_meta};
+ghost use Rattle.csl_names.specs.NamesStyles.{names_style_view};
 ghost use Rattle.csl_names.specs.PersonLists.{list_of};
 
 use crate::names::forms::count_of;
@@ -30,7 +30,7 @@ use std::borrow::Cow;
 
 /// Copies of the persons.
 fn persons_of(alloc: Global, persons: &[Cow<'_, Person>]) -> Result<Vec<Person>, Memory>
-    ensures { IfOk result (λ copies. map named copies.items ≡ map (behind named) persons.now) }
+    ensures { IfOk result (λ copies. map person_view copies.items ≡ map (cow_view person_view) persons.now) }
 {
     let mut copies = Vec::with_capacity(alloc, persons.len())?;
     for person in persons {
@@ -62,7 +62,7 @@ fn names_style<'n>(
 ) -> NamesStyle<'n>
     requires name { view_name missing_name.now ≡ default_name }
     requires et_al { view_et_al missing_et_al.now ≡ default_et_al }
-    ensures { names_of result ≡ names_how (parts_node parts.entry)
+    ensures { names_style_view result ≡ names_style (parts_node parts.entry)
         (inherited_options inherited.entry) }
 {
     let name = parts.name().unwrap_or(missing_name);
@@ -78,7 +78,7 @@ fn names_style<'n>(
 }
 
 /// Writes a number.
-fn put_count<T>(ctx: &mut Context<'_, T>, count: usize) -> Result<(), RenderError>
+fn push_count<T>(ctx: &mut Context<'_, T>, count: usize) -> Result<(), RenderError>
     ensures { Runs (with_content (λ inh. text_in inh (decimal count))) result ctx.old ctx.new }
 {
     let text = ctx.attempt(format!(in ctx.alloc(); "{count}"))?;
@@ -86,7 +86,7 @@ fn put_count<T>(ctx: &mut Context<'_, T>, count: usize) -> Result<(), RenderErro
 }
 
 /// Writes the lists, each name in its form. The first forms that are written are kept.
-fn put_all<T>(
+fn push_all<T>(
     ctx: &mut Context<'_, T>,
     style: NamesStyle<'_>,
     variables: &[NameVariable],
@@ -94,22 +94,22 @@ fn put_all<T>(
 ) -> Result<(), RenderError>
     ensures { Runs (λ now. record now {
       inner = with_lists now.style
-          (is_some now.sorting) (names_of style.entry) now.inherited true 0
-          (forms_in now.cite variables.now (names_of style.entry).options
+          (is_some now.sorting) (names_style_view style.entry) now.inherited true 0
+          (forms_in now.cite variables.now (names_style_view style.entry).options
           (map list_of lists.now)).lists (map list_of lists.now) now.inner;
-      state = keeping (forms_in now.cite variables.now (names_of style.entry).options
+      state = with_first_forms (forms_in now.cite variables.now (names_style_view style.entry).options
           (map list_of lists.now)) now.state;
     }) result ctx.old ctx.new }
 {
     let forms = forms_in(ctx, variables, style.options, lists)?;
-    style.put_lists(ctx, lists, forms.name_forms())?;
+    style.push_lists(ctx, lists, forms.name_forms())?;
     ctx.keep_first_name_properties(forms);
     Ok(())
 }
 
 /// Writes how many names there are, or the names, into a part in which nothing is written. Names
 /// that are not counted keep their forms, if they are the first.
-fn put_body<T>(
+fn push_body<T>(
     ctx: &mut Context<'_, T>,
     style: NamesStyle<'_>,
     variables: &[NameVariable],
@@ -118,19 +118,19 @@ fn put_body<T>(
     requires { OnFalse ctx.old.failed (ctx.old.inner ≡ []) }
     ensures { Runs (λ now. record now {
       inner =
-          written_by (names_of style.entry).options.form now.style (is_some now.sorting) now.cite
-          variables.now (names_of style.entry) (map list_of lists.now) now.inherited;
+          names_body (names_style_view style.entry).options.form now.style (is_some now.sorting) now.cite
+          variables.now (names_style_view style.entry) (map list_of lists.now) now.inherited;
       state =
-          keeping_by (names_of style.entry).options.form (forms_in now.cite variables.now
-          (names_of style.entry).options (map list_of lists.now)) now.state;
+          with_first_forms_by (names_style_view style.entry).options.form (forms_in now.cite variables.now
+          (names_style_view style.entry).options (map list_of lists.now)) now.state;
     }) result ctx.old ctx.new }
 {
     match style.options.form {
         NameForm::Count => {
             let later = !ctx.instance().cite_props.certain.is_first;
-            put_count(ctx, count_of(style.options, later, lists))
+            push_count(ctx, count_of(style.options, later, lists))
         }
-        NameForm::Short | NameForm::Long => put_all(ctx, style, variables, lists),
+        NameForm::Short | NameForm::Long => push_all(ctx, style, variables, lists),
     }
 }
 
@@ -146,7 +146,7 @@ pub fn commit_names<T>(
     lists: &[PersonList<'_>],
 ) -> Result<(), RenderError>
     requires innermost { IsInnermost mark ctx.old }
-    ensures { Runs (closed_by (λ _ c. boxed display (lists_meta (map list_of lists.now)) c))
+    ensures { Runs (close_part_by (λ _ c. elem_content display (lists_meta (map list_of lists.now)) c))
         result ctx.old ctx.new }
 {
     let meta = ctx.attempt(lists_meta(ctx.alloc(), lists))?;
@@ -178,7 +178,7 @@ pub fn write_names<T>(
     ctx.push_format(parts.formatting)?;
     let element = ctx.push_elem()?;
     let middle = ctx.push_elem()?;
-    put_body(ctx, style, parts.variables, lists)?;
+    push_body(ctx, style, parts.variables, lists)?;
     ctx.splice_affixed(middle, parts.prefix, parts.suffix)?;
     commit_names(ctx, element, parts.display, lists)?;
     ctx.pop_format();

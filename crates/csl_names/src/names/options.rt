@@ -1,7 +1,7 @@
 //! Options of names over others (CSL 1.0.2, Inheritable Name Options).
 
 ghost use Rattle.std.specs.Prelude.{◌≡◌};
-ghost use Rattle.csl_style.specs.NameOptions.{inherited_options, options_over};
+ghost use Rattle.csl_style.specs.NameOptions.{inherited_options, apply_options};
 
 use csl_style::InheritedNameOptions;
 
@@ -11,7 +11,7 @@ pub(crate) fn options_over<'n>(
     base: InheritedNameOptions<'n>,
 ) -> InheritedNameOptions<'n>
     ensures { inherited_options result
-        ≡ options_over (inherited_options own.entry) (inherited_options base.entry) }
+        ≡ apply_options (inherited_options own.entry) (inherited_options base.entry) }
 {
     InheritedNameOptions {
         and: own.and.or(base.and),

@@ -2,19 +2,19 @@
 //! Label in Names).
 
 ghost use Rattle.std.specs.Prelude.{◌≡◌, map, slice_get, option_map, is_some, true};
-ghost use Rattle.lit_model.specs.Person.{named};
+ghost use Rattle.lit_model.specs.Person.{person_view};
 ghost use Rattle.csl_style.specs.Names.{view_label, view_name, view_et_al};
-ghost use Rattle.csl_style.specs.NameOptions.{used_options};
+ghost use Rattle.csl_style.specs.NameOptions.{complete_options};
 ghost use Rattle.csl_style.specs.NamesParts.{placed_label};
 ghost use Rattle.csl_style.specs.declared.term.Term.TheVariants.{Name as name_term};
-ghost use Rattle.csl_entry.specs.Answers.{behind};
+ghost use Rattle.csl_entry.specs.Answers.{cow_view};
 ghost use Rattle.csl_context.specs.World.{term_in};
-ghost use Rattle.csl_context.specs.Now.{Runs, with_content};
-ghost use Rattle.csl_names.specs.NamesContent.{label_content, label_on, with_label, with_list, with_one, with_one_if, is_skipped, with_lists};
-ghost use Rattle.csl_names.specs.NamesStyles.{names_of};
+ghost use Rattle.csl_context.specs.ContextView.{Runs, with_content};
+ghost use Rattle.csl_names.specs.NamesContent.{label_content, label_on, with_label, with_list, with_labelled_list, with_list_if_any, is_skipped, with_lists};
+ghost use Rattle.csl_names.specs.NamesStyles.{names_style_view};
 ghost use Rattle.csl_names.specs.PersonLists.{list_of};
 
-use crate::list_ways::write_name_list;
+use crate::list_styles::write_name_list;
 use crate::names::lists::PersonList;
 use csl_context::{Context, RenderError};
 use csl_entry::DisambiguatedNameForm;
@@ -45,7 +45,7 @@ fn label_on(
     match label {
         None => None,
         Some(placed) => {
-            if !sorting && placed.is_behind == behind {
+            if !sorting && placed.is_after == behind {
                 Some(placed.label)
             } else {
                 None
@@ -55,7 +55,7 @@ fn label_on(
 }
 
 /// Writes the affixed term of a label, of which the term alone loses its periods.
-fn put_term<T>(
+fn push_term<T>(
     ctx: &mut Context<'_, T>,
     label: &VariablelessLabel,
     term: &str,
@@ -75,7 +75,7 @@ fn put_term<T>(
 
 impl NamesStyle<'_> {
     /// Writes the label of a list, where it stands on that side.
-    fn put_label<T>(
+    fn push_label<T>(
         self,
         ctx: &mut Context<'_, T>,
         behind: bool,
@@ -84,7 +84,7 @@ impl NamesStyle<'_> {
     ) -> Result<(), RenderError>
         ensures { Runs (λ now. record now {
           inner = with_label now.style
-              (label_on (is_some now.sorting) behind (names_of self.entry).label) variable count
+              (label_on (is_some now.sorting) behind (names_style_view self.entry).label) variable count
               now.inherited now.inner;
         }) result ctx.old ctx.new }
     {
@@ -93,13 +93,13 @@ impl NamesStyle<'_> {
             None => ctx.ensure_live(),
             Some(label) => match ctx.term(Term::Name(variable), label.form, count != 1) {
                 None => ctx.ensure_live(),
-                Some(term) => put_term(ctx, label, term),
+                Some(term) => push_term(ctx, label, term),
             },
         }
     }
 
     /// Writes the names of a list in the formatting of the name.
-    fn put_names<T>(
+    fn push_names<T>(
         self,
         ctx: &mut Context<'_, T>,
         persons: &[Cow<'_, Person>],
@@ -108,8 +108,8 @@ impl NamesStyle<'_> {
     ) -> Result<(), RenderError>
         ensures { Runs (λ now. record now {
           inner = with_list now.style
-              (is_some now.sorting) (names_of self.entry) now.inherited
-              (map (behind named) persons.now) variable forms.now now.inner;
+              (is_some now.sorting) (names_style_view self.entry) now.inherited
+              (map (cow_view person_view) persons.now) variable forms.now now.inner;
         }) result ctx.old ctx.new }
     {
         ctx.push_format(self.name.formatting)?;
@@ -127,8 +127,8 @@ impl NamesStyle<'_> {
     }
 
     /// Writes a list: the delimiter, unless it is the first; label, names, label.
-    #[tactic(auto, unfolding(crate::specs::NamesContent::with_one))]
-    fn put_one<T>(
+    #[tactic(auto, unfolding(crate::specs::NamesContent::with_labelled_list))]
+    fn push_one<T>(
         self,
         ctx: &mut Context<'_, T>,
         first: bool,
@@ -137,21 +137,21 @@ impl NamesStyle<'_> {
         forms: &[Option<DisambiguatedNameForm>],
     ) -> Result<(), RenderError>
         ensures { Runs (λ now. record now {
-          inner = with_one now.style
-              (is_some now.sorting) (names_of self.entry) now.inherited first
-              (map (behind named) persons.now) variable forms.now now.inner;
+          inner = with_labelled_list now.style
+              (is_some now.sorting) (names_style_view self.entry) now.inherited first
+              (map (cow_view person_view) persons.now) variable forms.now now.inner;
         }) result ctx.old ctx.new }
     {
         if !first {
             ctx.push_str(self.delimiter)?;
         }
-        self.put_label(ctx, false, variable, persons.len())?;
-        self.put_names(ctx, persons, variable, forms)?;
-        self.put_label(ctx, true, variable, persons.len())
+        self.push_label(ctx, false, variable, persons.len())?;
+        self.push_names(ctx, persons, variable, forms)?;
+        self.push_label(ctx, true, variable, persons.len())
     }
 
     /// Writes a list, unless it is empty or has no forms.
-    fn put_one_if<T>(
+    fn push_one_if<T>(
         self,
         ctx: &mut Context<'_, T>,
         first: bool,
@@ -160,9 +160,9 @@ impl NamesStyle<'_> {
         forms: Option<&[Option<DisambiguatedNameForm>]>,
     ) -> Result<(), RenderError>
         ensures { Runs (λ now. record now {
-          inner = with_one_if now.style
-              (is_some now.sorting) (names_of self.entry) now.inherited first
-              (map (behind named) persons.now) variable (option_map (λ f. f.now) forms.entry)
+          inner = with_list_if_any now.style
+              (is_some now.sorting) (names_style_view self.entry) now.inherited first
+              (map (cow_view person_view) persons.now) variable (option_map (λ f. f.now) forms.entry)
               now.inner;
         }) result ctx.old ctx.new }
     {
@@ -171,7 +171,7 @@ impl NamesStyle<'_> {
             None => Ok(()),
             Some(forms) => {
                 if !persons.is_empty() {
-                    self.put_one(ctx, first, persons, variable, forms)?;
+                    self.push_one(ctx, first, persons, variable, forms)?;
                 }
                 Ok(())
             }
@@ -179,7 +179,7 @@ impl NamesStyle<'_> {
     }
 
     /// Writes the lists that have persons and forms.
-    pub(crate) fn put_lists<T>(
+    pub(crate) fn push_lists<T>(
         self,
         ctx: &mut Context<'_, T>,
         lists: &[PersonList<'_>],
@@ -187,7 +187,7 @@ impl NamesStyle<'_> {
     ) -> Result<(), RenderError>
         ensures { Runs (λ now. record now {
           inner = with_lists now.style
-              (is_some now.sorting) (names_of self.entry) now.inherited true 0
+              (is_some now.sorting) (names_style_view self.entry) now.inherited true 0
               (map (λ f. f.items) forms.now) (map list_of lists.now) now.inner;
         }) result ctx.old ctx.new }
     {
@@ -197,7 +197,7 @@ impl NamesStyle<'_> {
         for list in lists {
             let own = forms_at(forms, place);
             let skipped = is_skipped(&list.0, own);
-            self.put_one_if(ctx, first, &list.0, list.1, own)?;
+            self.push_one_if(ctx, first, &list.0, list.1, own)?;
             first = first && skipped;
             place += 1;
         }
@@ -220,7 +220,7 @@ fn forms_at(
 
 /// Whether a list is left out: it is empty, or has no forms.
 fn is_skipped(persons: &[Cow<'_, Person>], forms: Option<&[Option<DisambiguatedNameForm>]>) -> bool
-    ensures { result ≡ is_skipped (map (behind named) persons.now)
+    ensures { result ≡ is_skipped (map (cow_view person_view) persons.now)
         (option_map (λ f. f.now) forms.entry) }
 {
     match forms {

@@ -3,7 +3,7 @@
 ghost use Rattle.std.specs.Prelude.{◌≡◌, None, [], ◌∷◌};
 ghost use Rattle.csl_style.specs.Constructors.{no_tests};
 ghost use Rattle.csl_style.specs.Node.{choose};
-ghost use Rattle.csl_style.specs.View.{branches_of, view_branch, view_choose, views};
+ghost use Rattle.csl_style.specs.View.{branches_of, view_branch, view_choose, view_nodes};
 ghost use Rattle.csl_style.specs.declared.element.Choose.{out-Choose};
 ghost use Rattle.csl_style.specs.declared.element.ChooseMatch.TheVariants.{All};
 
@@ -15,7 +15,7 @@ impl ChooseBranch {
     #[tactic(auto, using(crate::proofs::Rolled::branch_made))]
     pub fn new(children: Vec<LayoutRenderingElement>) -> ChooseBranch
         ensures view { view_branch result
-            ≡ record { tests = no_tests; nodes = views children.items } }
+            ≡ record { tests = no_tests; nodes = view_nodes children.items } }
         ensures disambiguate { result.disambiguate ≡ None }
         ensures is_numeric { result.is_numeric ≡ None }
         ensures is_uncertain_date { result.is_uncertain_date ≡ None }

@@ -1,13 +1,13 @@
 //! Groups, names, layouts and macros of which nothing is said but what they hold.
 
 ghost use Rattle.std.specs.Prelude.{◌≡◌, IfOk, None, Some, []};
-ghost use Rattle.csl_style.specs.Constructors.{no_affixes, plain_layout, undressed};
+ghost use Rattle.csl_style.specs.Constructors.{no_affixes, plain_layout, no_dressing};
 ghost use Rattle.csl_style.specs.Dressing.{text_if};
-ghost use Rattle.csl_style.specs.NamesParts.{plain};
-ghost use Rattle.csl_style.specs.NameOptions.{own_options};
+ghost use Rattle.csl_style.specs.NamesParts.{no_formatting};
+ghost use Rattle.csl_style.specs.NameOptions.{partial_options};
 ghost use Rattle.csl_style.specs.Node.{group, names, no_substitutes};
 ghost use Rattle.csl_style.specs.Style.{no_options};
-ghost use Rattle.csl_style.specs.View.{definition, view_group, view_names, views};
+ghost use Rattle.csl_style.specs.View.{definition, view_group, view_names, view_nodes};
 
 use crate::affixes::Affixes;
 use crate::element::{CslMacro, Group, Layout, LayoutRenderingElement, Names};
@@ -21,10 +21,10 @@ impl Group {
     /// A group of which nothing but its children is said.
     #[tactic(auto, using(crate::proofs::Rolled::group_view))]
     pub fn new(children: Vec<LayoutRenderingElement>) -> Group
-        ensures view { view_group result ≡ group None undressed (views children.items) }
+        ensures view { view_group result ≡ group None no_dressing (view_nodes children.items) }
         ensures children { result.children ≡ children }
         ensures delimiter { result.delimiter ≡ None }
-        ensures formatting { result.formatting ≡ plain }
+        ensures formatting { result.formatting ≡ no_formatting }
         ensures affixes { result.affixes ≡ no_affixes }
         ensures display { result.display ≡ None }
     {
@@ -48,10 +48,10 @@ impl Group {
         children: Vec<LayoutRenderingElement>,
     ) -> Result<Group, Memory>
         ensures view { IfOk result (λ made. view_group made
-            ≡ group (Some delimiter.now) undressed (views children.items)) }
+            ≡ group (Some delimiter.now) no_dressing (view_nodes children.items)) }
         ensures children { IfOk result (λ made. made.children ≡ children) }
         ensures delimiter { IfOk result (λ made. text_if made.delimiter ≡ Some delimiter.now) }
-        ensures formatting { IfOk result (λ made. made.formatting ≡ plain) }
+        ensures formatting { IfOk result (λ made. made.formatting ≡ no_formatting) }
         ensures affixes { IfOk result (λ made. made.affixes ≡ no_affixes) }
         ensures display { IfOk result (λ made. made.display ≡ None) }
     {
@@ -86,7 +86,7 @@ impl CslMacro {
         name: &str,
         children: Vec<LayoutRenderingElement>,
     ) -> Result<CslMacro, Memory>
-        ensures { IfOk result (λ made. definition made ≡ (name.now, views children.items)) }
+        ensures { IfOk result (λ made. definition made ≡ (name.now, view_nodes children.items)) }
     {
         let name = String::from_str(alloc, name)?;
         Ok(CslMacro { name, children })
@@ -101,16 +101,16 @@ impl Names {
           variables = variables.items;
           options = no_options;
           delimiter = None;
-          dressing = undressed;
+          dressing = no_dressing;
           name_children = [];
           et_al = None;
           label = None;
         }) no_substitutes }
         ensures variable { result.variable ≡ variables }
         ensures children { result.children.items ≡ [] }
-        ensures options { own_options result.options ≡ no_options }
+        ensures options { partial_options result.options ≡ no_options }
         ensures delimiter { result.delimiter ≡ None }
-        ensures formatting { result.formatting ≡ plain }
+        ensures formatting { result.formatting ≡ no_formatting }
         ensures affixes { result.affixes ≡ no_affixes }
         ensures display { result.display ≡ None }
     {

@@ -2,7 +2,7 @@
 //! Options).
 
 ghost use Rattle.std.specs.Prelude.{◌≡◌};
-ghost use Rattle.csl_style.specs.NameOptions.{own_options, inherited_options, options_over, used_options, with_defaults, names_delimiter_of, limit_of, is_suppressed};
+ghost use Rattle.csl_style.specs.NameOptions.{partial_options, inherited_options, apply_options, complete_options, with_defaults, names_delimiter_of, limit_of, is_suppressed};
 
 use crate::names::{DelimiterBehavior, NameAnd, NameAsSortOrder, NameForm};
 
@@ -30,7 +30,7 @@ pub struct InheritableNameOptions {
 impl InheritableNameOptions {
     /// The options that are set here.
     pub fn as_inherited(&self) -> InheritedNameOptions<'_>
-        ensures { inherited_options result ≡ own_options self.now }
+        ensures { inherited_options result ≡ partial_options self.now }
     {
         InheritedNameOptions {
             and: self.and,
@@ -54,7 +54,7 @@ impl InheritableNameOptions {
     /// The options over others: each one that is set here, else that of `base`.
     pub fn apply<'s>(&'s self, base: InheritedNameOptions<'s>) -> InheritedNameOptions<'s>
         ensures { inherited_options result
-            ≡ options_over (own_options self.now) (inherited_options base.entry) }
+            ≡ apply_options (partial_options self.now) (inherited_options base.entry) }
     {
         InheritedNameOptions {
             and: self.and.or(base.and),
@@ -105,7 +105,7 @@ pub struct InheritedNameOptions<'s> {
 impl<'s> InheritedNameOptions<'s> {
     /// The options by which names are written: each one that is set, else its default.
     pub fn name_options(self) -> NameOptions<'s>
-        ensures { used_options result ≡ with_defaults (inherited_options self.entry) }
+        ensures { complete_options result ≡ with_defaults (inherited_options self.entry) }
     {
         NameOptions {
             and: self.and,
@@ -163,7 +163,7 @@ impl NameOptions<'_> {
     /// et-al-min, et-al-use-first and et-al-use-last). For a later cite each of the two limits
     /// gives way to its subsequent one, where that is set.
     pub fn is_suppressed(self, idx: usize, len: usize, subsequent: bool) -> bool
-        ensures { result ≡ is_suppressed (used_options self.entry) idx len subsequent }
+        ensures { result ≡ is_suppressed (complete_options self.entry) idx len subsequent }
     {
         let min = limit(self.et_al_min, self.et_al_subsequent_min, subsequent);
         let first = limit(

@@ -1,7 +1,7 @@
 use Rattle.std.proofs.Common.{◌≡◌, refl, sym, ap, ◌∙◌}
 use Rattle.csl_tree.proofs.RoundSteps.{text_put, leaf_put, markup_leaf, link_leaf, transparent_leaf, plain_is, inside_put, elem_put, all_put, is_rounded, elem_rounded}
 use Rattle.csl_tree.specs.Tree.{tree, row, tokens_of}
-use Rattle.csl_tree.specs.Simplify.{round}
+use Rattle.csl_tree.specs.Simplify.{simplify_once}
 use Rattle.csl_tree.specs.declared.elem.Elem.{Elem}
 use Rattle.csl_tree.specs.declared.elem.ElemChildren.{ElemChildren}
 use Rattle.csl_tree.proofs.TreeTokens.{tree_out, tokens_are}
@@ -28,14 +28,14 @@ elem::ElemChild::simplify_into-returns-in_ok-push-in-Transparent t c = record { 
 pub simplify::simplify_children-returns : goal.simplify::simplify_children-returns
 simplify::simplify_children-returns t c =
     let new : ElemChildren = record { 0 = c.loop-child.simplified } in
-    let made : tree new ≡ round (tree c.args.children.now) =
+    let made : tree new ≡ simplify_once (tree c.args.children.now) =
     tree_out new ∙ all_put _ c.deref-child-items.result.now _ _ c.loop-child-test.false c.loop-child.invariant
-    ∙ ap (λ l. round (row l)) c.deref-child-items.ensures.value ∙ sym (ap round (tree_out c.args.children.now)) in
+    ∙ ap (λ l. simplify_once (row l)) c.deref-child-items.ensures.value ∙ sym (ap simplify_once (tree_out c.args.children.now)) in
     let r = is_rounded (tree c.args.children.now) (tree new) made in
-    record { round = made; kept = r.kept; normal = r.normal; fewer = r.fewer; as_tokens = tokens_are new ∙ ap tokens_of made }
+    record { simplify_once = made; kept = r.kept; normal = r.normal; fewer = r.fewer; as_tokens = tokens_are new ∙ ap tokens_of made }
 
 pub elem::Elem::simplify-returns : goal.elem::Elem::simplify-returns
 elem::Elem::simplify-returns t c =
     let new : Elem = record { children = c.in_ok-children.children; display = c.args.self.now.display; meta = c.in_ok-meta.meta } in
     let r = elem_rounded c.args.self.now new refl c.in_ok-meta.ensures c.in_ok-children.ensures.round in
-    record { round = r.round; kept = r.kept; normal = r.normal; fewer = r.fewer }
+    record { simplify_once = r.round; kept = r.kept; normal = r.normal; fewer = r.fewer }

@@ -6,29 +6,29 @@ ghost use Rattle.lit_model.specs.Numeric.{numeric_view};
 ghost use Rattle.lit_model.specs.NumericText.{numbers_text};
 ghost use Rattle.lit_model.specs.NumericForm.{roman_text, ordinal_text, long_ordinal_text, form_text, numeric_in_form};
 
-use super::roman::put_roman;
-use super::write::{delimiter_str, put_integer};
+use super::roman::write_roman;
+use super::write::{delimiter_str, write_integer};
 use super::{Numeric, NumericDelimiter, NumericValue};
-use crate::sink::{Noting, Put, Sink};
+use crate::sink::{Sink, TrackingWriter, WriteTo};
 use csl_common::{GrammarGender, NumberForm, Ordinals};
 use std::fmt;
 
 /// Writes a number in roman numerals, where it has some.
-fn put_in_roman<S: Sink>(sink: &mut S, number: i32) -> fmt::Result
+fn write_in_roman<S: Sink>(sink: &mut S, number: i32) -> fmt::Result
     ensures ok { OnOk result (WritesInCalls S.write_str_gives sink.old
         (roman_text number) sink.new) }
     ensures kept { OnOk result (S.refused sink.new ≡ S.refused sink.old) }
     ensures err { OnErr result (S.refused sink.new ≡ true) }
 {
     if number >= 1 && number <= 3999 {
-        return put_roman(sink, number.unsigned_abs());
+        return write_roman(sink, number.unsigned_abs());
     }
-    put_integer(sink, number, false)
+    write_integer(sink, number, false)
 }
 
 /// Writes a number and the suffix of its ordinal, if there is one.
 #[tactic(auto, using(crate::proofs::Writes::two_writes))]
-fn put_ordinal<S: Sink, O: Ordinals>(
+fn write_ordinal<S: Sink, O: Ordinals>(
     sink: &mut S,
     number: i32,
     gender: Option<GrammarGender>,
@@ -40,13 +40,13 @@ fn put_ordinal<S: Sink, O: Ordinals>(
     ensures err { OnErr result (S.refused sink.new ≡ true) }
 {
     let suffix = ordinals.lookup(number, gender).unwrap_or("");
-    put_integer(sink, number, false)?;
+    write_integer(sink, number, false)?;
     sink.put(suffix)?;
     Ok(())
 }
 
 /// Writes the long ordinal of a number, else its ordinal.
-fn put_long_ordinal<S: Sink, O: Ordinals>(
+fn write_long_ordinal<S: Sink, O: Ordinals>(
     sink: &mut S,
     number: i32,
     gender: Option<GrammarGender>,
@@ -61,14 +61,14 @@ fn put_long_ordinal<S: Sink, O: Ordinals>(
     if number >= 1 && number <= 10 {
         return match ordinals.long(number, gender) {
             Some(word) => sink.put(word),
-            None => put_ordinal(sink, number, gender, ordinals),
+            None => write_ordinal(sink, number, gender, ordinals),
         };
     }
-    put_ordinal(sink, number, gender, ordinals)
+    write_ordinal(sink, number, gender, ordinals)
 }
 
 /// Writes a number in a form; plainly, where it has none.
-fn put_in_form<S: Sink, O: Ordinals>(
+fn write_in_form<S: Sink, O: Ordinals>(
     sink: &mut S,
     number: i32,
     form: NumberForm,
@@ -82,15 +82,15 @@ fn put_in_form<S: Sink, O: Ordinals>(
     ensures err { OnErr result (S.refused sink.new ≡ true) }
 {
     match form {
-        NumberForm::Numeric => put_integer(sink, number, false),
-        NumberForm::Ordinal => put_ordinal(sink, number, gender, ordinals),
-        NumberForm::LongOrdinal => put_long_ordinal(sink, number, gender, ordinals),
-        NumberForm::Roman => put_in_roman(sink, number),
+        NumberForm::Numeric => write_integer(sink, number, false),
+        NumberForm::Ordinal => write_ordinal(sink, number, gender, ordinals),
+        NumberForm::LongOrdinal => write_long_ordinal(sink, number, gender, ordinals),
+        NumberForm::Roman => write_in_roman(sink, number),
     }
 }
 
 /// Writes numbers in a form, with their delimiters.
-fn put_numbers_in_form<S: Sink, O: Ordinals>(
+fn write_numbers_in_form<S: Sink, O: Ordinals>(
     sink: &mut S,
     numbers: &[(i32, Option<NumericDelimiter>)],
     form: NumberForm,
@@ -104,7 +104,7 @@ fn put_numbers_in_form<S: Sink, O: Ordinals>(
     ensures err { OnErr result (S.refused sink.new ≡ true) }
 {
     for (number, delimiter) in numbers {
-        put_in_form(sink, *number, form, gender, ordinals)?;
+        write_in_form(sink, *number, form, gender, ordinals)?;
         sink.put(delimiter_str(*delimiter))?;
     }
     Ok(())
@@ -131,12 +131,12 @@ impl Numeric {
         ensures err { OnErr result (S.refused sink.new ≡ true) }
     {
         if !self.will_transform() {
-            return self.put_into(sink);
+            return self.write_to(sink);
         }
         match &self.value {
-            NumericValue::Number(number) => put_in_form(sink, *number, form, gender, ordinals),
+            NumericValue::Number(number) => write_in_form(sink, *number, form, gender, ordinals),
             NumericValue::Set(numbers) => {
-                put_numbers_in_form(sink, numbers.as_slice(), form, gender, ordinals)
+                write_numbers_in_form(sink, numbers.as_slice(), form, gender, ordinals)
             }
         }
     }
@@ -156,7 +156,7 @@ impl Numeric {
             (numeric_in_form (O.ordinals ordinals.now)
             (O.long_ordinals ordinals.now) form gender (numeric_view self.now)) w.new) }
     {
-        let mut sink = Noting::new(w);
+        let mut sink = TrackingWriter::new(w);
         let result = self.with_form_into(&mut sink, form, gender, ordinals);
         // It does nothing: the proof reads what `w` holds from the reference that comes back.
         sink.into_inner();

@@ -80,7 +80,7 @@ fn units(digit: u32) -> &'static str
 
 /// Writes a number from 1 to 3999 as a roman numeral in lower case.
 #[tactic(auto, using(crate::proofs::Writes::four_writes))]
-pub fn put_roman<S: Sink>(sink: &mut S, number: u32) -> fmt::Result
+pub fn write_roman<S: Sink>(sink: &mut S, number: u32) -> fmt::Result
     requires { number < 4000 }
     ensures ok { OnOk result (WritesInCalls S.write_str_gives sink.old (roman number) sink.new) }
     ensures kept { OnOk result (S.refused sink.new ≡ S.refused sink.old) }

@@ -7,7 +7,7 @@ ghost use Rattle.lit_model.specs.Characters.{zero_char};
 ghost use Rattle.lit_model.specs.NumericText.{integer_text, delimiter_text, numbers_text, value_text, numeric_text};
 
 use super::{Numeric, NumericDelimiter, NumericValue};
-use crate::sink::{Noting, Put, Sink, display_text};
+use crate::sink::{Sink, TrackingWriter, WriteTo, display_text};
 use itoa::Buffer;
 use std::fmt;
 
@@ -27,7 +27,7 @@ fn zeros(count: usize) -> &'static str
 
 /// Writes a number, for sorting in four places at least.
 #[tactic(auto, using(crate::proofs::Writes::two_writes, crate::proofs::Writes::three_writes))]
-pub fn put_integer<S: Sink>(sink: &mut S, number: i32, machine_readable: bool) -> fmt::Result
+pub fn write_integer<S: Sink>(sink: &mut S, number: i32, machine_readable: bool) -> fmt::Result
     ensures ok { OnOk result (WritesInCalls S.write_str_gives sink.old
         (integer_text machine_readable number) sink.new) }
     ensures kept { OnOk result (S.refused sink.new ≡ S.refused sink.old) }
@@ -80,14 +80,14 @@ impl NumericValue {
         ensures err { OnErr result (S.refused sink.new ≡ true) }
     {
         match self {
-            NumericValue::Number(number) => put_integer(sink, *number, machine_readable),
-            NumericValue::Set(numbers) => put_numbers(sink, numbers.as_slice(), machine_readable),
+            NumericValue::Number(number) => write_integer(sink, *number, machine_readable),
+            NumericValue::Set(numbers) => write_numbers(sink, numbers.as_slice(), machine_readable),
         }
     }
 }
 
 /// Writes numbers with their delimiters.
-fn put_numbers<S: Sink>(
+fn write_numbers<S: Sink>(
     sink: &mut S,
     numbers: &[(i32, Option<NumericDelimiter>)],
     machine_readable: bool,
@@ -98,7 +98,7 @@ fn put_numbers<S: Sink>(
     ensures err { OnErr result (S.refused sink.new ≡ true) }
 {
     for (number, delimiter) in numbers {
-        put_integer(sink, *number, machine_readable)?;
+        write_integer(sink, *number, machine_readable)?;
         sink.put(delimiter_str(*delimiter))?;
     }
     Ok(())
@@ -128,7 +128,7 @@ impl Numeric {
         ensures { OnOk result (WritesInCalls W.write_str_gives w.old
             (value_text (integer_text machine_readable) (value_view self.now.value)) w.new) }
     {
-        let mut sink = Noting::new(w);
+        let mut sink = TrackingWriter::new(w);
         let result = self.fmt_value_into(&mut sink, machine_readable);
         // It does nothing: the proof reads what `w` holds from the reference that comes back.
         sink.into_inner();
@@ -137,11 +137,11 @@ impl Numeric {
 }
 
 /// The number with its prefix and suffix.
-impl Put for Numeric {
+impl WriteTo for Numeric {
     ghost text = { λ n. numeric_text (numeric_view n) };
 
     #[tactic(auto, using(crate::proofs::Writes::three_writes))]
-    fn put_into<S: Sink>(&self, sink: &mut S) -> fmt::Result {
+    fn write_to<S: Sink>(&self, sink: &mut S) -> fmt::Result {
         sink.put(text_or_empty(&self.prefix))?;
         self.value.write_into(sink, false)?;
         sink.put(text_or_empty(&self.suffix))?;

@@ -8,45 +8,45 @@ ghost use Rattle.lit_model.specs.PageText.{part_text, pages_text};
 
 use super::{PageRanges, PageRangesPart};
 use crate::numeric::Numeric;
-use crate::sink::{Put, Sink, display_text};
+use crate::sink::{Sink, WriteTo, display_text};
 use std::fmt;
 
 /// Writes two pages joined by a `-`.
 #[tactic(auto, using(crate::proofs::Writes::three_writes))]
-fn put_range<S: Sink>(sink: &mut S, first: &Numeric, last: &Numeric) -> fmt::Result
+fn write_range<S: Sink>(sink: &mut S, first: &Numeric, last: &Numeric) -> fmt::Result
     ensures ok { OnOk result (WritesInCalls S.write_str_gives sink.old
         (part_text (range (numeric_view first.now) (numeric_view last.now))) sink.new) }
     ensures kept { OnOk result (S.refused sink.new ≡ S.refused sink.old) }
     ensures err { OnErr result (S.refused sink.new ≡ true) }
 {
-    first.put_into(sink)?;
+    first.write_to(sink)?;
     sink.put("-")?;
-    last.put_into(sink)?;
+    last.write_to(sink)?;
     Ok(())
 }
 
 /// The part, as it stands among others.
-impl Put for PageRangesPart {
+impl WriteTo for PageRangesPart {
     ghost text = { λ part. part_text (part_view part) };
 
-    fn put_into<S: Sink>(&self, sink: &mut S) -> fmt::Result {
+    fn write_to<S: Sink>(&self, sink: &mut S) -> fmt::Result {
         match self {
             PageRangesPart::Ampersand => sink.put(" & "),
             PageRangesPart::Comma => sink.put(", "),
-            PageRangesPart::EscapedRange(first, last) => put_range(sink, first, last),
-            PageRangesPart::SinglePage(page) => page.put_into(sink),
-            PageRangesPart::Range(first, last) => put_range(sink, first, last),
+            PageRangesPart::EscapedRange(first, last) => write_range(sink, first, last),
+            PageRangesPart::SinglePage(page) => page.write_to(sink),
+            PageRangesPart::Range(first, last) => write_range(sink, first, last),
         }
     }
 }
 
 /// The parts in order.
-impl Put for PageRanges {
+impl WriteTo for PageRanges {
     ghost text = { λ pages. pages_text (pages_view pages) };
 
-    fn put_into<S: Sink>(&self, sink: &mut S) -> fmt::Result {
+    fn write_to<S: Sink>(&self, sink: &mut S) -> fmt::Result {
         for part in &self.ranges {
-            part.put_into(sink)?;
+            part.write_to(sink)?;
         }
         Ok(())
     }

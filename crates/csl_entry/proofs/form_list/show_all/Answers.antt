@@ -1,5 +1,5 @@
 use Rattle.std.proofs.Common.{◌≡◌, ◌++◌, ◌∙◌, ap, Some, None, unwrap_or, take, drop, slice_index_or, slice_set, add-one}
-use Rattle.csl_entry.specs.NameProperties.{Forms, all_shown}
+use Rattle.csl_entry.specs.NameProperties.{NameForms, all_shown}
 use Rattle.csl_entry.proofs.FormLists.{mapped_more}
 use Rattle.csl_entry.proofs.form_list.show_all.Goals as goal
 
@@ -9,5 +9,5 @@ loop-shown-preserved c =
     let form = c.args.form in
     let xs = c.args.forms.now in
     let before : c.loop-shown.forms ≡ all_shown form (take i xs) ++ drop i xs = c.loop-shown.invariant in
-    let next = ap Some (c.unwrap_or.ensures ∙ ap (λ (ys : Forms). unwrap_or (slice_index_or ys i None) form) before) in
+    let next = ap Some (c.unwrap_or.ensures ∙ ap (λ (ys : NameForms). unwrap_or (slice_index_or ys i None) form) before) in
     rw add-one ((λ j. slice_set (before j) i (next j)) ∙ mapped_more (λ f. Some (unwrap_or f form)) xs i None c.loop-shown-test.true)

@@ -1,13 +1,13 @@
 use Rattle.std.proofs.Common.{◌≡◌, drop, map, option_map}
 use Rattle.csl_style.specs.declared.element.Choose.{out-Choose}
-use Rattle.csl_style.specs.View.{views, view_branch, view_choose, branches_of}
-use Rattle.csl_context.specs.Now.{world}
-use Rattle.csl_leaves.specs.Conditions.{chosen_nodes, chosen_of}
+use Rattle.csl_style.specs.View.{view_nodes, view_branch, view_choose, branches_of}
+use Rattle.csl_context.specs.ContextView.{render_input}
+use Rattle.csl_nodes.specs.Conditions.{chosen_nodes, chosen_children}
 use Rattle.csl_render.proofs.choose.first_taken.Given as goal
 
 -- the branches from this one on choose what all choose
 abbrev pub invariant-loop-branch : goal.invariant-loop-branch
 invariant-loop-branch g l =
     let choose = out-Choose l.choose in
-    let w = world g.T.EntryLike.answers l.ctx in
-    chosen_nodes w l.ctx.state (branches_of (map view_branch (drop l.branch-index l.branch-items)) (option_map (λ v. views v.items) choose.otherwise)) ≡ chosen_of w l.ctx.state (view_choose l.choose)
+    let w = render_input g.T.EntryLike.answers l.ctx in
+    chosen_nodes w l.ctx.state (branches_of (map view_branch (drop l.branch-index l.branch-items)) (option_map (λ v. view_nodes v.items) choose.otherwise)) ≡ chosen_children w l.ctx.state (view_choose l.choose)

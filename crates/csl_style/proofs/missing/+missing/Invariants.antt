@@ -1,5 +1,5 @@
 use Rattle.std.proofs.Common.{◌≡◌, drop, map, option_map}
-use Rattle.csl_style.specs.View.{definitions, views, view_child, view_branch, view_choose, substitutes, branches_of}
+use Rattle.csl_style.specs.View.{definitions, view_nodes, view_child, view_branch, view_choose, substitutes, branches_of}
 use Rattle.csl_style.specs.Missing.{missing_in, missing_in_all, missing_in_branches, missing_in_substitutes}
 use Rattle.csl_style.specs.declared.element.Choose.{out-Choose}
 use Rattle.csl_style.proofs.missing.+missing.Given as goal
@@ -8,7 +8,7 @@ use Rattle.csl_style.proofs.missing.+missing.Given as goal
 abbrev pub invariant-missing_in_all-loop-element : goal.invariant-missing_in_all-loop-element
 invariant-missing_in_all-loop-element l =
     let ds = definitions l.style.macros in
-    missing_in_all ds (views (drop l.element-index l.elements)) ≡ missing_in_all ds (views l.elements)
+    missing_in_all ds (view_nodes (drop l.element-index l.elements)) ≡ missing_in_all ds (view_nodes l.elements)
 
 abbrev pub invariant-missing_in-loop-child : goal.invariant-missing_in-loop-child
 invariant-missing_in-loop-child l =
@@ -20,5 +20,5 @@ abbrev pub invariant-missing_in_choose-loop-branch : goal.invariant-missing_in_c
 invariant-missing_in_choose-loop-branch l =
     let ds = definitions l.style.macros in
     let choose = out-Choose l.choose in
-    let rest = branches_of (map view_branch (drop l.branch-index l.branch-items)) (option_map (λ v. views v.items) choose.otherwise) in
+    let rest = branches_of (map view_branch (drop l.branch-index l.branch-items)) (option_map (λ v. view_nodes v.items) choose.otherwise) in
     missing_in_branches ds rest ≡ missing_in ds (view_choose l.choose)

@@ -1,32 +1,31 @@
 use Rattle.std.proofs.Common.{◌≡◌, ◌+◌, ◌*◌, ◌≤◌, drop, map, option_map}
 use Rattle.csl_style.specs.declared.element.Choose.{out-Choose}
-use Rattle.csl_style.specs.Node.{size, sizes, cases_size, fill, fills, fill_branches}
-use Rattle.csl_style.specs.View.{view, views, view_names, view_child, view_choose, view_branch, substitutes, branches_of}
-use Rattle.csl_style.specs.Reached.{env}
-use Rattle.csl_style.specs.Filled.{child_size}
+use Rattle.csl_style.specs.Node.{size, sizes, expanded_branches_size, expand, expand_nodes, expand_branches}
+use Rattle.csl_style.specs.View.{view_node, view_nodes, view_names, view_child, view_choose, view_branch, substitutes, branches_of}
+use Rattle.csl_style.specs.Expanded.{child_size, macro_env}
 use Rattle.csl_style.proofs.YearSuffixes.{substitutes_size}
 use Rattle.csl_style.proofs.size.+size.Given as goal
 
 abbrev pub decreases-room_after : goal.decreases-room_after
-decreases-room_after l = 2 * size (fill (env l.style.now) (view l.element.now)) + 1
+decreases-room_after l = 2 * size (expand (macro_env l.style.now) (view_node l.element.now)) + 1
 
 abbrev pub decreases-room_after_all : goal.decreases-room_after_all
-decreases-room_after_all l = 2 * sizes (fills (env l.style.now) (views l.elements.now))
+decreases-room_after_all l = 2 * sizes (expand_nodes (macro_env l.style.now) (view_nodes l.elements.now))
 
 abbrev pub decreases-room_after_names : goal.decreases-room_after_names
-decreases-room_after_names l = 2 * size (fill (env l.style.now) (view_names l.names.now))
+decreases-room_after_names l = 2 * size (expand (macro_env l.style.now) (view_names l.names.now))
 
 abbrev pub decreases-room_after_child : goal.decreases-room_after_child
-decreases-room_after_child l = 2 * child_size (env l.style.now) (view_child l.child.now)
+decreases-room_after_child l = 2 * child_size (macro_env l.style.now) (view_child l.child.now)
 
 abbrev pub decreases-room_after_choose : goal.decreases-room_after_choose
-decreases-room_after_choose l = 2 * size (fill (env l.style.now) (view_choose l.choose.now))
+decreases-room_after_choose l = 2 * size (expand (macro_env l.style.now) (view_choose l.choose.now))
 
 -- what those so far took, and the rest has not
 abbrev pub invariant-room_after_all-loop-element : goal.invariant-room_after_all-loop-element
 invariant-room_after_all-loop-element l =
-    let rest = sizes (fills (env l.style) (views (drop l.element-index l.elements))) in
-    let all = sizes (fills (env l.style) (views l.elements)) in
+    let rest = sizes (expand_nodes (macro_env l.style) (view_nodes (drop l.element-index l.elements))) in
+    let all = sizes (expand_nodes (macro_env l.style) (view_nodes l.elements)) in
     record {
       taken : l.left + all ≡ l.room + rest;
       inside : rest ≤ all;
@@ -34,9 +33,9 @@ invariant-room_after_all-loop-element l =
 
 abbrev pub invariant-room_after_names-loop-child : goal.invariant-room_after_names-loop-child
 invariant-room_after_names-loop-child l =
-    let env = env l.style in
-    let rest = substitutes_size env (substitutes (map view_child (drop l.child-index l.child-items))) in
-    let all = size (fill env (view_names l.names)) in
+    let macro_env = macro_env l.style in
+    let rest = substitutes_size macro_env (substitutes (map view_child (drop l.child-index l.child-items))) in
+    let all = size (expand macro_env (view_names l.names)) in
     record {
       taken : l.left + all ≡ l.room + rest;
       inside : rest + 1 ≤ all;
@@ -44,10 +43,10 @@ invariant-room_after_names-loop-child l =
 
 abbrev pub invariant-room_after_choose-loop-branch : goal.invariant-room_after_choose-loop-branch
 invariant-room_after_choose-loop-branch l =
-    let env = env l.style in
+    let macro_env = macro_env l.style in
     let choose = out-Choose l.choose in
-    let rest = cases_size (fill_branches env (branches_of (map view_branch (drop l.branch-index l.branch-items)) (option_map (λ v. views v.items) choose.otherwise))) in
-    let all = size (fill env (view_choose l.choose)) in
+    let rest = expanded_branches_size (expand_branches macro_env (branches_of (map view_branch (drop l.branch-index l.branch-items)) (option_map (λ v. view_nodes v.items) choose.otherwise))) in
+    let all = size (expand macro_env (view_choose l.choose)) in
     record {
       taken : l.left + all ≡ l.room + rest;
       inside : rest + 1 ≤ all;

@@ -1,5 +1,5 @@
 use Rattle.std.proofs.Common.{◌≡◌, ◌<◌, None, IfSome, length, string_bytes, sym, ap, ◌∙◌, subst, arith, rules}
-use Rattle.csl_style.specs.Reaches.{Graph, HasRanks, IsFirstCyclicPlace}
+use Rattle.csl_style.specs.GraphReach.{Graph, HasRanks, IsFirstCyclicPlace}
 use Rattle.csl_style.specs.declared.element.CslMacro.{CslMacro}
 use Rattle.csl_style.specs.View.{definitions}
 use Rattle.csl_style.specs.Calls.{IsCallGraph, name_at}

@@ -4,7 +4,7 @@ use Rattle.csl_tree.specs.declared.elem.ElemChild.{ElemChild}
 use Rattle.csl_tree.proofs.KeptLinks.{kept_inside, given_inside, Visited, one_visited, all_kept, all_leaves, all_plains}
 use Rattle.csl_tree.specs.Links.{kept_links}
 use Rattle.csl_tree.specs.Tokens.{child_tokens, leaf_text, token_text}
-use Rattle.csl_tree.specs.Writing.{plain, plain_of}
+use Rattle.csl_tree.specs.Writing.{plain_text, plain_of}
 use Rattle.csl_tree.proofs.elem.+links.Goals as goal
 
 pub ElemChild::keep_links_by-returns-then-is_some-clause-kept : goal.ElemChild::keep_links_by-returns-then-is_some-clause-kept
@@ -29,7 +29,7 @@ ElemChildren::keep_links_by-loop-child-preserved g t c =
     let visited = one_visited (λ f x r after. Called g.F.FnMut f (x, tt) r after) xs ys i c.child-item.result new c.loop-child.invariant.1 inside c.child-item.is
     (λ allowed by. c.keep_links_by.ensures.kept allowed by ∙ ap (λ k. kept_links allowed (child_tokens k)) (sym c.child-item.is))
     (c.keep_links_by.ensures.leaves ∙ ap (λ k. leaf_text (child_tokens k)) (sym c.child-item.is))
-    (c.keep_links_by.ensures.plain ∙ ap (λ k. plain (child_tokens k)) (sym c.child-item.is)) in (
+    (c.keep_links_by.ensures.plain ∙ ap (λ k. plain_text (child_tokens k)) (sym c.child-item.is)) in (
       c.keep_links_by.ensures.callable,
       subst (λ n. Visited (λ f x r after. Called g.F.FnMut f (x, tt) r after) xs (set ys i new) n) (sym (add-one i)) visited,
       (length-set ys i new ∙ c.loop-child.invariant.2.0, λ k d h. let other : k ≢ i = omega (arith, h) in get_or-set_other ys i k new d other ∙ c.loop-child.invariant.2.1 k d (omega (arith, h))),

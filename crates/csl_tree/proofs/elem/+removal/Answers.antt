@@ -3,7 +3,7 @@ use Rattle.std.specs.List.{flat_map, remove, find}
 use Rattle.std.specs.Vec.{with_item}
 use Rattle.std.proofs.lemmas.List.{take_all}
 use Rattle.csl_tree.specs.Tokens.{tokens, child_tokens}
-use Rattle.csl_tree.specs.Search.{has_meta, child_has_meta, as_child, NothingNoted}
+use Rattle.csl_tree.specs.Search.{has_meta, child_has_meta, as_child, HasNoMeta}
 use Rattle.csl_tree.specs.declared.elem.ElemChildren.{ElemChildren}
 use Rattle.csl_tree.proofs.Trees.{tokens_out}
 use Rattle.csl_tree.proofs.Removals.{found_here, found_below, found_later, taken_here, taken_below, nothing_more, same_item, children_of_vec, none_elem, none_in, found_inside, taken_in, nothing_inside, same_inside, if_some, if_none, same_at, moved}
@@ -69,7 +69,7 @@ pub ElemChildren::remove_any_meta-returns-clause-none : goal.ElemChildren::remov
 ElemChildren::remove_any_meta-returns-clause-none t c =
     let s = c.args.self.now in
     let all : take c.loop-i.i s.0.items ≡ s.0.items = take_all c.loop-i.i s.0.items (omega (arith, c.loop-i-test.false, c.len-i-end.ensures, s.0.ok.0)) in
-    (subst NothingNoted (ap (flat_map child_tokens) all ∙ sym (tokens_out s)) c.loop-i.invariant.2, c.loop-i.invariant.0)
+    (subst HasNoMeta (ap (flat_map child_tokens) all ∙ sym (tokens_out s)) c.loop-i.invariant.2, c.loop-i.invariant.0)
 
 pub ElemChildren::remove_any_meta-loop-i-init : goal.ElemChildren::remove_any_meta-loop-i-init
 ElemChildren::remove_any_meta-loop-i-init t c = (refl, ap (find has_meta) (preorder_out c.args.self.now), refl)

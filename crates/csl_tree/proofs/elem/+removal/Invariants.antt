@@ -1,7 +1,7 @@
 use Rattle.std.proofs.Common.{◌≡◌, drop, take}
 use Rattle.std.specs.List.{flat_map, find}
 use Rattle.csl_tree.specs.Tokens.{child_tokens}
-use Rattle.csl_tree.specs.Search.{preorder, child_preorder, has_meta, NothingNoted}
+use Rattle.csl_tree.specs.Search.{preorder, child_preorder, has_meta, HasNoMeta}
 use Rattle.csl_tree.proofs.elem.+removal.Given as goal
 
 -- nothing has changed, and nothing is noted of the elements in the children before this one
@@ -9,4 +9,4 @@ abbrev pub invariant-ElemChildren::remove_any_meta-loop-i : goal.invariant-ElemC
 invariant-ElemChildren::remove_any_meta-loop-i l =
     (l.self ≡ l.fn.self)
     × (find has_meta (preorder l.fn.self) ≡ find has_meta (flat_map child_preorder (drop l.i l.fn.self.0.items)))
-    × NothingNoted (flat_map child_tokens (take l.i l.fn.self.0.items))
+    × HasNoMeta (flat_map child_tokens (take l.i l.fn.self.0.items))

@@ -1,5 +1,5 @@
 use Rattle.std.proofs.Common.{◌≡◌, ◌+◌, ◌-◌, ◌<◌, ◌≤◌, length, take}
-use Rattle.csl_tree.specs.FlatItems.{parts, kept, IsJoined}
+use Rattle.csl_tree.specs.FlatItems.{open_parts, without_range, IsJoined}
 use Rattle.csl_tree.proofs.flat_items.join_texts.Given as goal
 
 -- the items up to the last that is kept, and those from the next one on, are all
@@ -7,7 +7,7 @@ abbrev pub invariant-loop-next : goal.invariant-loop-next
 invariant-loop-next l = record {
   order : l.last < l.next;
   within : l.next ≤ length l.items.items;
-  same : parts (kept l.items.items l.last l.next) ≡ parts l.fn.items.items;
+  same : open_parts (without_range l.items.items l.last l.next) ≡ open_parts l.fn.items.items;
   joined : IsJoined (take (l.last + 1) l.items.items);
 }
 

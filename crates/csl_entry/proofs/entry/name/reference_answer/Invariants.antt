@@ -1,7 +1,7 @@
 use Rattle.std.proofs.Common.{◌≡◌, map, take}
-use Rattle.lit_model.specs.Person.{named}
-use Rattle.csl_entry.specs.Answers.{behind}
+use Rattle.lit_model.specs.Person.{person_view}
+use Rattle.csl_entry.specs.Answers.{cow_view}
 use Rattle.csl_entry.proofs.entry.name.reference_answer.Given as goal
 
 abbrev pub invariant-loop-person : goal.invariant-loop-person
-invariant-loop-person l = map (behind named) l.found.items ≡ map named (map (λ p. p.now) (take l.person-index l.persons))
+invariant-loop-person l = map (cow_view person_view) l.found.items ≡ map person_view (map (λ p. p.now) (take l.person-index l.persons))

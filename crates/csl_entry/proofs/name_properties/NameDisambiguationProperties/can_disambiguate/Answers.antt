@@ -1,12 +1,12 @@
 use Rattle.std.proofs.Common.{◌≡◌, ◌<◌, ◌∙◌, ap, sym, length, arith, ℕ, List, slice_index_or, Vec, Global, Option}
 use Rattle.std.specs.List.{All}
 use Rattle.csl_entry.specs.declared.name_form.DisambiguatedNameForm.{DisambiguatedNameForm}
-use Rattle.csl_entry.specs.NameProperties.{Forms}
+use Rattle.csl_entry.specs.NameProperties.{NameForms}
 use Rattle.csl_entry.proofs.FormLists.{holds_there, holds_at, stands_at}
 use Rattle.csl_entry.proofs.name_properties.NameDisambiguationProperties.can_disambiguate.Goals as goal
 
 -- the list holds each of the places
-abbrev HoldsEach : List ℕ → Forms → Type 0
+abbrev HoldsEach : List ℕ → NameForms → Type 0
 HoldsEach places forms = All (λ k. k < length forms) places
 
 pub returns-in-Some-get : goal.returns-in-Some-get

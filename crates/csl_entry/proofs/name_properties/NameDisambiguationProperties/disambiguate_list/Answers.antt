@@ -1,11 +1,11 @@
 use Rattle.std.proofs.Common.{◌<◌, ◌≡◌, ◌∙◌, ap, sym, length, arith, ℕ, List}
 use Rattle.std.specs.List.{All}
-use Rattle.csl_entry.specs.NameProperties.{Forms, NameProperties, each_told_apart}
+use Rattle.csl_entry.specs.NameProperties.{NameForms, NameProperties, disambiguated_forms}
 use Rattle.csl_entry.proofs.FormLists.{changed_at, stands_at, holds_at, same_after, same_there, with_lists}
 use Rattle.csl_entry.proofs.name_properties.NameDisambiguationProperties.disambiguate_list.Goals as goal
 
 -- the list holds each of the places
-abbrev HoldsEach : List ℕ → Forms → Type 0
+abbrev HoldsEach : List ℕ → NameForms → Type 0
 HoldsEach places forms = All (λ k. k < length forms) places
 
 pub index_mut-requires : goal.index_mut-requires
@@ -25,11 +25,11 @@ pub returns-clause-told : goal.returns-clause-told
 returns-clause-told c =
     let lists = c.args.self.now.name_forms.items in
     let place = c.in-Some.place in
-    let change = each_told_apart c.args.self.now.default_name_form c.args.items.now in
+    let change = disambiguated_forms c.args.self.now.default_name_form c.args.items.now in
     let inside = stands_at lists place (HoldsEach c.args.items.now) (c.requires place (sym c.in-Some.ensures)) in
-    changed_at c.args.self.now _ place c.index_mut.result.now change c.tell_apart.new.forms c.in-Some.ensures inside c.index_mut.ensures.value
-    (omega (arith, c.tell_apart.auto.forms, c.deref_mut.ensures.len))
-    (c.tell_apart.ensures.forms ∙ ap change c.deref_mut.ensures.value)
+    changed_at c.args.self.now _ place c.index_mut.result.now change c.disambiguate_forms.new.forms c.in-Some.ensures inside c.index_mut.ensures.value
+    (omega (arith, c.disambiguate_forms.auto.forms, c.deref_mut.ensures.len))
+    (c.disambiguate_forms.ensures.forms ∙ ap change c.deref_mut.ensures.value)
 
 pub returns-clause-answer : goal.returns-clause-answer
 returns-clause-answer c =
@@ -38,7 +38,7 @@ returns-clause-answer c =
     let place = c.in-Some.place in
     let v = c.index_mut.result.now in
     let inside = stands_at lists place (HoldsEach c.args.items.now) (c.requires place (sym c.in-Some.ensures)) in
-    let as_long : length c.tell_apart.new.forms ≡ v.len = omega (arith, c.tell_apart.auto.forms, c.deref_mut.ensures.len) in (
-      λ h. ap (with_lists self) (same_after lists place v c.tell_apart.new.forms inside c.index_mut.ensures.value as_long (c.tell_apart.ensures.answer.0 h ∙ c.deref_mut.ensures.value)),
-      λ e. c.tell_apart.ensures.answer.1 (same_there lists place v c.tell_apart.new.forms inside c.index_mut.ensures.value as_long (ap (λ (p : NameProperties). p.lists) e) ∙ sym c.deref_mut.ensures.value),
+    let as_long : length c.disambiguate_forms.new.forms ≡ v.len = omega (arith, c.disambiguate_forms.auto.forms, c.deref_mut.ensures.len) in (
+      λ h. ap (with_lists self) (same_after lists place v c.disambiguate_forms.new.forms inside c.index_mut.ensures.value as_long (c.disambiguate_forms.ensures.answer.0 h ∙ c.deref_mut.ensures.value)),
+      λ e. c.disambiguate_forms.ensures.answer.1 (same_there lists place v c.disambiguate_forms.new.forms inside c.index_mut.ensures.value as_long (ap (λ (p : NameProperties). p.lists) e) ∙ sym c.deref_mut.ensures.value),
     )

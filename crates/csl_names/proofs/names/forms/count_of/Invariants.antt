@@ -1,12 +1,12 @@
 use Rattle.std.proofs.Common.{◌≡◌, ◌+◌, map, drop}
-use Rattle.csl_style.specs.NameOptions.{used_options}
-use Rattle.csl_names.specs.NamesForms.{count_of, counted}
+use Rattle.csl_style.specs.NameOptions.{complete_options}
+use Rattle.csl_names.specs.NamesForms.{count_of, saturated_count}
 use Rattle.csl_names.specs.PersonLists.{list_of}
 use Rattle.csl_names.proofs.names.forms.count_of.Given as goal
 
 -- the count so far, which keeps to the limit, and the lists from here on give what all lists give
 abbrev pub invariant-loop-list : goal.invariant-loop-list
 invariant-loop-list l = record {
-  kept : counted l.count ≡ l.count;
-  left : counted (l.count + count_of (used_options l.options) l.later (map list_of (drop l.list-index l.lists))) ≡ counted (count_of (used_options l.options) l.later (map list_of l.lists));
+  kept : saturated_count l.count ≡ l.count;
+  left : saturated_count (l.count + count_of (complete_options l.options) l.later (map list_of (drop l.list-index l.lists))) ≡ saturated_count (count_of (complete_options l.options) l.later (map list_of l.lists));
 }

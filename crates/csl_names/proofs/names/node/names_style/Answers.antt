@@ -1,7 +1,7 @@
 use Rattle.std.proofs.Common.{◌≡◌, option_map, ap, ◌∙◌, rules}
 use Rattle.std.specs.Option.{option_or, unwrap_or}
 use Rattle.csl_style.specs.Names.{NameNode, view_name, view_et_al}
-use Rattle.csl_style.specs.NameOptions.{inherited_options, options_over, with_defaults, names_delimiter_of}
+use Rattle.csl_style.specs.NameOptions.{inherited_options, apply_options, with_defaults, names_delimiter_of}
 use Rattle.csl_style.specs.NamesParts.{parts_node, default_name, default_et_al}
 use Rattle.csl_names.specs.NamesContent.{name_of}
 use Rattle.csl_names.proofs.Options.{map-or, map-unwrap}
@@ -11,7 +11,7 @@ pub returns : goal.returns
 returns c =
     let node = parts_node c.args.parts in
     let inherited = inherited_options c.args.inherited in
-    let around = options_over node.options inherited in
+    let around = apply_options node.options inherited in
     let base = c.options_over-base.ensures in
     let name : view_name c.unwrap_or-name.result.now ≡ name_of node =
     ap (λ n. view_name n.now) c.unwrap_or-name.ensures ∙ map-unwrap (λ n. view_name n.now) c.name.result c.args.missing_name
@@ -23,8 +23,8 @@ returns c =
     λ i. record {
       name = name i;
       options = (c.name_options.ensures ∙ ap with_defaults c.apply.ensures
-          ∙ ap (λ o. with_defaults (options_over (view_name c.unwrap_or-name.result.now).options o)) base
-          ∙ ap (λ (v : NameNode). with_defaults (options_over v.options around)) name) i;
+          ∙ ap (λ o. with_defaults (apply_options (view_name c.unwrap_or-name.result.now).options o)) base
+          ∙ ap (λ (v : NameNode). with_defaults (apply_options v.options around)) name) i;
       et_al = (ap (λ e. view_et_al e.now) c.unwrap_or.ensures ∙ map-unwrap (λ e. view_et_al e.now) c.et_al.result c.args.missing_et_al
           ∙ ap (λ d. unwrap_or (option_map (λ e. view_et_al e.now) c.et_al.result) d) c.requires.et_al ∙ ap (λ o. unwrap_or o default_et_al) c.et_al.ensures) i;
       label = c.label.ensures i;

@@ -1,7 +1,7 @@
 use Rattle.std.proofs.Common.{◌≡◌, map, take}
-use Rattle.lit_model.specs.Person.{named}
-use Rattle.csl_entry.specs.Answers.{behind}
+use Rattle.lit_model.specs.Person.{person_view}
+use Rattle.csl_entry.specs.Answers.{cow_view}
 use Rattle.csl_names.proofs.names.node.persons_of.Given as goal
 
 abbrev pub invariant-loop-person : goal.invariant-loop-person
-invariant-loop-person l = map named l.copies.items ≡ map (behind named) (take l.person-index l.persons)
+invariant-loop-person l = map person_view l.copies.items ≡ map (cow_view person_view) (take l.person-index l.persons)

@@ -2,7 +2,7 @@ use Rattle.std.proofs.Common.{◌≡◌, List, subst, sym}
 use Rattle.std.proofs.lemmas.Result.{err_from_is_err_and}
 use Rattle.csl_style.specs.declared.element.CslMacro.{CslMacro}
 use Rattle.csl_style.specs.View.{definitions}
-use Rattle.csl_style.specs.Meaning.{IsAcyclic}
+use Rattle.csl_style.specs.Expansion.{IsAcyclic}
 use Rattle.csl_style.specs.Style.{IsRefusal}
 use Rattle.csl_style.proofs.Returns.{none-returns}
 use Rattle.csl_style.proofs.style.Style.new.Goals as goal

@@ -1,7 +1,0 @@
-use Rattle.std.proofs.Common.{◌≡◌, map, take}
-use Rattle.csl_style.specs.Locale.{term_view}
-use Rattle.csl_built_in.specs.English.{word_of_row}
-use Rattle.csl_built_in.proofs.english.words.Given as goal
-
-abbrev pub invariant-loop-row : goal.invariant-loop-row
-invariant-loop-row l = map term_view l.terms.items ≡ map word_of_row (take l.row-index l.row-items)

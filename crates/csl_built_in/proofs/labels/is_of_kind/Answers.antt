@@ -1,6 +1,0 @@
-use Rattle.std.proofs.Common.{◌∙◌}
-use Rattle.csl_built_in.proofs.BuiltIns.{kind_built_in}
-use Rattle.csl_built_in.proofs.labels.is_of_kind.Goals as goal
-
-pub returns : goal.returns
-returns c = c.matches_entry_type.ensures ∙ kind_built_in c.args.entry c.args.kind c.args.work.now c.requires

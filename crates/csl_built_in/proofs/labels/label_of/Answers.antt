@@ -1,5 +1,0 @@
-use Rattle.csl_built_in.proofs.BuiltIns.{labelled}
-use Rattle.csl_built_in.proofs.labels.label_of.Goals as goal
-
-pub returns : goal.returns
-returns c = labelled c.citation.result c.new.result.letters c.args.entry c.args.work.now c.new.ensures c.requires c.citation.ensures.value

@@ -1,0 +1,285 @@
+//! The calls of `csl_nodes` and `csl_names`, each alone in a context. What is expected stands here
+//! as written out by hand.
+
+ghost use Rattle.std.specs.Prelude.{◌≡◌, OnOk};
+
+use crate::asserted::assert_text;
+use crate::cited::{assert_plain, entries};
+use crate::each_node::{instance, say_answer};
+use crate::nodes::{node_at, term, value};
+use csl_context::{Context, RenderError, Rendered};
+use csl_entry::{CiteProperties, DisambiguateState, EntryLike};
+use csl_names::{commit_names, peeked_lists, resolved_lists, write_names};
+use csl_nodes::{
+    UsageInfo, close_quotes, date_info, date_shows, label_info, no_info, number_info, number_shows,
+    open_quotes, push_nothing, render_date, render_label, render_number, render_term, render_value,
+    render_variable, term_info, value_info, variable_info, variable_shows,
+};
+use csl_samples::{BuiltIn, BuiltInStyle};
+use csl_style::{
+    DateVariable, LayoutRenderingElement, Names, NumberVariable, PageVariable, Scope,
+    StandardVariable, Style, Term, TermForm, Text, TextTarget, Variable,
+};
+use lit_model::LongShortForm;
+use std::alloc::Global;
+use std::process::Abort;
+use std::test::Fail;
+
+const TITLE: Variable = Variable::Standard(StandardVariable::Title);
+
+const VOLUME: Variable = Variable::Number(NumberVariable::Volume);
+
+const ISSUED: Variable = Variable::Date(DateVariable::Issued);
+
+/// What a dry run says, and whether the variable would be shown.
+type DryRun = ((bool, UsageInfo), bool);
+
+/// What a dry run of a variable's text says. The text is written.
+fn variable_told<'s, T: EntryLike>(
+    ctx: &mut Context<'s, T>,
+    text: &'s Text,
+    form: LongShortForm,
+    variable: Variable,
+    asked: Variable,
+) -> Result<DryRun, RenderError>
+    ensures { OnOk result (ctx.new.outer ≡ ctx.old.outer) }
+{
+    let info = ctx.attempt(variable_info(ctx, form, variable))?;
+    let shown = ctx.attempt(variable_shows(ctx, form, variable, asked))?;
+    render_variable(text, ctx, form, variable)?;
+    Ok((info, shown))
+}
+
+/// The same of a term. It is written.
+fn term_told<'s, T: EntryLike>(
+    ctx: &mut Context<'s, T>,
+    text: &'s Text,
+    term: Term,
+    form: TermForm,
+) -> Result<DryRun, RenderError>
+    ensures { OnOk result (ctx.new.outer ≡ ctx.old.outer) }
+{
+    let info = term_info(ctx, term, form, true);
+    render_term(text, ctx, term, form, true)?;
+    Ok((info, false))
+}
+
+/// The same of a value. It is written in quotes.
+#[tactic(auto, unfolding(csl_context::specs::ContextView::with_quotes))]
+fn value_told<'s, T: EntryLike>(
+    ctx: &mut Context<'s, T>,
+    text: &'s Text,
+    value: &str,
+) -> Result<DryRun, RenderError>
+    ensures { OnOk result (ctx.new.outer ≡ ctx.old.outer) }
+{
+    let info = value_info(ctx, value);
+    let mark = open_quotes(ctx, true)?;
+    render_value(text, ctx, value)?;
+    let moved = close_quotes(ctx, mark, true, &text.affixes)?;
+    Ok((info, moved))
+}
+
+/// What a dry run says of a text, and whether a variable would be shown. The text is written.
+fn text_told<'s, T: EntryLike>(
+    ctx: &mut Context<'s, T>,
+    text: &'s Text,
+    asked: Variable,
+) -> Result<DryRun, RenderError>
+    ensures { OnOk result (ctx.new.outer ≡ ctx.old.outer) }
+{
+    match &text.target {
+        TextTarget::Variable { var, form } => variable_told(ctx, text, *form, *var, asked),
+        TextTarget::Term { term, form, .. } => term_told(ctx, text, *term, *form),
+        TextTarget::Value { val } => value_told(ctx, text, val.as_str()),
+        TextTarget::Macro { .. } => nothing_told(ctx),
+    }
+}
+
+/// What is said where nothing is written.
+fn nothing_told<T: EntryLike>(ctx: &mut Context<'_, T>) -> Result<DryRun, RenderError>
+    ensures { OnOk result (ctx.new.outer ≡ ctx.old.outer) }
+{
+    push_nothing(ctx)?;
+    Ok((no_info(), false))
+}
+
+/// Whether names have one list that is found, and one that is printed. They are written, and a
+/// letter stands in their place.
+fn names_told<'s, T: EntryLike>(
+    ctx: &mut Context<'s, T>,
+    names: &'s Names,
+) -> Result<DryRun, RenderError>
+    ensures { OnOk result (ctx.new.outer ≡ ctx.old.outer) }
+{
+    let parts = names.parts();
+    let found = ctx.attempt(peeked_lists(ctx, parts.variables))?.len();
+    let lists = resolved_lists(ctx, parts.variables)?;
+    write_names(ctx, parts, &lists)?;
+    let element = ctx.push_elem()?;
+    ctx.push_str("x")?;
+    commit_names(ctx, element, None, &lists)?;
+    Ok(((found == 1, UsageInfo::default()), lists.len() == 1))
+}
+
+/// What a dry run says of a node, and whether a variable would be shown. The node is written. A
+/// group says nothing.
+fn told<'s, T: EntryLike>(
+    ctx: &mut Context<'s, T>,
+    node: &'s LayoutRenderingElement,
+    asked: Variable,
+) -> Result<DryRun, RenderError>
+    ensures { OnOk result (ctx.new.outer ≡ ctx.old.outer) }
+{
+    match node {
+        LayoutRenderingElement::Text(text) => text_told(ctx, text, asked),
+        LayoutRenderingElement::Names(names) => names_told(ctx, names),
+        LayoutRenderingElement::Number(number) => {
+            let info = ctx.attempt(number_info(ctx, number))?;
+            let shown = number_shows(ctx, number, asked);
+            render_number(number, ctx)?;
+            Ok((info, shown))
+        }
+        LayoutRenderingElement::Date(date) => {
+            let info = ctx.attempt(date_info(ctx, date))?;
+            let shown = date_shows(ctx, date, asked);
+            render_date(date, ctx)?;
+            Ok((info, shown))
+        }
+        LayoutRenderingElement::Label(label) => {
+            let info = ctx.attempt(label_info(ctx, label))?;
+            render_label(label, ctx)?;
+            Ok((info, false))
+        }
+        _ => nothing_told(ctx),
+    }
+}
+
+/// What the calls of a node say and make of a cite of an entry.
+fn made<T: EntryLike>(
+    alloc: Global,
+    style: &Style,
+    node: &LayoutRenderingElement,
+    asked: Variable,
+    cite: &CiteProperties<'_>,
+    entry: &T,
+) -> Result<(DryRun, Rendered), RenderError> {
+    let Ok(mut ctx) = Context::new(alloc, style, instance(entry, cite), Scope::Citation) else {
+        return Err(RenderError::Memory);
+    };
+    match told(&mut ctx, node, asked) {
+        Ok(told) => Ok((told, ctx.finish()?)),
+        Err(error) => {
+            drop(ctx);
+            Err(error)
+        }
+    }
+}
+
+/// A variable, what a dry run says, whether the variable would be shown, and the plain text.
+type Wanted = (Variable, &'static str, bool, &'static str);
+
+/// Asserts what the calls of a node say and make of a first cite of an entry.
+fn assert_node<T: EntryLike>(
+    rt: &impl Abort,
+    alloc: Global,
+    style: &Style,
+    node: &LayoutRenderingElement,
+    entry: &T,
+    wanted: Wanted,
+) -> Result<(), Fail> {
+    let (asked, wanted_info, wanted_shown, wanted_text) = wanted;
+    let cite = CiteProperties::first(DisambiguateState::None);
+    let made = made(alloc, style, node, asked, &cite, entry);
+    drop(cite);
+    let ((info, shown), rendered) = made?;
+    let answer = assert_plain(rt, alloc, &rendered, wanted_text);
+    drop(rendered);
+    answer?;
+    let mut said = String::new(alloc);
+    say_answer(&mut said, info)?;
+    assert_text(rt, said.as_str(), wanted_info, &[wanted_text]);
+    assert!(rt; shown == wanted_shown, "shown, of {wanted_text}");
+    Ok(())
+}
+
+/// Asserts those of a node of the style, by its places.
+fn assert_place<T: EntryLike>(
+    rt: &impl Abort,
+    alloc: Global,
+    style: &Style,
+    entry: &T,
+    row: &Row,
+) -> Result<(), Fail> {
+    let node = node_at(style.citation(), row.0)?.ok_or("a node")?;
+    assert_node(rt, alloc, style, node, entry, row.1)
+}
+
+/// What a dry run says of a variable that is there.
+const SAID: &str = " prints called non-empty";
+
+/// The places of a node in the style of references, and what is wanted of it.
+type Row = (&'static [usize], Wanted);
+
+static NODES: [Row; 7] = [
+    (&[0, 0], (TITLE, " prints", true, "Gross, E. P.x")),
+    (
+        &[0, 1],
+        (
+            TITLE,
+            SAID,
+            true,
+            "“Structure of a Quantized Vortex in Boson Systems”",
+        ),
+    ),
+    (&[0, 3, 0], (VOLUME, " prints", false, "vol.")),
+    (&[0, 3, 1], (VOLUME, SAID, true, "20")),
+    (&[0, 3, 1], (TITLE, SAID, false, "20")),
+    (&[0, 5], (ISSUED, SAID, true, "May 1961")),
+    (&[1], (TITLE, "", false, "")),
+];
+
+/// Asserts each row, and a value and a term.
+fn assert_rows<T: EntryLike>(
+    rt: &impl Abort,
+    alloc: Global,
+    style: &Style,
+    entry: &T,
+) -> Result<(), Fail> {
+    let rows: &[Row] = &NODES;
+    for row in rows {
+        assert_place(rt, alloc, style, entry, row)?;
+    }
+    let node = value(alloc, "A")?;
+    let answer = assert_node(
+        rt,
+        alloc,
+        style,
+        &node,
+        entry,
+        (TITLE, " prints", false, "“A”"),
+    );
+    drop(node);
+    answer?;
+    let pages = term(Term::Page(PageVariable::Page), TermForm::Short);
+    let answer = assert_node(
+        rt,
+        alloc,
+        style,
+        &pages,
+        entry,
+        (TITLE, " prints", false, "pp."),
+    );
+    drop(pages);
+    answer
+}
+
+#[test]
+fn calls_of_leaves_and_names(rt: HostRuntime) -> Result<(), Fail> {
+    let works = entries(rt.alloc(), &[BuiltIn::QuantizedVortex])?;
+    let work = works.first().ok_or("an entry")?;
+    let style = BuiltInStyle::Reference.style(rt.alloc())?;
+    let answer = assert_rows(&rt, rt.alloc(), &style, work);
+    drop(style);
+    answer
+}

@@ -1,0 +1,244 @@
+//! What is answered where a writer refuses a text, each text in turn. What is expected stands here
+//! as written out by hand.
+
+ghost use Rattle.std.specs.Prelude.{Some, None, codes};
+
+use crate::asserted::{assert_status, assert_text};
+use crate::cites::{THREE, VORTEX_HTML};
+use crate::words::{NATURE, Row, owned};
+use csl_cli::run::run;
+use csl_context::Rendered;
+use csl_entry::{CiteProperties, DisambiguateState};
+use csl_render::cite;
+use csl_samples::{TitleOnly, title_style};
+use csl_style::Style;
+use csl_tree::{BufWriteFormat, ElemChildren};
+use lit_model::{ChunkedString, GrammarGender, NumberForm, Numeric, Ordinals, PageRanges, Person};
+use std::alloc::Global;
+use std::fmt::{self, Write};
+use std::process::Abort;
+use std::test::Fail;
+
+/// A writer that takes so many texts and refuses the next.
+#[derive(Drop)]
+struct Few {
+    left: usize,
+    took: String,
+}
+
+impl Few {
+    fn of(alloc: Global, texts: usize) -> Few {
+        Few {
+            left: texts,
+            took: String::new(alloc),
+        }
+    }
+}
+
+impl fmt::Write for Few {
+    fn write_str(&mut self, s: &str) -> fmt::Result {
+        if self.left == 0 {
+            return Err(fmt::Error);
+        }
+        self.left -= 1;
+        match self.took.push_str(s) {
+            Ok(()) => Ok(()),
+            Err(_) => Err(fmt::Error),
+        }
+    }
+}
+
+/// Runs the words of a row over writers that take so many texts each, and asserts the row, or a
+/// status of four. Whether it was the row.
+fn is_row(rt: &impl Abort, alloc: Global, words: &[String], row: &Row, texts: usize) -> bool {
+    let (of, status, out, fault) = row;
+    let mut wrote = Few::of(alloc, texts);
+    let mut said = Few::of(alloc, texts);
+    let answered = run(alloc, words, &mut wrote, &mut said);
+    if answered == 4 {
+        if *status != 0 {
+            assert_text(rt, wrote.took.as_str(), "", *of);
+        }
+        return false;
+    }
+    assert_status(rt, answered, *status, *of);
+    assert_text(rt, wrote.took.as_str(), *out, *of);
+    assert_text(rt, said.took.as_str(), *fault, *of);
+    true
+}
+
+/// Asserts a row, and four where a text is refused.
+fn assert_row(rt: &impl Abort, alloc: Global, row: &Row) -> Result<(), Fail> {
+    let words = owned(alloc, row.0)?;
+    for texts in 0..200 {
+        if is_row(rt, alloc, words.as_slice(), row, texts) {
+            assert!(rt; texts > 0, "a text is written");
+            return Ok(());
+        }
+    }
+    Err(Fail::from("a row of fewer texts"))
+}
+
+static ROWS: [Row; 9] = [
+    (&["title", "Nature", "html"], 0, NATURE, ""),
+    (
+        &["cite", "quantized-vortex", "reference", "html"],
+        0,
+        VORTEX_HTML,
+        "",
+    ),
+    (
+        &["cite", "dependence", "author-date", "plain"],
+        0,
+        THREE,
+        "",
+    ),
+    (&["label", "crazy-rich"], 0, "Kwa14\n", ""),
+    (&["kind", "crazy-rich", "book"], 0, "true\n", ""),
+    (&["leaf", "<div>x</div>"], 0, "x\n", ""),
+    (&["title"], 2, "", "missing word\n"),
+    (&["labels"], 2, "", "unknown: labels\n"),
+    (&["leaf", "<b>x</b>"], 5, "", "not html\n"),
+];
+
+#[test]
+fn a_refused_text_is_status_four(rt: HostRuntime) -> Result<(), Fail> {
+    let rows: &[Row] = &ROWS;
+    for row in rows {
+        assert_row(&rt, rt.alloc(), row)?;
+    }
+    Ok(())
+}
+
+/// Asserts that a call answers an error of its writer where a text is refused, and else writes the
+/// text that is wanted.
+fn assert_written<F: Fn(&mut Few) -> fmt::Result>(
+    rt: &impl Abort,
+    alloc: Global,
+    write: &F,
+    wanted: &str,
+) -> Result<(), Fail>
+    requires { F.IsAlwaysCallable write.now }
+{
+    for texts in 0..200 {
+        let mut out = Few::of(alloc, texts);
+        if write(&mut out).is_ok() {
+            assert_text(rt, out.took.as_str(), wanted, &["written"]);
+            assert!(rt; texts > 0, "a text is written");
+            return Ok(());
+        }
+    }
+    Err(Fail::from("fewer texts are written"))
+}
+
+const TITLE: &str = "(Title: <span style=\"font-style: italic;\">R&amp;D</span>)";
+
+/// Asserts what is written of a title.
+fn assert_content(rt: &impl Abort, alloc: Global, content: &ElemChildren) -> Result<(), Fail> {
+    let html = |w: &mut Few| content.write_buf(w, BufWriteFormat::Html);
+    let plain = |w: &mut Few| content.write_buf(w, BufWriteFormat::Plain);
+    let displayed = |w: &mut Few| write!(w, "{content}");
+    assert_written(rt, alloc, &html, TITLE)?;
+    assert_written(rt, alloc, &plain, "(Title: R&D)")?;
+    assert_written(rt, alloc, &displayed, "(Title: R&D)")
+}
+
+/// What a style makes of a title.
+fn titled(alloc: Global, style: &Style, title: &TitleOnly) -> Result<Rendered, Fail> {
+    let cite_props = CiteProperties::first(DisambiguateState::None);
+    let made = cite(alloc, style, title, &cite_props);
+    drop(cite_props);
+    Ok(made?)
+}
+
+/// The content of a title.
+fn content(alloc: Global) -> Result<Rendered, Fail> {
+    let title = TitleOnly {
+        title: ChunkedString::plain(alloc, "R&D")?,
+    };
+    let style = title_style(alloc)?;
+    let made = titled(alloc, &style, &title);
+    drop(style);
+    made
+}
+
+#[test]
+fn refused_texts_of_trees(rt: HostRuntime) -> Result<(), Fail> {
+    let made = content(rt.alloc())?;
+    let answer = assert_content(&rt, rt.alloc(), &made.content);
+    drop(made);
+    answer
+}
+
+/// Asserts what is written of some numbers, as they are and to sort by.
+fn assert_numbers(
+    rt: &impl Abort,
+    alloc: Global,
+    numbers: &str,
+    sort_text: &str,
+) -> Result<(), Fail> {
+    let number = Numeric::parse(alloc, numbers)?;
+    let displayed = |w: &mut Few| write!(w, "{number}");
+    let sorted = |w: &mut Few| number.fmt_value(w, true);
+    assert_written(rt, alloc, &displayed, numbers)?;
+    assert_written(rt, alloc, &sorted, sort_text)
+}
+
+/// Asserts what is written of some pages.
+fn assert_pages(rt: &impl Abort, alloc: Global, pages: &str) -> Result<(), Fail> {
+    let ranges = PageRanges::parse(alloc, pages)?;
+    let displayed = |w: &mut Few| write!(w, "{ranges}");
+    assert_written(rt, alloc, &displayed, pages)
+}
+
+/// A locale in which each number has the suffix `st`.
+struct Suffix;
+
+impl Ordinals for Suffix {
+    ghost ordinals = { λ _ _ _. Some (codes "st") };
+
+    ghost long_ordinals = { λ _ _ _. None };
+
+    fn lookup(&self, _number: i32, _gender: Option<GrammarGender>) -> Option<&str> {
+        Some("st")
+    }
+
+    fn long(&self, _number: i32, _gender: Option<GrammarGender>) -> Option<&str> {
+        None
+    }
+}
+
+/// Asserts what is written of 21 in a form.
+fn assert_form(rt: &impl Abort, alloc: Global, form: NumberForm, wanted: &str) -> Result<(), Fail> {
+    let number = Numeric::new(21);
+    let formed = |w: &mut Few| number.with_form(w, form, None, &Suffix);
+    assert_written(rt, alloc, &formed, wanted)
+}
+
+#[test]
+fn refused_texts_of_numbers(rt: HostRuntime) -> Result<(), Fail> {
+    assert_numbers(&rt, rt.alloc(), "4-6, 9", "0004-0006, 0009")?;
+    assert_pages(&rt, rt.alloc(), "321-328, 7")?;
+    assert_form(&rt, rt.alloc(), NumberForm::Ordinal, "21st")?;
+    assert_form(&rt, rt.alloc(), NumberForm::Roman, "xxi")
+}
+
+/// Asserts what is written of the initials of a given name.
+fn assert_initials(rt: &impl Abort, alloc: Global, given: &str, wanted: &str) -> Result<(), Fail> {
+    let person = Person::new(alloc, "x", given)?;
+    let initials = |w: &mut Few| person.initials(w, Some(". "), true);
+    assert_written(rt, alloc, &initials, wanted)
+}
+
+/// Asserts what is written of a given name.
+fn assert_given(rt: &impl Abort, alloc: Global, given: &str, wanted: &str) -> Result<(), Fail> {
+    let person = Person::new(alloc, "x", given)?;
+    let first = |w: &mut Few| person.first_name_with_delimiter(w, Some("."));
+    assert_written(rt, alloc, &first, wanted)
+}
+
+#[test]
+fn refused_texts_of_given_names(rt: HostRuntime) -> Result<(), Fail> {
+    assert_initials(&rt, rt.alloc(), "Jean-Luc Marie", "J.-L. M.")?;
+    assert_given(&rt, rt.alloc(), "Karl J", "Karl J.")
+}

@@ -1,0 +1,117 @@
+//! The words of the program and what it writes for them. What is expected stands here as written
+//! out by hand.
+
+use crate::asserted::{assert_status, assert_text};
+use csl_cli::run::run;
+use std::alloc::Global;
+use std::process::Abort;
+use std::test::Fail;
+
+/// The words, and the status, the answer and the fault that they give.
+pub type Row = (&'static [&'static str], u8, &'static str, &'static str);
+
+pub(crate) const NATURE: &str = "(Title: <span style=\"font-style: italic;\">Nature</span>)\n";
+
+const ESCAPED: &str =
+    "(Title: <span style=\"font-style: italic;\">é 📚 &lt;b&gt; &amp; \n&quot;</span>)\n";
+
+const AND: &str = "(Title: <span style=\"font-style: italic;\">R&amp;D</span>)\n";
+
+static ROWS: [Row; 36] = [
+    // A title in a format.
+    (&["title", "Nature", "html"], 0, NATURE, ""),
+    (&["title", "Nature", "plain"], 0, "(Title: Nature)\n", ""),
+    (&["title", "", "html"], 0, "\n", ""),
+    (&["title", "", "plain"], 0, "\n", ""),
+    (
+        &["title", "é 📚 <b> & \n\"", "plain"],
+        0,
+        "(Title: é 📚 <b> & \n\")\n",
+        "",
+    ),
+    (&["title", "é 📚 <b> & \n\"", "html"], 0, ESCAPED, ""),
+    (&["title", "R&D", "html"], 0, AND, ""),
+    (&["title", "R&D", "plain"], 0, "(Title: R&D)\n", ""),
+    (&[], 0, NATURE, ""),
+    // The label of an entry.
+    (&["label", "crazy-rich"], 0, "Kwa14\n", ""),
+    (&["label", "dependence"], 0, "FOW87\n", ""),
+    (&["label", "feminism"], 0, "Ung15\n", ""),
+    (&["label", "quantized-vortex"], 0, "Gro61\n", ""),
+    // Whether an entry is of a kind: an article of a journal, a book, a blog post.
+    (
+        &["kind", "quantized-vortex", "article-journal"],
+        0,
+        "true\n",
+        "",
+    ),
+    (&["kind", "crazy-rich", "book"], 0, "true\n", ""),
+    (&["kind", "crazy-rich", "periodical"], 0, "false\n", ""),
+    (&["kind", "feminism", "post-weblog"], 0, "true\n", ""),
+    (&["kind", "feminism", "webpage"], 0, "false\n", ""),
+    (&["kind", "feminism", "article"], 0, "false\n", ""),
+    // A word is missing.
+    (&["title"], 2, "", "missing word\n"),
+    (&["title", "Nature"], 2, "", "missing word\n"),
+    (&["label"], 2, "", "missing word\n"),
+    (&["kind"], 2, "", "missing word\n"),
+    (&["kind", "feminism"], 2, "", "missing word\n"),
+    (&["leaf"], 2, "", "missing word\n"),
+    // A word is unknown, or one too many.
+    (&["title", "Nature", "pdf"], 2, "", "unknown: pdf\n"),
+    (&["title", "Nature", "html", "now"], 2, "", "unknown: now\n"),
+    (&["title", "Nature", "pdf", "now"], 2, "", "unknown: pdf\n"),
+    (&["labels", "x"], 2, "", "unknown: labels\n"),
+    (&["label", "nobody"], 2, "", "unknown: nobody\n"),
+    (&["label", "crazy-rich", "now"], 2, "", "unknown: now\n"),
+    (&["kind", "nobody"], 2, "", "unknown: nobody\n"),
+    (&["kind", "crazy-rich", "comic"], 2, "", "unknown: comic\n"),
+    (
+        &["kind", "crazy-rich", "book", "now"],
+        2,
+        "",
+        "unknown: now\n",
+    ),
+    (&["leaf", "x", "now"], 2, "", "unknown: now\n"),
+    (&["leaf", "a&b", "x"], 2, "", "unknown: x\n"),
+];
+
+/// The words as the program takes them.
+pub fn owned(alloc: Global, words: &[&str]) -> Result<Vec<String>, Fail> {
+    let mut all = Vec::new(alloc);
+    for word in words {
+        all.push(String::from_str(alloc, word)?)?;
+    }
+    Ok(all)
+}
+
+/// Runs the words of a row, and asserts the status and what both streams took.
+fn assert_run(rt: &impl Abort, alloc: Global, words: &[String], row: &Row) {
+    let (of, status, out, fault) = row;
+    let mut wrote = String::new(alloc);
+    let mut said = String::new(alloc);
+    let answered = run(alloc, words, &mut wrote, &mut said);
+    assert_status(rt, answered, *status, *of);
+    assert_text(rt, wrote.as_str(), *out, *of);
+    assert_text(rt, said.as_str(), *fault, *of);
+}
+
+/// Asserts what the program writes for the words of a row.
+fn assert_row(rt: &impl Abort, alloc: Global, row: &Row) -> Result<(), Fail> {
+    let words = owned(alloc, row.0)?;
+    assert_run(rt, alloc, words.as_slice(), row);
+    Ok(())
+}
+
+/// Asserts what the program writes for the words of each row.
+pub fn assert_all(rt: &impl Abort, alloc: Global, rows: &[Row]) -> Result<(), Fail> {
+    for row in rows {
+        assert_row(rt, alloc, row)?;
+    }
+    Ok(())
+}
+
+#[test]
+fn words_and_what_they_give(rt: HostRuntime) -> Result<(), Fail> {
+    assert_all(&rt, rt.alloc(), &ROWS)
+}

@@ -1,0 +1,14 @@
+-- The state that a rendering leaves, as a value that a caller may keep and begin another context
+-- with (`LeftState`).
+use Rattle.std.specs.Prelude.{option_map}
+use Rattle.csl_entry.specs.NameProperties.{name_properties}
+use Rattle.csl_context.specs.declared.context.LeftState.{LeftState}
+use Rattle.csl_context.specs.State.{State}
+
+abbrev pub left_state_view : LeftState → State
+left_state_view l = record {
+  suppressed = l.suppressed.keys;
+  suppressing = l.suppressing;
+  first_date_seen = l.first_date_seen;
+  first_names = option_map name_properties l.first_names;
+}

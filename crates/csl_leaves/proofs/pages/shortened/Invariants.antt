@@ -1,7 +1,0 @@
-use Rattle.std.proofs.Common.{◌≡◌, ◌+◌, drop, nat_eq}
-use Rattle.std.specs.List.{common_prefix_len}
-use Rattle.csl_leaves.proofs.pages.shortened.Given as goal
-
--- what was passed repeats the start's front
-abbrev pub invariant-loop-place : goal.invariant-loop-place
-invariant-loop-place l = l.place + common_prefix_len nat_eq (drop l.place l.from) (drop l.place l.to) ≡ common_prefix_len nat_eq l.from l.to

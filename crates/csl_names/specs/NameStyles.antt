@@ -1,0 +1,53 @@
+-- How a style writes one name (CSL 1.0.2, Name; Name-part; `demote-non-dropping-particle`,
+-- `initialize-with-hyphen`). The first part of each sort in a Name counts, else a part that sets
+-- nothing (`part_in`). A particle is demoted always, only in sorting, or never, by the style's
+-- setting (`demotes`). The separator and `initialize-with` come from the options (`name_style`,
+-- `name_style_in`).
+use Rattle.std.specs.Prelude.{Bool, true, false, Option, Some, None, is_some}
+use Rattle.lit_model.specs.Person.{PersonView}
+use Rattle.csl_style.specs.declared.names.NamePartName.{NamePartName}
+use Rattle.csl_style.specs.declared.names.NamePartName.TheVariants.{Given, Family}
+use Rattle.csl_style.specs.declared.style.settings.DemoteNonDroppingParticle.{DemoteNonDroppingParticle}
+use Rattle.csl_style.specs.declared.style.settings.DemoteNonDroppingParticle.TheVariants.{DisplayAndSort, SortOnly, Never}
+use Rattle.csl_style.specs.declared.style.settings.StyleSettings.{StyleSettings}
+use Rattle.csl_style.specs.Names.{NameNode, NamePartNode}
+use Rattle.csl_style.specs.NameOptions.{CompleteOptions}
+use Rattle.csl_style.specs.NamesParts.{no_formatting, first_part}
+use Rattle.csl_entry.specs.declared.name_form.DisambiguatedNameForm.{DisambiguatedNameForm}
+use Rattle.csl_context.specs.ContextView.{ContextView, with_content}
+use Rattle.csl_names.specs.OneName.{PartStyleView, NameStyleView, name_content}
+
+-- a part as the Name sets it, or one that sets nothing
+abbrev pub part_style_of : Option NamePartNode → PartStyleView
+part_style_of None = record { formatting = no_formatting; affixes = record { prefix = None; suffix = None } }
+part_style_of (Some p) = record { formatting = p.formatting; affixes = p.affixes }
+
+-- how a part of a name is written
+abbrev pub part_in : NamePartName → NameNode → PartStyleView
+part_in which name = part_style_of (first_part which name)
+
+-- whether a particle is demoted, by the style's setting
+abbrev pub demotes : DemoteNonDroppingParticle → Bool → Bool
+demotes DisplayAndSort sorting = true
+demotes SortOnly sorting = sorting
+demotes Never sorting = false
+
+-- how a name is written
+abbrev pub name_style : StyleSettings → Bool → NameNode → CompleteOptions → NameStyleView
+name_style settings sorting name o = record {
+  given = part_in Given name;
+  family = part_in Family name;
+  separator = o.sort_separator;
+  initialize_with = o.initialize_with;
+  hyphen = settings.initialize_with_hyphen;
+  demotes = demotes settings.demote_non_dropping_particle sorting;
+  sorting = sorting;
+}
+
+-- how a name is written in a context
+abbrev pub name_style_in : {T : Type 0} → ContextView T → NameNode → CompleteOptions → NameStyleView
+name_style_in now name o = name_style now.style.settings (is_some now.sorting) name o
+
+-- the context after one name
+abbrev pub with_one_name : {T : Type 0} → NameNode → CompleteOptions → DisambiguatedNameForm → Bool → PersonView → ContextView T → ContextView T
+with_one_name name o form reversed p now = with_content (name_content (name_style_in now name o) form reversed p) now

@@ -1,0 +1,112 @@
+-- The conditions of a branch that an iterator has not read yet, and one reading of it: the next
+-- condition, or an error, after which nothing is left.
+-- `next_arm`, `after_first`, `after_deciding` and `ReadsAt` are the code's own: private
+-- contracts alone cite them.
+use Rattle.std.specs.Prelude.{◌≡◌, ℕ, Bool, true, false, not, List, [], ◌∷◌, ◌++◌, drop, Option, Some, None, option_map, Result, MatchOption, MatchResult, if◌then◌else◌}
+use Rattle.csl_style.specs.Node.{Tests}
+use Rattle.csl_style.specs.declared.element.ChooseMatch.{ChooseMatch}
+use Rattle.csl_style.specs.declared.element.ChooseMatch.TheVariants as matched
+use Rattle.csl_style.specs.declared.element.ChooseBranch.{ChooseBranch, out-ChooseBranch}
+use Rattle.csl_entry.specs.Answers.{Answers}
+use Rattle.csl_context.specs.State.{State}
+use Rattle.csl_context.specs.World.{RenderInput}
+use Rattle.csl_context.specs.ContextView.{ContextView, FailsSilently, render_input}
+use Rattle.csl_context.specs.declared.error.RenderError.{RenderError}
+use Rattle.csl_nodes.specs.Conditions.{conditions_at, of_numbers, of_dates, of_locators, of_positions, of_kinds}
+use Rattle.csl_nodes.specs.declared.branch_conditions.BranchConditionPos.{BranchConditionPos}
+use Rattle.csl_nodes.specs.declared.branch_conditions.BranchConditionPos.TheVariants as arm
+use Rattle.csl_nodes.specs.declared.branch_conditions.BranchConditionIter.{BranchConditionIter}
+
+-- ---- the sorts of tests
+
+-- the sort of tests that comes after one
+abbrev pub next_arm : BranchConditionPos → Option BranchConditionPos
+next_arm arm.Disambiguate = Some arm.IsNumeric
+next_arm arm.IsNumeric = Some arm.IsUncertainDate
+next_arm arm.IsUncertainDate = Some arm.Locator
+next_arm arm.Locator = Some arm.Position
+next_arm arm.Position = Some arm.Type_
+next_arm arm.Type_ = Some arm.Variable
+next_arm arm.Variable = None
+
+-- all sorts but the last
+abbrev all_but_last : List BranchConditionPos
+all_but_last = arm.Disambiguate ∷ arm.IsNumeric ∷ arm.IsUncertainDate ∷ arm.Locator ∷ arm.Position ∷ arm.Type_ ∷ []
+
+abbrev arm_index : BranchConditionPos → ℕ
+arm_index arm.Disambiguate = 0
+arm_index arm.IsNumeric = 1
+arm_index arm.IsUncertainDate = 2
+arm_index arm.Locator = 3
+arm_index arm.Position = 4
+arm_index arm.Type_ = 5
+arm_index arm.Variable = 6
+
+-- the sorts of tests from one on, without the last
+abbrev pub arms_from : BranchConditionPos → List BranchConditionPos
+arms_from p = drop (arm_index p) all_but_last
+
+-- ---- what is left behind a place: of one sort, and of those behind it
+
+abbrev pub later_conditions : RenderInput → State → Tests → BranchConditionPos → List Bool
+later_conditions w s ts arm.Disambiguate = of_numbers w s ts
+later_conditions w s ts arm.IsNumeric = of_dates w s ts
+later_conditions w s ts arm.IsUncertainDate = of_locators w s ts
+later_conditions w s ts arm.Locator = of_positions w s ts
+later_conditions w s ts arm.Position = of_kinds w s ts
+later_conditions w s ts arm.Type_ = conditions_at w s ts arm.Variable
+later_conditions w s ts arm.Variable = []
+
+abbrev pub conditions_from : RenderInput → State → Tests → BranchConditionPos → ℕ → List Bool
+conditions_from w s ts p i = drop i (conditions_at w s ts p) ++ later_conditions w s ts p
+
+-- ---- readings
+
+-- the tests of a branch, as data
+abbrev pub tests_of : ChooseBranch → Tests
+tests_of b = let branch = out-ChooseBranch b in record {
+  disambiguate = branch.disambiguate;
+  is_numeric = option_map (λ v. v.items) branch.is_numeric;
+  is_uncertain_date = option_map (λ v. v.items) branch.is_uncertain_date;
+  locator = option_map (λ v. v.items) branch.locator;
+  position = option_map (λ v. v.items) branch.position;
+  type_ = option_map (λ v. v.items) branch.type_;
+  variable = option_map (λ v. v.items) branch.variable;
+  match_ = branch.match_;
+}
+
+-- the context in which the conditions are read
+abbrev pub context_of : {T : Type 0} → BranchConditionIter T → ContextView T
+context_of it = it.ctx.now
+
+-- the conditions that are left to be read: none after an error
+abbrev pub remaining_conditions : {T : Type 0} → (T → Answers) → BranchConditionIter T → List Bool
+remaining_conditions answers it =
+    if it.ended then []
+    else conditions_from (render_input answers (context_of it)) (context_of it).state (tests_of it.branch.now) it.pos it.index
+
+-- the conditions after the first that passes the test; none where none passes
+abbrev pub after_first : (Bool → Bool) → List Bool → List Bool
+after_first p [] = []
+after_first p (b ∷ bs) = if p b then bs else after_first p bs
+
+-- A match reads up to the condition that decides it: for All the first that does not hold, for Any
+-- and None the first that does.
+abbrev pub after_deciding : ChooseMatch → List Bool → List Bool
+after_deciding matched.All bs = after_first not bs
+after_deciding matched.Any bs = after_first (λ b. b) bs
+after_deciding matched.None bs = after_first (λ b. b) bs
+
+-- a test was read, where there is one at the place
+abbrev pub ReadsAt : {T : Type 0} → ContextView T → Option Bool → Option (Result Bool RenderError) → Type 0
+ReadsAt now None r = r ≡ None
+ReadsAt now (Some b) r = MatchOption r ⊥ (λ x. MatchResult x (λ c. (now.failed ≡ false) × (c ≡ b)) (λ e. FailsSilently e now))
+
+-- One reading returns the first condition that is left, or an error, after which nothing is left.
+-- Where nothing is left, it returns None, now and later.
+abbrev pub ReadsNext : {T : Type 0} → (T → Answers) → BranchConditionIter T → Option (Result Bool RenderError) → BranchConditionIter T → Type 0
+ReadsNext answers s r t =
+    (context_of t ≡ context_of s) × MatchOption r ((remaining_conditions answers s ≡ []) × (remaining_conditions answers t ≡ []))
+    (λ x. MatchResult x
+    (λ b. ((context_of s).failed ≡ false) × (remaining_conditions answers s ≡ b ∷ remaining_conditions answers t))
+    (λ e. FailsSilently e (context_of s) × (remaining_conditions answers t ≡ [])))

@@ -1,0 +1,47 @@
+//! What stands around the body of a node that has no quotes (CSL 1.0.2, Formatting, Affixes,
+//! Display, Strip-periods).
+
+ghost use Rattle.csl_style.specs.Dressing.{dressing_of};
+ghost use Rattle.csl_tree.specs.Tokens.{meta_of};
+ghost use Rattle.csl_context.specs.ContextView.{Runs, with_content};
+ghost use Rattle.csl_nodes.specs.Bodies.{body_in};
+ghost use Rattle.csl_nodes.specs.Boxes.{in_plain, plain_box};
+
+use crate::dressing::{Body, write_body};
+use csl_context::{Context, RenderError};
+use csl_entry::EntryLike;
+use csl_style::{Affixes, Display, Formatting};
+use csl_tree::ElemMeta;
+
+/// What stands around the body of a node that has no quotes.
+#[derive(Clone, Copy)]
+pub(crate) struct NodeDressing<'b> {
+    pub(crate) formatting: Formatting,
+    pub(crate) affixes: &'b Affixes,
+    pub(crate) display: Option<Display>,
+    pub(crate) strip_periods: bool,
+}
+
+/// Appends the box of a node without quotes around a body.
+pub(crate) fn render_unquoted<'s, T: EntryLike>(
+    around: NodeDressing<'_>,
+    ctx: &mut Context<'s, T>,
+    meta: ElemMeta,
+    body: Body<'_>,
+) -> Result<(), RenderError>
+    ensures { Runs (with_content (λ inh. plain_box (dressing_of around.entry.formatting
+        around.entry.affixes.now around.entry.display) (meta_of meta) inh
+        (body_in (in_plain (dressing_of around.entry.formatting around.entry.affixes.now
+        around.entry.display) around.entry.strip_periods inh) body.entry))) result ctx.old ctx.new }
+{
+    ctx.push_format(around.formatting)?;
+    let element = ctx.push_elem()?;
+    let middle = ctx.apply_prefix()?;
+    let stripping = ctx.may_strip_periods(around.strip_periods);
+    write_body(ctx, body)?;
+    ctx.stop_stripping_periods(stripping);
+    ctx.apply_suffix(around.affixes, middle, false)?;
+    ctx.commit_elem(element, around.display, Some(meta))?;
+    ctx.pop_format();
+    Ok(())
+}

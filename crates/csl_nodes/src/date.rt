@@ -1,0 +1,194 @@
+//! Dates (CSL 1.0.2, Date; Localized Date Formats; Sorting).
+
+ghost use Rattle.std.specs.Prelude.{◌≡◌, Some, option_map};
+ghost use Rattle.lit_model.specs.Date.{date_view};
+ghost use Rattle.csl_style.specs.View.{view_date};
+ghost use Rattle.csl_entry.specs.Answers.{cow_view};
+ghost use Rattle.csl_context.specs.World.{peek_date};
+ghost use Rattle.csl_context.specs.ContextView.{GivesBy, render_input};
+ghost use Rattle.csl_nodes.specs.Dates.{date_info, date_shows, date_output, is_own, date_shows_variable, is_first, date_shows_own, printed_date, date_or_key, resolved_date};
+ghost use Rattle.csl_nodes.specs.Text.{Appends};
+ghost use Rattle.csl_nodes.specs.UsageView.{info_view};
+ghost use Rattle.csl_nodes.specs.LocalizedDates.{localized_node};
+
+use crate::condition::as_deref;
+use crate::date_key::sort_key;
+use crate::date_parts::{DateValue, LocalizedDate, render_parts};
+use crate::date_suffix::{first_suffix, implicit_suffix};
+use crate::empty::push_nothing;
+use crate::number::presence_info;
+use crate::usage::{UsageInfo, no_info};
+use csl_context::{Context, RenderError};
+use csl_entry::{EntryLike, Sorting, SpecialForm};
+use csl_style::{Date, DateVariable, Variable};
+use csl_tree::ElemMeta;
+use lit_model::{Date as Given, Memory};
+use std::borrow::Cow;
+
+/// What a date says.
+///
+/// # Errors
+/// [`Memory`]: there was no memory left, or the entry said so, or the context had failed.
+pub fn date_info<'s, T: EntryLike>(
+    ctx: &Context<'s, T>,
+    node: &Date,
+) -> Result<(bool, UsageInfo), Memory>
+    ensures { GivesBy info_view result
+        (date_info (render_input T.answers ctx.now) ctx.now.state (view_date node.now)) }
+{
+    let Some(own) = node.variable else {
+        return Ok(presence_info(false));
+    };
+    if !date_shows_own(ctx, own) {
+        return Ok(no_info());
+    }
+    let found = peek_date(ctx, own)?;
+    Ok(presence_info(as_deref(&found).is_some()))
+}
+
+/// Whether a date shows the variable that is asked for.
+pub fn date_shows<'s, T: EntryLike>(ctx: &Context<'s, T>, node: &Date, asked: Variable) -> bool
+    ensures { result ≡ date_shows (render_input T.answers ctx.now) ctx.now.state asked
+        (view_date node.now) }
+{
+    let first = ctx.peek_is_first_date();
+    is_shown(ctx.special_form(), first, node.variable, asked)
+}
+
+/// Appends a date, whose variable is looked up for printing where the date shows it.
+///
+/// # Errors
+/// [`RenderError::Memory`]: there was no memory left, or the entry said so. The context has failed.
+/// [`RenderError::Failed`]: the context had failed before.
+pub fn render_date<'s, T: EntryLike>(
+    node: &Date,
+    ctx: &mut Context<'s, T>,
+) -> Result<(), RenderError>
+    ensures { Appends T.answers (λ w. date_output w (view_date node.now)) result ctx.old ctx.new }
+{
+    let Some(own) = node.variable else {
+        return push_nothing(ctx);
+    };
+    if !date_shows_own(ctx, own) {
+        return push_nothing(ctx);
+    }
+    let found = ctx.resolve_date_variable(own)?;
+    match as_deref(&found) {
+        Some(date) => render_found(node, ctx, date),
+        None => push_nothing(ctx),
+    }
+}
+
+/// Whether the variable is that of the date.
+fn is_own(own: Option<DateVariable>, asked: Variable) -> bool
+    ensures { result ≡ is_own own asked }
+{
+    match own {
+        Some(own) => Variable::Date(own) == asked,
+        None => false,
+    }
+}
+
+/// Whether a date of a variable shows the one that is asked for. `first` says that no date was
+/// printed before.
+fn is_shown(
+    form: Option<SpecialForm>,
+    first: bool,
+    own: Option<DateVariable>,
+    asked: Variable,
+) -> bool
+    ensures { result ≡ date_shows_variable form first own asked }
+{
+    match form {
+        None => is_own(own, asked),
+        Some(SpecialForm::VarOnly(only)) => is_own(own, asked) && is_own(own, only),
+        Some(SpecialForm::OnlyFirstDate) => first,
+        Some(SpecialForm::OnlyYearSuffix) => first,
+        Some(SpecialForm::SuppressAuthor) => is_own(own, asked),
+    }
+}
+
+/// Whether a date shows its own variable.
+fn date_shows_own<'s, T: EntryLike>(ctx: &Context<'s, T>, own: DateVariable) -> bool
+    ensures { result ≡ date_shows_own (render_input T.answers ctx.now) ctx.now.state own }
+{
+    let first = ctx.peek_is_first_date();
+    is_shown(ctx.special_form(), first, Some(own), Variable::Date(own))
+}
+
+/// A silent look.
+fn peek_date<'s, T: EntryLike>(
+    ctx: &Context<'s, T>,
+    variable: DateVariable,
+) -> Result<Option<Cow<'s, Given>>, Memory>
+    ensures { GivesBy (option_map (cow_view date_view)) result
+        (peek_date (render_input T.answers ctx.now) ctx.now.state variable) }
+{
+    match ctx.peek_date_variable(variable) {
+        Ok(found) => Ok(found),
+        Err(_) => Err(Memory),
+    }
+}
+
+/// Appends the sort key of a date.
+fn render_key<'s, T: EntryLike>(
+    node: &Date,
+    ctx: &mut Context<'s, T>,
+    sorting: Sorting,
+    date: &Given,
+) -> Result<(), RenderError>
+    ensures { Appends T.answers (λ w. date_or_key w
+        (view_date node.now) (Some sorting) (date_view date.now)) result ctx.old ctx.new }
+{
+    let suffix = ctx.attempt(implicit_suffix(ctx))?;
+    let key = ctx.attempt(sort_key(ctx.alloc(), node, sorting, suffix.as_str(), date))?;
+    ctx.push_str(key.as_str())
+}
+
+/// Appends the box of a date.
+fn render_box<'s, T: EntryLike>(
+    written: LocalizedDate<'_>,
+    ctx: &mut Context<'s, T>,
+    date: &Given,
+) -> Result<(), RenderError>
+    ensures { Appends T.answers (λ w. printed_date w
+        (Some (localized_node written.entry)) (date_view date.now)) result ctx.old ctx.new }
+{
+    let suffix = first_suffix(ctx)?;
+    let found = DateValue {
+        date,
+        suffix: suffix.as_str(),
+    };
+    ctx.push_format(written.formatting())?;
+    let element = ctx.push_elem()?;
+    let middle = ctx.apply_prefix()?;
+    render_parts(written, ctx, found)?;
+    ctx.apply_suffix(&written.node.affixes, middle, false)?;
+    ctx.commit_elem(element, written.node.display, Some(ElemMeta::Date))?;
+    ctx.pop_format();
+    Ok(())
+}
+
+/// Appends a date that was found: its sort key, where the cite is rendered to be sorted, else its
+/// box, unless it asks for a localized date that the style lacks.
+fn render_found<'s, T: EntryLike>(
+    node: &Date,
+    ctx: &mut Context<'s, T>,
+    date: &Given,
+) -> Result<(), RenderError>
+    ensures { Appends T.answers (λ w. resolved_date w
+        (view_date node.now) (Some (date_view date.now))) result ctx.old ctx.new }
+{
+    if let Some(sorting) = ctx.sorting() {
+        return render_key(node, ctx, sorting, date);
+    }
+    let Some(form) = node.form else {
+        let localized = None;
+        return render_box(LocalizedDate { node, localized }, ctx, date);
+    };
+    let localized = ctx.localized_date(form);
+    match localized {
+        Some(_) => render_box(LocalizedDate { node, localized }, ctx, date),
+        None => push_nothing(ctx),
+    }
+}

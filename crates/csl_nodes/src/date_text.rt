@@ -1,0 +1,265 @@
+//! The texts of the parts of a date (CSL 1.0.2, Date; Date-part; Localized Date Formats; Ordinals;
+//! AD and BC; Seasons), before any affix.
+
+ghost use Rattle.std.specs.Prelude.{◌≡◌, ◌+◌, ◌++◌, ◌≤◌, IfOk, string_bytes, option_map, decimal};
+ghost use Rattle.lit_model.specs.Date.{date_view};
+ghost use Rattle.csl_nodes.specs.DateText.{names_part, is_written, word, two_digits, is_short, ad_text, bc_text, common_year, year_text, month_named, month_text, season_text, month_or_season, month_gender, ordinal_suffix, ordinal_day, day_text, day_if, part_text};
+
+use csl_context::Context;
+use csl_style::{DateAnyForm, DatePartName, DateParts, OtherTerm, Term, TermForm};
+use lit_model::{Date, GrammarGender, Memory, Season};
+use std::alloc::Global;
+
+/// Whether the parts of a date name this one.
+pub(crate) fn names_part(parts: DateParts, part: DatePartName) -> bool
+    ensures { result ≡ names_part parts part }
+{
+    match parts {
+        DateParts::YearMonthDay => true,
+        DateParts::YearMonth => match part {
+            DatePartName::Day => false,
+            DatePartName::Month => true,
+            DatePartName::Year => true,
+        },
+        DateParts::Year => match part {
+            DatePartName::Day => false,
+            DatePartName::Month => false,
+            DatePartName::Year => true,
+        },
+    }
+}
+
+/// Whether a date shows the part where these are written: the year always, and a month also where
+/// the date has a season.
+pub(crate) fn is_written(parts: DateParts, date: &Date, part: DatePartName) -> bool
+    ensures { result ≡ is_written parts (date_view date.now) part }
+{
+    match part {
+        DatePartName::Day => names_part(parts, DatePartName::Day),
+        DatePartName::Month => names_part(parts, DatePartName::Month) || date.season().is_some(),
+        DatePartName::Year => true,
+    }
+}
+
+/// A term that names no variable, of one.
+fn word<'s, T>(ctx: &Context<'s, T>, term: OtherTerm, form: TermForm) -> Option<&'s str>
+    ensures { option_map (λ text. text.now) result ≡ word ctx.now.style term form }
+{
+    ctx.term(Term::Other(term), form, false)
+}
+
+/// A number with two digits at least.
+pub(crate) fn two_digits(alloc: Global, number: u32) -> Result<String, Memory>
+    ensures { IfOk result (λ s. string_bytes s ≡ two_digits number) }
+{
+    let text = format!(in alloc; "{number:02}")?;
+    Ok(text)
+}
+
+/// Whether a year is written by its last two digits.
+fn is_short(form: Option<DateAnyForm>) -> bool
+    ensures { result ≡ is_short form }
+{
+    match form {
+        None => false,
+        Some(DateAnyForm::Numeric) => false,
+        Some(DateAnyForm::NumericLeadingZeros) => false,
+        Some(DateAnyForm::Ordinal) => false,
+        Some(DateAnyForm::Long) => false,
+        Some(DateAnyForm::Short) => true,
+    }
+}
+
+/// A year from year 1 on, with its era where it needs one.
+fn common_year<T>(ctx: &Context<'_, T>, short: bool, year: u32) -> Result<String, Memory>
+    ensures { IfOk result (λ s. string_bytes s ≡ common_year short (ad_text ctx.now.style) year) }
+{
+    if year < 1000 {
+        let ad = word(ctx, OtherTerm::Ad, TermForm::Long).unwrap_or(" AD");
+        let text = format!(in ctx.alloc(); "{year}{ad}")?;
+        Ok(text)
+    } else if short {
+        two_digits(ctx.alloc(), year % 100)
+    } else {
+        let text = format!(in ctx.alloc(); "{year}")?;
+        Ok(text)
+    }
+}
+
+/// The year so many before year 1, with its era.
+fn year_before<T>(ctx: &Context<'_, T>, count: u32) -> Result<String, Memory>
+    ensures { IfOk result (λ s. string_bytes s ≡ decimal count ++ bc_text ctx.now.style) }
+{
+    let bc = word(ctx, OtherTerm::Bc, TermForm::Long).unwrap_or(" BC");
+    let text = format!(in ctx.alloc(); "{count}{bc}")?;
+    Ok(text)
+}
+
+/// A year in a form.
+fn year_text<T>(
+    ctx: &Context<'_, T>,
+    form: Option<DateAnyForm>,
+    year: i32,
+) -> Result<String, Memory>
+    ensures { IfOk result (λ s. string_bytes s ≡ year_text ctx.now.style form year) }
+{
+    let distance = year.unsigned_abs();
+    if year > 0 {
+        let text = common_year(ctx, is_short(form), distance)?;
+        Ok(text)
+    } else {
+        // Year 0 is the first before year 1.
+        let text = year_before(ctx, distance + 1)?;
+        Ok(text)
+    }
+}
+
+/// A month by its term, else by its number.
+fn month_named<T>(ctx: &Context<'_, T>, form: TermForm, month: u8) -> Result<String, Memory>
+    ensures { IfOk result (λ s. string_bytes s ≡ month_named ctx.now.style form month) }
+{
+    match word(ctx, OtherTerm::Month(month), form) {
+        Some(name) => {
+            let text = String::from_str(ctx.alloc(), name)?;
+            Ok(text)
+        }
+        None => number_text(ctx.alloc(), month),
+    }
+}
+
+/// The number of a month or a day, which counts from 0.
+fn number_text(alloc: Global, place: u8) -> Result<String, Memory>
+    ensures { IfOk result (λ s. string_bytes s ≡ decimal (place + 1)) }
+{
+    let number = u32::from(place) + 1;
+    let text = format!(in alloc; "{number}")?;
+    Ok(text)
+}
+
+/// A month in a form.
+fn month_text<T>(
+    ctx: &Context<'_, T>,
+    form: Option<DateAnyForm>,
+    month: u8,
+) -> Result<String, Memory>
+    ensures { IfOk result (λ s. string_bytes s ≡ month_text ctx.now.style form month) }
+{
+    match form {
+        None => month_named(ctx, TermForm::Long, month),
+        Some(DateAnyForm::Numeric) => number_text(ctx.alloc(), month),
+        Some(DateAnyForm::NumericLeadingZeros) => { two_digits(ctx.alloc(), u32::from(month) + 1) }
+        Some(DateAnyForm::Ordinal) => month_named(ctx, TermForm::Long, month),
+        Some(DateAnyForm::Long) => month_named(ctx, TermForm::Long, month),
+        Some(DateAnyForm::Short) => month_named(ctx, TermForm::Short, month),
+    }
+}
+
+/// The short term of a season, or nothing.
+fn season_text<T>(ctx: &Context<'_, T>, season: Option<Season>) -> Result<String, Memory>
+    ensures { IfOk result (λ s. string_bytes s ≡ season_text ctx.now.style season) }
+{
+    let term = match season {
+        Some(season) => word(ctx, OtherTerm::Season(season), TermForm::Short).unwrap_or(""),
+        None => "",
+    };
+    let text = String::from_str(ctx.alloc(), term)?;
+    Ok(text)
+}
+
+/// What a month prints: the month, else the season.
+fn month_or_season<T>(
+    ctx: &Context<'_, T>,
+    form: Option<DateAnyForm>,
+    month: Option<u8>,
+    season: Option<Season>,
+) -> Result<String, Memory>
+    ensures { IfOk result (λ s. string_bytes s ≡ month_or_season ctx.now.style form month season) }
+{
+    match month {
+        Some(month) => month_text(ctx, form, month),
+        None => season_text(ctx, season),
+    }
+}
+
+/// The gender of what a month is called.
+fn month_gender<T>(ctx: &Context<'_, T>, month: Option<u8>) -> Option<GrammarGender>
+    ensures { result ≡ month_gender ctx.now.style month }
+{
+    match month {
+        Some(month) => ctx.gender(Term::Other(OtherTerm::Month(month))),
+        None => None,
+    }
+}
+
+/// What makes an ordinal of a number, or nothing.
+fn ordinal_suffix<'s, T>(ctx: &Context<'s, T>, gender: Option<GrammarGender>, number: u8) -> &'s str
+    ensures { result.now ≡ ordinal_suffix ctx.now.style gender number }
+{
+    ctx.ordinal_lookup()
+        .suffix(i32::from(number), gender)
+        .unwrap_or("")
+}
+
+/// A day as an ordinal, which agrees with the month. A locale may limit ordinals to the first day.
+fn ordinal_day<T>(ctx: &Context<'_, T>, month: Option<u8>, day: u8) -> Result<String, Memory>
+    requires { day ≤ 30 }
+    ensures { IfOk result (λ s. string_bytes s ≡ ordinal_day ctx.now.style month day) }
+{
+    if ctx.style().are_day_ordinals_limited() && day != 0 {
+        return number_text(ctx.alloc(), day);
+    }
+    let number = day + 1;
+    let suffix = ordinal_suffix(ctx, month_gender(ctx, month), number);
+    let text = format!(in ctx.alloc(); "{number}{suffix}")?;
+    Ok(text)
+}
+
+/// A day in a form.
+fn day_text<T>(
+    ctx: &Context<'_, T>,
+    form: Option<DateAnyForm>,
+    month: Option<u8>,
+    day: u8,
+) -> Result<String, Memory>
+    requires { day ≤ 30 }
+    ensures { IfOk result (λ s. string_bytes s ≡ day_text ctx.now.style form month day) }
+{
+    match form {
+        None => number_text(ctx.alloc(), day),
+        Some(DateAnyForm::Numeric) => number_text(ctx.alloc(), day),
+        Some(DateAnyForm::NumericLeadingZeros) => two_digits(ctx.alloc(), u32::from(day) + 1),
+        Some(DateAnyForm::Ordinal) => ordinal_day(ctx, month, day),
+        Some(DateAnyForm::Long) => number_text(ctx.alloc(), day),
+        Some(DateAnyForm::Short) => number_text(ctx.alloc(), day),
+    }
+}
+
+/// What a day prints: nothing where the date has none.
+fn day_if<T>(ctx: &Context<'_, T>, form: Option<DateAnyForm>, date: &Date) -> Result<String, Memory>
+    ensures { IfOk result (λ s. string_bytes s ≡ day_if ctx.now.style form
+        (date_view date.now).month (date_view date.now).day) }
+{
+    match date.day() {
+        Some(day) => day_text(ctx, form, date.month(), day),
+        None => Ok(String::new(ctx.alloc())),
+    }
+}
+
+/// What the value of a date's part prints in a form, before any affix: nothing where the date lacks
+/// what the part shows. A form that the part does not know counts as none.
+#[tactic(auto, unfolding(crate::specs::DateText::part_text))]
+pub(crate) fn part_text<T>(
+    ctx: &Context<'_, T>,
+    name: DatePartName,
+    form: Option<DateAnyForm>,
+    date: &Date,
+) -> Result<String, Memory>
+    ensures { IfOk result (λ s. string_bytes s
+        ≡ part_text ctx.now.style name form (date_view date.now)) }
+{
+    match name {
+        DatePartName::Day => day_if(ctx, form, date),
+        DatePartName::Month => month_or_season(ctx, form, date.month(), date.season()),
+        DatePartName::Year => year_text(ctx, form, date.year()),
+    }
+}

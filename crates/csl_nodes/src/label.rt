@@ -1,0 +1,197 @@
+//! Labels (CSL 1.0.2, Label; Locators).
+
+ghost use Rattle.std.specs.Prelude.{◌≡◌, option_map};
+ghost use Rattle.csl_style.specs.Names.{view_label};
+ghost use Rattle.csl_entry.specs.NumberResult.{result_view, number_or_page_view};
+ghost use Rattle.csl_context.specs.ContextView.{GivesBy, render_input};
+ghost use Rattle.csl_nodes.specs.Labels.{label_info, label_output, label_term, is_count, plural_number, is_plural, label_text, is_locator, is_other_number, label_unless_locator, label_by_special_form};
+ghost use Rattle.csl_nodes.specs.Text.{Appends};
+ghost use Rattle.csl_nodes.specs.UsageView.{info_view};
+
+use crate::boxes::{NodeDressing, render_unquoted};
+use crate::dressing::Body;
+use crate::empty::push_nothing;
+use crate::number_or_page::peek_number_or_page;
+use crate::usage::UsageInfo;
+use csl_context::{Context, RenderError};
+use csl_entry::{EntryLike, NumberOrPageVariableResult, NumberVariableResult, SpecialForm};
+use csl_style::{
+    Label, LabelPluralize, Locator, NumberOrPageVariable, NumberVariable, Term, Variable,
+};
+use csl_tree::ElemMeta;
+use lit_model::{MaybeTyped, Memory};
+
+/// What a label says.
+///
+/// # Errors
+/// [`Memory`]: there was no memory left, or the entry said so, or the context had failed.
+pub fn label_info<'s, T: EntryLike>(
+    ctx: &Context<'s, T>,
+    label: &Label,
+) -> Result<(bool, UsageInfo), Memory>
+    ensures { GivesBy info_view result (label_info (render_input T.answers ctx.now) ctx.now.state
+        label.now.variable (view_label label.now.label)) }
+{
+    match label_by_special_form(ctx.special_form(), label.variable) {
+        Some(prints) => Ok((prints, UsageInfo::default())),
+        None => {
+            let text = label_text(ctx, label)?;
+            Ok((text.is_some(), UsageInfo::default()))
+        }
+    }
+}
+
+/// Appends a label, whose variable is looked up silently.
+///
+/// # Errors
+/// [`RenderError::Memory`]: there was no memory left, or the entry said so. The context has failed.
+/// [`RenderError::Failed`]: the context had failed before.
+pub fn render_label<'s, T: EntryLike>(
+    label: &Label,
+    ctx: &mut Context<'s, T>,
+) -> Result<(), RenderError>
+    ensures { Appends T.answers (λ w. label_output w label.now.variable (view_label label.now.label))
+        result ctx.old ctx.new }
+{
+    if let Some(false) = label_by_special_form(ctx.special_form(), label.variable) {
+        return push_nothing(ctx);
+    }
+    match ctx.attempt(label_text(ctx, label))? {
+        Some(text) => {
+            let around = NodeDressing {
+                formatting: label.label.formatting,
+                affixes: &label.label.affixes,
+                display: None,
+                strip_periods: label.label.strip_periods,
+            };
+            render_unquoted(around, ctx, ElemMeta::Label, Body::Str(text))
+        }
+        None => push_nothing(ctx),
+    }
+}
+
+/// Whether the variable is the locator.
+fn is_locator(variable: NumberOrPageVariable) -> bool
+    ensures { result ≡ is_locator variable }
+{
+    match variable {
+        NumberOrPageVariable::Number(variable) => variable == NumberVariable::Locator,
+        NumberOrPageVariable::Page(_) => false,
+    }
+}
+
+/// Whether the first is a number, and another variable than the second.
+fn is_other_number(only: Variable, variable: NumberOrPageVariable) -> bool
+    ensures { result ≡ is_other_number only variable }
+{
+    match only {
+        Variable::Standard(_) => false,
+        Variable::Number(_) => only != Variable::from(variable),
+        Variable::Page(_) => false,
+        Variable::Name(_) => false,
+        Variable::Date(_) => false,
+    }
+}
+
+/// Any label but that of a locator stays.
+fn label_unless_locator(variable: NumberOrPageVariable) -> Option<bool>
+    ensures { result ≡ label_unless_locator variable }
+{
+    if is_locator(variable) {
+        None
+    } else {
+        Some(true)
+    }
+}
+
+/// What a special form says of a label of the variable without a look.
+fn label_by_special_form(form: Option<SpecialForm>, variable: NumberOrPageVariable) -> Option<bool>
+    ensures { result ≡ label_by_special_form form variable }
+{
+    match form {
+        None => None,
+        Some(SpecialForm::VarOnly(only)) => {
+            if is_other_number(only, variable) {
+                Some(false)
+            } else {
+                label_unless_locator(variable)
+            }
+        }
+        Some(SpecialForm::OnlyFirstDate) => label_unless_locator(variable),
+        Some(SpecialForm::OnlyYearSuffix) => label_unless_locator(variable),
+        Some(SpecialForm::SuppressAuthor) => None,
+    }
+}
+
+/// The term of a label of the variable: for a locator that of its kind, unless the kind is the
+/// citation's own.
+fn label_term<T>(ctx: &Context<'_, T>, variable: NumberOrPageVariable) -> Option<Term>
+    ensures { result ≡ label_term ctx.now.cite variable }
+{
+    if !is_locator(variable) {
+        return Some(Term::from(variable));
+    }
+    match ctx.instance().cite_props.speculative.locator {
+        Some(place) if place.0 != Locator::Custom => Some(Term::Locator(place.0)),
+        _ => None,
+    }
+}
+
+/// Whether the variable counts pages or volumes.
+fn is_count(variable: NumberOrPageVariable) -> bool
+    ensures { result ≡ is_count variable }
+{
+    match variable {
+        NumberOrPageVariable::Number(variable) => {
+            variable == NumberVariable::NumberOfPages || variable == NumberVariable::NumberOfVolumes
+        }
+        NumberOrPageVariable::Page(_) => false,
+    }
+}
+
+/// Whether a term beside the answer to a number variable is in the plural.
+fn plural_number(counts: bool, found: &NumberVariableResult<'_>) -> bool
+    ensures { result ≡ plural_number counts (result_view found.now) }
+{
+    match found {
+        NumberVariableResult::Regular(MaybeTyped::Typed(number)) => {
+            number.as_ref().is_plural(counts)
+        }
+        NumberVariableResult::Regular(MaybeTyped::String(_)) => false,
+        NumberVariableResult::Transparent(_) => false,
+    }
+}
+
+/// Whether a label is in the plural beside an answer. Beside pages it is where the pages are,
+/// whatever it asks for.
+fn is_plural(label: &Label, found: &NumberOrPageVariableResult<'_>) -> bool
+    ensures { result ≡ is_plural label.now.label.plural label.now.variable
+        (number_or_page_view found.now) }
+{
+    match found {
+        NumberOrPageVariableResult::Number(number) => match label.label.plural {
+            LabelPluralize::Contextual => plural_number(is_count(label.variable), number),
+            LabelPluralize::Always => true,
+            LabelPluralize::Never => false,
+        },
+        NumberOrPageVariableResult::Page(MaybeTyped::Typed(pages)) => pages.is_plural(),
+        NumberOrPageVariableResult::Page(MaybeTyped::String(_)) => false,
+    }
+}
+
+/// The text of a label, where its variable and its term are found. The look is silent.
+fn label_text<'s, T: EntryLike>(
+    ctx: &Context<'s, T>,
+    label: &Label,
+) -> Result<Option<&'s str>, Memory>
+    ensures { GivesBy (option_map (λ t. t.now)) result (label_text (render_input T.answers ctx.now)
+        ctx.now.state label.now.variable (view_label label.now.label)) }
+{
+    match peek_number_or_page(ctx, label.variable)? {
+        Some(found) => match label_term(ctx, label.variable) {
+            Some(term) => Ok(ctx.term(term, label.label.form, is_plural(label, &found))),
+            None => Ok(None),
+        },
+        None => Ok(None),
+    }
+}

@@ -1,0 +1,41 @@
+//! What the parts of a style that hold no other node make of a cite (CSL 1.0.2, Rendering
+//! Elements): texts of a variable, a term or a value, numbers, labels and dates, in a context that
+//! the caller lends; what a branch of a choice asks (Choose); what a dry run notes, and the group
+//! rule (Group).
+#![tactic(auto)]
+
+mod boxes;
+mod branch_conditions;
+mod condition;
+mod date;
+mod date_key;
+mod date_parts;
+mod date_suffix;
+mod date_text;
+mod dressing;
+mod empty;
+mod label;
+mod links;
+mod number;
+mod number_or_page;
+mod pages;
+mod resolved;
+mod special_form;
+mod text;
+mod usage;
+
+pub use branch_conditions::{BranchConditionIter, BranchConditionPos};
+pub use date::{date_info, date_shows, render_date};
+pub use date_key::full_sort_key;
+pub use dressing::{close_quotes, open_quotes};
+pub use empty::push_nothing;
+pub use label::{label_info, render_label};
+pub use number::{number_info, number_shows, render_number};
+pub use special_form::shows_macro_affixes;
+pub use text::{
+    render_term, render_value, render_variable, term_info, value_info, variable_info,
+    variable_shows,
+};
+pub use usage::{
+    UsageInfo, add_child_info, info_of_group, info_of_macro, no_info, without_group_flag,
+};

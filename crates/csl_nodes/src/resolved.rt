@@ -1,0 +1,177 @@
+//! What a text that calls no macro finds (CSL 1.0.2, Text: variable, term, value). No name and no
+//! date is found.
+
+ghost use Rattle.std.specs.Prelude.{◌≡◌, option_map};
+ghost use Rattle.lit_model.specs.Text.{chunks};
+ghost use Rattle.csl_style.specs.Node.{of_variable, of_term, of_value};
+ghost use Rattle.csl_entry.specs.Answers.{cow_view};
+ghost use Rattle.csl_entry.specs.NumberResult.{number_or_page_view};
+ghost use Rattle.csl_context.specs.World.{peek_standard};
+ghost use Rattle.csl_context.specs.ContextView.{Runs, GivesBy, render_input};
+ghost use Rattle.csl_nodes.specs.Text.{resolved_text, resolved_info, number_result, variable_state};
+ghost use Rattle.csl_nodes.specs.Resolved.{resolved_view};
+ghost use Rattle.csl_nodes.specs.UsageView.{info_view};
+
+use crate::number_or_page::{peek_number_or_page, resolve_number_or_page};
+use crate::special_form::{shows_terms_and_values, shows_variable};
+use crate::usage::UsageInfo;
+use csl_context::{Context, RenderError};
+use csl_entry::{EntryLike, NumberOrPageVariableResult};
+use csl_style::{NumberOrPageVariable, StandardVariable, Term, TermForm, Variable};
+use lit_model::{ChunkedString, LongShortForm, Memory};
+use std::borrow::Cow;
+
+/// What a text finds.
+#[derive(Drop)]
+pub(crate) enum ResolvedText<'a> {
+    /// The answer to a standard variable.
+    Answer(StandardVariable, Cow<'a, ChunkedString>),
+    /// The answer to a variable that holds a number or pages.
+    Numeral(NumberOrPageVariable, NumberOrPageVariableResult<'a>),
+    /// The text of a term.
+    Term(&'a str),
+    /// The value that the style gives.
+    Value(&'a str),
+}
+
+/// A silent look.
+pub(crate) fn peek_standard<'s, T: EntryLike>(
+    ctx: &Context<'s, T>,
+    form: LongShortForm,
+    variable: StandardVariable,
+) -> Result<Option<Cow<'s, ChunkedString>>, Memory>
+    ensures { GivesBy (option_map (cow_view chunks)) result
+        (peek_standard (render_input T.answers ctx.now) ctx.now.state form variable) }
+{
+    match ctx.peek_standard_variable(form, variable) {
+        Ok(found) => Ok(found),
+        Err(_) => Err(Memory),
+    }
+}
+
+/// What a text of a variable that holds a number or pages finds by its answer.
+fn number_result<'a>(
+    variable: NumberOrPageVariable,
+    answer: Option<NumberOrPageVariableResult<'a>>,
+) -> Option<ResolvedText<'a>>
+    ensures { option_map resolved_view result
+        ≡ option_map (number_result variable) (option_map number_or_page_view answer.entry) }
+{
+    match answer {
+        Some(answer) => Some(ResolvedText::Numeral(variable, answer)),
+        None => None,
+    }
+}
+
+/// What a text of the variable finds by a silent look.
+pub(crate) fn peek_text<'s, T: EntryLike>(
+    ctx: &Context<'s, T>,
+    form: LongShortForm,
+    variable: Variable,
+) -> Result<Option<ResolvedText<'s>>, Memory>
+    ensures { GivesBy (option_map resolved_view) result
+        (resolved_text (render_input T.answers ctx.now) ctx.now.state (of_variable variable form)) }
+{
+    if !shows_variable(ctx.special_form(), variable) {
+        return Ok(None);
+    }
+    match variable {
+        Variable::Standard(variable) => match peek_standard(ctx, form, variable)? {
+            Some(answer) => Ok(Some(ResolvedText::Answer(variable, answer))),
+            None => Ok(None),
+        },
+        Variable::Number(variable) => {
+            let variable = NumberOrPageVariable::Number(variable);
+            Ok(number_result(variable, peek_number_or_page(ctx, variable)?))
+        }
+        Variable::Page(variable) => {
+            let variable = NumberOrPageVariable::Page(variable);
+            Ok(number_result(variable, peek_number_or_page(ctx, variable)?))
+        }
+        Variable::Name(_) | Variable::Date(_) => Ok(None),
+    }
+}
+
+/// What a text of the variable finds by a look for printing.
+pub(crate) fn resolve_text<'s, T: EntryLike>(
+    ctx: &mut Context<'s, T>,
+    form: LongShortForm,
+    variable: Variable,
+) -> Result<Option<ResolvedText<'s>>, RenderError>
+    ensures value { GivesBy (option_map resolved_view) result
+        (resolved_text (render_input T.answers ctx.old) ctx.old.state (of_variable variable form)) }
+    ensures after { Runs (λ now. record now {
+      state = variable_state (render_input T.answers now) variable now.state;
+    }) result ctx.old ctx.new }
+{
+    ctx.ensure_live()?;
+    if !shows_variable(ctx.special_form(), variable) {
+        return Ok(None);
+    }
+    match variable {
+        Variable::Standard(variable) => match ctx.resolve_standard_variable(form, variable)? {
+            Some(answer) => Ok(Some(ResolvedText::Answer(variable, answer))),
+            None => Ok(None),
+        },
+        Variable::Number(variable) => {
+            let variable = NumberOrPageVariable::Number(variable);
+            Ok(number_result(variable, resolve_number_or_page(ctx, variable)?))
+        }
+        Variable::Page(variable) => {
+            let variable = NumberOrPageVariable::Page(variable);
+            Ok(number_result(variable, resolve_number_or_page(ctx, variable)?))
+        }
+        Variable::Name(_) | Variable::Date(_) => Ok(None),
+    }
+}
+
+/// What a text of the term finds.
+pub(crate) fn resolved_term<'s, T: EntryLike>(
+    ctx: &Context<'s, T>,
+    term: Term,
+    form: TermForm,
+    plural: bool,
+) -> Option<ResolvedText<'s>>
+    ensures { option_map resolved_view result
+        ≡ resolved_text (render_input T.answers ctx.now) ctx.now.state (of_term term form plural) }
+{
+    if !shows_terms_and_values(ctx.special_form()) {
+        return None;
+    }
+    match ctx.term(term, form, plural) {
+        Some(words) => Some(ResolvedText::Term(words)),
+        None => None,
+    }
+}
+
+/// What a text of the value finds.
+pub(crate) fn resolved_value<'a, T: EntryLike>(
+    ctx: &Context<'_, T>,
+    value: &'a str,
+) -> Option<ResolvedText<'a>>
+    ensures { option_map resolved_view result
+        ≡ resolved_text (render_input T.answers ctx.now) ctx.now.state (of_value value.now) }
+{
+    if shows_terms_and_values(ctx.special_form()) {
+        Some(ResolvedText::Value(value))
+    } else {
+        None
+    }
+}
+
+/// What a text says by what it finds. `called` is whether one that finds nothing calls its
+/// variable.
+pub(crate) fn resolved_info(called: bool, found: &Option<ResolvedText<'_>>) -> (bool, UsageInfo)
+    ensures { info_view result ≡ resolved_info called (option_map resolved_view found.now) }
+{
+    match found {
+        None => (false, UsageInfo::of_variable(called, false)),
+        Some(ResolvedText::Answer(_, text)) => {
+            let prints = !text.as_ref().is_empty();
+            (prints, UsageInfo::of_variable(true, prints))
+        }
+        Some(ResolvedText::Numeral(..)) => (true, UsageInfo::of_variable(true, true)),
+        Some(ResolvedText::Term(_)) => (true, UsageInfo::default()),
+        Some(ResolvedText::Value(text)) => (!text.is_empty(), UsageInfo::default()),
+    }
+}

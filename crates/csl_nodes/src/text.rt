@@ -1,0 +1,260 @@
+//! Texts that call no macro: of a variable, a term and a value (CSL 1.0.2, Text; Terms; Appendix
+//! VI: Links).
+
+ghost use Rattle.std.specs.Prelude.{◌≡◌, ◌++◌, if◌then◌else◌, Some, string_bytes, IfOk};
+ghost use Rattle.lit_model.specs.Text.{chunks};
+ghost use Rattle.lit_model.specs.Chunks.{chunks_text};
+ghost use Rattle.csl_style.specs.Node.{of_variable, of_term, of_value};
+ghost use Rattle.csl_style.specs.View.{text_dressing};
+ghost use Rattle.csl_tree.specs.Tokens.{meta_of};
+ghost use Rattle.csl_context.specs.ContextView.{Runs, GivesBy, render_input};
+ghost use Rattle.csl_nodes.specs.Text.{Appends, standard_text, render_output, in_body, text_box, calls_variable, resolved_affixes, standard_meta, numeral_meta, resolved_meta, resolved_body, resolved_content, target_info, target_shows, text_output, with_output};
+ghost use Rattle.csl_nodes.specs.Resolved.{resolved_view};
+ghost use Rattle.csl_nodes.specs.UsageView.{info_view};
+
+use crate::dressing::{Body, render_body};
+use crate::empty::push_nothing;
+use crate::links::{address, address_prefix, begins_link};
+use crate::number_or_page::text_node_text;
+use crate::resolved::{
+    ResolvedText, peek_text, resolve_text, resolved_info, resolved_term, resolved_value,
+};
+use crate::usage::UsageInfo;
+use csl_context::{Context, RenderError};
+use csl_entry::EntryLike;
+use csl_style::{
+    Affixes, NumberOrPageVariable, NumberVariable, StandardVariable, Term, TermForm, Text, Variable,
+};
+use csl_tree::ElemMeta;
+use lit_model::{ChunkedString, LongShortForm, Memory};
+use std::alloc::Global;
+
+/// Whether a text calls the variable where it finds nothing.
+fn calls_variable(variable: Variable) -> bool
+    ensures { result ≡ calls_variable variable }
+{
+    match variable {
+        Variable::Standard(variable) => variable != StandardVariable::YearSuffix,
+        Variable::Number(_) => true,
+        Variable::Page(_) => true,
+        Variable::Name(_) => true,
+        Variable::Date(_) => true,
+    }
+}
+
+/// What a text of a variable says.
+///
+/// # Errors
+/// [`Memory`]: there was no memory left, or the entry said so, or the context had failed.
+pub fn variable_info<'s, T: EntryLike>(
+    ctx: &Context<'s, T>,
+    form: LongShortForm,
+    variable: Variable,
+) -> Result<(bool, UsageInfo), Memory>
+    ensures { GivesBy info_view result (target_info (render_input T.answers ctx.now) ctx.now.state
+        (of_variable variable form)) }
+{
+    let found = peek_text(ctx, form, variable)?;
+    Ok(resolved_info(calls_variable(variable), &found))
+}
+
+/// Whether a text of a variable shows the variable that is asked for.
+///
+/// # Errors
+/// As [`variable_info`].
+pub fn variable_shows<'s, T: EntryLike>(
+    ctx: &Context<'s, T>,
+    form: LongShortForm,
+    variable: Variable,
+    asked: Variable,
+) -> Result<bool, Memory>
+    ensures { GivesBy (λ standard_text. standard_text) result (target_shows (render_input T.answers ctx.now)
+        ctx.now.state asked (of_variable variable form)) }
+{
+    let found = peek_text(ctx, form, variable)?;
+    Ok(found.is_some() && variable == asked)
+}
+
+/// What a text of a term says.
+pub fn term_info<'s, T: EntryLike>(
+    ctx: &Context<'s, T>,
+    term: Term,
+    form: TermForm,
+    plural: bool,
+) -> (bool, UsageInfo)
+    ensures { info_view result ≡ target_info (render_input T.answers ctx.now) ctx.now.state
+        (of_term term form plural) }
+{
+    resolved_info(false, &resolved_term(ctx, term, form, plural))
+}
+
+/// What a text of a value says.
+pub fn value_info<'s, T: EntryLike>(ctx: &Context<'s, T>, value: &str) -> (bool, UsageInfo)
+    ensures { info_view result ≡ target_info (render_input T.answers ctx.now) ctx.now.state
+        (of_value value.now) }
+{
+    resolved_info(false, &resolved_value(ctx, value))
+}
+
+/// Appends a text of a variable, which is looked up for printing.
+///
+/// # Errors
+/// [`RenderError::Memory`]: there was no memory left, or the entry said so. The context has failed.
+/// [`RenderError::Failed`]: the context had failed before.
+pub fn render_variable<'s, T: EntryLike>(
+    text: &Text,
+    ctx: &mut Context<'s, T>,
+    form: LongShortForm,
+    variable: Variable,
+) -> Result<(), RenderError>
+    ensures { Appends T.answers (λ w. text_output w
+        (of_variable variable form) (text_dressing text.now)) result ctx.old ctx.new }
+{
+    match resolve_text(ctx, form, variable)? {
+        Some(found) => render_found(text, ctx, &found),
+        None => push_nothing(ctx),
+    }
+}
+
+/// Appends a text of a term.
+///
+/// # Errors
+/// [`RenderError::Memory`]: there was no memory left. The context has failed.
+/// [`RenderError::Failed`]: the context had failed before.
+pub fn render_term<'s, T: EntryLike>(
+    text: &Text,
+    ctx: &mut Context<'s, T>,
+    term: Term,
+    form: TermForm,
+    plural: bool,
+) -> Result<(), RenderError>
+    ensures { Appends T.answers (λ w. text_output w
+        (of_term term form plural) (text_dressing text.now)) result ctx.old ctx.new }
+{
+    match resolved_term(ctx, term, form, plural) {
+        Some(found) => render_found(text, ctx, &found),
+        None => push_nothing(ctx),
+    }
+}
+
+/// Appends a text of a value.
+///
+/// # Errors
+/// As [`render_term`].
+pub fn render_value<'s, T: EntryLike>(
+    text: &Text,
+    ctx: &mut Context<'s, T>,
+    value: &str,
+) -> Result<(), RenderError>
+    ensures { Appends T.answers (λ w. text_output w (of_value value.now) (text_dressing text.now))
+        result ctx.old ctx.new }
+{
+    match resolved_value(ctx, value) {
+        Some(found) => render_found(text, ctx, &found),
+        None => push_nothing(ctx),
+    }
+}
+
+/// Which node a text of the variable is said to be.
+fn standard_meta(variable: StandardVariable) -> ElemMeta
+    ensures { meta_of result ≡ standard_meta variable }
+{
+    if variable == StandardVariable::CitationLabel {
+        ElemMeta::CitationLabel
+    } else {
+        ElemMeta::Text
+    }
+}
+
+/// Which node a text of the variable is said to be.
+fn numeral_meta(variable: NumberOrPageVariable) -> ElemMeta
+    ensures { meta_of result ≡ numeral_meta variable }
+{
+    match variable {
+        NumberOrPageVariable::Number(variable) => {
+            if variable == NumberVariable::CitationNumber {
+                ElemMeta::CitationNumber
+            } else {
+                ElemMeta::Text
+            }
+        }
+        NumberOrPageVariable::Page(_) => ElemMeta::Text,
+    }
+}
+
+/// The address and the text of a link to an answer behind a prefix.
+fn linked(
+    alloc: Global,
+    prefix: &str,
+    found: &ChunkedString,
+    begins: bool,
+) -> Result<(String, String), Memory>
+    ensures url { IfOk result (λ link. string_bytes link.0
+        ≡ prefix.now ++ chunks_text (chunks found.now)) }
+    ensures text { IfOk result (λ link. string_bytes link.1 ≡ (if begins
+        then prefix.now ++ chunks_text (chunks found.now) else chunks_text (chunks found.now))) }
+{
+    let url = address(alloc, prefix, found)?;
+    let text = if begins {
+        address(alloc, prefix, found)?
+    } else {
+        found.to_text(alloc)?
+    };
+    Ok((url, text))
+}
+
+/// Appends a text of a standard variable that has this answer: as a link, where the variable names
+/// an address, else as it stands.
+fn render_answer<'s, T: EntryLike>(
+    text: &Text,
+    ctx: &mut Context<'s, T>,
+    variable: StandardVariable,
+    found: &ChunkedString,
+) -> Result<(), RenderError>
+    ensures { Runs (λ now. with_output (render_output (text_box now.style (resolved_affixes
+        (text_dressing text.now) (standard_text variable (chunks found.now))) (text_dressing text.now)
+        (resolved_meta (standard_text variable (chunks found.now))) now.inherited (resolved_body now.style
+        (text_dressing text.now) (in_body (text_dressing text.now) now.inherited)
+        (standard_text variable (chunks found.now)))) now.state) now) result ctx.old ctx.new }
+{
+    let bare = Affixes::default();
+    let begins = begins_link(text, variable);
+    let affixes = if begins { &bare } else { &text.affixes };
+    let meta = Some(standard_meta(variable));
+    let Some(prefix) = address_prefix(variable) else {
+        return render_body(text, ctx, affixes, meta, Body::Chunks(found));
+    };
+    let (url, shown) = ctx.attempt(linked(ctx.alloc(), prefix, found, begins))?;
+    let body = Body::Link {
+        text: shown.as_str(),
+        url: url.as_str(),
+    };
+    render_body(text, ctx, affixes, meta, body)
+}
+
+/// Appends a text by what it finds.
+pub(crate) fn render_found<'s, T: EntryLike>(
+    text: &Text,
+    ctx: &mut Context<'s, T>,
+    found: &ResolvedText<'_>,
+) -> Result<(), RenderError>
+    ensures { Runs (λ now. with_output (render_output (resolved_content (render_input T.answers now)
+        (text_dressing text.now) now.inherited (Some (resolved_view found.now))) now.state) now)
+        result ctx.old ctx.new }
+{
+    match found {
+        ResolvedText::Answer(variable, answer) => render_answer(
+            text,
+            ctx,
+            *variable,
+            answer.as_ref(),
+        ),
+        ResolvedText::Numeral(variable, answer) => {
+            let meta = Some(numeral_meta(*variable));
+            let shown = ctx.attempt(text_node_text(ctx, answer))?;
+            render_body(text, ctx, &text.affixes, meta, Body::Number(&shown))
+        }
+        ResolvedText::Term(words) => render_body(text, ctx, &text.affixes, None, Body::Str(words)),
+        ResolvedText::Value(words) => render_body(text, ctx, &text.affixes, None, Body::Str(words)),
+    }
+}

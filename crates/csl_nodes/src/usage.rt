@@ -1,0 +1,107 @@
+//! What a dry run notes (CSL 1.0.2, Group).
+
+ghost use Rattle.std.specs.Prelude.{◌≡◌, true, false};
+ghost use Rattle.csl_nodes.specs.Flags.{merge_child, should_render_group, usage_flags, info_union, as_child_info, without_group_flag, group_info, macro_info, no_info};
+ghost use Rattle.csl_nodes.specs.UsageView.{usage_flags_of, info_view};
+
+/// What a dry run notes of a node's variables, macros and groups.
+#[derive(Clone, Copy, Default)]
+pub struct UsageInfo {
+    /// A variable is called.
+    pub has_vars: bool,
+    /// A variable that is called is not empty.
+    pub has_non_empty_vars: bool,
+    /// A text of a macro prints.
+    pub has_used_macros: bool,
+    /// A group among the children prints.
+    pub has_non_empty_group: bool,
+}
+
+impl UsageInfo {
+    /// Whether a variable is called, and whether it is not empty.
+    pub(crate) fn of_variable(called: bool, non_empty: bool) -> UsageInfo
+        ensures { usage_flags_of result ≡ usage_flags called non_empty false false }
+    {
+        UsageInfo {
+            has_vars: called,
+            has_non_empty_vars: non_empty,
+            has_used_macros: false,
+            has_non_empty_group: false,
+        }
+    }
+
+    /// Joins what a child notes to what its parent does, but for the group flag, which stays the
+    /// parent's.
+    pub fn merge_child(self, child: UsageInfo) -> UsageInfo
+        ensures { usage_flags_of result ≡ merge_child (usage_flags_of self) (usage_flags_of child) }
+    {
+        UsageInfo {
+            has_vars: self.has_vars || child.has_vars,
+            has_non_empty_vars: self.has_non_empty_vars || child.has_non_empty_vars,
+            has_used_macros: self.has_used_macros || child.has_used_macros,
+            has_non_empty_group: self.has_non_empty_group,
+        }
+    }
+
+    /// The group rule (CSL 1.0.2, Group): a group is left out whose variables are called and are
+    /// all empty, unless a macro or a group in it prints.
+    pub fn should_render_group(self) -> bool
+        ensures { result ≡ should_render_group (usage_flags_of self) }
+    {
+        !self.has_vars
+            || self.has_non_empty_vars
+            || self.has_used_macros
+            || self.has_non_empty_group
+    }
+}
+
+/// What a node says that prints nothing and calls no variable.
+pub fn no_info() -> (bool, UsageInfo)
+    ensures { info_view result ≡ no_info }
+{
+    (false, UsageInfo::default())
+}
+
+/// What is said so far, joined by what a child says.
+#[tactic(auto, unfolding(crate::specs::Flags::info_union))]
+pub fn add_child_info(
+    all: (bool, UsageInfo),
+    child: (bool, UsageInfo),
+    is_group: bool,
+) -> (bool, UsageInfo)
+    ensures { info_view result ≡ info_union (info_view all) (as_child_info is_group (info_view child)) }
+{
+    let mut usage = all.1.merge_child(child.1);
+    if is_group && child.0 {
+        usage.has_non_empty_group = true;
+    }
+    (all.0 || child.0, usage)
+}
+
+/// What the nodes of a layout or a macro say: no group among them is counted.
+pub fn without_group_flag(said: (bool, UsageInfo)) -> (bool, UsageInfo)
+    ensures { info_view result ≡ without_group_flag (info_view said) }
+{
+    let (prints, mut usage) = said;
+    usage.has_non_empty_group = false;
+    (prints, usage)
+}
+
+/// What a group says, by what its children say.
+pub fn info_of_group(said: (bool, UsageInfo)) -> (bool, UsageInfo)
+    ensures { info_view result ≡ group_info (info_view said) }
+{
+    let (prints, usage) = said;
+    (prints && usage.should_render_group(), usage)
+}
+
+/// What a text of a macro says, by what the macro's nodes say.
+pub fn info_of_macro(said: (bool, UsageInfo)) -> (bool, UsageInfo)
+    ensures { info_view result ≡ macro_info (info_view said) }
+{
+    let (prints, mut usage) = said;
+    let shows = usage.should_render_group() && prints;
+    usage.has_used_macros = shows;
+    usage.has_non_empty_group = false;
+    (shows, usage)
+}

@@ -1,0 +1,56 @@
+-- What a layout *prints* of a cite that begins with the state of another rendering (CSL 1.0.2,
+-- Layout): the content and the state that it makes from that state, and the HTML of the content.
+-- Two entries, of one type or of two, are *alike* for a layout if they answer alike on all that it
+-- and the macros that it reaches name. Then the layout prints the same of both, in one style and
+-- cite and from one state: content, state and HTML. It may also print the same of entries that are
+-- not alike, because both forms of a title are compared and every branch counts, chosen or not.
+use Rattle.std.specs.Prelude.{◌≡◌, ℕ, List, Option}
+use Rattle.csl_style.specs.declared.element.Layout.{Layout}
+use Rattle.csl_style.specs.declared.style.settings.Scope.{Scope}
+use Rattle.csl_style.specs.Node.{expand_layout}
+use Rattle.csl_style.specs.Style.{StyleParts}
+use Rattle.csl_style.specs.View.{view_layout}
+use Rattle.csl_style.specs.Expanded.{macro_env}
+use Rattle.csl_tree.specs.Tokens.{tokens}
+use Rattle.csl_tree.specs.Writing.{text_in_format}
+use Rattle.csl_tree.specs.declared.elem.BufWriteFormat.TheVariants.{Html}
+use Rattle.csl_entry.specs.Answers.{Answers}
+use Rattle.csl_entry.specs.Cite.{CiteState}
+use Rattle.csl_entry.specs.declared.cite.Sorting.{Sorting}
+use Rattle.csl_entry.specs.declared.cite.SpecialForm.{SpecialForm}
+use Rattle.csl_context.specs.declared.context.Rendered.{Rendered}
+use Rattle.csl_context.specs.LeftState.{left_state_view}
+use Rattle.csl_context.specs.ContextView.{base_inherited}
+use Rattle.csl_context.specs.State.{State}
+use Rattle.csl_context.specs.World.{RenderInput}
+use Rattle.csl_nodes.specs.Text.{RenderOutput, render_output}
+use Rattle.csl_render.specs.Tree.{layout_output}
+
+-- the world of a cite of an entry with these answers
+abbrev pub cite_input : StyleParts → Scope → CiteState → Option Sorting → Option SpecialForm → Answers → RenderInput
+cite_input style scope cite sorting special answers = record {
+  style = style;
+  scope = scope;
+  instance = record { answers = answers; cite = cite; sorting = sorting; special = special };
+}
+
+-- the world of a cite with the answers of another entry
+abbrev pub with_answers : Answers → RenderInput → RenderInput
+with_answers answers w = record w { instance = record w.instance { answers = answers } }
+
+abbrev pub layout_output_from : State → RenderInput → Layout → RenderOutput
+layout_output_from s w l = layout_output w (expand_layout (macro_env w.style) (view_layout l)) (base_inherited w.style w.scope) s
+
+-- what a finished rendering is: its content and its state
+abbrev pub output_of : Rendered → RenderOutput
+output_of r = render_output (tokens r.content) (left_state_view r.state)
+
+-- a rendering of that content and that state, with its HTML
+pub record Prints (m : RenderOutput) (r : Rendered) (bytes : List ℕ) : Type 0 where
+  pub rendering : output_of r ≡ m
+  pub html : bytes ≡ text_in_format Html m.content
+
+-- two renderings, each with its HTML, that are the same in all three
+pub record PrintsSame (r : Rendered) (bytes : List ℕ) (other : Rendered) (others : List ℕ) : Type 0 where
+  pub rendering : output_of r ≡ output_of other
+  pub html : bytes ≡ others

@@ -1,0 +1,54 @@
+//! The labels and the kinds of the built-in entries.
+
+ghost use Rattle.std.specs.Prelude.{◌≡◌, IfOk, string_bytes};
+ghost use Rattle.csl_samples.specs.Entries.{IsBuiltIn, label_text, is_built_in_kind};
+
+use crate::entries::BuiltIn;
+use csl_entry::{Alphanumerical, EntryLike};
+use csl_style::Kind;
+use lit_model::{Entry, Memory};
+use std::alloc::Global;
+
+impl BuiltIn {
+    /// The label of the entry, with three letters.
+    ///
+    /// # Errors
+    /// [`Memory`]: there was no memory left.
+    pub fn label(self, alloc: Global) -> Result<String, Memory>
+        ensures { IfOk result (λ label. string_bytes label ≡ label_text self) }
+    {
+        let work = self.entry(alloc)?;
+        let label = label_of(alloc, self, &work);
+        drop(work);
+        label
+    }
+
+    /// Whether the entry is of a kind.
+    ///
+    /// # Errors
+    /// [`Memory`]: there was no memory left.
+    pub fn is_of_kind(self, alloc: Global, kind: Kind) -> Result<bool, Memory>
+        ensures { IfOk result (λ answer. answer ≡ is_built_in_kind kind self) }
+    {
+        let work = self.entry(alloc)?;
+        let answer = is_of_kind(self, kind, &work);
+        drop(work);
+        Ok(answer)
+    }
+}
+
+/// The label, with three letters, of what shows a built-in entry.
+fn label_of(alloc: Global, entry: BuiltIn, work: &Entry) -> Result<String, Memory>
+    requires { IsBuiltIn entry work.now }
+    ensures { IfOk result (λ label. string_bytes label ≡ label_text entry) }
+{
+    Alphanumerical::new().citation(alloc, work)
+}
+
+/// Whether what shows a built-in entry is of a kind.
+fn is_of_kind(entry: BuiltIn, kind: Kind, work: &Entry) -> bool
+    requires { IsBuiltIn entry work.now }
+    ensures { result ≡ is_built_in_kind kind entry }
+{
+    work.matches_entry_type(kind)
+}

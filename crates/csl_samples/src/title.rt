@@ -1,0 +1,152 @@
+//! An entry that has a title and nothing else, and the style that it is cited in.
+
+ghost use Rattle.std.specs.Prelude.{◌≡◌, IfOk};
+ghost use Rattle.csl_style.specs.View.{view_node, view_layout};
+ghost use Rattle.csl_samples.specs.Title.{label, title_text, title_group, title_layout, CitesTitles};
+
+use csl_entry::EntryLike;
+use csl_style::{
+    Affixes, DateVariable, Formatting, Group, Kind, Layout, LayoutRenderingElement, NameVariable,
+    NumberVariable, PageVariable, StandardVariable, Style, StyleError, StyleSettings, Text,
+    Variable,
+};
+use lit_model::{
+    ChunkedString, Date, LongShortForm, MaybeTyped, Memory, Numeric, PageRanges, Person,
+};
+use std::alloc::Global;
+use std::borrow::{Cow, CowStr};
+
+/// An entry that has a title and nothing else.
+#[derive(Drop)]
+pub struct TitleOnly {
+    pub title: ChunkedString,
+}
+
+impl EntryLike for TitleOnly {
+    ghost use Rattle.std.specs.Prelude.{[], None};
+    ghost use Rattle.lit_model.specs.Text.{chunks};
+    ghost use Rattle.csl_samples.specs.Title.{title_answers};
+
+    ghost answers = { λ entry. title_answers (chunks entry.title) };
+
+    ghost key_text = { λ _. [] };
+
+    ghost english = { λ _. None };
+
+    fn resolve_number_variable(
+        &self,
+        _alloc: Global,
+        _variable: NumberVariable,
+    ) -> Result<Option<MaybeTyped<Cow<'_, Numeric>>>, Memory> {
+        Ok(None)
+    }
+
+    fn resolve_page_variable(
+        &self,
+        _alloc: Global,
+        _variable: PageVariable,
+    ) -> Result<Option<MaybeTyped<PageRanges>>, Memory> {
+        Ok(None)
+    }
+
+    fn resolve_standard_variable(
+        &self,
+        _alloc: Global,
+        _form: LongShortForm,
+        variable: StandardVariable,
+    ) -> Result<Option<Cow<'_, ChunkedString>>, Memory> {
+        match variable {
+            StandardVariable::Title => Ok(Some(Cow::Borrowed(&self.title))),
+            _ => Ok(None),
+        }
+    }
+
+    fn resolve_name_variable(
+        &self,
+        alloc: Global,
+        _variable: NameVariable,
+    ) -> Result<Vec<Cow<'_, Person>>, Memory> {
+        Ok(Vec::new(alloc))
+    }
+
+    fn resolve_date_variable(
+        &self,
+        _alloc: Global,
+        _variable: DateVariable,
+    ) -> Result<Option<Cow<'_, Date>>, Memory> {
+        Ok(None)
+    }
+
+    fn matches_entry_type(&self, _kind: Kind) -> bool {
+        false
+    }
+
+    fn is_english(&self) -> Option<bool> {
+        None
+    }
+
+    fn key(&self) -> CowStr<'_, Global> {
+        CowStr::Borrowed("")
+    }
+}
+
+/// The word `Title`.
+fn label(alloc: Global) -> Result<LayoutRenderingElement, Memory>
+    ensures { IfOk result (λ made. view_node made ≡ label) }
+{
+    Ok(Text::value(alloc, "Title")?.into())
+}
+
+/// The title in italics.
+fn title_text() -> LayoutRenderingElement
+    ensures { view_node result ≡ title_text }
+{
+    let title = Variable::Standard(StandardVariable::Title);
+    Text {
+        formatting: Formatting::italic(),
+        ..Text::variable(title)
+    }
+    .into()
+}
+
+/// The word and the title in parentheses.
+#[tactic(auto, using(csl_style::proofs::Rolled::group_made))]
+fn title_group(alloc: Global) -> Result<LayoutRenderingElement, Memory>
+    ensures { IfOk result (λ group. view_node group ≡ title_group) }
+{
+    let label = label(alloc)?;
+    let children = vec![in alloc; label, title_text()]?;
+    let affixes = Affixes::around(alloc, "(", ")")?;
+    Ok(Group {
+        affixes,
+        ..Group::delimited(alloc, ": ", children)?
+    }
+    .into())
+}
+
+/// A layout of that group alone.
+fn title_layout(alloc: Global) -> Result<Layout, Memory>
+    ensures { IfOk result (λ layout. view_layout layout ≡ title_layout) }
+{
+    let group = title_group(alloc)?;
+    let elements = vec![in alloc; group]?;
+    Ok(Layout::new(elements))
+}
+
+/// The style that titles are cited in: a layout of citations, and no macros and locales.
+///
+/// # Errors
+/// [`Memory`]: there was no memory left.
+pub fn title_style(alloc: Global) -> Result<Style, Memory>
+    ensures { IfOk result CitesTitles }
+{
+    let citation = title_layout(alloc)?;
+    let settings = StyleSettings::default();
+    let (macros, locales) = (Vec::new(alloc), Vec::new(alloc));
+    match Style::new(alloc, settings, macros, citation, None, locales) {
+        Ok(style) => Ok(style),
+        Err(StyleError::Memory) => Err(Memory),
+        // No macro leads back to itself where there is none, and no page format is asked for.
+        Err(_) => unreachable!(),
+    }
+}

@@ -1,0 +1,153 @@
+//! Which macros of a style call which, by their places in its list.
+
+ghost use Rattle.std.specs.Prelude.{◌≡◌, ◌<◌, [], ◌∷◌, ◌++◌, length, IfOk, OnOk, IfSome};
+ghost use Rattle.std.specs.Option.{option_to_list};
+ghost use Rattle.csl_style.specs.GraphReach.{InRange};
+ghost use Rattle.csl_style.specs.View.{definitions, view_node, view_choose, view_child, view_nodes, substitutes};
+ghost use Rattle.csl_style.specs.Expansion.{macro_index};
+ghost use Rattle.csl_style.specs.Calls.{calls_in, calls_in_all, calls_in_substitutes, IsCallGraph, ArePlacesByName};
+
+use crate::element::{Choose, CslMacro, LayoutRenderingElement, NamesChild};
+use crate::text::TextTarget;
+use std::alloc::{AllocError, Global};
+use std::collections::HashMap;
+
+/// The place of the first macro of a name.
+fn macro_index(name: &str, macros: &[CslMacro]) -> Option<usize>
+    ensures value { result ≡ macro_index name.now (definitions macros.now) }
+    ensures within { IfSome result (λ i. i < length macros.now) }
+{
+    for (i, m) in macros.iter().enumerate() {
+        if m.name.as_str() == name {
+            return Some(i);
+        }
+    }
+    None
+}
+
+/// Adds the place of the first macro of a name, where there is one.
+fn add_place(name: &str, macros: &[CslMacro], places: &mut Vec<usize>) -> Result<(), AllocError>
+    ensures { OnOk result (places.new.items ≡ places.old.items
+        ++ option_to_list (macro_index name.now (definitions macros.now))) }
+{
+    if let Some(i) = macro_index(name, macros) {
+        places.push(i)?;
+    }
+    Ok(())
+}
+
+/// Adds the places that an element calls.
+#[cycle(calls)]
+fn add_calls(
+    element: &LayoutRenderingElement,
+    macros: &[CslMacro],
+    places: &mut Vec<usize>,
+) -> Result<(), AllocError>
+    ensures { OnOk result (places.new.items ≡ places.old.items
+        ++ calls_in (definitions macros.now) (view_node element.now)) }
+{
+    match element {
+        LayoutRenderingElement::Text(text) => match &text.target {
+            TextTarget::Macro { name } => add_place(name.as_str(), macros, places),
+            TextTarget::Variable { .. } | TextTarget::Term { .. } | TextTarget::Value { .. } => {
+                Ok(())
+            }
+        },
+        LayoutRenderingElement::Number(_)
+        | LayoutRenderingElement::Label(_)
+        | LayoutRenderingElement::Date(_) => Ok(()),
+        LayoutRenderingElement::Names(names) => {
+            for child in &names.children {
+                add_child_calls(child, macros, places)?;
+            }
+            Ok(())
+        }
+        LayoutRenderingElement::Choose(choose) => add_choose_calls(choose, macros, places),
+        LayoutRenderingElement::Group(group) => add_all_calls(&group.children, macros, places),
+    }
+}
+
+/// Adds the places that elements call.
+#[cycle(calls)]
+fn add_all_calls(
+    elements: &Vec<LayoutRenderingElement>,
+    macros: &[CslMacro],
+    places: &mut Vec<usize>,
+) -> Result<(), AllocError>
+    ensures { OnOk result (places.new.items ≡ places.old.items
+        ++ calls_in_all (definitions macros.now) (view_nodes elements.now.items)) }
+{
+    for element in elements {
+        add_calls(element, macros, places)?;
+    }
+    Ok(())
+}
+
+/// Adds the places that the branches of a choose call, and then those of its otherwise.
+#[cycle(calls)]
+fn add_choose_calls(
+    choose: &Choose,
+    macros: &[CslMacro],
+    places: &mut Vec<usize>,
+) -> Result<(), AllocError>
+    ensures { OnOk result (places.new.items ≡ places.old.items
+        ++ calls_in (definitions macros.now) (view_choose choose.now)) }
+{
+    add_all_calls(&choose.if_.children, macros, places)?;
+    for branch in &choose.else_if {
+        add_all_calls(&branch.children, macros, places)?;
+    }
+    match &choose.otherwise {
+        Some(otherwise) => add_all_calls(otherwise, macros, places),
+        None => Ok(()),
+    }
+}
+
+/// Adds the places that a child of names calls: those of a substitute.
+#[cycle(calls)]
+fn add_child_calls(
+    child: &NamesChild,
+    macros: &[CslMacro],
+    places: &mut Vec<usize>,
+) -> Result<(), AllocError>
+    ensures { OnOk result (places.new.items ≡ places.old.items
+        ++ calls_in_substitutes (definitions macros.now)
+        (substitutes (view_child child.now ∷ []))) }
+{
+    match child {
+        NamesChild::Name(_) | NamesChild::EtAl(_) | NamesChild::Label(_) => Ok(()),
+        NamesChild::Substitute(substitute) => {
+            add_all_calls(&substitute.children, macros, places)
+        }
+    }
+}
+
+/// What each macro calls: row i lists the places that the macro at place i calls.
+pub(crate) fn call_graph(alloc: Global, macros: &[CslMacro]) -> Result<Vec<Vec<usize>>, AllocError>
+    ensures calls { IfOk result (λ graph. IsCallGraph (definitions macros.now) graph.items) }
+    ensures range { IfOk result (λ graph. InRange graph.items (length graph.items)) }
+{
+    let mut graph = Vec::new(alloc);
+    for m in macros {
+        let mut row = Vec::new(alloc);
+        add_all_calls(&m.children, macros, &mut row)?;
+        graph.push(row)?;
+    }
+    Ok(graph)
+}
+
+/// The place of the first macro of each name.
+pub(crate) fn places_by_name(
+    alloc: Global,
+    macros: &[CslMacro],
+) -> Result<HashMap<String, usize>, AllocError>
+    ensures { IfOk result (λ places. ArePlacesByName places (definitions macros.now)) }
+{
+    let mut places = HashMap::new(alloc);
+    for (i, m) in macros.iter().enumerate() {
+        if !places.contains_key(m.name.as_str()) {
+            places.insert(m.name.clone()?, i)?;
+        }
+    }
+    Ok(places)
+}

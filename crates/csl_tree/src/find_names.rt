@@ -1,0 +1,143 @@
+//! The first element that a `cs:names` made, as a mutable reference.
+
+ghost use Rattle.std.specs.Prelude.{◌≡◌, ◌<◌, Some, None, IsTrue, is_some, vec_len, IfSome, IfNone, option_map};
+ghost use Rattle.std.specs.Borrow.{sem};
+ghost use Rattle.std.specs.List.{find};
+ghost use Rattle.csl_tree.specs.Search.{preorder, is_names, elem_of};
+ghost use Rattle.csl_tree.specs.Places.{child_at};
+ghost use Rattle.csl_tree.specs.NamesSearch.{is_here, is_found, find_of_child, find_at, found_or, names_find, names_below, names_index, names_items, lends_names_items, lends_names_child, lends_elem, lends_that_names, lends_names, any_is_here, here_index, first_names};
+
+use crate::elem::{Elem, ElemChild, ElemChildren, ElemMeta};
+
+impl ElemChild {
+    /// Whether a `cs:names` made the child.
+    fn is_names(&self) -> bool
+        ensures { result ≡ is_here (find_of_child self.now) }
+    {
+        match self {
+            ElemChild::Elem(elem) => matches!(elem.meta, Some(ElemMeta::Names(_))),
+            _ => false,
+        }
+    }
+
+    /// Whether a `cs:names` made the child or an element inside it.
+    #[cycle(find)]
+    fn has_names(&self) -> bool
+        ensures { result ≡ is_found (find_of_child self.now) }
+    {
+        if self.is_names() {
+            return true;
+        }
+        match self {
+            ElemChild::Elem(elem) => elem.children.names_at().is_some(),
+            _ => false,
+        }
+    }
+
+    /// The element that the child is, as a mutable reference.
+    fn elem_mut(&mut self) -> &mut Elem
+        requires { IsTrue (is_here (find_of_child self.old)) }
+        ensures* writes_back { sem 𝓛 (lends_elem self.entry result) }
+        ensures value { Some result.now ≡ elem_of self.old }
+    {
+        match self {
+            ElemChild::Elem(elem) => elem,
+            _ => unreachable!(),
+        }
+    }
+}
+
+/// The first child that a `cs:names` made.
+fn first_of_names(items: &Vec<ElemChild>) -> usize
+    requires { IsTrue (any_is_here items.now.items) }
+    ensures index { result < vec_len items.now }
+    ensures here { result ≡ here_index items.now.items }
+{
+    for i in 0..items.len() {
+        if items[i].is_names() {
+            return i;
+        }
+    }
+    unreachable!()
+}
+
+impl ElemChildren {
+    /// The first child that is, or holds, an element that a `cs:names` made.
+    #[cycle(find)]
+    fn names_at(&self) -> Option<usize>
+        ensures index { IfSome result (λ i. i < vec_len self.now.0) }
+        ensures found { IfSome result (λ i. IsTrue (is_found (find_at self.now i))) }
+        ensures some { IfSome result (λ i.
+            names_find self.now ≡ found_or i (find_at self.now i) None) }
+        ensures none { IfNone result (names_find self.now ≡ None) }
+    {
+        for i in 0..self.0.len() {
+            if self.0[i].has_names() {
+                return Some(i);
+            }
+        }
+        None
+    }
+
+    /// Whether the first element that a `cs:names` made is inside a child.
+    fn names_below(&mut self) -> bool
+        ensures value { result ≡ names_below self.old }
+        ensures unchanged { self.new ≡ self.old }
+    {
+        match self.names_at() {
+            Some(i) => !self.0[i].is_names(),
+            None => false,
+        }
+    }
+
+    /// The child that holds the first element of names, as a mutable reference.
+    fn names_child_mut(&mut self) -> &mut ElemChild
+        requires { IsTrue (names_below self.old) }
+        ensures* writes_back { sem 𝓛 (lends_names_child self.entry result) }
+        ensures value { result.now ≡ child_at self.old (names_index self.old) }
+    {
+        match self.names_at() {
+            Some(i) => &mut self.0[i],
+            None => unreachable!(),
+        }
+    }
+
+    /// The children among which the first element that a `cs:names` made is, as a mutable
+    /// reference.
+    #[cycle(names)]
+    fn names_items_mut(&mut self) -> &mut Vec<ElemChild>
+        ensures* writes_back { sem 𝓛 (lends_names_items self.entry result) }
+        ensures value { result.now ≡ names_items self.old }
+    {
+        if self.names_below() {
+            self.names_child_mut().children_mut().names_items_mut()
+        } else {
+            self.items_mut()
+        }
+    }
+
+    /// The first element of names, as a mutable reference; there has to be one.
+    fn that_names_mut(&mut self) -> &mut Elem
+        requires { IsTrue (is_some (names_find self.old)) }
+        ensures* writes_back { sem 𝓛 (lends_that_names self.entry result) }
+        ensures value { Some result.now ≡ first_names self.old }
+    {
+        let items = self.names_items_mut();
+        let first = first_of_names(items);
+        let child = &mut items[first];
+        child.elem_mut()
+    }
+
+    /// The first element that a `cs:names` made, as `find_names` finds it, as a mutable reference.
+    /// When that is given back, nothing else has changed.
+    pub fn find_names_mut(&mut self) -> Option<&mut Elem>
+        ensures* writes_back { sem 𝓛 (lends_names self.entry result) }
+        ensures value { option_map (λ e. e.now) result ≡ find is_names (preorder self.old) }
+    {
+        if self.names_at().is_some() {
+            Some(self.that_names_mut())
+        } else {
+            None
+        }
+    }
+}
