@@ -7,5 +7,5 @@ pub use Rattle.csl_tree.specs as Tree
 pub use Rattle.csl_entry.specs as Entry
 pub use Rattle.csl_context.specs as Context
 pub use Rattle.csl_names.specs as Names
-pub use Rattle.csl_nodes.specs as Leaves
+pub use Rattle.csl_nodes.specs as Nodes
 pub use Rattle.csl_render.specs as Render

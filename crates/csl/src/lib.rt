@@ -10,6 +10,7 @@ mod error;
 mod locale;
 mod words;
 
+pub use csl_common::{Sink, TrackingFormatter, TrackingWriter};
 pub use csl_context::{Context, LeftState, RenderError, Rendered};
 pub use csl_entry as entry;
 pub use csl_entry::{

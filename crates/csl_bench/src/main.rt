@@ -83,7 +83,7 @@ fn checksum(alloc: Global, work: &str, size: usize) -> Result<usize, WorkError> 
         "simplify_deep" => Ok(tree::simplify_deep(alloc, size)?),
         "html" => html::html(alloc, size),
         "html_plain" => html::html_plain(alloc, size),
-        "style_chain" => style::chain(alloc, size),
+        "style_chain" => style::macro_chain(alloc, size),
         "style_dense" => style::dense(alloc, size),
         "answers" => Ok(entry::answers(alloc, size)?),
         "labels" => Ok(entry::labels(alloc, size)?),

@@ -7,7 +7,7 @@
 mod streams;
 
 use csl_cli::run;
-use lit_model::TrackingWriter;
+use csl_common::TrackingWriter;
 use std::env;
 use std::io::{self, ErrorKind};
 use std::process::ExitCode;

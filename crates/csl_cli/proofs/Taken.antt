@@ -1,7 +1,7 @@
 -- A lent writer took a line, if there was one, where the writer that it was lent to took it.
 use Rattle.std.proofs.Common.{◌≡◌, ℕ, List, MutBor}
 use Rattle.std.specs.Prelude.{Option, Some, None, IsSomeAnd}
-use Rattle.lit_model.proofs.Writes.{PassedOn, passed_back}
+use Rattle.csl_common.proofs.Writes.{PassedOn, passed_back}
 use Rattle.csl_cli.specs.Answers.{TakesLine, line}
 
 module _ {W S : Type 0} (took : W → List ℕ → W → Type 0) (inner : S → MutBor W) where

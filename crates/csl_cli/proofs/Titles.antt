@@ -15,22 +15,28 @@ use Rattle.csl_tree.specs.Tokens.{Token}
 use Rattle.csl_tree.specs.Writing.{text_in_format}
 use Rattle.csl_tree.specs.declared.elem.BufWriteFormat.{BufWriteFormat}
 use Rattle.csl_tree.specs.declared.elem.BufWriteFormat.TheVariants.{Plain, Html}
+use Rattle.csl_entry.specs.Cite.{first_cite, no_disambiguation}
 use Rattle.csl_context.specs.ContextView.{base_inherited, initial_state}
 use Rattle.csl_context.specs.State.{Inherited, with_node_formatting}
 use Rattle.csl_context.specs.World.{RenderInput}
-use Rattle.csl_nodes.specs.Flags.{should_render_group, Info, info_of, usage_flags, no_usage_flags, no_info, info_union, as_child_info}
+use Rattle.csl_nodes.specs.Usage.{should_render_group, Info, info_of, usage_flags, no_usage_flags, no_info, info_union, as_child_info}
 use Rattle.csl_nodes.specs.Text.{RenderOutput, render_output, then_output}
-use Rattle.csl_render.specs.CiteContent.{first_world}
+use Rattle.csl_render.specs.PairOutput.{cite_input}
 use Rattle.csl_render.specs.Tree.{delimited_child_output, group_output, in_group, layout_output, node_output}
 use Rattle.csl_samples.specs.Nodes.{only_affixes}
 use Rattle.csl_samples.specs.Title as built
 use Rattle.csl_samples.specs.Title.{title_answers, title_layout}
 use Rattle.csl_cli.specs.Content.{IsTitleContent, title_text}
 
+-- a first cite of a title
+abbrev title_input : StyleParts → List ℕ → RenderInput
+title_input style title =
+    cite_input style Citation (first_cite no_disambiguation) None None (title_answers (in_one_piece title))
+
 -- the content of the cite of a title, in a style with this layout
 abbrev made_by : StyleParts → List ℕ → LayoutNode → List Token
 made_by style title layout =
-    (layout_output (first_world style (title_answers (in_one_piece title))) (expand_layout (macro_env style) layout) (base_inherited style Citation) initial_state).content
+    (layout_output (title_input style title) (expand_layout (macro_env style) layout) (base_inherited style Citation) initial_state).content
 
 not_empty : (b : ℕ) (bs : List ℕ) → (length (b ∷ bs) == 0) ≡ false
 not_empty b bs = grind (arith, common_steps)
@@ -38,7 +44,7 @@ not_empty b bs = grind (arith, common_steps)
 -- the same content, by whether the title is empty
 module _ (style : StyleParts) (title : List ℕ) where
   abbrev in_world : RenderInput
-  in_world = first_world style (title_answers (in_one_piece title))
+  in_world = title_input style title
 
   abbrev label_node : ExpandedNode
   label_node = expand (macro_env style) built.label

@@ -6,8 +6,8 @@ ghost use Rattle.csl_cli.specs.Command.{command_verdict};
 
 use crate::command::Command;
 use crate::content::{entry_content, title_content};
+use csl_common::Sink;
 use csl_tree::{BufWriteFormat, ElemChildren, HtmlError, leaf_text_of_html};
-use lit_model::Sink;
 use std::alloc::Global;
 use std::fmt;
 
@@ -29,8 +29,10 @@ pub enum Answer {
 /// - [`HtmlError::Memory`]: out of memory.
 #[tactic(auto, using(crate::proofs::Titles::title_is_written))]
 pub fn answer_to(alloc: Global, command: Command<'_>) -> Result<Answer, HtmlError>
-    ensures ok { IfOk result (λ answer. IsAnswer (command_verdict command.entry) (answer_text answer)) }
-    ensures not_html { IsErrOf result HtmlError.NotHtml → IsRefused (command_verdict command.entry) }
+    ensures ok { IfOk result (λ answer. IsAnswer (command_verdict command.entry)
+        (answer_text answer)) }
+    ensures not_html { IsErrOf result HtmlError.NotHtml → IsRefused
+        (command_verdict command.entry) }
     ensures refused { IsRefused (command_verdict command.entry)
         → (result ≡ Err HtmlError.NotHtml) ⊎ (result ≡ Err HtmlError.Memory) }
 {
@@ -69,7 +71,7 @@ fn truth_text(truth: bool) -> &'static str
 }
 
 /// Writes an answer and a newline.
-#[tactic(auto, using(lit_model::proofs::Writes::two_writes))]
+#[tactic(auto, using(csl_common::proofs::Writes::two_writes))]
 pub fn write_answer<S: Sink>(answer: &Answer, out: &mut S) -> fmt::Result
     ensures ok { OnOk result (TakesLine S.write_str_gives out.old (answer_text answer.now) out.new) }
     ensures kept { OnOk result (S.refused out.new ≡ S.refused out.old) }

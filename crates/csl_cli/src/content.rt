@@ -20,7 +20,8 @@ fn first_cite<T: EntryLike>(
     style: &Style,
     entry: &T,
 ) -> Result<Rendered, RenderError>
-    ensures { IfOk result (λ made. tokens made.content ≡ cite_content style.now (T.answers entry.now)) }
+    ensures { IfOk result (λ made. tokens made.content ≡ cite_content style.now
+        (T.answers entry.now)) }
 {
     let cite_props = CiteProperties::first(DisambiguateState::None);
     let made = cite(alloc, style, entry, &cite_props)?;

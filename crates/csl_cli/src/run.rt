@@ -7,13 +7,13 @@ ghost use Rattle.csl_cli.specs.Command.{parse_words, refusal};
 
 use crate::answers::{answer_to, write_answer};
 use crate::command::{WordsError, command_of};
+use csl_common::{Sink, TrackingWriter};
 use csl_tree::HtmlError;
-use lit_model::{Sink, TrackingWriter};
 use std::alloc::Global;
 use std::fmt;
 
 /// Writes why the words were refused, and a newline.
-#[tactic(auto, using(lit_model::proofs::Writes::three_writes))]
+#[tactic(auto, using(csl_common::proofs::Writes::three_writes))]
 fn write_error<S: Sink>(error: WordsError<'_>, sink: &mut S) -> fmt::Result
     ensures ok { OnOk result (Complains S.write_str_gives (refusal error.entry) sink.old sink.new) }
     ensures kept { OnOk result (S.refused sink.new ≡ S.refused sink.old) }
@@ -48,7 +48,8 @@ fn status_of(written: fmt::Result, status: u8) -> u8
 pub fn run_into<S: Sink, F: Sink>(alloc: Global, words: &[String], out: &mut S, fault: &mut F) -> u8
     ensures zero { result ≡ 0 → Replies S.write_str_gives (parse_words words.now) out.old out.new }
     ensures zero_fault { result ≡ 0 → fault.new ≡ fault.old }
-    ensures two { result ≡ 2 → Complains F.write_str_gives (parse_words words.now) fault.old fault.new }
+    ensures two { result ≡ 2 → Complains F.write_str_gives
+        (parse_words words.now) fault.old fault.new }
     ensures two_out { result ≡ 2 → out.new ≡ out.old }
     ensures three { result ≡ 3 → TakesLine F.write_str_gives fault.old out_of_memory fault.new }
     ensures three_words { result ≡ 3 → complaint (parse_words words.now) ≡ None }
@@ -58,8 +59,10 @@ pub fn run_into<S: Sink, F: Sink>(alloc: Global, words: &[String], out: &mut S, 
     ensures five { result ≡ 5 → IsRefused (parse_words words.now)
         × TakesLine F.write_str_gives fault.old not_html fault.new }
     ensures five_out { result ≡ 5 → out.new ≡ out.old }
-    ensures refused { IsRefused (parse_words words.now) → (result ≡ 5) ⊎ ((result ≡ 3) ⊎ (result ≡ 4)) }
-    ensures no_other { (result ≡ 0) ⊎ ((result ≡ 2) ⊎ ((result ≡ 3) ⊎ ((result ≡ 4) ⊎ (result ≡ 5)))) }
+    ensures refused { IsRefused (parse_words words.now) → (result ≡ 5) ⊎
+        ((result ≡ 3) ⊎ (result ≡ 4)) }
+    ensures no_other { (result ≡ 0) ⊎ ((result ≡ 2) ⊎
+        ((result ≡ 3) ⊎ ((result ≡ 4) ⊎ (result ≡ 5)))) }
 {
     match command_of(words) {
         Ok(command) => match answer_to(alloc, command) {
@@ -88,7 +91,8 @@ pub fn run<W: fmt::Write, F: fmt::Write>(
 ) -> u8
     ensures zero { result ≡ 0 → Replies W.write_str_gives (parse_words words.now) out.old out.new }
     ensures zero_fault { result ≡ 0 → fault.new ≡ fault.old }
-    ensures two { result ≡ 2 → Complains F.write_str_gives (parse_words words.now) fault.old fault.new }
+    ensures two { result ≡ 2 → Complains F.write_str_gives
+        (parse_words words.now) fault.old fault.new }
     ensures two_out { result ≡ 2 → out.new ≡ out.old }
     ensures three { result ≡ 3 → TakesLine F.write_str_gives fault.old out_of_memory fault.new }
     ensures three_words { result ≡ 3 → complaint (parse_words words.now) ≡ None }
@@ -97,8 +101,10 @@ pub fn run<W: fmt::Write, F: fmt::Write>(
     ensures five { result ≡ 5 → IsRefused (parse_words words.now)
         × TakesLine F.write_str_gives fault.old not_html fault.new }
     ensures five_out { result ≡ 5 → out.new ≡ out.old }
-    ensures refused { IsRefused (parse_words words.now) → (result ≡ 5) ⊎ ((result ≡ 3) ⊎ (result ≡ 4)) }
-    ensures no_other { (result ≡ 0) ⊎ ((result ≡ 2) ⊎ ((result ≡ 3) ⊎ ((result ≡ 4) ⊎ (result ≡ 5)))) }
+    ensures refused { IsRefused (parse_words words.now) → (result ≡ 5) ⊎
+        ((result ≡ 3) ⊎ (result ≡ 4)) }
+    ensures no_other { (result ≡ 0) ⊎ ((result ≡ 2) ⊎
+        ((result ≡ 3) ⊎ ((result ≡ 4) ⊎ (result ≡ 5)))) }
 {
     let mut out_sink = TrackingWriter::new(out);
     let mut fault_sink = TrackingWriter::new(fault);

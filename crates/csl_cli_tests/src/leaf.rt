@@ -1,5 +1,5 @@
-//! What `leaf` answers. What is expected stands here as written out by hand, or is the plain text of
-//! the same cite.
+//! What `leaf` answers. What is expected stands here as written out by hand, or is the plain text
+//! of the same cite.
 
 use crate::asserted::{assert_status, assert_text};
 use crate::words::{Row, assert_all, owned};

@@ -46,7 +46,7 @@ fn variable_told<'s, T: EntryLike>(
 {
     let info = ctx.attempt(variable_info(ctx, form, variable))?;
     let shown = ctx.attempt(variable_shows(ctx, form, variable, asked))?;
-    render_variable(text, ctx, form, variable)?;
+    render_variable(ctx, text, form, variable)?;
     Ok((info, shown))
 }
 
@@ -60,7 +60,7 @@ fn term_told<'s, T: EntryLike>(
     ensures { OnOk result (ctx.new.outer ≡ ctx.old.outer) }
 {
     let info = term_info(ctx, term, form, true);
-    render_term(text, ctx, term, form, true)?;
+    render_term(ctx, text, term, form, true)?;
     Ok((info, false))
 }
 
@@ -75,7 +75,7 @@ fn value_told<'s, T: EntryLike>(
 {
     let info = value_info(ctx, value);
     let mark = open_quotes(ctx, true)?;
-    render_value(text, ctx, value)?;
+    render_value(ctx, text, value)?;
     let moved = close_quotes(ctx, mark, true, &text.affixes)?;
     Ok((info, moved))
 }
@@ -137,18 +137,18 @@ fn told<'s, T: EntryLike>(
         LayoutRenderingElement::Number(number) => {
             let info = ctx.attempt(number_info(ctx, number))?;
             let shown = number_shows(ctx, number, asked);
-            render_number(number, ctx)?;
+            render_number(ctx, number)?;
             Ok((info, shown))
         }
         LayoutRenderingElement::Date(date) => {
             let info = ctx.attempt(date_info(ctx, date))?;
             let shown = date_shows(ctx, date, asked);
-            render_date(date, ctx)?;
+            render_date(ctx, date)?;
             Ok((info, shown))
         }
         LayoutRenderingElement::Label(label) => {
             let info = ctx.attempt(label_info(ctx, label))?;
-            render_label(label, ctx)?;
+            render_label(ctx, label)?;
             Ok((info, false))
         }
         _ => nothing_told(ctx),

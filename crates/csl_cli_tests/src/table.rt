@@ -82,7 +82,8 @@ fn names_in(
 
 /// These persons, as an answer.
 fn name_answer(alloc: Global, persons: &[Person]) -> Result<Vec<Cow<'_, Person>>, Memory>
-    ensures { IfOk result (λ found. map (cow_view person_view) found.items ≡ map person_view persons.now) }
+    ensures { IfOk result (λ found. map (cow_view person_view) found.items
+        ≡ map person_view persons.now) }
 {
     let mut found = Vec::with_capacity(alloc, persons.len())?;
     for person in persons {
@@ -139,9 +140,11 @@ impl EntryLike for Table {
     ghost use Rattle.lit_model.specs.Text.{chunks, select};
 
     ghost answers = { λ table. record {
-      numbers = λ v. option_map (λ p. maybe_view numeric_view p.1) (number_in v table.numbers.items);
+      numbers = λ v. option_map (λ p. maybe_view numeric_view p.1)
+          (number_in v table.numbers.items);
       pages = λ _. option_map (maybe_view pages_view) table.pages;
-      standards = λ form v. option_map (λ p. chunks (select form p.1)) (text_in v table.texts.items);
+      standards = λ form v. option_map (λ p. chunks (select form p.1))
+          (text_in v table.texts.items);
       names = λ v. persons_of (names_in v table.names.items);
       dates = λ v. option_map (λ p. date_view p.1) (date_in v table.dates.items);
       kinds = λ k. is_in k table.kinds.items;

@@ -1,13 +1,15 @@
-//! What the models of literature and of styles share: forms, seasons, ordinals, and the error of
-//! running out of memory.
+//! What several crates share: forms, seasons, ordinals, the error of running out of memory, and
+//! writers that say whether they refused a text.
 #![tactic(auto)]
 
 pub mod form;
 pub mod memory;
 pub mod ordinal;
 pub mod season;
+pub mod sink;
 
 pub use form::{LongShortForm, NumberForm};
 pub use memory::Memory;
 pub use ordinal::{GrammarGender, Ordinals};
 pub use season::Season;
+pub use sink::{Sink, TrackingFormatter, TrackingWriter, WriteTo, display_text, write_text};

@@ -3,18 +3,19 @@
 -- and whether it has failed. Each call is one equation on the whole record, so what it does not
 -- name stays.
 -- - An element, the middle of affixes and the inside of quotes are *open parts*, and the root is
---   always open. Text goes into the innermost. A part is closed by its mark, which is the innermost
---   one (`IsInnermost`). It becomes an element (nothing if it is empty), or joins the part around
---   it as it is, between affixes or in quotes, or is dropped. Opening and closing leave everything
---   else as it was (`with_part`, `close_part_by`). No contract mentions how a part is stored.
+--   always open. Text goes into the innermost. The *mark* of a part is the number of open parts
+--   around it, not counting the root. The innermost part is closed by its mark (`IsInnermost`). It
+--   becomes an element (nothing if it is empty), or joins the part around it as it is, between
+--   affixes or in quotes, or is dropped. Opening and closing leave everything else as it was
+--   (`with_part`, `close_part_by`). No contract mentions how a part is stored.
 -- - `ensure_space` writes a space unless the leaf text of the innermost part is empty or ends in
 --   white space (`with_space`).
--- - A call ends as its clause states, or it fails, and one clause says both (`Runs`; `Reads` where a
---   value is read and nothing changes; `Looks` for such a look into a shared context). On `Ok` the
---   context had not failed and is as stated (`Becomes`). `Memory`: it had not failed and has now, and
---   what never changes is as it was (`Frame`); the rest may be anything. `Failed`: it had failed, and
---   nothing changes (`FailsAs`). A shared look that returns `Memory` leaves the context as it was.
---   Pops and `discard_elem` return nothing, and do not change a failed context.
+-- - A call ends as its clause states, or it fails, and one clause says both (`Runs`; `Reads`
+--   where a value is read and nothing changes; `Looks` for such a look into a shared context). On
+--   `Ok` the context had not failed and is as stated (`Becomes`). `Memory`: it had not failed and
+--   has now, and what never changes is as it was (`Frame`); the rest may be anything. `Failed`: it
+--   had failed, and nothing changes (`FailsAs`). A shared look that returns `Memory` leaves the
+--   context as it was. Pops and `discard_elem` return nothing, and do not change a failed context.
 use Rattle.std.specs.Prelude.{◌≡◌, ℕ, ◌+◌, Bool, true, false, not, List, [], ◌∷◌, length, Option, Some, None, Result, IfOk, MatchResult}
 use Rattle.std.specs.Bool.{OnFalse}
 use Rattle.std.specs.Option.{option_or}
@@ -28,8 +29,8 @@ use Rattle.csl_tree.specs.declared.formatting.Formatting.{Formatting}
 use Rattle.csl_tree.specs.Formatting.{apply_formatting, default_formatting}
 use Rattle.csl_tree.specs.Tokens.{Token}
 use Rattle.csl_tree.specs.Content.{◌++>◌}
-use Rattle.csl_entry.specs.declared.cite.Sorting.{Sorting}
-use Rattle.csl_entry.specs.declared.cite.SpecialForm.{SpecialForm}
+use Rattle.csl_entry.specs.declared.citation.cite.Sorting.{Sorting}
+use Rattle.csl_entry.specs.declared.citation.cite.SpecialForm.{SpecialForm}
 use Rattle.csl_entry.specs.Answers.{Answers}
 use Rattle.csl_entry.specs.Cite.{CiteState}
 use Rattle.csl_entry.specs.NameProperties.{NameProperties}
@@ -166,8 +167,8 @@ Looks view result wanted now = MatchResult result (λ answer. ReadsAs view answe
 abbrev pub IsSilent : {R T : Type 0} → Result R RenderError → ContextView T → Type 0
 IsSilent outcome now = MatchResult outcome (λ _. now.failed ≡ false) (λ e. FailsSilently e now)
 
--- The mark, the number of open parts around the one that it marks, is that of the innermost open
--- part, or the context has failed.
+-- The mark is that of the innermost open part, or the context has failed. Around that part `outer`
+-- has the root too, which no mark counts.
 abbrev pub IsInnermost : {T : Type 0} → ℕ → ContextView T → Type 0
 IsInnermost mark now = OnFalse now.failed (length now.outer ≡ mark + 1)
 

@@ -2,10 +2,9 @@
 -- are stripped (Strip-periods), it loses each `.` first. An empty rest writes nothing (`text_in`).
 -- A normal chunk is such a text, a verbatim one keeps its periods, and mathematics becomes markup.
 -- A link and its address stay as they are. The place of a cite that the caller writes is a
--- transparent.
--- *Affixed* (Affixes): nothing around nothing, else prefix, content and suffix, the two as texts in
--- the inherited formatting. A gap (`wanted_space`) is a space, unless there is no text yet or the text
--- ends in white space.
+-- transparent. *Affixed* (Affixes): nothing around nothing, else prefix, content and suffix, the
+-- two as texts in the inherited formatting. A gap (`wanted_space`) is a space, unless there is no
+-- text yet or the text ends in white space.
 use Rattle.std.specs.Prelude.{ℕ, Bool, not, ◌&&◌, ◌==◌, List, [], ◌∷◌, Option, Some, None, filter, encode_utf8_all, if◌then◌else◌}
 use Rattle.std.specs.Str.{chars}
 use Rattle.lit_model.specs.Characters.{dot_char, space_char}

@@ -119,7 +119,8 @@ impl<'s, T> Context<'s, T> {
     /// Returns whether they did before.
     pub fn may_strip_periods(&mut self, strip: bool) -> bool
         ensures value { result ≡ self.old.inherited.strip_periods }
-        ensures after { self.new ≡ with_stripping (strip || self.old.inherited.strip_periods) self.old }
+        ensures after { self.new ≡ with_stripping
+            (strip || self.old.inherited.strip_periods) self.old }
     {
         let old = self.writing.strip_periods;
         self.writing.strip_periods = strip || old;

@@ -1,6 +1,7 @@
 //! What is being written of a cite: the open parts, what nodes inherit, and what was looked up.
 //!
-//! Contracts see a context as one record (`specs/ContextView.antt`), and each call is one equation on it.
+//! Contracts see a context as one record (`specs/ContextView.antt`), and each call is one equation
+//! on it.
 #![tactic(auto)]
 
 mod context;

@@ -5,9 +5,9 @@ ghost use Rattle.std.specs.Prelude.{◌≡◌, ℕ};
 use std::marker::Model;
 
 /// An open part of a context, which the call that opens it returns and a call that closes it takes.
-/// Contracts see a mark as the number of open parts around the one that it marks: the root has
-/// none, so a part that is opened in the root alone has one. A part can be closed while its mark is
-/// that of the innermost one.
+/// Contracts see a mark as the number of open parts around the one that it marks. The root does not
+/// count, so a part that is opened in the root alone has none. A part can be closed while its mark
+/// is that of the innermost one.
 #[derive(Clone, Copy, Debug)]
 pub struct Mark {
     depth: usize,

@@ -76,8 +76,8 @@ impl<'s, T> Context<'s, T> {
         self.push_elem()
     }
 
-    /// Closes the middle of affixes, and writes it between them, unless it is empty. A suffix
-    /// whose first character was moved into quotes loses it.
+    /// Closes the middle of affixes, and writes it between them, unless it is empty. If `moved`, a
+    /// suffix that begins with `,` or `.` is written without that character.
     ///
     /// # Errors
     /// [`RenderError::Memory`]: there was no memory left. The context has failed.
@@ -89,7 +89,8 @@ impl<'s, T> Context<'s, T> {
         moved: bool,
     ) -> Result<(), RenderError>
         requires innermost { IsInnermost mark self.old }
-        ensures { Runs (close_part_by (λ inh c. affixed_after moved inh (affix_texts affixes.now) c))
+        ensures { Runs (close_part_by (λ inh c. affixed_after moved inh
+            (affix_texts affixes.now) c))
             result self.old self.new }
     {
         let suffix = if moved {
@@ -112,7 +113,8 @@ impl<'s, T> Context<'s, T> {
         suffix: Option<&str>,
     ) -> Result<(), RenderError>
         requires innermost { IsInnermost mark self.old }
-        ensures { Runs (close_part_by (λ inh c. between_in inh (option_map (λ t. t.now) prefix.entry)
+        ensures { Runs (close_part_by (λ inh c. between_in inh
+            (option_map (λ t. t.now) prefix.entry)
             (option_map (λ t. t.now) suffix.entry) c)) result self.old self.new }
     {
         let (before, after) = self.attempt(self.text_writer().affixes(prefix, suffix))?;
@@ -127,7 +129,8 @@ impl<'s, T> Context<'s, T> {
         after: Option<Formatted>,
     ) -> Result<(), RenderError>
         requires innermost { IsInnermost mark self.old }
-        ensures { Runs (close_part_by (λ _ c. affixed_content (affix_content before) (affix_content after) c))
+        ensures { Runs (close_part_by (λ _ c. affixed_content (affix_content before)
+            (affix_content after) c))
             result self.old self.new }
     {
         self.ensure_live()?;
@@ -261,7 +264,8 @@ impl<'s, T> Context<'s, T> {
             with_quotes (option_map (λ t. t.now) suffix.entry) (with_quotes_toggled now))
             result self.old self.new }
         ensures moved { IfOk result (λ moved. moved
-            ≡ moves_punctuation self.old.style (option_map (λ t. t.now) suffix.entry) self.old.inner) }
+            ≡ moves_punctuation self.old.style
+            (option_map (λ t. t.now) suffix.entry) self.old.inner) }
     {
         self.ensure_live()?;
         let moved = self.moves_punctuation(suffix);

@@ -71,7 +71,8 @@ impl TextWriter {
     /// The text of a prefix or a suffix as it is written, if there is one.
     pub(crate) fn affix(self, text: Option<&str>) -> Result<Option<Formatted>, Memory>
         ensures { IfOk result (λ t. affix_content t
-            ≡ optional_formatted_text self.strip_periods self.formatting (option_map (λ t. t.now) text.entry)) }
+            ≡ optional_formatted_text self.strip_periods self.formatting
+            (option_map (λ t. t.now) text.entry)) }
     {
         match text {
             Some(text) => {
@@ -89,9 +90,11 @@ impl TextWriter {
         suffix: Option<&str>,
     ) -> Result<(Option<Formatted>, Option<Formatted>), Memory>
         ensures before { IfOk result (λ t. affix_content t.0
-            ≡ optional_formatted_text self.strip_periods self.formatting (option_map (λ t. t.now) prefix.entry)) }
+            ≡ optional_formatted_text self.strip_periods self.formatting
+            (option_map (λ t. t.now) prefix.entry)) }
         ensures after { IfOk result (λ t. affix_content t.1
-            ≡ optional_formatted_text self.strip_periods self.formatting (option_map (λ t. t.now) suffix.entry)) }
+            ≡ optional_formatted_text self.strip_periods self.formatting
+            (option_map (λ t. t.now) suffix.entry)) }
     {
         let before = self.affix(prefix)?;
         let after = self.affix(suffix)?;
@@ -105,8 +108,10 @@ impl TextWriter {
         second: Option<&str>,
     ) -> Result<Option<Formatted>, Memory>
         ensures { IfOk result (λ t. affix_content t
-            ≡ optional_formatted_text self.strip_periods self.formatting (option_map (λ t. t.now) first.entry)
-            ++> optional_formatted_text self.strip_periods self.formatting (option_map (λ t. t.now) second.entry)) }
+            ≡ optional_formatted_text self.strip_periods self.formatting
+            (option_map (λ t. t.now) first.entry)
+            ++> optional_formatted_text self.strip_periods self.formatting
+            (option_map (λ t. t.now) second.entry)) }
     {
         let mut text = String::new(self.alloc);
         self.add(&mut text, first)?;

@@ -6,8 +6,8 @@ use Rattle.std.proofs.lemmas.List.{length-map, map-set, get_or-map, get_or-set_s
 use Rattle.std.specs.Option.{option_map_or, IsSomeAnd, ForSome}
 use Rattle.std.proofs.lemmas.List.Quantifiers.{position-Some}
 use Rattle.std.proofs.lemmas.Bool.Decides.{nat_tests}
-use Rattle.csl_entry.specs.declared.name_form.DisambiguatedNameForm.{DisambiguatedNameForm}
-use Rattle.csl_entry.specs.declared.name_properties.NameDisambiguationProperties.{NameDisambiguationProperties}
+use Rattle.csl_entry.specs.declared.forms.name_form.DisambiguatedNameForm.{DisambiguatedNameForm}
+use Rattle.csl_entry.specs.declared.forms.name_properties.NameDisambiguationProperties.{NameDisambiguationProperties}
 use Rattle.csl_entry.specs.NameProperties.{NameForms, NameProperties, first_as_long, with_list}
 
 -- a change goes on by one item

@@ -6,8 +6,8 @@ use Rattle.std.specs.Cmp.Lexicographic.{lists_total, options_total}
 use Rattle.std.specs.declared.cmp.Ordering.{Ordering}
 use Rattle.std.specs.declared.cmp.Ordering.TheVariants.{Less, Equal, Greater}
 use Rattle.std.specs.Option.{option_cmp}
-use Rattle.csl_entry.specs.declared.name_form.DisambiguatedNameForm.{DisambiguatedNameForm}
-use Rattle.csl_entry.specs.contracts.name_form.DisambiguatedNameFormOrd.TheImpl.{cmp-value as cmp_form}
+use Rattle.csl_entry.specs.declared.forms.name_form.DisambiguatedNameForm.{DisambiguatedNameForm}
+use Rattle.csl_entry.specs.contracts.forms.name_form.DisambiguatedNameFormOrd.TheImpl.{cmp-value as cmp_form}
 use Rattle.csl_entry.specs.NameForm.{form_place, form_cmp}
 use Rattle.csl_entry.specs.NameProperties.{NameProperties, all_forms, shown_count, properties_cmp}
 

@@ -1,4 +1,5 @@
--- On what a look depends: on the citation, and on that one answer where the variable is not the citation's.
+-- On what a look depends: on the citation, and on that one answer where the variable is not the
+-- citation's.
 use Rattle.std.proofs.Common.{◌≡◌, refl, ap}
 use Rattle.std.specs.Prelude.{option_map}
 use Rattle.csl_common.specs.declared.form.LongShortForm.{LongShortForm}

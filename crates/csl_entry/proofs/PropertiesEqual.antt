@@ -4,11 +4,11 @@ use Rattle.std.specs.Bool.{Decides}
 use Rattle.std.specs.Option.{option_eq}
 use Rattle.std.proofs.lemmas.Slice.Eq.{slice_eq-Decides}
 use Rattle.std.specs.Cmp.Lexicographic.{pointwise}
-use Rattle.csl_entry.specs.declared.name_properties.NameDisambiguationProperties.{NameDisambiguationProperties}
-use Rattle.csl_entry.specs.contracts.name_properties.NameDisambiguationPropertiesPartialEq.TheImpl.{eq-value as eq_properties}
+use Rattle.csl_entry.specs.declared.forms.name_properties.NameDisambiguationProperties.{NameDisambiguationProperties}
+use Rattle.csl_entry.specs.contracts.forms.name_properties.NameDisambiguationPropertiesPartialEq.TheImpl.{eq-value as eq_properties}
 use Rattle.csl_entry.specs.NameProperties.{NameProperties, name_properties}
-use Rattle.csl_entry.specs.declared.name_form.DisambiguatedNameForm.{DisambiguatedNameForm}
-use Rattle.csl_entry.specs.contracts.name_form.DisambiguatedNameFormPartialEq.TheImpl.{eq-value as eq_form}
+use Rattle.csl_entry.specs.declared.forms.name_form.DisambiguatedNameForm.{DisambiguatedNameForm}
+use Rattle.csl_entry.specs.contracts.forms.name_form.DisambiguatedNameFormPartialEq.TheImpl.{eq-value as eq_form}
 use Rattle.csl_style.specs.declared.taxonomy.NameVariable.{NameVariable}
 use Rattle.csl_style.specs.contracts.taxonomy.NameVariablePartialEq.TheImpl.{eq-value as eq_variable}
 use Rattle.lit_model.proofs.PageEqual.{pointwise_view}

@@ -6,8 +6,8 @@ use Rattle.std.proofs.lemmas.List.FromFn.{length-enumerate_from}
 use Rattle.std.proofs.lemmas.List.Sums.{sum_by-set, count_by_more_yes, count_by_more_no}
 use Rattle.std.proofs.lemmas.Bool.Decides.{nat_tests}
 use Rattle.std.specs.Option.{option_or}
-use Rattle.csl_entry.specs.declared.name_form.DisambiguatedNameForm.{DisambiguatedNameForm}
-use Rattle.csl_entry.specs.declared.name_form.DisambiguatedNameForm.TheVariants.{Count, ShortInitialized, ShortFull, LongInitialized, LongFull}
+use Rattle.csl_entry.specs.declared.forms.name_form.DisambiguatedNameForm.{DisambiguatedNameForm}
+use Rattle.csl_entry.specs.declared.forms.name_form.DisambiguatedNameForm.TheVariants.{Count, ShortInitialized, ShortFull, LongInitialized, LongFull}
 use Rattle.csl_entry.specs.NameForm.{form_place, further_form, disambiguated_form}
 use Rattle.csl_entry.specs.NameProperties.{NameForms, disambiguated_forms}
 
@@ -86,7 +86,8 @@ untouched default n (f ∷ forms) = ap (λ (fs : NameForms). f ∷ fs) (untouche
 length-each : (default : DisambiguatedNameForm) (places : List ℕ) (forms : NameForms) → length (disambiguated_forms default places forms) ≡ length forms
 length-each default places forms = length-map (enumerate_from 0 forms) (λ f. disambiguated_form default (count_by (λ k. k == f.0) places) f.1) ∙ length-enumerate_from 0 forms
 
--- after some places: the forms are those of the places, nothing changed where no form did, and more is shown where one did
+-- after some places: the forms are those of the places, nothing changed where no form did, and more
+-- is shown where one did
 pub record IsToldApart (default : DisambiguatedNameForm) (places : List ℕ) (start now : NameForms) (changed : Bool) : Type 0 where
   pub forms : now ≡ disambiguated_forms default places start
   pub still : changed ≡ false → now ≡ start

@@ -1,22 +1,22 @@
 -- The citation state of a cite (CSL 1.0.2, Choose, `position`; Locators; Appendix IV, Number
 -- Variables; Disambiguation). Some properties never change: the number of the first note, if any,
 -- whether the cite is the first of its entry, whether a near note cites it, and its index. Others
--- are known as far as it was rendered: its locator, its citation number, its disambiguation, and
--- how it relates to the cite before it.
+-- are known as far as it was rendered (`speculation`): its locator, its citation number, its
+-- disambiguation, and how it relates to the cite before it.
 -- A *first cite* (`first_cite`) is the first of its entry: no note has it, none is near, its index
 -- and its citation number are 0, it has no locator, and the cite before it is of another entry. Its
 -- disambiguation is given.
 use Rattle.std.specs.Prelude.{ℕ, Bool, List, None, Option, false, option_map, true}
 use Rattle.csl_style.specs.declared.taxonomy.Locator.{Locator}
-use Rattle.csl_entry.specs.declared.cite.LocatorPayload.{LocatorPayload}
-use Rattle.csl_entry.specs.declared.cite.LocatorPayload.TheVariants as of_payload
-use Rattle.csl_entry.specs.declared.cite.SpecificLocator.{SpecificLocator}
-use Rattle.csl_entry.specs.declared.cite.IbidState.{IbidState}
-use Rattle.csl_entry.specs.declared.cite.IbidState.TheVariants.{Different}
-use Rattle.csl_entry.specs.declared.cite.DisambiguateState.{DisambiguateState}
-use Rattle.csl_entry.specs.declared.cite.DisambiguateState.TheVariants as of_state
-use Rattle.csl_entry.specs.declared.cite.CiteProperties.{CiteProperties}
-use Rattle.csl_entry.specs.declared.cite.SpeculativeCiteProperties.{SpeculativeCiteProperties}
+use Rattle.csl_entry.specs.declared.citation.cite.LocatorPayload.{LocatorPayload}
+use Rattle.csl_entry.specs.declared.citation.cite.LocatorPayload.TheVariants as of_payload
+use Rattle.csl_entry.specs.declared.citation.cite.SpecificLocator.{SpecificLocator}
+use Rattle.csl_entry.specs.declared.citation.cite.IbidState.{IbidState}
+use Rattle.csl_entry.specs.declared.citation.cite.IbidState.TheVariants.{Different}
+use Rattle.csl_entry.specs.declared.citation.cite.DisambiguateState.{DisambiguateState}
+use Rattle.csl_entry.specs.declared.citation.cite.DisambiguateState.TheVariants as of_state
+use Rattle.csl_entry.specs.declared.citation.cite.CiteProperties.{CiteProperties}
+use Rattle.csl_entry.specs.declared.citation.cite.SpeculativeCiteProperties.{SpeculativeCiteProperties}
 use Rattle.csl_entry.specs.Numbers.{citation_number, note_number}
 use Rattle.csl_entry.specs.NameProperties.{NameProperties, name_properties}
 

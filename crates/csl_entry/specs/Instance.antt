@@ -29,9 +29,9 @@ use Rattle.lit_model.specs.Numeric.{one}
 use Rattle.lit_model.specs.Page.{PartView}
 use Rattle.lit_model.specs.Person.{PersonView}
 use Rattle.lit_model.specs.Text.{Chunk}
-use Rattle.csl_entry.specs.declared.cite.Sorting.{Sorting}
-use Rattle.csl_entry.specs.declared.cite.SpecialForm.{SpecialForm}
-use Rattle.csl_entry.specs.declared.instance.InstanceContext.{InstanceContext}
+use Rattle.csl_entry.specs.declared.citation.cite.Sorting.{Sorting}
+use Rattle.csl_entry.specs.declared.citation.cite.SpecialForm.{SpecialForm}
+use Rattle.csl_entry.specs.declared.citation.instance.InstanceContext.{InstanceContext}
 use Rattle.csl_entry.specs.Answers.{Answers}
 use Rattle.csl_entry.specs.Chunk.{one_chunk}
 use Rattle.csl_entry.specs.Cite.{CiteState, cite_state, Payload, payload_text, payload_transparent, Disambiguation, no_disambiguation, by_names, by_choose, by_year_suffix}

@@ -12,10 +12,10 @@ use Rattle.std.specs.contracts.alloc.Global as global
 use Rattle.std.specs.contracts.vec.Vec as vec
 use Rattle.std.specs.contracts.option.Option as option
 use Rattle.std.specs.contracts.impls.GlobalAllocator.TheImpl.{ghosts}
-use Rattle.csl_entry.specs.declared.name_form.DisambiguatedNameForm.{DisambiguatedNameForm}
-use Rattle.csl_entry.specs.declared.name_properties.NameDisambiguationProperties.{NameDisambiguationProperties}
-use Rattle.csl_entry.specs.contracts.name_form.DisambiguatedNameForm as form
-use Rattle.csl_entry.specs.contracts.name_properties.NameDisambiguationProperties as properties
+use Rattle.csl_entry.specs.declared.forms.name_form.DisambiguatedNameForm.{DisambiguatedNameForm}
+use Rattle.csl_entry.specs.declared.forms.name_properties.NameDisambiguationProperties.{NameDisambiguationProperties}
+use Rattle.csl_entry.specs.contracts.forms.name_form.DisambiguatedNameForm as form
+use Rattle.csl_entry.specs.contracts.forms.name_properties.NameDisambiguationProperties as properties
 use Rattle.csl_entry.specs.NameProperties.{name_properties, with_form}
 
 -- a list of forms as it stands in memory

@@ -1,8 +1,8 @@
 -- A citation number counts from 0 and is printed one higher, so it is at most 2147483646. The
 -- number of a note is at most 2147483647 (CSL 1.0.2, Appendix IV, Number Variables).
 use Rattle.std.specs.Prelude.{ℕ, ◌≤◌}
-use Rattle.csl_entry.specs.declared.numbers.CitationNumber.{CitationNumber}
-use Rattle.csl_entry.specs.declared.numbers.NoteNumber.{NoteNumber}
+use Rattle.csl_entry.specs.declared.citation.numbers.CitationNumber.{CitationNumber}
+use Rattle.csl_entry.specs.declared.citation.numbers.NoteNumber.{NoteNumber}
 
 abbrev pub IsCitationNumber : ℕ → Type 0
 IsCitationNumber n = n ≤ 2147483646

@@ -3,18 +3,21 @@
 ghost use Rattle.csl_entry.specs.EntryAnswers.{answers_of, key_of};
 ghost use Rattle.csl_entry.specs.Language.{english_of};
 
+pub(crate) mod chunk;
 mod date;
 mod kind;
+pub(crate) mod language;
 mod name;
 mod number;
+pub(crate) mod numeric_text;
 mod page;
 mod standard;
 
-use crate::language;
 use crate::taxonomy::EntryLike;
 use csl_style::{DateVariable, Kind, NameVariable, NumberVariable, PageVariable, StandardVariable};
 pub(crate) use date::visit_date;
 pub use kind::{legislation_kind, recording_kind};
+pub use language::csl_language;
 use lit_model::{
     ChunkedString, Date, Entry, LongShortForm, MaybeTyped, Memory, Numeric, PageRanges, Person,
 };

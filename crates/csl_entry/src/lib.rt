@@ -2,37 +2,24 @@
 //! built-in entry, and what a cite answers in its citation.
 #![tactic(auto)]
 
-mod alike;
-mod chunk;
-mod citation_label;
-mod cite;
-mod creators;
+mod citation;
+mod compare;
 mod entry;
-mod form_list;
-mod instance;
-mod language;
-mod letters;
-mod name_form;
-mod name_properties;
+mod forms;
+mod label;
 mod number_result;
-mod numbers;
-mod numeric_text;
-mod same;
 mod taxonomy;
 
-pub use alike::same_answers;
-pub use citation_label::Alphanumerical;
-pub use cite::{
-    CertainCiteProperties, CiteProperties, DisambiguateState, IbidState, LocatorPayload, Sorting,
-    SpecialForm, SpecificLocator, SpeculativeCiteProperties,
+pub use citation::{
+    CertainCiteProperties, CitationNumber, CiteProperties, DisambiguateState, IbidState,
+    InstanceContext, LocatorPayload, NoteNumber, Sorting, SpecialForm, SpecificLocator,
+    SpeculativeCiteProperties, letter,
 };
-pub use entry::{legislation_kind, recording_kind};
-pub use instance::InstanceContext;
-pub use language::csl_language;
-pub use letters::letter;
-pub use name_form::DisambiguatedNameForm;
-pub use name_properties::NameDisambiguationProperties;
+pub use compare::{
+    as_deref, same_answers, same_date, same_number, same_pages, same_people, same_text,
+};
+pub use entry::{csl_language, legislation_kind, recording_kind};
+pub use forms::{DisambiguatedNameForm, NameDisambiguationProperties};
+pub use label::Alphanumerical;
 pub use number_result::{NumberOrPageVariableResult, NumberVariableResult, PageVariableResult};
-pub use numbers::{CitationNumber, NoteNumber};
-pub use same::{same_date, same_number, same_pages, same_people, same_text};
 pub use taxonomy::EntryLike;

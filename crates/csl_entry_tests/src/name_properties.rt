@@ -1,7 +1,7 @@
 ghost use Rattle.std.specs.Prelude.{◌≡◌, ◌↔◌, IsTrue};
 ghost use Rattle.csl_entry.specs.NameProperties.{name_properties, with_form};
-ghost use Rattle.csl_entry.specs.declared.name_form.DisambiguatedNameForm.TheVariants.{Count};
-ghost use Rattle.csl_entry.specs.contracts.name_properties.NameDisambiguationPropertiesHash.TheImpl.{hash_input-value as hash_properties};
+ghost use Rattle.csl_entry.specs.declared.forms.name_form.DisambiguatedNameForm.TheVariants.{Count};
+ghost use Rattle.csl_entry.specs.contracts.forms.name_properties.NameDisambiguationPropertiesHash.TheImpl.{hash_input-value as hash_properties};
 
 use crate::asked::assert_answer;
 use crate::asserted::{assert_of, assert_same};

@@ -10,4 +10,3 @@ pub mod PersonLists
 pub mod NamesForms
 pub mod CiteForms
 pub mod NamesContent
-pub mod NamesStyles

@@ -1,8 +1,8 @@
 -- A list of names (CSL 1.0.2, Name: `and`, `delimiter`, `delimiter-precedes-et-al`,
 -- `delimiter-precedes-last`, `et-al-use-last`, `name-as-sort-order`; Et-al) has persons, and a form
--- or none for each place (`NameForms`). It is a list of pieces too (`name_list`): the names, and what
--- replaces those that are left out. A gap of the list sees all of the innermost open part, also
--- what is before the list.
+-- or none for each place (`NameForms`). It is a list of pieces too (`name_list`): the names, and
+-- what replaces those that are left out. A gap of the list sees all of the innermost open part,
+-- also what is before the list.
 use Rattle.std.specs.Prelude.{ℕ, ◌+◌, ◌-◌, Bool, true, false, ◌&&◌, ◌==◌, nat_lt, nat_le, min, List, [], ◌∷◌, ◌++◌, length, Option, Some, None, is_none, slice_get, codes, if◌then◌else◌}
 use Rattle.std.specs.List.{position}
 use Rattle.lit_model.specs.Person.{PersonView}
@@ -15,7 +15,7 @@ use Rattle.csl_style.specs.declared.names.NameAsSortOrder.TheVariants.{First, Al
 use Rattle.csl_style.specs.NamesParts.{no_formatting}
 use Rattle.csl_tree.specs.Tokens.{of_name}
 use Rattle.csl_tree.specs.Content.{elem_content}
-use Rattle.csl_entry.specs.declared.name_form.DisambiguatedNameForm.{DisambiguatedNameForm}
+use Rattle.csl_entry.specs.declared.forms.name_form.DisambiguatedNameForm.{DisambiguatedNameForm}
 use Rattle.csl_entry.specs.NameProperties.{NameForms}
 use Rattle.csl_context.specs.State.{Inherited}
 use Rattle.csl_context.specs.ContextView.{ContextView}
@@ -77,12 +77,11 @@ is_all (Some First) = false
 is_all (Some All) = true
 
 -- ---- before a name
--- Before each name but the first is the delimiter (`name_separator`). Before the last name of a list that is
--- shown whole, if there is an `and`, are the delimiter or a space, the word, and a gap
--- (`last_name_separator`).
--- A delimiter precedes the word or `et al.` (`delimiter_precedes`) under `Always`; never under `Never`; under
--- `Contextual` after two names or more; under `AfterInvertedName` if a name is shown and the last
--- one shown is reversed.
+-- Before each name but the first is the delimiter (`name_separator`). Before the last name of a
+-- list that is shown whole, if there is an `and`, are the delimiter or a space, the word, and a gap
+-- (`last_name_separator`). A delimiter precedes the word or `et al.` (`delimiter_precedes`) under
+-- `Always`; never under `Never`; under `Contextual` after two names or more; under
+-- `AfterInvertedName` if a name is shown and the last one shown is reversed.
 
 -- whether a delimiter follows this many names, of which `shown` are shown
 abbrev pub delimiter_precedes : DelimiterBehavior → Option NameAsSortOrder → ℕ → ℕ → Bool
@@ -132,8 +131,8 @@ names_from inh how ends forms place (p ∷ ps) =
 -- ---- after the names
 -- If the forms leave a name out, the list ends with more pieces (`list_end`). With et-al-use-last
 -- and a form at the last place (`last_form`): the delimiter, an ellipsis and a space, and the last
--- person in that form, with that person's place, reversed only under `All` (`kept_last`).
--- Else, unless a sort key is made or the style lacks the term (`et_al_pieces`): the delimiter, if it
+-- person in that form, with that person's place, reversed only under `All` (`kept_last`). Else,
+-- unless a sort key is made or the style lacks the term (`et_al_pieces`): the delimiter, if it
 -- precedes by the place of the first name left out and the persons before it, without the
 -- formatting of `et al.`; then a gap and the term in that formatting.
 

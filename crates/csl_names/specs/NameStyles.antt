@@ -13,7 +13,7 @@ use Rattle.csl_style.specs.declared.style.settings.StyleSettings.{StyleSettings}
 use Rattle.csl_style.specs.Names.{NameNode, NamePartNode}
 use Rattle.csl_style.specs.NameOptions.{CompleteOptions}
 use Rattle.csl_style.specs.NamesParts.{no_formatting, first_part}
-use Rattle.csl_entry.specs.declared.name_form.DisambiguatedNameForm.{DisambiguatedNameForm}
+use Rattle.csl_entry.specs.declared.forms.name_form.DisambiguatedNameForm.{DisambiguatedNameForm}
 use Rattle.csl_context.specs.ContextView.{ContextView, with_content}
 use Rattle.csl_names.specs.OneName.{PartStyleView, NameStyleView, name_content}
 

@@ -1,6 +1,6 @@
 -- The content of a names node that has persons, and the state that it leaves (CSL 1.0.2, Names;
 -- Label in Names; Affixes; Display; Name, `form`).
-use Rattle.std.specs.Prelude.{ℕ, ◌+◌, Bool, true, false, not, ◌&&◌, ◌||◌, ◌==◌, List, [], ◌∷◌, length, Option, Some, None, slice_get, decimal, if◌then◌else◌}
+use Rattle.std.specs.Prelude.{ℕ, ◌+◌, Bool, true, false, not, ◌&&◌, ◌||◌, ◌==◌, List, [], ◌∷◌, length, Option, Some, None, slice_get, decimal, if◌then◌else◌, option_map}
 use Rattle.std.specs.Option.{unwrap_or, option_or}
 use Rattle.lit_model.specs.Person.{PersonView}
 use Rattle.csl_style.specs.declared.names.NameForm.{NameForm}
@@ -8,9 +8,9 @@ use Rattle.csl_style.specs.declared.names.NameForm.TheVariants.{Count, Short, Lo
 use Rattle.csl_style.specs.declared.taxonomy.NameVariable.{NameVariable}
 use Rattle.csl_style.specs.declared.term.Term.TheVariants as terms
 use Rattle.csl_style.specs.Dressing.{Dressing}
-use Rattle.csl_style.specs.NameOptions.{PartialOptions, CompleteOptions, apply_options, with_defaults, names_delimiter_of}
-use Rattle.csl_style.specs.Names.{NameNode, EtAlNode, LabelNode, NamesLabel, NamesNode, first_name}
-use Rattle.csl_style.specs.NamesParts.{default_name, default_et_al}
+use Rattle.csl_style.specs.NameOptions.{PartialOptions, CompleteOptions, apply_options, with_defaults, names_delimiter_of, complete_options}
+use Rattle.csl_style.specs.Names.{NameNode, EtAlNode, LabelNode, NamesLabel, NamesNode, first_name, view_name, view_et_al}
+use Rattle.csl_style.specs.NamesParts.{default_name, default_et_al, placed_label}
 use Rattle.csl_style.specs.Style.{StyleParts}
 use Rattle.csl_tree.specs.Tokens.{Token, Meta, of_names}
 use Rattle.csl_tree.specs.Content.{◌++>◌, elem_content}
@@ -25,6 +25,7 @@ use Rattle.csl_names.specs.ListStyles.{list_style}
 use Rattle.csl_names.specs.NamesLists.{PersonLists}
 use Rattle.csl_names.specs.NamesForms.{count_of, saturated_count}
 use Rattle.csl_names.specs.CiteForms.{forms_in, with_first_forms_by}
+use Rattle.csl_names.specs.declared.names.written.NamesStyle.{NamesStyle}
 
 -- ---- how the lists are written
 -- The first Name, Et-al and Label among the children count. Options are those of the Name over
@@ -160,3 +161,12 @@ names_content style sorting cite n ls inh = elem_content n.dressing.display (lis
 abbrev pub names_state : CiteState → NamesNode → PersonLists → Inherited → State → State
 names_state cite n ls inh s =
     with_first_forms_by (names_style n inh.options).options.form (forms_in cite n.variables (names_style n inh.options).options ls) s
+
+abbrev pub names_style_view : NamesStyle → NamesStyleView
+names_style_view s = record {
+  name = view_name s.name.now;
+  options = complete_options s.options;
+  et_al = view_et_al s.et_al.now;
+  label = option_map placed_label s.label;
+  delimiter = s.delimiter.now;
+}

@@ -17,8 +17,8 @@ use Rattle.csl_style.specs.declared.names.NameForm.{NameForm}
 use Rattle.csl_style.specs.declared.names.NameForm.TheVariants.{Count, Short, Long}
 use Rattle.csl_style.specs.NameOptions.{PartialOptions, CompleteOptions, apply_options, is_suppressed}
 use Rattle.csl_style.specs.Names.{NameNode, NamesNode}
-use Rattle.csl_entry.specs.declared.name_form.DisambiguatedNameForm.{DisambiguatedNameForm}
-use Rattle.csl_entry.specs.declared.name_form.DisambiguatedNameForm.TheVariants as forms
+use Rattle.csl_entry.specs.declared.forms.name_form.DisambiguatedNameForm.{DisambiguatedNameForm}
+use Rattle.csl_entry.specs.declared.forms.name_form.DisambiguatedNameForm.TheVariants as forms
 use Rattle.csl_entry.specs.NameProperties.{NameForms}
 use Rattle.csl_names.specs.NamesLists.{PersonLists, all_empty}
 

@@ -1,11 +1,11 @@
 -- The lists of a names node (CSL 1.0.2, Names; Name Variables, `editortranslator`): persons for
 -- each of its variables, in their order. A dry run looks for them silently and merges none
--- (`peeked_lists`).
--- For printing each look counts for the next ones (`resolved_lists`), and `lists_state` is the state
--- after all of them. If the variables are the editors and the translators alone, in either order,
--- and the style has the long term for who is both (`may_merge`), the lists that print are the editors
--- and then the translators. Of these an empty list is dropped, and two that show the same persons
--- are one list of the variable of both (`merged_lists`).
+-- (`peeked_lists`). For printing each look counts for the next ones (`resolved_lists`), and
+-- `lists_state` is the state after all of them. If the variables are the editors and the
+-- translators alone, in either order, and the style has the long term for who is both
+-- (`may_merge`), the lists that print are the editors and then the translators. Of these an empty
+-- list is dropped, and two that show the same persons are one list of the variable of both
+-- (`merged_lists`).
 use Rattle.std.specs.Prelude.{Bool, true, false, ◌&&◌, ◌||◌, List, [], ◌∷◌, is_some, if◌then◌else◌}
 use Rattle.std.specs.List.{list_all}
 use Rattle.std.specs.Cmp.Lexicographic.{pointwise}

@@ -1,10 +1,10 @@
 -- One name (CSL 1.0.2, Name; Name-part; `name-as-sort-order`, `demote-non-dropping-particle`,
 -- `initialize-with`, `sort-separator`) is a list of pieces (`one_name`). It depends on the form, on
--- whether the name is reversed, and on how it is written (`NameStyleView`): the two parts with their
--- formattings and affixes, the separator, the text after initials, whether these keep a hyphen,
--- whether a particle is demoted, and whether a sort key is made. `name_content` is the content of
--- these pieces alone, so its gaps see only this name.
--- `part_style_view` and `name_style_view` are the code's own: private contracts alone cite them.
+-- whether the name is reversed, and on how it is written (`NameStyleView`): the two parts with
+-- their formattings and affixes, the separator, the text after initials, whether these keep a
+-- hyphen, whether a particle is demoted, and whether a sort key is made. `name_content` is the
+-- content of these pieces alone, so its gaps see only this name. `part_style_view` and
+-- `name_style_view` are the code's own: private contracts alone cite them.
 use Rattle.std.specs.Prelude.{ℕ, Bool, true, false, ◌||◌, List, [], ◌∷◌, ◌++◌, Option, Some, None, option_map, if◌then◌else◌}
 use Rattle.lit_model.specs.Person.{PersonView}
 use Rattle.lit_model.specs.Name.{is_institutional, is_cjk, name_particle, name_without_particle, name_without_article}
@@ -14,8 +14,8 @@ use Rattle.csl_style.specs.declared.formatting.Formatting as partial
 use Rattle.csl_style.specs.NamesParts.{no_formatting}
 use Rattle.csl_style.specs.Dressing.{AffixTexts}
 use Rattle.csl_tree.specs.Tokens.{Token}
-use Rattle.csl_entry.specs.declared.name_form.DisambiguatedNameForm.{DisambiguatedNameForm}
-use Rattle.csl_entry.specs.declared.name_form.DisambiguatedNameForm.TheVariants.{Count, ShortInitialized, ShortFull, LongInitialized, LongFull}
+use Rattle.csl_entry.specs.declared.forms.name_form.DisambiguatedNameForm.{DisambiguatedNameForm}
+use Rattle.csl_entry.specs.declared.forms.name_form.DisambiguatedNameForm.TheVariants.{Count, ShortInitialized, ShortFull, LongInitialized, LongFull}
 use Rattle.csl_entry.specs.NameForm.{shows_given_name}
 use Rattle.csl_context.specs.State.{Inherited}
 use Rattle.csl_names.specs.declared.part.PartStyle.{PartStyle}

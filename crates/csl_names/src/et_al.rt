@@ -11,7 +11,7 @@ ghost use Rattle.csl_names.specs.ListStyles.{list_style_view};
 
 use crate::join::delimiter_precedes;
 use crate::list::{ListStyle, form_at};
-use crate::piece::{plain, push_gap, put};
+use crate::piece::{no_formatting, push_gap, push_word};
 use csl_context::{Context, RenderError};
 use csl_entry::DisambiguatedNameForm;
 use csl_style::{NameAsSortOrder, Term, TermForm};
@@ -48,10 +48,10 @@ impl ListStyle<'_> {
             None => ctx.ensure_live(),
             Some(term) => {
                 if delimiter_precedes(self.before_et_al, self.order, names, shown) {
-                    put(ctx, self.delimiter, plain())?;
+                    push_word(ctx, self.delimiter, no_formatting())?;
                 }
                 push_gap(ctx, self.et_al_formatting)?;
-                put(ctx, term, self.et_al_formatting)
+                push_word(ctx, term, self.et_al_formatting)
             }
         }
     }
@@ -82,8 +82,8 @@ impl ListStyle<'_> {
         match persons.last() {
             None => ctx.ensure_live(),
             Some(person) => {
-                put(ctx, self.delimiter, plain())?;
-                put(ctx, "… ", plain())?;
+                push_word(ctx, self.delimiter, no_formatting())?;
+                push_word(ctx, "… ", no_formatting())?;
                 let place = persons.len() - 1;
                 self.push_whole(ctx, person.as_ref(), form, is_all(self.order), place)
             }
@@ -100,7 +100,8 @@ impl ListStyle<'_> {
         persons: &[Cow<'_, Person>],
     ) -> Result<(), RenderError>
         ensures { Runs (λ now. with_pieces (cut_end now.inherited
-            (list_style_view self.entry) names forms.now (map (λ p. person_view (cow_value p)) persons.now)
+            (list_style_view self.entry) names forms.now
+            (map (λ p. person_view (cow_value p)) persons.now)
             (last_form (list_style_view self.entry) forms.now)) now) result ctx.old ctx.new }
     {
         match self.last_form(forms) {

@@ -9,7 +9,7 @@ ghost use Rattle.csl_names.specs.Piece.{word, with_pieces};
 ghost use Rattle.csl_names.specs.OneName.{name_style_view, initialized_given, given_word, given_block};
 
 use crate::name::NameStyle;
-use crate::piece::{push_optional, push_with_spaces, put};
+use crate::piece::{push_after_gap, push_optional, push_word};
 use csl_context::{Context, RenderError};
 use csl_entry::DisambiguatedNameForm;
 use lit_model::{Memory, Person};
@@ -70,13 +70,14 @@ impl NameStyle<'_> {
         person: &Person,
         form: DisambiguatedNameForm,
     ) -> Result<(), RenderError>
-        ensures { Runs (with_pieces (given_word (name_style_view self.entry) form (person_view person.now)))
+        ensures { Runs (with_pieces (given_word (name_style_view self.entry) form
+            (person_view person.now)))
             result ctx.old ctx.new }
     {
         match &person.given_name {
             None => ctx.ensure_live(),
             Some(given) => match self.initialize_with {
-                None => put(ctx, given.as_str(), self.given.formatting),
+                None => push_word(ctx, given.as_str(), self.given.formatting),
                 Some(text) => self.push_short(ctx, person, given.as_str(), form, text),
             },
         }
@@ -92,12 +93,14 @@ impl NameStyle<'_> {
         text: &str,
     ) -> Result<(), RenderError>
         requires given_name { option_map string_bytes person.now.given_name ≡ Some given.now }
-        ensures { Runs (with_pieces (word (initialized_given text.now (name_style_view self.entry).hyphen
-            form given.now) (name_style_view self.entry).given.formatting ∷ [])) result ctx.old ctx.new }
+        ensures { Runs (with_pieces (word (initialized_given text.now
+            (name_style_view self.entry).hyphen
+            form given.now) (name_style_view self.entry).given.formatting ∷ [])) result ctx.old
+            ctx.new }
     {
         let short = shorten(ctx.alloc(), person, given, form, text, self.hyphen);
         let short = ctx.attempt(short)?;
-        put(ctx, short.as_str(), self.given.formatting)
+        push_word(ctx, short.as_str(), self.given.formatting)
     }
 
     /// Writes the given name and what stands before the family name, in the given part's
@@ -108,11 +111,12 @@ impl NameStyle<'_> {
         person: &Person,
         form: DisambiguatedNameForm,
     ) -> Result<(), RenderError>
-        ensures { Runs (with_pieces (given_block (name_style_view self.entry) form (person_view person.now)))
+        ensures { Runs (with_pieces (given_block (name_style_view self.entry) form
+            (person_view person.now)))
             result ctx.old ctx.new }
     {
         push_optional(ctx, self.given.prefix, self.given.formatting)?;
         self.push_given(ctx, person, form)?;
-        push_with_spaces(ctx, person.prefix.as_deref(), self.given.formatting)
+        push_after_gap(ctx, person.prefix.as_deref(), self.given.formatting)
     }
 }

@@ -8,7 +8,7 @@ ghost use Rattle.csl_names.specs.NameList.{delimiter_precedes, last_name_separat
 ghost use Rattle.csl_names.specs.ListStyles.{and_word, list_style_view};
 
 use crate::list::{ListStyle, is_reversed};
-use crate::piece::{plain, push_gap, put};
+use crate::piece::{no_formatting, push_gap, push_word};
 use csl_context::{Context, RenderError};
 use csl_style::{DelimiterBehavior, NameAnd, NameAsSortOrder, OtherTerm, Style, Term, TermForm};
 
@@ -53,16 +53,16 @@ impl ListStyle<'_> {
             (list_style_view self.entry).and_word)) result ctx.old ctx.new }
     {
         match and_word(self.style, self.and) {
-            None => put(ctx, self.delimiter, plain()),
+            None => push_word(ctx, self.delimiter, no_formatting()),
             Some(and) => {
                 let before = if delimiter_precedes(self.before_last, self.order, place, place) {
                     self.delimiter
                 } else {
                     " "
                 };
-                put(ctx, before, plain())?;
-                put(ctx, and, plain())?;
-                push_gap(ctx, plain())
+                push_word(ctx, before, no_formatting())?;
+                push_word(ctx, and, no_formatting())?;
+                push_gap(ctx, no_formatting())
             }
         }
     }
@@ -84,8 +84,8 @@ impl ListStyle<'_> {
         }
         match ends {
             Some(count) if place + 1 == count => self.push_last_join(ctx, place),
-            Some(_) => put(ctx, self.delimiter, plain()),
-            None => put(ctx, self.delimiter, plain()),
+            Some(_) => push_word(ctx, self.delimiter, no_formatting()),
+            None => push_word(ctx, self.delimiter, no_formatting()),
         }
     }
 }

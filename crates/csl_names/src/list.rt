@@ -84,7 +84,8 @@ impl ListStyle<'_> {
         reversed: bool,
         place: usize,
     ) -> Result<(), RenderError>
-        ensures { Runs (with_whole (list_style_view self.entry) form reversed place (person_view person.now))
+        ensures { Runs (with_whole (list_style_view self.entry) form reversed place
+            (person_view person.now))
             result ctx.old ctx.new }
     {
         let element = ctx.push_elem()?;
@@ -102,8 +103,10 @@ impl ListStyle<'_> {
         forms: &[Option<DisambiguatedNameForm>],
         persons: &[Cow<'_, Person>],
     ) -> Result<(), RenderError>
-        ensures { Runs (λ now. with_pieces (names_from now.inherited (list_style_view self.entry) ends
-            forms.now 0 (map (λ p. person_view (cow_value p)) persons.now)) now) result ctx.old ctx.new }
+        ensures { Runs (λ now. with_pieces (names_from now.inherited
+            (list_style_view self.entry) ends
+            forms.now 0 (map (λ p. person_view (cow_value p)) persons.now)) now) result ctx.old
+            ctx.new }
     {
         ctx.ensure_live()?;
         let mut place: usize = 0;

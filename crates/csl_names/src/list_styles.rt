@@ -24,7 +24,8 @@ fn list_style<'n, 's: 'n, T>(
     et_al: &EtAl,
     variable: NameVariable,
 ) -> ListStyle<'n>
-    ensures { list_style_view result ≡ list_style_in ctx.now (view_name name.now) (complete_options options.entry)
+    ensures { list_style_view result ≡ list_style_in ctx.now (view_name name.now)
+        (complete_options options.entry)
         (view_et_al et_al.now) variable }
 {
     ListStyle {
@@ -58,7 +59,8 @@ pub fn write_name_list<T>(
     forms: &[Option<DisambiguatedNameForm>],
 ) -> Result<(), RenderError>
     ensures { Runs (with_name_list (view_name name.now) (complete_options options.entry)
-        (view_et_al et_al.now) variable (map (λ p. person_view (cow_value p)) persons.now) forms.now)
+        (view_et_al et_al.now) variable (map (λ p. person_view (cow_value p)) persons.now)
+        forms.now)
         result ctx.old ctx.new }
 {
     let way = list_style(ctx, name, options, et_al, variable);

@@ -7,7 +7,7 @@ ghost use Rattle.csl_names.specs.Piece.{with_pieces};
 ghost use Rattle.csl_names.specs.OneName.{name_style_view, leading_name, demoted_particle, given_after_family, family_first, suffix_after_name, given_first, cjk_name, institution, long_name, one_name};
 
 use crate::part::{PartStyle, push_separated};
-use crate::piece::{plain, push_gap, push_optional, push_with_spaces, put};
+use crate::piece::{no_formatting, push_after_gap, push_gap, push_optional, push_word};
 use csl_context::{Context, RenderError};
 use csl_entry::DisambiguatedNameForm;
 use lit_model::Person;
@@ -66,10 +66,10 @@ impl NameStyle<'_> {
         match &person.given_name {
             None => ctx.ensure_live(),
             Some(_) => {
-                put(ctx, self.separator, plain())?;
+                push_word(ctx, self.separator, no_formatting())?;
                 self.push_given_block(ctx, person, form)?;
-                push_with_spaces(ctx, self.demoted_particle(person), plain())?;
-                push_optional(ctx, self.given.suffix, plain())
+                push_after_gap(ctx, self.demoted_particle(person), no_formatting())?;
+                push_optional(ctx, self.given.suffix, no_formatting())
             }
         }
     }
@@ -82,10 +82,11 @@ impl NameStyle<'_> {
         person: &Person,
         form: DisambiguatedNameForm,
     ) -> Result<(), RenderError>
-        ensures { Runs (with_pieces (family_first (name_style_view self.entry) form (person_view person.now)))
+        ensures { Runs (with_pieces (family_first (name_style_view self.entry) form
+            (person_view person.now)))
             result ctx.old ctx.new }
     {
-        self.family.put(ctx, self.leading_name(person))?;
+        self.family.push_part(ctx, self.leading_name(person))?;
         self.push_given_after(ctx, person, form)?;
         push_separated(ctx, self.separator, person.suffix.as_deref())
     }
@@ -97,16 +98,17 @@ impl NameStyle<'_> {
         person: &Person,
     ) -> Result<(), RenderError>
         ensures { Runs (with_pieces (suffix_after_name (name_style_view self.entry)
-            (person_view person.now).comma_suffix (person_view person.now).suffix)) result ctx.old ctx.new }
+            (person_view person.now).comma_suffix (person_view person.now).suffix)) result ctx.old
+            ctx.new }
     {
         match &person.suffix {
             None => ctx.ensure_live(),
             Some(suffix) => {
                 if person.comma_suffix {
-                    put(ctx, self.separator, plain())?;
+                    push_word(ctx, self.separator, no_formatting())?;
                 }
-                push_gap(ctx, plain())?;
-                put(ctx, suffix.as_str(), plain())
+                push_gap(ctx, no_formatting())?;
+                push_word(ctx, suffix.as_str(), no_formatting())
             }
         }
     }
@@ -119,27 +121,29 @@ impl NameStyle<'_> {
         person: &Person,
         form: DisambiguatedNameForm,
     ) -> Result<(), RenderError>
-        ensures { Runs (with_pieces (given_first (name_style_view self.entry) form (person_view person.now)))
+        ensures { Runs (with_pieces (given_first (name_style_view self.entry) form
+            (person_view person.now)))
             result ctx.old ctx.new }
     {
         self.push_given_block(ctx, person, form)?;
-        push_optional(ctx, self.given.suffix, plain())?;
-        push_gap(ctx, plain())?;
+        push_optional(ctx, self.given.suffix, no_formatting())?;
+        push_gap(ctx, no_formatting())?;
         push_optional(ctx, self.family.prefix, self.family.formatting)?;
-        put(ctx, person.name.as_str(), self.family.formatting)?;
+        push_word(ctx, person.name.as_str(), self.family.formatting)?;
         self.push_suffix_after(ctx, person)?;
-        push_optional(ctx, self.family.suffix, plain())
+        push_optional(ctx, self.family.suffix, no_formatting())
     }
 
     /// Writes a name in a Chinese, Japanese or Korean script: no gap stands between its parts.
     fn push_cjk<T>(self, ctx: &mut Context<'_, T>, person: &Person) -> Result<(), RenderError>
-        ensures { Runs (with_pieces (cjk_name (name_style_view self.entry) (person_view person.now)))
+        ensures { Runs (with_pieces (cjk_name (name_style_view self.entry)
+            (person_view person.now)))
             result ctx.old ctx.new }
     {
-        self.family.put(ctx, person.name.as_str())?;
+        self.family.push_part(ctx, person.name.as_str())?;
         match &person.given_name {
             None => Ok(()),
-            Some(given) => self.given.put(ctx, given.as_str()),
+            Some(given) => self.given.push_part(ctx, given.as_str()),
         }
     }
 
@@ -149,13 +153,14 @@ impl NameStyle<'_> {
         ctx: &mut Context<'_, T>,
         person: &Person,
     ) -> Result<(), RenderError>
-        ensures { Runs (with_pieces (institution (name_style_view self.entry) (person_view person.now)))
+        ensures { Runs (with_pieces (institution (name_style_view self.entry)
+            (person_view person.now)))
             result ctx.old ctx.new }
     {
         if !self.sorting {
-            return self.family.put(ctx, person.name.as_str());
+            return self.family.push_part(ctx, person.name.as_str());
         }
-        put(ctx, person.name_without_article(), self.family.formatting)
+        push_word(ctx, person.name_without_article(), self.family.formatting)
     }
 
     /// Writes a name with its given name.
@@ -194,7 +199,7 @@ impl NameStyle<'_> {
         } else if form.is_long() {
             self.push_long(ctx, person, form, reversed)
         } else {
-            self.family.put(ctx, person.name.as_str())
+            self.family.push_part(ctx, person.name.as_str())
         }
     }
 }

@@ -11,7 +11,7 @@ ghost use Rattle.csl_names.specs.NameStyles.{part_in, demotes, name_style_in, wi
 
 use crate::name::NameStyle;
 use crate::part::PartStyle;
-use crate::piece::plain;
+use crate::piece::no_formatting;
 use csl_context::{Context, RenderError};
 use csl_entry::DisambiguatedNameForm;
 use csl_style::{DemoteNonDroppingParticle, Name, NameOptions, NamePartName};
@@ -28,7 +28,7 @@ fn part_in(name: &Name, which: NamePartName) -> PartStyle<'_>
             suffix: part.affixes.suffix.as_deref(),
         },
         None => PartStyle {
-            formatting: plain(),
+            formatting: no_formatting(),
             prefix: None,
             suffix: None,
         },
@@ -83,7 +83,8 @@ pub fn write_name<T>(
     reversed: bool,
 ) -> Result<(), RenderError>
     ensures { Runs (with_one_name (view_name name.now)
-        (complete_options options.entry) form reversed (person_view person.now)) result ctx.old ctx.new }
+        (complete_options options.entry) form reversed (person_view person.now)) result ctx.old
+        ctx.new }
 {
     let way = name_style(ctx, name, options);
     let part = ctx.push_elem()?;

@@ -5,7 +5,7 @@ ghost use Rattle.csl_context.specs.ContextView.{Runs};
 ghost use Rattle.csl_names.specs.Piece.{with_pieces};
 ghost use Rattle.csl_names.specs.OneName.{part_style_view, part_text, separated_word};
 
-use crate::piece::{plain, push_optional, put};
+use crate::piece::{no_formatting, push_optional, push_word};
 use csl_context::{Context, RenderError};
 use csl_style::Formatting;
 
@@ -19,13 +19,17 @@ pub(crate) struct PartStyle<'s> {
 
 impl PartStyle<'_> {
     /// Writes a text as this part of a name: the suffix stands outside the part's formatting.
-    pub(crate) fn put<T>(self, ctx: &mut Context<'_, T>, text: &str) -> Result<(), RenderError>
+    pub(crate) fn push_part<T>(
+        self,
+        ctx: &mut Context<'_, T>,
+        text: &str,
+    ) -> Result<(), RenderError>
         ensures { Runs (with_pieces (part_text (part_style_view self.entry) text.now))
             result ctx.old ctx.new }
     {
         push_optional(ctx, self.prefix, self.formatting)?;
-        put(ctx, text, self.formatting)?;
-        push_optional(ctx, self.suffix, plain())
+        push_word(ctx, text, self.formatting)?;
+        push_optional(ctx, self.suffix, no_formatting())
     }
 }
 
@@ -40,8 +44,8 @@ pub(crate) fn push_separated<T>(
 {
     match text {
         Some(text) => {
-            put(ctx, separator, plain())?;
-            put(ctx, text, plain())
+            push_word(ctx, separator, no_formatting())?;
+            push_word(ctx, text, no_formatting())
         }
         None => ctx.ensure_live(),
     }

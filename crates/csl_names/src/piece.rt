@@ -9,14 +9,14 @@ use csl_context::{Context, RenderError};
 use csl_style::Formatting;
 
 /// The formatting that says nothing.
-pub(crate) fn plain() -> Formatting
+pub(crate) fn no_formatting() -> Formatting
     ensures { result ≡ no_formatting }
 {
     Formatting::default()
 }
 
 /// Writes a text in a formatting over that of the place.
-pub(crate) fn put<T>(
+pub(crate) fn push_word<T>(
     ctx: &mut Context<'_, T>,
     text: &str,
     format: Formatting,
@@ -29,7 +29,7 @@ pub(crate) fn put<T>(
     Ok(())
 }
 
-/// Writes a text as [`put`] does, if there is one.
+/// Writes a text as [`push_word`] does, if there is one.
 pub(crate) fn push_optional<T>(
     ctx: &mut Context<'_, T>,
     text: Option<&str>,
@@ -39,7 +39,7 @@ pub(crate) fn push_optional<T>(
         result ctx.old ctx.new }
 {
     match text {
-        Some(text) => put(ctx, text, format),
+        Some(text) => push_word(ctx, text, format),
         None => ctx.ensure_live(),
     }
 }
@@ -54,8 +54,8 @@ pub(crate) fn push_gap<T>(ctx: &mut Context<'_, T>, format: Formatting) -> Resul
     Ok(())
 }
 
-/// Writes a text behind a gap, if there is one.
-pub(crate) fn push_with_spaces<T>(
+/// Writes a text after a gap, if there is one.
+pub(crate) fn push_after_gap<T>(
     ctx: &mut Context<'_, T>,
     text: Option<&str>,
     format: Formatting,
@@ -66,7 +66,7 @@ pub(crate) fn push_with_spaces<T>(
     match text {
         Some(text) => {
             push_gap(ctx, format)?;
-            put(ctx, text, format)
+            push_word(ctx, text, format)
         }
         None => ctx.ensure_live(),
     }

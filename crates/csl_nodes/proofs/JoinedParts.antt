@@ -16,8 +16,7 @@ use Rattle.csl_context.specs.State.{Inherited}
 use Rattle.csl_context.specs.Texts.{text_in_if, between_in}
 use Rattle.csl_nodes.specs.declared.date_parts.DateValue.{DateValue}
 use Rattle.csl_nodes.specs.declared.date_parts.LocalizedDate.{LocalizedDate}
-use Rattle.csl_nodes.specs.Dates.{part_over, date_part_over, part_content, each_after_delimiter, joined_by}
-use Rattle.csl_nodes.specs.LocalizedDates.{localized_node, own_parts, over_localized}
+use Rattle.csl_nodes.specs.Dates.{part_over, date_part_over, part_content, each_after_delimiter, joined_by, localized_node, own_parts, over_localized}
 
 -- With no localized date the parts stay as they are.
 as_they_are : (ps : List DatePartNode) → map (part_over []) ps ≡ ps

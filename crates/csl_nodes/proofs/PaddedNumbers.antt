@@ -1,4 +1,5 @@
--- What a hole with zeros writes of a number, as `{:02}`: its digits, behind so many zeros as are missing, and its sign before them.
+-- What a hole with zeros writes of a number, as `{:02}`: its digits, behind so many zeros as are
+-- missing, and its sign before them.
 use Rattle.std.proofs.Common.{◌≡◌, ℕ, ℤ, pos, negsuc, suc, ◌-◌, true, false, List, [], ◌∷◌, length, arith, append-nil, ap, ◌∙◌}
 use Rattle.std.specs.Fmt.{decimal, padded_integral, format_spec, styled_signed_decimal, char_count}
 use Rattle.std.specs.Int.{is_negative}

@@ -6,7 +6,11 @@ use Rattle.csl_style.specs.Dressing.{Dressing}
 use Rattle.csl_tree.specs.Content.{elem_content}
 use Rattle.csl_tree.specs.Tokens.{Token, Meta}
 use Rattle.csl_context.specs.State.{Inherited, with_node_formatting}
-use Rattle.csl_context.specs.Texts.{affixed_in}
+use Rattle.csl_context.specs.Texts.{affixed_in, text_in, chunks_in, link_in}
+use Rattle.lit_model.specs.Text.{chunks}
+use Rattle.csl_nodes.specs.NumberOrPage.{number_text_view, shown_in}
+use Rattle.csl_nodes.specs.declared.dressing.Body.{Body}
+use Rattle.csl_nodes.specs.declared.dressing.Body.TheVariants as body
 
 -- what the body inherits: its periods are stripped, those of the affixes are not
 abbrev pub in_plain : Dressing → Bool → Inherited → Inherited
@@ -19,3 +23,9 @@ plain_between d inh c = affixed_in (with_node_formatting d.formatting inh) d.aff
 -- a node's box around its body
 abbrev pub plain_box : Dressing → Meta → Inherited → List Token → List Token
 plain_box d meta inh c = elem_content d.display (Some meta) (plain_between d inh c)
+
+abbrev pub body_in : Inherited → Body → List Token
+body_in inh (body.Str words) = text_in inh words.now
+body_in inh (body.Chunks pieces) = chunks_in inh (chunks pieces.now)
+body_in inh (body.Link text url) = link_in inh text.now url.now
+body_in inh (body.Number shown) = shown_in inh (number_text_view shown.now)

@@ -24,8 +24,8 @@ use Rattle.csl_style.specs.declared.taxonomy.Variable.TheVariants as variable
 use Rattle.csl_style.specs.contracts.taxonomy.Locator.{the_type as the_locator}
 use Rattle.csl_style.specs.Node.{Tests, Node, Nodes, Branches, no_branches, otherwise, branch}
 use Rattle.csl_style.specs.Node as node
-use Rattle.csl_entry.specs.declared.cite.IbidState.{IbidState}
-use Rattle.csl_entry.specs.declared.cite.IbidState.TheVariants as ibid
+use Rattle.csl_entry.specs.declared.citation.cite.IbidState.{IbidState}
+use Rattle.csl_entry.specs.declared.citation.cite.IbidState.TheVariants as ibid
 use Rattle.csl_entry.specs.Cite.{CiteState}
 use Rattle.csl_entry.specs.NumberResult.{ResultView, regular, transparent}
 use Rattle.csl_context.specs.State.{State}

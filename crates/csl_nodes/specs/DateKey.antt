@@ -23,8 +23,8 @@ use Rattle.csl_style.specs.declared.date.DatePartName.{DatePartName}
 use Rattle.csl_style.specs.declared.date.DatePartName.TheVariants.{Day, Month, Year}
 use Rattle.csl_style.specs.declared.date.DateParts.TheVariants as upto
 use Rattle.csl_style.specs.Node.{DatePartNode, DateNode}
-use Rattle.csl_entry.specs.declared.cite.Sorting.{Sorting}
-use Rattle.csl_entry.specs.declared.cite.Sorting.TheVariants as sorting
+use Rattle.csl_entry.specs.declared.citation.cite.Sorting.{Sorting}
+use Rattle.csl_entry.specs.declared.citation.cite.Sorting.TheVariants as sorting
 use Rattle.csl_nodes.specs.DateText.{two_digits, names_part}
 
 -- ---- numbers and years

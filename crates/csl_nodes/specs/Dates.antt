@@ -1,7 +1,7 @@
 -- Dates (CSL 1.0.2, Date; Date-part; Localized Date Formats; Sorting; Disambiguation,
 -- `disambiguate-add-year-suffix`): the dry run of a date, the variables that it shows, its content
--- and the state that it leaves (`date_info`, `date_shows`, `date_output`). The texts of its parts are
--- in `DateText`, and its sort keys in `DateKey`.
+-- and the state that it leaves (`date_info`, `date_shows`, `date_output`). The texts of its parts
+-- are in `DateText`, and its sort keys in `DateKey`.
 use Rattle.std.specs.Prelude.{ℕ, Bool, true, false, not, ◌&&◌, List, [], ◌∷◌, ◌++◌, map, filter, Option, Some, None, option_map, is_some, unwrap_or, find, if◌then◌else◌}
 use Rattle.std.specs.Option.{option_or}
 use denote.Enum.Bare.{sameb}
@@ -28,18 +28,22 @@ use Rattle.csl_style.specs.YearSuffix.{reached_layout, is_year_suffix_implicit}
 use Rattle.csl_style.specs.Style.{StyleParts}
 use Rattle.csl_tree.specs.Content.{◌++>◌}
 use Rattle.csl_tree.specs.Tokens.{Token, of_date, has_children}
-use Rattle.csl_entry.specs.declared.cite.Sorting.{Sorting}
-use Rattle.csl_entry.specs.declared.cite.SpecialForm.{SpecialForm}
-use Rattle.csl_entry.specs.declared.cite.SpecialForm.TheVariants.{VarOnly, OnlyFirstDate, OnlyYearSuffix, SuppressAuthor}
+use Rattle.csl_entry.specs.declared.citation.cite.Sorting.{Sorting}
+use Rattle.csl_entry.specs.declared.citation.cite.SpecialForm.{SpecialForm}
+use Rattle.csl_entry.specs.declared.citation.cite.SpecialForm.TheVariants.{VarOnly, OnlyFirstDate, OnlyYearSuffix, SuppressAuthor}
 use Rattle.csl_context.specs.State.{State, Inherited, state_after_resolve}
 use Rattle.csl_context.specs.Texts.{text_in, text_in_if}
 use Rattle.csl_context.specs.World.{RenderInput, peek_standard, peek_date, localized_date}
 use Rattle.csl_nodes.specs.Boxes.{in_plain, plain_between, plain_box}
 use Rattle.csl_nodes.specs.DateText.{is_written, part_text}
 use Rattle.csl_nodes.specs.DateKey.{sort_key}
-use Rattle.csl_nodes.specs.Flags.{Info, no_info}
+use Rattle.csl_nodes.specs.Usage.{Info, no_info}
 use Rattle.csl_nodes.specs.Numbers.{presence_info}
 use Rattle.csl_nodes.specs.Text.{RenderOutput, render_output, same_variable, no_affixes}
+use Rattle.std.specs.Borrow.{Bor}
+use Rattle.csl_style.specs.declared.date.Date.{Date}
+use Rattle.csl_style.specs.View.{view_date, view_date_part}
+use Rattle.csl_nodes.specs.declared.date_parts.LocalizedDate.{LocalizedDate}
 
 -- ---- dry runs
 -- A date shows its variable, unless only another one is to be shown. Under the two forms for the
@@ -255,3 +259,14 @@ variable_output w n (Some v) inh s =
 
 abbrev pub date_output : RenderInput → DateNode → Inherited → State → RenderOutput
 date_output w n inh s = variable_output w n n.variable inh s
+
+abbrev pub localized_node : LocalizedDate → DateNode
+localized_node d = date_over (view_date d.node.now) (option_map (λ l. view_date l.now) d.localized)
+
+-- the node's parts that are over those of the localized date, if there is one
+abbrev pub over_localized : Date → Option (Bor Date) → List DatePartNode
+over_localized n None = []
+over_localized n (Some l) = map view_date_part n.date_part.items
+
+abbrev pub own_parts : LocalizedDate → List DatePartNode
+own_parts d = over_localized d.node.now d.localized

@@ -31,8 +31,8 @@ use Rattle.csl_style.specs.Dressing.{Dressing}
 use Rattle.csl_style.specs.Names.{LabelNode}
 use Rattle.csl_style.specs.Taxonomy.{variable_of}
 use Rattle.csl_tree.specs.Tokens.{Token, of_label}
-use Rattle.csl_entry.specs.declared.cite.SpecialForm.{SpecialForm}
-use Rattle.csl_entry.specs.declared.cite.SpecialForm.TheVariants.{VarOnly, OnlyFirstDate, OnlyYearSuffix, SuppressAuthor}
+use Rattle.csl_entry.specs.declared.citation.cite.SpecialForm.{SpecialForm}
+use Rattle.csl_entry.specs.declared.citation.cite.SpecialForm.TheVariants.{VarOnly, OnlyFirstDate, OnlyYearSuffix, SuppressAuthor}
 use Rattle.csl_entry.specs.Cite.{CiteState, LocatorView}
 use Rattle.csl_entry.specs.NumberResult.{ResultView, regular, transparent, NumberOrPageView, number, page}
 use Rattle.csl_context.specs.State.{State, Inherited}
@@ -40,7 +40,7 @@ use Rattle.csl_context.specs.Texts.{text_in}
 use Rattle.csl_context.specs.World.{RenderInput, term_in}
 use Rattle.csl_nodes.specs.NumberOrPage.{peek_number_or_page}
 use Rattle.csl_nodes.specs.Boxes.{in_plain, plain_box}
-use Rattle.csl_nodes.specs.Flags.{no_usage_flags, Info, info_of}
+use Rattle.csl_nodes.specs.Usage.{no_usage_flags, Info, info_of}
 use Rattle.csl_nodes.specs.Text.{RenderOutput, render_output, same_variable}
 
 -- ---- the term

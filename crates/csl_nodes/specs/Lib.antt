@@ -2,19 +2,16 @@
 -- returns in a dry run and renders. They are whole contents over nodes with no macro name left.
 -- They read the world (style, scope and cite), the state, and, for contents, what the node
 -- inherits.
-pub mod Flags
-pub mod UsageView
+pub mod Usage
 pub mod Pages
 pub mod NumberOrPage
 pub mod Text
 pub mod Resolved
 pub mod Boxes
-pub mod Bodies
 pub mod Numbers
 pub mod DateText
 pub mod DateKey
 pub mod Labels
 pub mod Dates
-pub mod LocalizedDates
 pub mod Conditions
 pub mod RemainingConditions

@@ -22,16 +22,16 @@ use Rattle.csl_style.specs.declared.taxonomy.Variable.{Variable}
 use Rattle.csl_style.specs.Node.{NumberNode}
 use Rattle.csl_style.specs.Taxonomy.{variable_of, term_of}
 use Rattle.csl_tree.specs.Tokens.{Token, Meta, of_number, of_citation_number}
-use Rattle.csl_entry.specs.declared.cite.Sorting.{Sorting}
-use Rattle.csl_entry.specs.declared.cite.SpecialForm.{SpecialForm}
-use Rattle.csl_entry.specs.declared.cite.SpecialForm.TheVariants.{VarOnly, OnlyFirstDate, OnlyYearSuffix, SuppressAuthor}
+use Rattle.csl_entry.specs.declared.citation.cite.Sorting.{Sorting}
+use Rattle.csl_entry.specs.declared.citation.cite.SpecialForm.{SpecialForm}
+use Rattle.csl_entry.specs.declared.citation.cite.SpecialForm.TheVariants.{VarOnly, OnlyFirstDate, OnlyYearSuffix, SuppressAuthor}
 use Rattle.csl_entry.specs.NumberResult.{regular, transparent, NumberOrPageView, number, page}
 use Rattle.csl_context.specs.State.{State, Inherited, state_after_resolve}
 use Rattle.csl_context.specs.Texts.{text_in}
 use Rattle.csl_context.specs.World.{RenderInput, gender_in}
 use Rattle.csl_nodes.specs.NumberOrPage.{peek_number_or_page, shown_in, number_node_text}
 use Rattle.csl_nodes.specs.Boxes.{in_plain, plain_box}
-use Rattle.csl_nodes.specs.Flags.{usage_flags, Info, info_of}
+use Rattle.csl_nodes.specs.Usage.{usage_flags, Info, info_of}
 use Rattle.csl_nodes.specs.Text.{RenderOutput, render_output, same_variable, survives_only_forms}
 
 -- ---- dry runs

@@ -1,10 +1,10 @@
 -- Pages in the format of a style (CSL 1.0.2, Terms, `page-range-delimiter`; Appendix V, Page Range
 -- Formats): their parts in order, with `, ` and ` & ` for separators. Between the two ends of a
--- range is the style's term for it, else an en dash.
--- If both ends are ASCII digits alone, the second is filled from the front of the first if it is
--- shorter. Then, if it is as long, `minimal` drops what it repeats of the first one's front but
--- keeps one digit, and `minimal-two` keeps two of an end of two or more. An escaped range is filled
--- only. Any other end stays as it is.
+-- range is the style's term for it, else an en dash. If both ends are ASCII digits alone, the
+-- second is completed from the front of the first if it is shorter. Then, if it is as long,
+-- `minimal` drops what it repeats of the first one's front but keeps one digit, and `minimal-two`
+-- keeps two of an end of two or more. An escaped range is completed only. Any other end stays as it
+-- is.
 use Rattle.std.specs.Prelude.{ℕ, ◌-◌, min, Bool, false, ◌&&◌, ◌==◌, nat_eq, List, [], ◌∷◌, ◌++◌, length, take, drop, map, chars, encode_utf8_all, Option, Some, None, unwrap_or, codes, if◌then◌else◌}
 use Rattle.std.specs.Char.{is_ascii_digit}
 use Rattle.std.specs.List.{list_all, flat_map, common_prefix_len}
@@ -29,7 +29,7 @@ en_dash = 0xE2 ∷ 0x80 ∷ 0x93 ∷ []
 abbrev pub is_digits : List ℕ → Bool
 is_digits bs = list_all is_ascii_digit bs
 
--- an end that is shorter than the start, filled from the start's front
+-- an end that is shorter than the start, completed from the start's front
 abbrev pub completed_end : List ℕ → List ℕ → List ℕ
 completed_end from to = take (length from - length to) from ++ to
 
@@ -52,7 +52,7 @@ abbrev pub shortened_to : Option ℕ → List ℕ → List ℕ → List ℕ
 shortened_to None from to = to
 shortened_to (Some kept) from to = if length from == length to then abbreviated_end kept from to else to
 
--- the second end of a range: filled and then shortened where both are digits, else as it is
+-- the second end of a range: completed and then shortened where both are digits, else as it is
 abbrev pub end_text : Option ℕ → List ℕ → List ℕ → List ℕ
 end_text kept from to = if is_digits from && is_digits to then shortened_to kept from (completed_end from to) else to
 

@@ -25,8 +25,8 @@ use Rattle.csl_style.specs.Style.{StyleParts}
 use Rattle.csl_tree.specs.Formatting.{apply_formatting}
 use Rattle.csl_tree.specs.Tokens.{Token, Meta, of_text, of_citation_label, of_citation_number}
 use Rattle.csl_tree.specs.Content.{◌++>◌, elem_content}
-use Rattle.csl_entry.specs.declared.cite.SpecialForm.{SpecialForm}
-use Rattle.csl_entry.specs.declared.cite.SpecialForm.TheVariants.{VarOnly, OnlyFirstDate, OnlyYearSuffix, SuppressAuthor}
+use Rattle.csl_entry.specs.declared.citation.cite.SpecialForm.{SpecialForm}
+use Rattle.csl_entry.specs.declared.citation.cite.SpecialForm.TheVariants.{VarOnly, OnlyFirstDate, OnlyYearSuffix, SuppressAuthor}
 use Rattle.csl_entry.specs.Answers.{Answers}
 use Rattle.csl_entry.specs.NumberResult.{NumberOrPageView}
 use Rattle.csl_context.specs.State.{State, Inherited, state_after_resolve, with_node_formatting}
@@ -36,7 +36,7 @@ use Rattle.csl_context.specs.ContextView.{ContextView, Runs, render_input}
 use Rattle.csl_context.specs.declared.error.RenderError.{RenderError}
 use Rattle.csl_context.specs.Quotes.{quoted_content, moves_punctuation, affixed_after}
 use Rattle.csl_nodes.specs.NumberOrPage.{peek_number_or_page, shown_in, text_node_text}
-use Rattle.csl_nodes.specs.Flags.{usage_flags, no_usage_flags, Info, info_of}
+use Rattle.csl_nodes.specs.Usage.{usage_flags, no_usage_flags, Info, info_of}
 
 -- the rendering of a node: its content, and the state that it leaves
 pub record RenderOutput : Type 0 where
@@ -213,9 +213,9 @@ begins_link d v = is_address_prefix (url_prefix v) d.dressing.affixes.prefix
 -- ---- rendering
 -- A text that finds something is a box, in its own formatting, around its body in quotes and
 -- affixes. Periods are stripped in the body alone. The body of a standard answer is its chunks, or
--- its link. For a number or page variable it is `text_node_text` of `Answered`. The box has the meta
--- of a text, a citation label or a citation number if a variable is printed, and none else.
--- A text of a variable, unless a name or a date, looks it up for printing, whatever it finds. If a
+-- its link. For a number or page variable it is `text_node_text` of `Answered`. The box has the
+-- meta of a text, a citation label or a citation number if a variable is printed, and none else. A
+-- text of a variable, unless a name or a date, looks it up for printing, whatever it finds. If a
 -- form leaves the variable out, there is no look.
 
 -- within quotes those inside are of the other kind

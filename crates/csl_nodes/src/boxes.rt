@@ -4,8 +4,7 @@
 ghost use Rattle.csl_style.specs.Dressing.{dressing_of};
 ghost use Rattle.csl_tree.specs.Tokens.{meta_of};
 ghost use Rattle.csl_context.specs.ContextView.{Runs, with_content};
-ghost use Rattle.csl_nodes.specs.Bodies.{body_in};
-ghost use Rattle.csl_nodes.specs.Boxes.{in_plain, plain_box};
+ghost use Rattle.csl_nodes.specs.Boxes.{body_in, in_plain, plain_box};
 
 use crate::dressing::{Body, write_body};
 use csl_context::{Context, RenderError};
@@ -24,8 +23,8 @@ pub(crate) struct NodeDressing<'b> {
 
 /// Appends the box of a node without quotes around a body.
 pub(crate) fn render_unquoted<'s, T: EntryLike>(
-    around: NodeDressing<'_>,
     ctx: &mut Context<'s, T>,
+    around: NodeDressing<'_>,
     meta: ElemMeta,
     body: Body<'_>,
 ) -> Result<(), RenderError>

@@ -86,7 +86,8 @@ impl<'a, 's, T: EntryLike> BranchConditionIter<'a, 's, T> {
         ctx: &'a Context<'s, T>,
     ) -> BranchConditionIter<'a, 's, T>
         ensures left { remaining_conditions T.answers result
-            ≡ conditions (render_input T.answers ctx.now) ctx.now.state (view_branch branch.now).tests }
+            ≡ conditions (render_input T.answers ctx.now) ctx.now.state
+            (view_branch branch.now).tests }
         ensures context { context_of result ≡ ctx.now }
     {
         BranchConditionIter {

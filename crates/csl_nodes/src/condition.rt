@@ -1,17 +1,15 @@
 //! What one test of a branch answers (CSL 1.0.2, Choose), by silent looks.
 
-ghost use Rattle.std.specs.Prelude.{◌≡◌, false, IfOk, OnOk, IfErr, option_copied, option_map};
-ghost use Rattle.std.specs.Cow.{cow_value};
+ghost use Rattle.std.specs.Prelude.{◌≡◌, false, IfOk, OnOk, IfErr};
 ghost use Rattle.lit_model.specs.Text.{chunks};
 ghost use Rattle.csl_context.specs.ContextView.{FailsSilently, render_input};
 ghost use Rattle.csl_nodes.specs.Conditions.{is_number, is_numeric, is_uncertain, is_located, is_ibid, is_ibid_with_locator, is_positioned, is_of_kind, is_present, is_disambiguated};
 
 use csl_context::{Context, RenderError};
-use csl_entry::{EntryLike, IbidState, NumberVariableResult};
+use csl_entry::{EntryLike, IbidState, NumberVariableResult, as_deref};
 use csl_style::{DateVariable, Kind, Locator, Scope, TestPosition, Variable};
 use lit_model::{ChunkedString, LongShortForm, MaybeTyped, Memory, Numeric};
 use std::alloc::Global;
-use std::borrow::Cow;
 
 /// Whether a text stands for a number.
 fn is_number(alloc: Global, text: &ChunkedString) -> Result<bool, Memory>
@@ -19,16 +17,6 @@ fn is_number(alloc: Global, text: &ChunkedString) -> Result<bool, Memory>
 {
     let text = text.to_text(alloc)?;
     Ok(Numeric::is_spelled_by(text.as_str()))
-}
-
-/// What was found, wherever it lies.
-pub(crate) fn as_deref<'a, T: Drop>(found: &'a Option<Cow<'_, T>>) -> Option<&'a T>
-    ensures { option_copied result ≡ option_map cow_value found.now }
-{
-    match found {
-        Some(value) => Some(value.as_ref()),
-        None => None,
-    }
 }
 
 /// Whether what the cite answers to the variable is a number. No name and no date is.

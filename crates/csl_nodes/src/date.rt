@@ -6,12 +6,10 @@ ghost use Rattle.csl_style.specs.View.{view_date};
 ghost use Rattle.csl_entry.specs.Answers.{cow_view};
 ghost use Rattle.csl_context.specs.World.{peek_date};
 ghost use Rattle.csl_context.specs.ContextView.{GivesBy, render_input};
-ghost use Rattle.csl_nodes.specs.Dates.{date_info, date_shows, date_output, is_own, date_shows_variable, is_first, date_shows_own, printed_date, date_or_key, resolved_date};
+ghost use Rattle.csl_nodes.specs.Dates.{date_info, date_shows, date_output, is_own, date_shows_variable, is_first, date_shows_own, printed_date, date_or_key, resolved_date, localized_node};
 ghost use Rattle.csl_nodes.specs.Text.{Appends};
-ghost use Rattle.csl_nodes.specs.UsageView.{info_view};
-ghost use Rattle.csl_nodes.specs.LocalizedDates.{localized_node};
+ghost use Rattle.csl_nodes.specs.Usage.{info_view};
 
-use crate::condition::as_deref;
 use crate::date_key::sort_key;
 use crate::date_parts::{DateValue, LocalizedDate, render_parts};
 use crate::date_suffix::{first_suffix, implicit_suffix};
@@ -19,7 +17,7 @@ use crate::empty::push_nothing;
 use crate::number::presence_info;
 use crate::usage::{UsageInfo, no_info};
 use csl_context::{Context, RenderError};
-use csl_entry::{EntryLike, Sorting, SpecialForm};
+use csl_entry::{EntryLike, Sorting, SpecialForm, as_deref};
 use csl_style::{Date, DateVariable, Variable};
 use csl_tree::ElemMeta;
 use lit_model::{Date as Given, Memory};
@@ -61,8 +59,8 @@ pub fn date_shows<'s, T: EntryLike>(ctx: &Context<'s, T>, node: &Date, asked: Va
 /// [`RenderError::Memory`]: there was no memory left, or the entry said so. The context has failed.
 /// [`RenderError::Failed`]: the context had failed before.
 pub fn render_date<'s, T: EntryLike>(
-    node: &Date,
     ctx: &mut Context<'s, T>,
+    node: &Date,
 ) -> Result<(), RenderError>
     ensures { Appends T.answers (λ w. date_output w (view_date node.now)) result ctx.old ctx.new }
 {
@@ -74,7 +72,7 @@ pub fn render_date<'s, T: EntryLike>(
     }
     let found = ctx.resolve_date_variable(own)?;
     match as_deref(&found) {
-        Some(date) => render_found(node, ctx, date),
+        Some(date) => render_found(ctx, node, date),
         None => push_nothing(ctx),
     }
 }
@@ -132,8 +130,8 @@ fn peek_date<'s, T: EntryLike>(
 
 /// Appends the sort key of a date.
 fn render_key<'s, T: EntryLike>(
-    node: &Date,
     ctx: &mut Context<'s, T>,
+    node: &Date,
     sorting: Sorting,
     date: &Given,
 ) -> Result<(), RenderError>
@@ -147,8 +145,8 @@ fn render_key<'s, T: EntryLike>(
 
 /// Appends the box of a date.
 fn render_box<'s, T: EntryLike>(
-    written: LocalizedDate<'_>,
     ctx: &mut Context<'s, T>,
+    written: LocalizedDate<'_>,
     date: &Given,
 ) -> Result<(), RenderError>
     ensures { Appends T.answers (λ w. printed_date w
@@ -162,7 +160,7 @@ fn render_box<'s, T: EntryLike>(
     ctx.push_format(written.formatting())?;
     let element = ctx.push_elem()?;
     let middle = ctx.apply_prefix()?;
-    render_parts(written, ctx, found)?;
+    render_parts(ctx, written, found)?;
     ctx.apply_suffix(&written.node.affixes, middle, false)?;
     ctx.commit_elem(element, written.node.display, Some(ElemMeta::Date))?;
     ctx.pop_format();
@@ -172,23 +170,23 @@ fn render_box<'s, T: EntryLike>(
 /// Appends a date that was found: its sort key, where the cite is rendered to be sorted, else its
 /// box, unless it asks for a localized date that the style lacks.
 fn render_found<'s, T: EntryLike>(
-    node: &Date,
     ctx: &mut Context<'s, T>,
+    node: &Date,
     date: &Given,
 ) -> Result<(), RenderError>
     ensures { Appends T.answers (λ w. resolved_date w
         (view_date node.now) (Some (date_view date.now))) result ctx.old ctx.new }
 {
     if let Some(sorting) = ctx.sorting() {
-        return render_key(node, ctx, sorting, date);
+        return render_key(ctx, node, sorting, date);
     }
     let Some(form) = node.form else {
         let localized = None;
-        return render_box(LocalizedDate { node, localized }, ctx, date);
+        return render_box(ctx, LocalizedDate { node, localized }, date);
     };
     let localized = ctx.localized_date(form);
     match localized {
-        Some(_) => render_box(LocalizedDate { node, localized }, ctx, date),
+        Some(_) => render_box(ctx, LocalizedDate { node, localized }, date),
         None => push_nothing(ctx),
     }
 }

@@ -9,8 +9,7 @@ ghost use Rattle.csl_tree.specs.Tokens.{has_children};
 ghost use Rattle.csl_context.specs.ContextView.{Runs, render_input, with_content};
 ghost use Rattle.csl_context.specs.Texts.{text_in, between_in};
 ghost use Rattle.csl_nodes.specs.Boxes.{in_plain, plain_between};
-ghost use Rattle.csl_nodes.specs.Dates.{is_suffix_alone, own_part, form_over, formatting_over, part_over, suffix_with, part_value, is_stripped, part_content, date_body};
-ghost use Rattle.csl_nodes.specs.LocalizedDates.{localized_node, own_parts};
+ghost use Rattle.csl_nodes.specs.Dates.{is_suffix_alone, own_part, form_over, formatting_over, part_over, suffix_with, part_value, is_stripped, part_content, date_body, localized_node, own_parts};
 
 use crate::boxes::NodeDressing;
 use crate::date_suffix::is_suffix_alone;
@@ -173,8 +172,8 @@ fn part_value<T>(
 
 /// Appends a text in its affixes, without a box.
 fn write_part<'s, T: EntryLike>(
-    around: NodeDressing<'_>,
     ctx: &mut Context<'s, T>,
+    around: NodeDressing<'_>,
     text: &str,
 ) -> Result<(), RenderError>
     ensures { Runs (with_content (λ inh. plain_between (dressing_of around.entry.formatting
@@ -194,8 +193,8 @@ fn write_part<'s, T: EntryLike>(
 
 /// Appends a part in its affixes.
 fn render_part<'s, T: EntryLike>(
-    written: LocalizedDate<'_>,
     ctx: &mut Context<'s, T>,
+    written: LocalizedDate<'_>,
     found: DateValue<'_>,
     part: &DatePart,
 ) -> Result<(), RenderError>
@@ -215,20 +214,21 @@ fn render_part<'s, T: EntryLike>(
     };
     let form = form_over(own, part.form);
     let text = ctx.attempt(part_value(ctx, found, written.parts(), part.name, form))?;
-    write_part(around, ctx, text.as_str())
+    write_part(ctx, around, text.as_str())
 }
 
 /// Appends a part, behind the delimiter unless no part of the date was printed yet. It answers
 /// whether still none was.
 fn render_behind<'s, T: EntryLike>(
-    written: LocalizedDate<'_>,
     ctx: &mut Context<'s, T>,
+    written: LocalizedDate<'_>,
     found: DateValue<'_>,
     part: &DatePart,
     first: bool,
 ) -> Result<bool, RenderError>
     ensures value { IfOk result (λ still. still ≡ (first && not (has_children (part_content
-        (render_input T.answers ctx.old) (unwrap_or (localized_node written.entry).parts YearMonthDay)
+        (render_input T.answers ctx.old) (unwrap_or
+        (localized_node written.entry).parts YearMonthDay)
         found.entry.suffix.now (date_view found.entry.date.now) ctx.old.inherited (part_over
         (own_parts written.entry) (view_date_part part.now)))))) }
     ensures after { Runs (λ now. with_content (λ inh.
@@ -240,7 +240,7 @@ fn render_behind<'s, T: EntryLike>(
         now) result ctx.old ctx.new }
 {
     let mark = ctx.push_elem()?;
-    render_part(written, ctx, found, part)?;
+    render_part(ctx, written, found, part)?;
     let is_empty = ctx.open_part_is_empty();
     if first {
         ctx.splice(mark)?;
@@ -252,8 +252,8 @@ fn render_behind<'s, T: EntryLike>(
 
 /// Appends the parts that print something, with the delimiter between them.
 pub(crate) fn render_parts<'s, T: EntryLike>(
-    written: LocalizedDate<'_>,
     ctx: &mut Context<'s, T>,
+    written: LocalizedDate<'_>,
     found: DateValue<'_>,
 ) -> Result<(), RenderError>
     ensures { Runs (λ now. with_content (date_body (render_input T.answers now)
@@ -264,7 +264,7 @@ pub(crate) fn render_parts<'s, T: EntryLike>(
     let mut first = true;
     let parts = written.date_part();
     for part in parts {
-        first = render_behind(written, ctx, found, part, first)?;
+        first = render_behind(ctx, written, found, part, first)?;
     }
     Ok(())
 }

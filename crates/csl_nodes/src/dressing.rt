@@ -7,7 +7,7 @@ ghost use Rattle.csl_style.specs.View.{text_dressing};
 ghost use Rattle.csl_tree.specs.Tokens.{optional_meta};
 ghost use Rattle.csl_context.specs.ContextView.{Runs, IsInnermost, with_part, close_part_by, with_content};
 ghost use Rattle.csl_nodes.specs.Text.{render_output, in_body, in_quotes_if, moved_if, with_quotes_toggled_if, text_box, with_output};
-ghost use Rattle.csl_nodes.specs.Bodies.{body_in};
+ghost use Rattle.csl_nodes.specs.Boxes.{body_in};
 
 use crate::number_or_page::NumberText;
 use csl_context::{Context, Mark, RenderError};
@@ -34,7 +34,8 @@ pub fn open_quotes<'s, T: EntryLike>(
     ctx: &mut Context<'s, T>,
     quotes: bool,
 ) -> Result<Mark, RenderError>
-    ensures after { Runs (λ now. with_part (with_quotes_toggled_if quotes now)) result ctx.old ctx.new }
+    ensures after { Runs (λ now. with_part (with_quotes_toggled_if quotes now)) result ctx.old
+        ctx.new }
     ensures mark { IfOk result (λ mark. length ctx.new.outer ≡ mark + 1) }
 {
     if quotes {
@@ -57,7 +58,8 @@ pub fn close_quotes<'s, T: EntryLike>(
 ) -> Result<bool, RenderError>
     requires innermost { IsInnermost mark ctx.old }
     ensures after { Runs (λ now. close_part_by (λ inh c. in_quotes_if quotes now.style inh
-        (affix_texts affixes.now).suffix c) (with_quotes_toggled_if quotes now)) result ctx.old ctx.new }
+        (affix_texts affixes.now).suffix c) (with_quotes_toggled_if quotes now)) result ctx.old
+        ctx.new }
     ensures moved { IfOk result (λ moved. moved ≡ moved_if quotes ctx.old.style
         (affix_texts affixes.now).suffix ctx.old.inner) }
 {
@@ -88,8 +90,8 @@ pub(crate) fn write_body<'s, T: EntryLike>(
 
 /// Appends a text's box around a body.
 pub(crate) fn render_body<'s, T: EntryLike>(
-    text: &Text,
     ctx: &mut Context<'s, T>,
+    text: &Text,
     affixes: &Affixes,
     meta: Option<ElemMeta>,
     body: Body<'_>,

@@ -6,7 +6,7 @@ ghost use Rattle.csl_entry.specs.NumberResult.{result_view, number_or_page_view}
 ghost use Rattle.csl_context.specs.ContextView.{GivesBy, render_input};
 ghost use Rattle.csl_nodes.specs.Labels.{label_info, label_output, label_term, is_count, plural_number, is_plural, label_text, is_locator, is_other_number, label_unless_locator, label_by_special_form};
 ghost use Rattle.csl_nodes.specs.Text.{Appends};
-ghost use Rattle.csl_nodes.specs.UsageView.{info_view};
+ghost use Rattle.csl_nodes.specs.Usage.{info_view};
 
 use crate::boxes::{NodeDressing, render_unquoted};
 use crate::dressing::Body;
@@ -47,10 +47,11 @@ pub fn label_info<'s, T: EntryLike>(
 /// [`RenderError::Memory`]: there was no memory left, or the entry said so. The context has failed.
 /// [`RenderError::Failed`]: the context had failed before.
 pub fn render_label<'s, T: EntryLike>(
-    label: &Label,
     ctx: &mut Context<'s, T>,
+    label: &Label,
 ) -> Result<(), RenderError>
-    ensures { Appends T.answers (λ w. label_output w label.now.variable (view_label label.now.label))
+    ensures { Appends T.answers (λ w. label_output w label.now.variable
+        (view_label label.now.label))
         result ctx.old ctx.new }
 {
     if let Some(false) = label_by_special_form(ctx.special_form(), label.variable) {
@@ -64,7 +65,7 @@ pub fn render_label<'s, T: EntryLike>(
                 display: None,
                 strip_periods: label.label.strip_periods,
             };
-            render_unquoted(around, ctx, ElemMeta::Label, Body::Str(text))
+            render_unquoted(ctx, around, ElemMeta::Label, Body::Str(text))
         }
         None => push_nothing(ctx),
     }

@@ -9,7 +9,7 @@ ghost use Rattle.csl_entry.specs.NumberResult.{number_or_page_view};
 ghost use Rattle.csl_context.specs.ContextView.{Runs, GivesBy, render_input, with_content};
 ghost use Rattle.csl_nodes.specs.Numbers.{is_shown, presence_info, number_info, number_shows, number_output, sort_text_if, number_meta, number_content, optional_number_content};
 ghost use Rattle.csl_nodes.specs.Text.{Appends};
-ghost use Rattle.csl_nodes.specs.UsageView.{info_view};
+ghost use Rattle.csl_nodes.specs.Usage.{info_view};
 
 use crate::boxes::{NodeDressing, render_unquoted};
 use crate::dressing::Body;
@@ -49,7 +49,8 @@ pub fn number_shows<'s, T: EntryLike>(
     number: &Number,
     asked: Variable,
 ) -> bool
-    ensures { result ≡ number_shows (render_input T.answers ctx.now) asked (view_number number.now) }
+    ensures { result ≡ number_shows (render_input T.answers ctx.now) asked
+        (view_number number.now) }
 {
     is_shown(ctx.special_form(), Variable::from(number.variable), asked)
 }
@@ -60,8 +61,8 @@ pub fn number_shows<'s, T: EntryLike>(
 /// [`RenderError::Memory`]: there was no memory left, or the entry said so. The context has failed.
 /// [`RenderError::Failed`]: the context had failed before.
 pub fn render_number<'s, T: EntryLike>(
-    number: &Number,
     ctx: &mut Context<'s, T>,
+    number: &Number,
 ) -> Result<(), RenderError>
     ensures { Appends T.answers (λ w. number_output w (view_number number.now))
         result ctx.old ctx.new }
@@ -71,7 +72,7 @@ pub fn render_number<'s, T: EntryLike>(
         return push_nothing(ctx);
     }
     match resolve_number_or_page(ctx, number.variable)? {
-        Some(found) => render_found(number, ctx, &found),
+        Some(found) => render_found(ctx, number, &found),
         None => push_nothing(ctx),
     }
 }
@@ -156,8 +157,8 @@ fn number_meta(variable: NumberOrPageVariable) -> ElemMeta
 
 /// Appends the box of a number that has this answer.
 fn render_box<'s, T: EntryLike>(
-    number: &Number,
     ctx: &mut Context<'s, T>,
+    number: &Number,
     found: &NumberOrPageVariableResult<'_>,
 ) -> Result<(), RenderError>
     ensures { Runs (λ now. with_content (number_content (render_input T.answers now)
@@ -172,8 +173,8 @@ fn render_box<'s, T: EntryLike>(
     };
     let shown = ctx.attempt(number_node_text(ctx, number.form, gender, found))?;
     render_unquoted(
-        around,
         ctx,
+        around,
         number_meta(number.variable),
         Body::Number(&shown),
     )
@@ -181,15 +182,16 @@ fn render_box<'s, T: EntryLike>(
 
 /// Appends a number that has this answer: its sort text as it is, or its box.
 fn render_found<'s, T: EntryLike>(
-    number: &Number,
     ctx: &mut Context<'s, T>,
+    number: &Number,
     found: &NumberOrPageVariableResult<'_>,
 ) -> Result<(), RenderError>
-    ensures { Runs (λ now. with_content (optional_number_content (render_input T.answers now) (view_number
+    ensures { Runs (λ now. with_content (optional_number_content (render_input T.answers now)
+        (view_number
         number.now) (Some (number_or_page_view found.now))) now) result ctx.old ctx.new }
 {
     match ctx.attempt(sort_text_if(ctx, found))? {
         Some(key) => ctx.push_str(key.as_str()),
-        None => render_box(number, ctx, found),
+        None => render_box(ctx, number, found),
     }
 }

@@ -36,7 +36,7 @@ fn is_digits(text: &str) -> bool
     text.bytes().all(|b| b.is_ascii_digit())
 }
 
-/// The end of a range; one that is shorter than the start is filled from the start's front.
+/// The end of a range; one that is shorter than the start is completed from the start's front.
 fn completed_end(alloc: Global, from: &str, to: &str) -> Result<String, Memory>
     requires from { IsAscii from.now }
     requires to { IsAscii to.now }

@@ -10,7 +10,7 @@ ghost use Rattle.csl_context.specs.World.{peek_standard};
 ghost use Rattle.csl_context.specs.ContextView.{Runs, GivesBy, render_input};
 ghost use Rattle.csl_nodes.specs.Text.{resolved_text, resolved_info, number_result, variable_state};
 ghost use Rattle.csl_nodes.specs.Resolved.{resolved_view};
-ghost use Rattle.csl_nodes.specs.UsageView.{info_view};
+ghost use Rattle.csl_nodes.specs.Usage.{info_view};
 
 use crate::number_or_page::{peek_number_or_page, resolve_number_or_page};
 use crate::special_form::{shows_terms_and_values, shows_variable};

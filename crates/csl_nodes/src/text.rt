@@ -10,7 +10,7 @@ ghost use Rattle.csl_tree.specs.Tokens.{meta_of};
 ghost use Rattle.csl_context.specs.ContextView.{Runs, GivesBy, render_input};
 ghost use Rattle.csl_nodes.specs.Text.{Appends, standard_text, render_output, in_body, text_box, calls_variable, resolved_affixes, standard_meta, numeral_meta, resolved_meta, resolved_body, resolved_content, target_info, target_shows, text_output, with_output};
 ghost use Rattle.csl_nodes.specs.Resolved.{resolved_view};
-ghost use Rattle.csl_nodes.specs.UsageView.{info_view};
+ghost use Rattle.csl_nodes.specs.Usage.{info_view};
 
 use crate::dressing::{Body, render_body};
 use crate::empty::push_nothing;
@@ -68,7 +68,8 @@ pub fn variable_shows<'s, T: EntryLike>(
     variable: Variable,
     asked: Variable,
 ) -> Result<bool, Memory>
-    ensures { GivesBy (λ standard_text. standard_text) result (target_shows (render_input T.answers ctx.now)
+    ensures { GivesBy (λ standard_text. standard_text) result
+        (target_shows (render_input T.answers ctx.now)
         ctx.now.state asked (of_variable variable form)) }
 {
     let found = peek_text(ctx, form, variable)?;
@@ -102,8 +103,8 @@ pub fn value_info<'s, T: EntryLike>(ctx: &Context<'s, T>, value: &str) -> (bool,
 /// [`RenderError::Memory`]: there was no memory left, or the entry said so. The context has failed.
 /// [`RenderError::Failed`]: the context had failed before.
 pub fn render_variable<'s, T: EntryLike>(
-    text: &Text,
     ctx: &mut Context<'s, T>,
+    text: &Text,
     form: LongShortForm,
     variable: Variable,
 ) -> Result<(), RenderError>
@@ -111,7 +112,7 @@ pub fn render_variable<'s, T: EntryLike>(
         (of_variable variable form) (text_dressing text.now)) result ctx.old ctx.new }
 {
     match resolve_text(ctx, form, variable)? {
-        Some(found) => render_found(text, ctx, &found),
+        Some(found) => render_found(ctx, text, &found),
         None => push_nothing(ctx),
     }
 }
@@ -122,8 +123,8 @@ pub fn render_variable<'s, T: EntryLike>(
 /// [`RenderError::Memory`]: there was no memory left. The context has failed.
 /// [`RenderError::Failed`]: the context had failed before.
 pub fn render_term<'s, T: EntryLike>(
-    text: &Text,
     ctx: &mut Context<'s, T>,
+    text: &Text,
     term: Term,
     form: TermForm,
     plural: bool,
@@ -132,7 +133,7 @@ pub fn render_term<'s, T: EntryLike>(
         (of_term term form plural) (text_dressing text.now)) result ctx.old ctx.new }
 {
     match resolved_term(ctx, term, form, plural) {
-        Some(found) => render_found(text, ctx, &found),
+        Some(found) => render_found(ctx, text, &found),
         None => push_nothing(ctx),
     }
 }
@@ -142,15 +143,15 @@ pub fn render_term<'s, T: EntryLike>(
 /// # Errors
 /// As [`render_term`].
 pub fn render_value<'s, T: EntryLike>(
-    text: &Text,
     ctx: &mut Context<'s, T>,
+    text: &Text,
     value: &str,
 ) -> Result<(), RenderError>
     ensures { Appends T.answers (λ w. text_output w (of_value value.now) (text_dressing text.now))
         result ctx.old ctx.new }
 {
     match resolved_value(ctx, value) {
-        Some(found) => render_found(text, ctx, &found),
+        Some(found) => render_found(ctx, text, &found),
         None => push_nothing(ctx),
     }
 }
@@ -206,14 +207,16 @@ fn linked(
 /// Appends a text of a standard variable that has this answer: as a link, where the variable names
 /// an address, else as it stands.
 fn render_answer<'s, T: EntryLike>(
-    text: &Text,
     ctx: &mut Context<'s, T>,
+    text: &Text,
     variable: StandardVariable,
     found: &ChunkedString,
 ) -> Result<(), RenderError>
     ensures { Runs (λ now. with_output (render_output (text_box now.style (resolved_affixes
-        (text_dressing text.now) (standard_text variable (chunks found.now))) (text_dressing text.now)
-        (resolved_meta (standard_text variable (chunks found.now))) now.inherited (resolved_body now.style
+        (text_dressing text.now) (standard_text variable (chunks found.now)))
+        (text_dressing text.now)
+        (resolved_meta (standard_text variable (chunks found.now))) now.inherited
+        (resolved_body now.style
         (text_dressing text.now) (in_body (text_dressing text.now) now.inherited)
         (standard_text variable (chunks found.now)))) now.state) now) result ctx.old ctx.new }
 {
@@ -222,20 +225,20 @@ fn render_answer<'s, T: EntryLike>(
     let affixes = if begins { &bare } else { &text.affixes };
     let meta = Some(standard_meta(variable));
     let Some(prefix) = address_prefix(variable) else {
-        return render_body(text, ctx, affixes, meta, Body::Chunks(found));
+        return render_body(ctx, text, affixes, meta, Body::Chunks(found));
     };
     let (url, shown) = ctx.attempt(linked(ctx.alloc(), prefix, found, begins))?;
     let body = Body::Link {
         text: shown.as_str(),
         url: url.as_str(),
     };
-    render_body(text, ctx, affixes, meta, body)
+    render_body(ctx, text, affixes, meta, body)
 }
 
 /// Appends a text by what it finds.
 pub(crate) fn render_found<'s, T: EntryLike>(
-    text: &Text,
     ctx: &mut Context<'s, T>,
+    text: &Text,
     found: &ResolvedText<'_>,
 ) -> Result<(), RenderError>
     ensures { Runs (λ now. with_output (render_output (resolved_content (render_input T.answers now)
@@ -244,17 +247,17 @@ pub(crate) fn render_found<'s, T: EntryLike>(
 {
     match found {
         ResolvedText::Answer(variable, answer) => render_answer(
-            text,
             ctx,
+            text,
             *variable,
             answer.as_ref(),
         ),
         ResolvedText::Numeral(variable, answer) => {
             let meta = Some(numeral_meta(*variable));
             let shown = ctx.attempt(text_node_text(ctx, answer))?;
-            render_body(text, ctx, &text.affixes, meta, Body::Number(&shown))
+            render_body(ctx, text, &text.affixes, meta, Body::Number(&shown))
         }
-        ResolvedText::Term(words) => render_body(text, ctx, &text.affixes, None, Body::Str(words)),
-        ResolvedText::Value(words) => render_body(text, ctx, &text.affixes, None, Body::Str(words)),
+        ResolvedText::Term(words) => render_body(ctx, text, &text.affixes, None, Body::Str(words)),
+        ResolvedText::Value(words) => render_body(ctx, text, &text.affixes, None, Body::Str(words)),
     }
 }

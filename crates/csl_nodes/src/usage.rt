@@ -1,8 +1,7 @@
 //! What a dry run notes (CSL 1.0.2, Group).
 
 ghost use Rattle.std.specs.Prelude.{◌≡◌, true, false};
-ghost use Rattle.csl_nodes.specs.Flags.{merge_child, should_render_group, usage_flags, info_union, as_child_info, without_group_flag, group_info, macro_info, no_info};
-ghost use Rattle.csl_nodes.specs.UsageView.{usage_flags_of, info_view};
+ghost use Rattle.csl_nodes.specs.Usage.{merge_child, should_render_group, usage_flags, info_union, as_child_info, without_group_flag, group_info, macro_info, no_info, usage_flags_of, info_view};
 
 /// What a dry run notes of a node's variables, macros and groups.
 #[derive(Clone, Copy, Default)]
@@ -63,13 +62,14 @@ pub fn no_info() -> (bool, UsageInfo)
 }
 
 /// What is said so far, joined by what a child says.
-#[tactic(auto, unfolding(crate::specs::Flags::info_union))]
+#[tactic(auto, unfolding(crate::specs::Usage::info_union))]
 pub fn add_child_info(
     all: (bool, UsageInfo),
     child: (bool, UsageInfo),
     is_group: bool,
 ) -> (bool, UsageInfo)
-    ensures { info_view result ≡ info_union (info_view all) (as_child_info is_group (info_view child)) }
+    ensures { info_view result ≡ info_union (info_view all)
+        (as_child_info is_group (info_view child)) }
 {
     let mut usage = all.1.merge_child(child.1);
     if is_group && child.0 {

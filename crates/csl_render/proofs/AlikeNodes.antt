@@ -28,7 +28,7 @@ use Rattle.std.proofs.lemmas.Slice.Eq.{slice_eq-Decides}
 use Rattle.csl_tree.specs.Tokens.{Token, has_text}
 use Rattle.csl_entry.specs.Alike.{SameNamedAnswers}
 use Rattle.csl_entry.specs.Answers.{Answers}
-use Rattle.csl_entry.specs.declared.cite.Sorting.{Sorting}
+use Rattle.csl_entry.specs.declared.citation.cite.Sorting.{Sorting}
 use Rattle.csl_entry.specs.NumberResult.{NumberOrPageView}
 use Rattle.csl_context.specs.State.{State, Inherited, state_after_resolve, with_node_formatting}
 use Rattle.csl_context.specs.World.{RenderInput, peek_names, peek_date, term_in}
@@ -36,7 +36,7 @@ use Rattle.csl_names.specs.NamesLists.{PersonLists, same_variables, may_merge, m
 use Rattle.csl_nodes.specs.NumberOrPage.{peek_number_or_page}
 use Rattle.csl_nodes.specs.Conditions.{is_some_and, is_number, is_typed, is_typed_result, is_numeric, is_uncertain, is_disambiguated, is_of_kind, is_present, one_if, all_if, branch_matches}
 use Rattle.csl_nodes.specs.Dates.{date_shows_own, variable_info, localized_over, printed_date, date_or_key, resolved_date, variable_output}
-use Rattle.csl_nodes.specs.Flags.{info_of, no_usage_flags, no_info, should_render_group, info_union, as_child_info, without_group_flag, group_info, macro_info}
+use Rattle.csl_nodes.specs.Usage.{info_of, no_usage_flags, no_info, should_render_group, info_union, as_child_info, without_group_flag, group_info, macro_info}
 use Rattle.csl_nodes.specs.Labels.{is_plural, label_term, term_if, text_beside, label_text, label_info, label_box, label_output, label_by_special_form}
 use Rattle.csl_nodes.specs.Numbers.{shows_own, presence_info, number_info, sort_text_if, number_content, optional_number_content, number_output}
 use Rattle.csl_render.specs.PairOutput.{with_answers}

@@ -1,7 +1,7 @@
 -- What three say together, whichever two are joined first; what one says together with nothing.
 use Rattle.std.proofs.Common.{◌≡◌, Bool, true, false, refl}
 use Rattle.std.specs.Prelude.{◌||◌}
-use Rattle.csl_nodes.specs.Flags.{Info, info_of, usage_flags, info_union, no_info}
+use Rattle.csl_nodes.specs.Usage.{Info, info_of, usage_flags, info_union, no_info}
 
 or_assoc : (a b c : Bool) → ((a || b) || c) ≡ (a || (b || c))
 or_assoc true b c = refl

@@ -22,7 +22,7 @@ use Rattle.csl_style.specs.Node.{Target, of_variable, of_term, of_value, NumberN
 use Rattle.csl_style.specs.Taxonomy.{variable_of}
 use Rattle.csl_style.proofs.Sets.{or_right}
 use Rattle.csl_entry.specs.NameProperties.{NameProperties}
-use Rattle.csl_entry.specs.declared.cite.Sorting.{Sorting}
+use Rattle.csl_entry.specs.declared.citation.cite.Sorting.{Sorting}
 use Rattle.csl_context.specs.State.{State, Inherited, state_after_resolve, variable_cmp}
 use Rattle.csl_context.specs.World.{RenderInput, peek_date}
 use Rattle.csl_names.specs.CiteForms.{with_first_forms, with_first_forms_by}

@@ -1,5 +1,6 @@
--- What each node keeps of the state: the recursion of `node_output` once more, with a line for each case.
--- A leaf is one of `KeepsLeaves`, and nodes in a row keep what each keeps of the state before it.
+-- What each node keeps of the state: the recursion of `node_output` once more, with a line for each
+-- case. A leaf is one of `KeepsLeaves`, and nodes in a row keep what each keeps of the state before
+-- it.
 use Rattle.std.proofs.Common.{Bool, true, false, []}
 use Rattle.csl_style.specs.Node.{ExpandedNode, expanded_text, expanded_macro, unknown_macro, expanded_number, expanded_label, expanded_date, expanded_names, shorthand, expanded_choose, expanded_group, ExpandedNodes, no_expanded_nodes, expanded_node, ExpandedBranches, no_expanded_branches, expanded_otherwise, expanded_branch, ExpandedSubstitutes, no_expanded_substitutes, expanded_substitute}
 use Rattle.csl_tree.specs.Tokens.{has_text}
@@ -7,7 +8,7 @@ use Rattle.csl_context.specs.State.{State, Inherited, with_node_formatting}
 use Rattle.csl_context.specs.World.{RenderInput}
 use Rattle.csl_names.specs.NamesLists.{lists_state, resolved_lists}
 use Rattle.csl_nodes.specs.Conditions.{branch_matches}
-use Rattle.csl_nodes.specs.Flags.{should_render_group}
+use Rattle.csl_nodes.specs.Usage.{should_render_group}
 use Rattle.csl_nodes.specs.Text.{RenderOutput, render_output, then_output}
 use Rattle.csl_render.specs.Keeps.{Keeps}
 use Rattle.csl_render.specs.Names.{in_substitute, suppressing_from}

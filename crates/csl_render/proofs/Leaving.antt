@@ -4,12 +4,12 @@ use Rattle.csl_context.specs.ContextView.{ContextView, ReadsAs, Becomes, same_co
 
 -- a call that leaves the context as it was
 pub stays : {R V T : Type 0} {view : R → V} {answer : R} {wanted : V} {a b : ContextView T} → ReadsAs view answer wanted a b → Becomes same_context a b
-stays r = record { was_live = r.sound; becomes = r.kept }
+stays r = record { was_live = r.was_live; becomes = r.kept }
 
 module _ {T : Type 0} (f g : ContextView T → ContextView T) (a b c : ContextView T) where
   -- a call, and another one behind it
   pub and_then : Becomes f a b → Becomes g b c → Becomes (λ now. g (f now)) a c
-  and_then l r = record { was_live = l.was_live; becomes = r.left ∙ ap g l.becomes }
+  and_then l r = record { was_live = l.was_live; becomes = r.becomes ∙ ap g l.becomes }
 
   -- a call, and one behind it that cannot fail
   pub and_so : Becomes f a b → (f a).failed ≡ a.failed → (b.failed ≡ false → c ≡ g b) → Becomes (λ now. g (f now)) a c

@@ -10,15 +10,15 @@ use Rattle.csl_style.specs.declared.taxonomy.Variable.{Variable}
 use Rattle.csl_style.specs.declared.taxonomy.Variable.TheVariants as variable
 use Rattle.csl_style.specs.Names.{LabelNode}
 use Rattle.csl_style.specs.Node.{Tests, Target, of_variable, of_term, of_value, NumberNode, ExpandedNode, expanded_text, expanded_macro, unknown_macro, expanded_number, expanded_label, expanded_date, expanded_names, shorthand, expanded_choose, expanded_group, ExpandedNodes, no_expanded_nodes, expanded_node, ExpandedBranches, no_expanded_branches, expanded_otherwise, expanded_branch, ExpandedSubstitutes, no_expanded_substitutes, expanded_substitute}
-use Rattle.csl_entry.specs.declared.cite.SpecialForm.{SpecialForm}
-use Rattle.csl_entry.specs.declared.cite.SpecialForm.TheVariants.{VarOnly, OnlyFirstDate, OnlyYearSuffix, SuppressAuthor}
+use Rattle.csl_entry.specs.declared.citation.cite.SpecialForm.{SpecialForm}
+use Rattle.csl_entry.specs.declared.citation.cite.SpecialForm.TheVariants.{VarOnly, OnlyFirstDate, OnlyYearSuffix, SuppressAuthor}
 use Rattle.csl_context.specs.State.{State}
 use Rattle.csl_context.specs.World.{RenderInput, peek_names, peek_date}
 use Rattle.csl_names.specs.NamesLists.{all_empty, peeked_lists}
 use Rattle.csl_nodes.specs.NumberOrPage.{peek_number_or_page}
 use Rattle.csl_nodes.specs.Conditions.{is_numeric, is_present, all_if, branch_matches}
 use Rattle.csl_nodes.specs.Dates.{date_shows_variable, variable_info}
-use Rattle.csl_nodes.specs.Flags.{no_info, info_union, as_child_info, without_group_flag, macro_info, group_info}
+use Rattle.csl_nodes.specs.Usage.{no_info, info_union, as_child_info, without_group_flag, macro_info, group_info}
 use Rattle.csl_nodes.specs.Labels.{label_info}
 use Rattle.csl_nodes.specs.Numbers.{presence_info, shows_own, number_info}
 use Rattle.csl_nodes.specs.Text.{calls, resolved_text, resolved_info, is_of}

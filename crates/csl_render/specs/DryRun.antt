@@ -1,5 +1,5 @@
--- What a dry run keeps of macros (CSL 1.0.2, Macro). In one world and state the result for a text of
--- a macro depends on the macro's name alone, so a macro is gone through once.
+-- What a dry run keeps of macros (CSL 1.0.2, Macro). In one world and state the result for a text
+-- of a macro depends on the macro's name alone, so a macro is gone through once.
 use Rattle.std.specs.Prelude.{◌≡◌, ℕ, Bool, false, List, Option, Some, None}
 use Rattle.std.specs.HashMap.{HashMap, get}
 use Rattle.std.specs.Str.{bytes_eq}
@@ -11,8 +11,7 @@ use Rattle.csl_context.specs.ContextView.{ContextView}
 use Rattle.csl_context.specs.State.{State}
 use Rattle.csl_context.specs.World.{RenderInput}
 use Rattle.csl_nodes.specs.declared.usage.UsageInfo.{UsageInfo}
-use Rattle.csl_nodes.specs.Flags.{Info, no_info, without_group_flag, macro_info}
-use Rattle.csl_nodes.specs.UsageView.{info_view}
+use Rattle.csl_nodes.specs.Usage.{Info, no_info, without_group_flag, macro_info, info_view}
 use Rattle.csl_render.specs.Tree.{nodes_info, any_shows}
 
 -- the dry run of a text of a macro, from what the macro's name stands for

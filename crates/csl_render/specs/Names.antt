@@ -15,14 +15,14 @@ use Rattle.csl_style.specs.Names.{NamesNode, shorthand_expansion}
 use Rattle.csl_style.specs.NamesParts.{names_node, names_substitutes}
 use Rattle.csl_style.specs.Node.{ExpandedNode, expanded_text, expanded_macro, unknown_macro, expanded_number, expanded_label, expanded_date, expanded_names, shorthand, expanded_choose, expanded_group, ExpandedNodes, no_expanded_nodes, expanded_node, ExpandedSubstitutes, no_expanded_substitutes, expanded_substitute, expand_substitutes}
 use Rattle.csl_tree.specs.Content.{elem_content}
-use Rattle.csl_entry.specs.declared.cite.SpecialForm.{SpecialForm}
-use Rattle.csl_entry.specs.declared.cite.SpecialForm.TheVariants.{VarOnly, OnlyFirstDate, OnlyYearSuffix, SuppressAuthor}
+use Rattle.csl_entry.specs.declared.citation.cite.SpecialForm.{SpecialForm}
+use Rattle.csl_entry.specs.declared.citation.cite.SpecialForm.TheVariants.{VarOnly, OnlyFirstDate, OnlyYearSuffix, SuppressAuthor}
 use Rattle.csl_context.specs.State.{State, Inherited, with_node_formatting}
 use Rattle.csl_context.specs.World.{RenderInput}
 use Rattle.csl_names.specs.NamesContent.{lists_meta, names_content, names_state}
 use Rattle.csl_names.specs.NamesForms.{writes_no_name}
 use Rattle.csl_names.specs.NamesLists.{PersonLists, all_empty}
-use Rattle.csl_nodes.specs.Flags.{usage_flags, Info, info_of, no_info}
+use Rattle.csl_nodes.specs.Usage.{usage_flags, Info, info_of, no_info}
 use Rattle.csl_nodes.specs.Text.{RenderOutput, render_output}
 
 -- what the macros of a style stand for
@@ -47,9 +47,9 @@ is_of_names (variable.Date v) vs = false
 
 -- ---- substitutes
 -- Of several substitutes the first one counts. Names without children directly in a substitute are
--- rendered as their node in the place of the names around it (`shorthand_expansion` of `csl_style`): with
--- those names' name, et-al and label, with their affixes, formatting, delimiter and options where
--- the node sets none, and without a substitute.
+-- rendered as their node in the place of the names around it (`shorthand_expansion` of
+-- `csl_style`): with those names' name, et-al and label, with their affixes, formatting, delimiter
+-- and options where the node sets none, and without a substitute.
 
 -- a names node of the variable
 abbrev pub is_names_of : NameVariable → ExpandedNode → Bool
@@ -134,13 +134,12 @@ names_info special n ls is shows_author sub =
 
 -- ---- rendering
 -- The lists are what looks for printing find, from left to right. Refusal depends on these lists;
--- it and the substitute use the state after those looks, which refused names leave.
--- Names with persons are their content, and keep the forms of their names (`names_content` and
--- `names_state` of `csl_names`). Names without persons are a box of their display, with the lists
--- as its meta, around the children of the substitute, one after another, up to and including the
--- one that brings a text, or all of them (`until_text` of `Tree`). Without a substitute nothing is
--- made.
--- The children inherit the names' formatting, the names' options over the inherited ones, and no
+-- it and the substitute use the state after those looks, which refused names leave. Names with
+-- persons are their content, and keep the forms of their names (`names_content` and `names_state`
+-- of `csl_names`). Names without persons are a box of their display, with the lists as its meta,
+-- around the children of the substitute, one after another, up to and including the one that brings
+-- a text, or all of them (`output_until_text` of `Tree`). Without a substitute nothing is made. The
+-- children inherit the names' formatting, the names' options over the inherited ones, and no
 -- affixes. Their looks suppress what they look up; after them looks do as they did before.
 
 -- what the children of a substitute inherit: no affixes

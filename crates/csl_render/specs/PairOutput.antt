@@ -16,8 +16,8 @@ use Rattle.csl_tree.specs.Writing.{text_in_format}
 use Rattle.csl_tree.specs.declared.elem.BufWriteFormat.TheVariants.{Html}
 use Rattle.csl_entry.specs.Answers.{Answers}
 use Rattle.csl_entry.specs.Cite.{CiteState}
-use Rattle.csl_entry.specs.declared.cite.Sorting.{Sorting}
-use Rattle.csl_entry.specs.declared.cite.SpecialForm.{SpecialForm}
+use Rattle.csl_entry.specs.declared.citation.cite.Sorting.{Sorting}
+use Rattle.csl_entry.specs.declared.citation.cite.SpecialForm.{SpecialForm}
 use Rattle.csl_context.specs.declared.context.Rendered.{Rendered}
 use Rattle.csl_context.specs.LeftState.{left_state_view}
 use Rattle.csl_context.specs.ContextView.{base_inherited}

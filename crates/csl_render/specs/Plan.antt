@@ -1,19 +1,18 @@
--- The results of a dry run for a node and for the nodes inside it are the *plan* by which the node is
--- rendered, without another dry run (CSL 1.0.2, Group). A plan holds for the state in which it was
--- made, and for each state of which dry runs read the same (`dry`): the suppressed variables, and
--- under two special forms whether a date was rendered.
--- A list of results may break off: the nodes after its end have no plan.
--- All but `asks_for_dates` is the code's own: private contracts alone cite it.
+-- The results of a dry run for a node and for the nodes inside it are the *plan* by which the node
+-- is rendered, without another dry run (CSL 1.0.2, Group). A plan holds for the state in which it
+-- was made, and for each state of which dry runs read the same (`dry`): the suppressed variables,
+-- and under two special forms whether a date was rendered. A list of results may break off: the
+-- nodes after its end have no plan. All but `asks_for_dates` is the code's own: private contracts
+-- alone cite it.
 use Rattle.std.specs.Prelude.{◌≡◌, ⊤, Bool, true, false, ◌&&◌, List, [], ◌∷◌, Option, Some, None}
 use Rattle.std.specs.Bool.{MatchBool}
 use Rattle.csl_style.specs.Node.{ExpandedNode, expanded_text, expanded_macro, unknown_macro, expanded_number, expanded_label, expanded_date, expanded_names, shorthand, expanded_choose, expanded_group, ExpandedNodes, no_expanded_nodes, expanded_node, ExpandedBranches, no_expanded_branches, expanded_otherwise, expanded_branch}
-use Rattle.csl_entry.specs.declared.cite.SpecialForm.{SpecialForm}
-use Rattle.csl_entry.specs.declared.cite.SpecialForm.TheVariants.{VarOnly, OnlyFirstDate, OnlyYearSuffix, SuppressAuthor}
+use Rattle.csl_entry.specs.declared.citation.cite.SpecialForm.{SpecialForm}
+use Rattle.csl_entry.specs.declared.citation.cite.SpecialForm.TheVariants.{VarOnly, OnlyFirstDate, OnlyYearSuffix, SuppressAuthor}
 use Rattle.csl_context.specs.State.{State}
 use Rattle.csl_context.specs.World.{RenderInput}
 use Rattle.csl_nodes.specs.Conditions.{branch_matches}
-use Rattle.csl_nodes.specs.Flags.{Info}
-use Rattle.csl_nodes.specs.UsageView.{info_view}
+use Rattle.csl_nodes.specs.Usage.{Info, info_view}
 use Rattle.csl_render.specs.declared.plan.NodeInfo.{NodeInfo, out-NodeInfo}
 use Rattle.csl_render.specs.declared.plan.NodePlan.{NodePlan}
 use Rattle.csl_render.specs.declared.plan.ListPlan.{ListPlan}

@@ -1,6 +1,7 @@
 -- What can be rendered, a layout or a node of one, and its three calls: dry run (`info_in`), shown
--- variables (`shows_in`) and content (`output_in`). A rendering appends the content to the innermost
--- open part of a context and leaves the state. Nothing else of the context changes (`after_render`).
+-- variables (`shows_in`) and content (`output_in`). A rendering appends the content to the
+-- innermost open part of a context and leaves the state. Nothing else of the context changes
+-- (`after_render`).
 use Rattle.std.specs.Prelude.{Bool}
 use Rattle.csl_style.specs.declared.taxonomy.Variable.{Variable}
 use Rattle.csl_style.specs.Node.{ExpandedNode, ExpandedLayout}
@@ -12,7 +13,7 @@ use Rattle.csl_entry.specs.Answers.{Answers}
 use Rattle.csl_context.specs.State.{State, Inherited}
 use Rattle.csl_context.specs.World.{RenderInput}
 use Rattle.csl_context.specs.ContextView.{ContextView, render_input}
-use Rattle.csl_nodes.specs.Flags.{Info, without_group_flag}
+use Rattle.csl_nodes.specs.Usage.{Info, without_group_flag}
 use Rattle.csl_nodes.specs.Text.{RenderOutput, with_output}
 use Rattle.csl_render.specs.Tree.{info, nodes_info, shows, any_shows, node_output, layout_output}
 

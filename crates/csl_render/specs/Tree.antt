@@ -1,14 +1,12 @@
 -- The dry run of a node (`info`), the variables that it shows (`shows`), and its content and the
--- state that it leaves (`node_output`), for nodes with no macro name left (CSL 1.0.2, Rendering Elements;
--- Group; Layout; Macro; Choose; Names). They read the world, the state and, for contents, what the
--- node inherits.
--- A text of a macro, a group and a layout show what a child shows. A choice has the dry run of the
--- nodes that it takes, together, and shows what one of them shows. If it takes none, it does not
--- print, has no flags and shows nothing.
--- A layout is what its elements make one after another, in its formatting (`layout_output`). No
--- delimiter is between them: that of the layout is inherited by a choice directly in it.
--- `choice_info`, `choice_shows`, `choice_output` and `first_substitute_output` are the code's own: private
--- contracts alone cite them.
+-- state that it leaves (`node_output`), for nodes with no macro name left (CSL 1.0.2, Rendering
+-- Elements; Group; Layout; Macro; Choose; Names). They read the world, the state and, for contents,
+-- what the node inherits. A text of a macro, a group and a layout show what a child shows. A choice
+-- has the dry run of the nodes that it takes, together, and shows what one of them shows. If it
+-- takes none, it does not print, has no flags and shows nothing. A layout is what its elements make
+-- one after another, in its formatting (`layout_output`). No delimiter is between them: that of the
+-- layout is inherited by a choice directly in it. `choice_info`, `choice_shows`, `choice_output`
+-- and `first_substitute_output` are the code's own: private contracts alone cite them.
 use Rattle.std.specs.Prelude.{ℕ, Bool, true, false, ◌||◌, List, [], Option, Some, None, if◌then◌else◌}
 use Rattle.csl_style.specs.declared.taxonomy.Variable.{Variable}
 use Rattle.csl_style.specs.Dressing.{AffixTexts, Dressing, TextDressing}
@@ -21,7 +19,7 @@ use Rattle.csl_context.specs.World.{RenderInput}
 use Rattle.csl_context.specs.Texts.{text_in, affixed_in}
 use Rattle.csl_names.specs.NamesLists.{PersonLists, all_empty, peeked_lists, resolved_lists, lists_state}
 use Rattle.csl_nodes.specs.Conditions.{branch_matches}
-use Rattle.csl_nodes.specs.Flags.{should_render_group, Info, no_info, info_union, as_child_info, without_group_flag, group_info, macro_info}
+use Rattle.csl_nodes.specs.Usage.{should_render_group, Info, no_info, info_union, as_child_info, without_group_flag, group_info, macro_info}
 use Rattle.csl_nodes.specs.Numbers.{number_info, number_shows, number_output}
 use Rattle.csl_nodes.specs.Labels.{label_info, label_output}
 use Rattle.csl_nodes.specs.Dates.{date_info, date_shows, date_output}

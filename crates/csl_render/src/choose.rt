@@ -86,9 +86,10 @@ fn satisfies<'a, 's, T: EntryLike>(
 
 /// Whether the branch is taken, where none before it is.
 #[tactic(auto, unfolding(csl_nodes::specs::Conditions::branch_matches))]
-fn holds<'s, T: EntryLike>(branch: &ChooseBranch, ctx: &Context<'s, T>) -> Result<bool, RenderError>
+fn holds<'s, T: EntryLike>(ctx: &Context<'s, T>, branch: &ChooseBranch) -> Result<bool, RenderError>
     ensures value { IfOk result (λ taken. taken
-        ≡ branch_matches (render_input T.answers ctx.now) ctx.now.state (view_branch branch.now).tests) }
+        ≡ branch_matches (render_input T.answers ctx.now) ctx.now.state
+        (view_branch branch.now).tests) }
     ensures err { IfErr result (λ e. FailsSilently e ctx.now) }
 {
     let mut conditions = BranchConditionIter::from_branch(branch, ctx);
@@ -98,18 +99,18 @@ fn holds<'s, T: EntryLike>(branch: &ChooseBranch, ctx: &Context<'s, T>) -> Resul
 /// The nodes of the first branch whose conditions satisfy its match, else those for the other
 /// cases, if there are some. The looks are silent.
 fn first_taken<'a, 's, T: EntryLike>(
-    choose: &'a Choose,
     ctx: &Context<'s, T>,
+    choose: &'a Choose,
 ) -> Result<Option<&'a [LayoutRenderingElement]>, RenderError>
     ensures value { GivesBy (option_map (λ ns. view_nodes ns.now)) result (chosen_children
         (render_input T.answers ctx.now) ctx.now.state (view_choose choose.now)) }
     ensures err { IfErr result (λ e. FailsSilently e ctx.now) }
 {
-    if holds(&choose.if_, ctx)? {
+    if holds(ctx, &choose.if_)? {
         return Ok(Some(choose.if_.children.as_slice()));
     }
     for branch in &choose.else_if {
-        if holds(branch, ctx)? {
+        if holds(ctx, branch)? {
             return Ok(Some(branch.children.as_slice()));
         }
     }
@@ -127,21 +128,22 @@ fn first_taken<'a, 's, T: EntryLike>(
 /// [`RenderError::Memory`]: there was no memory left, or the entry said so. The context has failed.
 /// [`RenderError::Failed`]: the context had failed before.
 pub fn choose_children<'a, 's, T: EntryLike>(
-    choose: &'a Choose,
     ctx: &mut Context<'s, T>,
+    choose: &'a Choose,
 ) -> Result<Option<&'a [LayoutRenderingElement]>, RenderError>
-    ensures { Reads (option_map (λ ns. view_nodes ns.now)) result (chosen_children (render_input T.answers ctx.old)
+    ensures { Reads (option_map (λ ns. view_nodes ns.now)) result
+        (chosen_children (render_input T.answers ctx.old)
         ctx.old.state (view_choose choose.now)) ctx.old ctx.new }
 {
     ctx.ensure_live()?;
-    ctx.settle(first_taken(choose, ctx))
+    ctx.settle(first_taken(ctx, choose))
 }
 
 /// The nodes that a choice takes. Its dry run, the variables that it shows and its content are
 /// theirs, and so is what is known of the nodes inside it.
 fn taken_nodes<'s, T: EntryLike>(
-    choose: &'s Choose,
     ctx: &Context<'s, T>,
+    choose: &'s Choose,
 ) -> Result<Option<&'s [LayoutRenderingElement]>, Memory>
     ensures within { IfOk result (λ taken. IfSome taken (λ ns.
         sizes (expand_nodes (macro_env ctx.now.style) (view_nodes ns.now))
@@ -149,19 +151,23 @@ fn taken_nodes<'s, T: EntryLike>(
     ensures info { IfOk result (λ taken. info (render_input T.answers ctx.now) ctx.now.state
         (expand (macro_env ctx.now.style) (view_choose choose.now))
         ≡ choice_info (render_input T.answers ctx.now) ctx.now.state
-        (option_map (expand_nodes (macro_env ctx.now.style)) (option_map (λ ns. view_nodes ns.now) taken))) }
+        (option_map (expand_nodes (macro_env ctx.now.style))
+        (option_map (λ ns. view_nodes ns.now) taken))) }
     ensures shown { IfOk result (λ taken. (v : Variable) → shows (render_input T.answers ctx.now)
         ctx.now.state v (expand (macro_env ctx.now.style) (view_choose choose.now))
         ≡ choice_shows (render_input T.answers ctx.now) ctx.now.state v
-        (option_map (expand_nodes (macro_env ctx.now.style)) (option_map (λ ns. view_nodes ns.now) taken))) }
+        (option_map (expand_nodes (macro_env ctx.now.style))
+        (option_map (λ ns. view_nodes ns.now) taken))) }
     ensures made { IfOk result (λ taken. node_output (render_input T.answers ctx.now)
         (expand (macro_env ctx.now.style) (view_choose choose.now)) ctx.now.inherited ctx.now.state
         ≡ choice_output (render_input T.answers ctx.now)
-        (option_map (expand_nodes (macro_env ctx.now.style)) (option_map (λ ns. view_nodes ns.now) taken))
+        (option_map (expand_nodes (macro_env ctx.now.style))
+        (option_map (λ ns. view_nodes ns.now) taken))
         ctx.now.inherited ctx.now.state) }
     ensures asked { IfOk result (λ taken. (infos : List NodeInfo)
         → AreOfTaken (render_input T.answers ctx.now) ctx.now.state
-        (option_map (expand_nodes (macro_env ctx.now.style)) (option_map (λ ns. view_nodes ns.now) taken)) infos
+        (option_map (expand_nodes (macro_env ctx.now.style))
+        (option_map (λ ns. view_nodes ns.now) taken)) infos
         → AreInside (render_input T.answers ctx.now) ctx.now.state
         (expand (macro_env ctx.now.style) (view_choose choose.now)) infos) }
     ensures planned { IfOk result (λ taken. (at : State)
@@ -169,9 +175,10 @@ fn taken_nodes<'s, T: EntryLike>(
         → AreInside (render_input T.answers ctx.now) at
         (expand (macro_env ctx.now.style) (view_choose choose.now)) infos
         → AreOfTaken (render_input T.answers ctx.now) at
-        (option_map (expand_nodes (macro_env ctx.now.style)) (option_map (λ ns. view_nodes ns.now) taken)) infos) }
+        (option_map (expand_nodes (macro_env ctx.now.style))
+        (option_map (λ ns. view_nodes ns.now) taken)) infos) }
 {
-    match first_taken(choose, ctx) {
+    match first_taken(ctx, choose) {
         Ok(taken) => Ok(taken),
         Err(_) => Err(Memory),
     }
@@ -199,7 +206,7 @@ impl RenderCsl for Choose {
     }
 
     fn render<'s, T: EntryLike>(&'s self, ctx: &mut Context<'s, T>) -> Result<(), RenderError> {
-        render_choose(self, ctx, None)
+        render_choose(ctx, self, None)
     }
 }
 
@@ -213,7 +220,7 @@ pub(crate) fn choose_info<'c, 's, T: EntryLike>(
         (expand (macro_env run.old.style) (view_choose choose.now))) }
     ensures kept { run.new ≡ run.old }
 {
-    match taken_nodes(choose, run.context())? {
+    match taken_nodes(run.context(), choose)? {
         Some(nodes) => {
             let (sum, inside) = nodes_info(nodes, run)?;
             Ok(NodeInfo::new(without_group_flag(sum), inside))
@@ -233,7 +240,7 @@ pub(crate) fn choose_shows<'c, 's, T: EntryLike>(
         (expand (macro_env query.old.now.style) (view_choose choose.now))) }
     ensures kept { query.new ≡ query.old }
 {
-    match taken_nodes(choose, query.context())? {
+    match taken_nodes(query.context(), choose)? {
         Some(nodes) => any_shows(nodes, query),
         None => Ok(false),
     }
@@ -242,8 +249,8 @@ pub(crate) fn choose_shows<'c, 's, T: EntryLike>(
 /// Appends what a choice makes, by its plan if it has one.
 #[cycle(render)]
 pub(crate) fn render_choose<'p, 's, T: EntryLike>(
-    choose: &'s Choose,
     ctx: &mut Context<'s, T>,
+    choose: &'s Choose,
     plan: Option<NodePlan<'p>>,
 ) -> Result<(), RenderError>
     requires { IfSome plan (IsPlan (render_input T.answers ctx.old) ctx.old.state
@@ -252,9 +259,9 @@ pub(crate) fn render_choose<'p, 's, T: EntryLike>(
         (expand (macro_env now.style) (view_choose choose.now)) now.inherited now.state) now)
         result ctx.old ctx.new }
 {
-    let taken = taken_nodes(choose, ctx);
+    let taken = taken_nodes(ctx, choose);
     match ctx.attempt(taken)? {
-        Some(nodes) => render_with_delimiter(nodes, ctx, inside_plan(plan)),
+        Some(nodes) => render_with_delimiter(ctx, nodes, inside_plan(plan)),
         None => push_nothing(ctx),
     }
 }

@@ -31,7 +31,8 @@ pub(crate) fn render_from<'s, T: EntryLike>(
     start: &LeftState,
 ) -> Result<Rendered, RenderError>
     ensures ok { IfOk result (λ r. output_of r ≡ layout_output_from (left_state_view start.now)
-        (cite_input style.now scope (cite_state instance.entry.cite_props.now) instance.entry.sorting
+        (cite_input style.now scope (cite_state instance.entry.cite_props.now)
+        instance.entry.sorting
         instance.entry.kind (T.answers instance.entry.entry.now)) layout.now) }
     ensures err { IfErr result (λ e. e ≡ RenderError.Memory) }
 {
@@ -111,8 +112,8 @@ pub fn bibliography_entry<T: EntryLike>(
 /// What a style makes of one cite of each of two entries, of whatever types, as [`cite`] makes it
 /// of each, and whether they are *alike* for the citation layout: both answer alike all the
 /// variables and kinds that the layout and the macros it reaches name. Where they are, both cites
-/// have the same content, state and HTML, so whoever has rendered the one need not render the other.
-/// Entries that are not alike may have the same cite too.
+/// have the same content, state and HTML, so whoever has rendered the one need not render the
+/// other. Entries that are not alike may have the same cite too.
 ///
 /// # Errors
 /// [`RenderError::Memory`]: there was no memory left, or an entry said so.
@@ -130,7 +131,8 @@ pub fn cite_pair<T: EntryLike, U: EntryLike>(
         (cite_state cite_props.now) (U.answers right.now) style.now.citation)
         p.right (string_bytes p.right_html)) }
     ensures alike { IfOk result (λ p. Decides p.alike (SameNamedAnswers
-        (named_in_nodes (expand_layout (macro_env style.now) (view_layout style.now.citation)).elements)
+        (named_in_nodes (expand_layout (macro_env style.now)
+        (view_layout style.now.citation)).elements)
         (T.answers left.now) (U.answers right.now))) }
     ensures same { IfOk result (λ p. p.alike ≡ true
         → PrintsSame p.left (string_bytes p.left_html) p.right (string_bytes p.right_html)) }

@@ -32,6 +32,6 @@ impl RenderCsl for Date {
     }
 
     fn render<'s, T: EntryLike>(&'s self, ctx: &mut Context<'s, T>) -> Result<(), RenderError> {
-        render_date(self, ctx)
+        render_date(ctx, self)
     }
 }

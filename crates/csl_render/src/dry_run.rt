@@ -3,7 +3,7 @@
 ghost use Rattle.std.specs.Prelude.{◌≡◌, [], IfSome};
 ghost use Rattle.csl_style.specs.Expanded.{macro_env};
 ghost use Rattle.csl_context.specs.ContextView.{render_input};
-ghost use Rattle.csl_nodes.specs.UsageView.{info_view};
+ghost use Rattle.csl_nodes.specs.Usage.{info_view};
 ghost use Rattle.csl_render.specs.DryRun.{call_info};
 ghost use Rattle.csl_render.specs.Plan.{answer_of, inside_of};
 
@@ -67,7 +67,8 @@ impl<'c, 's, T: EntryLike> DryRun<'c, 's, T> {
 
     /// The result for a text of the macro, if one came before.
     pub(crate) fn known_call(&self, name: &str) -> Option<(bool, UsageInfo)>
-        ensures { IfSome result (λ answer. info_view answer ≡ call_info (render_input T.answers self.now)
+        ensures { IfSome result (λ answer. info_view answer ≡ call_info
+            (render_input T.answers self.now)
             self.now.state (macro_env self.now.style name.now)) }
     {
         self.calls.get(name).copied()

@@ -5,7 +5,7 @@ ghost use Rattle.csl_style.specs.Node.{expand, expand_nodes};
 ghost use Rattle.csl_style.specs.View.{view_node, view_nodes, view_rendering};
 ghost use Rattle.csl_style.specs.Expanded.{macro_env};
 ghost use Rattle.csl_context.specs.ContextView.{Runs, GivesBy, render_input};
-ghost use Rattle.csl_nodes.specs.UsageView.{info_view};
+ghost use Rattle.csl_nodes.specs.Usage.{info_view};
 ghost use Rattle.csl_render.specs.Names.{Macros};
 ghost use Rattle.csl_render.specs.Plan.{AreReadAlike, IsInfo, AreInfos, IsPlan, ArePlans};
 ghost use Rattle.csl_render.specs.Tree.{info, nodes_info, shows, any_shows, is_group, node_output, nodes_output, delimited_output, delimited_child_output};
@@ -51,7 +51,7 @@ impl RenderCsl for LayoutRenderingElement {
     }
 
     fn render<'s, T: EntryLike>(&'s self, ctx: &mut Context<'s, T>) -> Result<(), RenderError> {
-        render_node(self, ctx, None)
+        render_node(ctx, self, None)
     }
 }
 
@@ -131,7 +131,8 @@ pub(crate) fn nodes_info<'c, 's, T: EntryLike>(
     nodes: &'s [LayoutRenderingElement],
     run: &mut DryRun<'c, 's, T>,
 ) -> Result<((bool, UsageInfo), Vec<NodeInfo>), Memory>
-    ensures sum { IfOk result (λ r. info_view r.0 ≡ nodes_info (render_input T.answers run.old) run.old.state
+    ensures sum { IfOk result (λ r. info_view r.0 ≡ nodes_info
+        (render_input T.answers run.old) run.old.state
         (expand_nodes (macro_env run.old.style) (view_nodes nodes.now))) }
     ensures each { IfOk result (λ r. AreInfos (render_input T.answers run.old) run.old.state
         (expand_nodes (macro_env run.old.style) (view_nodes nodes.now)) r.1.items) }
@@ -179,7 +180,8 @@ pub(crate) fn any_shows<'c, 's, T: EntryLike>(
     nodes: &'s [LayoutRenderingElement],
     query: &mut Query<'c, 's, T>,
 ) -> Result<bool, Memory>
-    ensures value { GivesBy (λ answer. answer) result (any_shows (render_input T.answers query.old.now)
+    ensures value { GivesBy (λ answer. answer) result
+        (any_shows (render_input T.answers query.old.now)
         query.old.now.state query.old.variable
         (expand_nodes (macro_env query.old.now.style) (view_nodes nodes.now))) }
     ensures kept { query.new ≡ query.old }
@@ -194,8 +196,8 @@ pub(crate) fn any_shows<'c, 's, T: EntryLike>(
 
 /// The dry run of a node, with the state that it read.
 fn ask_node<'s, T: EntryLike>(
-    node: &'s LayoutRenderingElement,
     ctx: &Context<'s, T>,
+    node: &'s LayoutRenderingElement,
 ) -> Result<(DryState, NodeInfo), Memory>
     ensures at { IfOk result (λ r. AreReadAlike (render_input T.answers ctx.now) r.0 ctx.now.state) }
     ensures info { IfOk result (λ r. IsInfo (render_input T.answers ctx.now) r.0
@@ -209,8 +211,8 @@ fn ask_node<'s, T: EntryLike>(
 /// Appends what a node makes, by its plan if it has one.
 #[cycle(render)]
 pub(crate) fn render_node<'p, 's, T: EntryLike>(
-    node: &'s LayoutRenderingElement,
     ctx: &mut Context<'s, T>,
+    node: &'s LayoutRenderingElement,
     plan: Option<NodePlan<'p>>,
 ) -> Result<(), RenderError>
     requires { IfSome plan (IsPlan (render_input T.answers ctx.old) ctx.old.state
@@ -220,33 +222,34 @@ pub(crate) fn render_node<'p, 's, T: EntryLike>(
         result ctx.old ctx.new }
 {
     match node {
-        LayoutRenderingElement::Text(text) => render_text(text, ctx, plan),
-        LayoutRenderingElement::Group(group) => render_group(group, ctx, plan),
-        LayoutRenderingElement::Number(number) => render_number(number, ctx),
-        LayoutRenderingElement::Label(label) => render_label(label, ctx),
-        LayoutRenderingElement::Date(date) => render_date(date, ctx),
-        LayoutRenderingElement::Names(names) => render_names(names, ctx),
-        LayoutRenderingElement::Choose(choose) => render_choose(choose, ctx, plan),
+        LayoutRenderingElement::Text(text) => render_text(ctx, text, plan),
+        LayoutRenderingElement::Group(group) => render_group(ctx, group, plan),
+        LayoutRenderingElement::Number(number) => render_number(ctx, number),
+        LayoutRenderingElement::Label(label) => render_label(ctx, label),
+        LayoutRenderingElement::Date(date) => render_date(ctx, date),
+        LayoutRenderingElement::Names(names) => render_names(ctx, names),
+        LayoutRenderingElement::Choose(choose) => render_choose(ctx, choose, plan),
     }
 }
 
 /// Appends what some nodes make, one after another.
 #[cycle(render)]
 pub(crate) fn render_all<'p, 's, T: EntryLike>(
-    nodes: &'s [LayoutRenderingElement],
     ctx: &mut Context<'s, T>,
+    nodes: &'s [LayoutRenderingElement],
     plan: Option<ListPlan<'p>>,
 ) -> Result<(), RenderError>
     requires { IfSome plan (ArePlans (render_input T.answers ctx.old)
         (expand_nodes (macro_env ctx.old.style) (view_nodes nodes.now))) }
-    ensures { Runs (λ now. with_output (nodes_output (render_input T.answers now) (expand_nodes (macro_env now.style)
+    ensures { Runs (λ now. with_output (nodes_output (render_input T.answers now)
+        (expand_nodes (macro_env now.style)
         (view_nodes nodes.now)) now.inherited now.state) now) result ctx.old ctx.new }
 {
     ctx.ensure_live()?;
     let mut plan = plan;
     for node in nodes {
-        let known = next_plan(&mut plan, ctx);
-        render_node(node, ctx, known)?;
+        let known = next_plan(ctx, &mut plan);
+        render_node(ctx, node, known)?;
     }
     Ok(())
 }
@@ -254,21 +257,22 @@ pub(crate) fn render_all<'p, 's, T: EntryLike>(
 /// Appends what those nodes make that print something, with the inherited delimiter between them.
 #[cycle(render)]
 pub(crate) fn render_with_delimiter<'p, 's, T: EntryLike>(
-    nodes: &'s [LayoutRenderingElement],
     ctx: &mut Context<'s, T>,
+    nodes: &'s [LayoutRenderingElement],
     plan: Option<ListPlan<'p>>,
 ) -> Result<(), RenderError>
     requires { IfSome plan (ArePlans (render_input T.answers ctx.old)
         (expand_nodes (macro_env ctx.old.style) (view_nodes nodes.now))) }
-    ensures { Runs (λ now. with_output (delimited_output (render_input T.answers now) (expand_nodes (macro_env now.style)
+    ensures { Runs (λ now. with_output (delimited_output (render_input T.answers now)
+        (expand_nodes (macro_env now.style)
         (view_nodes nodes.now)) now.inherited true now.state) now) result ctx.old ctx.new }
 {
     ctx.ensure_live()?;
     let mut plan = plan;
     let mut first = true;
     for node in nodes {
-        let known = next_plan(&mut plan, ctx);
-        if render_if_it_prints(node, ctx, first, known)? {
+        let known = next_plan(ctx, &mut plan);
+        if render_if_it_prints(ctx, node, first, known)? {
             first = false;
         }
     }
@@ -279,8 +283,8 @@ pub(crate) fn render_with_delimiter<'p, 's, T: EntryLike>(
 /// first. It returns whether the node would print.
 #[cycle(render)]
 fn render_if_it_prints<'p, 's, T: EntryLike>(
-    node: &'s LayoutRenderingElement,
     ctx: &mut Context<'s, T>,
+    node: &'s LayoutRenderingElement,
     first: bool,
     plan: Option<NodePlan<'p>>,
 ) -> Result<bool, RenderError>
@@ -295,11 +299,11 @@ fn render_if_it_prints<'p, 's, T: EntryLike>(
         result ctx.old ctx.new }
 {
     match plan {
-        Some(plan) => render_by_plan(node, ctx, first, plan),
+        Some(plan) => render_by_plan(ctx, node, first, plan),
         None => {
-            let asked = ask_node(node, ctx);
+            let asked = ask_node(ctx, node);
             let (at, info) = ctx.attempt(asked)?;
-            render_by_plan(node, ctx, first, NodePlan::new(&at, &info))
+            render_by_plan(ctx, node, first, NodePlan::new(&at, &info))
         }
     }
 }
@@ -307,8 +311,8 @@ fn render_if_it_prints<'p, 's, T: EntryLike>(
 /// The same by a plan.
 #[cycle(render)]
 fn render_by_plan<'p, 's, T: EntryLike>(
-    node: &'s LayoutRenderingElement,
     ctx: &mut Context<'s, T>,
+    node: &'s LayoutRenderingElement,
     first: bool,
     plan: NodePlan<'p>,
 ) -> Result<bool, RenderError>
@@ -324,7 +328,7 @@ fn render_by_plan<'p, 's, T: EntryLike>(
 {
     let prints = plan.prints();
     if prints {
-        render_admitted(node, ctx, first, plan)?;
+        render_admitted(ctx, node, first, plan)?;
     } else {
         ctx.ensure_live()?;
     }
@@ -334,15 +338,16 @@ fn render_by_plan<'p, 's, T: EntryLike>(
 /// Appends what a node makes, behind the inherited delimiter unless it is the first.
 #[cycle(render)]
 fn render_admitted<'p, 's, T: EntryLike>(
-    node: &'s LayoutRenderingElement,
     ctx: &mut Context<'s, T>,
+    node: &'s LayoutRenderingElement,
     first: bool,
     plan: NodePlan<'p>,
 ) -> Result<(), RenderError>
     requires { IsPlan (render_input T.answers ctx.old) ctx.old.state
         (expand (macro_env ctx.old.style) (view_node node.now)) plan }
     ensures { Runs (λ now. with_output (delimited_child_output first now.inherited
-        (node_output (render_input T.answers now) (expand (macro_env now.style) (view_node node.now)) now.inherited now.state))
+        (node_output (render_input T.answers now)
+        (expand (macro_env now.style) (view_node node.now)) now.inherited now.state))
         now) result ctx.old ctx.new }
 {
     match ctx.delimiter() {
@@ -350,14 +355,14 @@ fn render_admitted<'p, 's, T: EntryLike>(
             let behind = ctx.push_elem()?;
             ctx.push_str(delimiter)?;
             let element = ctx.push_elem()?;
-            render_node(node, ctx, Some(plan))?;
+            render_node(ctx, node, Some(plan))?;
             ctx.commit_elem(element, None, None)?;
             ctx.commit_elem(behind, None, None)?;
             Ok(())
         }
         _ => {
             let element = ctx.push_elem()?;
-            render_node(node, ctx, Some(plan))?;
+            render_node(ctx, node, Some(plan))?;
             ctx.commit_elem(element, None, None)?;
             Ok(())
         }

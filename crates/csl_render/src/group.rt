@@ -44,7 +44,7 @@ impl RenderCsl for Group {
     }
 
     fn render<'s, T: EntryLike>(&'s self, ctx: &mut Context<'s, T>) -> Result<(), RenderError> {
-        render_group(self, ctx, None)
+        render_group(ctx, self, None)
     }
 }
 
@@ -78,8 +78,8 @@ pub(crate) fn group_shows<'c, 's, T: EntryLike>(
 
 /// The dry run of a group, with the state that it read.
 fn ask_group<'s, T: EntryLike>(
-    group: &'s Group,
     ctx: &Context<'s, T>,
+    group: &'s Group,
 ) -> Result<(DryState, NodeInfo), Memory>
     ensures at { IfOk result (λ r. AreReadAlike (render_input T.answers ctx.now) r.0 ctx.now.state) }
     ensures info { IfOk result (λ r. IsInfo (render_input T.answers ctx.now) r.0
@@ -93,8 +93,8 @@ fn ask_group<'s, T: EntryLike>(
 /// Appends what a group makes, by its plan if it has one.
 #[cycle(render)]
 pub(crate) fn render_group<'p, 's, T: EntryLike>(
-    group: &'s Group,
     ctx: &mut Context<'s, T>,
+    group: &'s Group,
     plan: Option<NodePlan<'p>>,
 ) -> Result<(), RenderError>
     requires { IfSome plan (IsPlan (render_input T.answers ctx.old) ctx.old.state
@@ -104,11 +104,11 @@ pub(crate) fn render_group<'p, 's, T: EntryLike>(
         result ctx.old ctx.new }
 {
     match plan {
-        Some(plan) => render_group_by_plan(group, ctx, plan),
+        Some(plan) => render_group_by_plan(ctx, group, plan),
         None => {
-            let asked = ask_group(group, ctx);
+            let asked = ask_group(ctx, group);
             let (at, info) = ctx.attempt(asked)?;
-            render_group_by_plan(group, ctx, NodePlan::new(&at, &info))
+            render_group_by_plan(ctx, group, NodePlan::new(&at, &info))
         }
     }
 }
@@ -116,8 +116,8 @@ pub(crate) fn render_group<'p, 's, T: EntryLike>(
 /// The same by a plan.
 #[cycle(render)]
 fn render_group_by_plan<'p, 's, T: EntryLike>(
-    group: &'s Group,
     ctx: &mut Context<'s, T>,
+    group: &'s Group,
     plan: NodePlan<'p>,
 ) -> Result<(), RenderError>
     requires { IsPlan (render_input T.answers ctx.old) ctx.old.state
@@ -131,7 +131,7 @@ fn render_group_by_plan<'p, 's, T: EntryLike>(
     ctx.push_delimiter(group.delimiter.as_deref())?;
     let element = ctx.push_elem()?;
     let middle = ctx.apply_prefix()?;
-    render_with_delimiter(&group.children, ctx, Some(plan.inside()))?;
+    render_with_delimiter(ctx, &group.children, Some(plan.inside()))?;
     ctx.apply_suffix(&group.affixes, middle, false)?;
     close_group(ctx, element, usage.should_render_group(), group.display)?;
     ctx.pop_delimiter();

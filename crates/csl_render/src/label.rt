@@ -33,6 +33,6 @@ impl RenderCsl for Label {
     }
 
     fn render<'s, T: EntryLike>(&'s self, ctx: &mut Context<'s, T>) -> Result<(), RenderError> {
-        render_label(self, ctx)
+        render_label(ctx, self)
     }
 }

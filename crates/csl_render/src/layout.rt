@@ -38,7 +38,7 @@ impl RenderCsl for Layout {
     fn render<'s, T: EntryLike>(&'s self, ctx: &mut Context<'s, T>) -> Result<(), RenderError> {
         ctx.push_format(self.formatting)?;
         ctx.push_delimiter(self.delimiter.as_deref())?;
-        render_all(&self.elements, ctx, None)?;
+        render_all(ctx, &self.elements, None)?;
         ctx.pop_delimiter();
         ctx.pop_format();
         Ok(())

@@ -15,7 +15,7 @@ ghost use Rattle.csl_names.specs.NamesLists.{all_empty, peeked_lists};
 ghost use Rattle.csl_names.specs.PersonLists.{list_of};
 ghost use Rattle.csl_render.specs.Names.{Macros, author, has_variable, is_of_names, is_names_of, any_is_names_of, substitute_has_names_of, expanded_substitutes_of, standing_in, refuses_alone, is_refused, names_show, names_or_substitute_info, in_substitute, suppressing_from, boxed_substitute};
 ghost use Rattle.csl_nodes.specs.Text.{Appends, render_output, with_output};
-ghost use Rattle.csl_nodes.specs.UsageView.{info_view};
+ghost use Rattle.csl_nodes.specs.Usage.{info_view};
 ghost use Rattle.csl_render.specs.Plan.{IsInfo};
 ghost use Rattle.csl_render.specs.Rendering.{of_node, with_whole_output};
 ghost use Rattle.csl_render.specs.Tree.{shows, node_output, substitute_shows, substitute_info, substitute_output, output_until_text, first_substitute_output, choice_info, choice_shows, names_output, shorthand_output};
@@ -56,7 +56,7 @@ impl RenderCsl for Names {
     }
 
     fn render<'s, T: EntryLike>(&'s self, ctx: &mut Context<'s, T>) -> Result<(), RenderError> {
-        render_names(self, ctx)
+        render_names(ctx, self)
     }
 }
 
@@ -135,21 +135,27 @@ fn first_nodes(names: &Names) -> Option<&[LayoutRenderingElement]>
 /// substitutes do; a child of it that is rendered in the place of the names says and shows what it
 /// does elsewhere.
 fn substitute_nodes<'n, 's, T: EntryLike>(
-    names: &'n Names,
     ctx: &Context<'s, T>,
+    names: &'n Names,
 ) -> Option<&'n [LayoutRenderingElement]>
-    ensures inside { IfSome result (λ ns. sizes (expand_nodes (macro_env ctx.now.style) (view_nodes ns.now))
+    ensures inside { IfSome result (λ ns. sizes
+        (expand_nodes (macro_env ctx.now.style) (view_nodes ns.now))
         < expanded_substitutes_size (expanded_substitutes_of (macro_env ctx.now.style) names.now)) }
     ensures said { substitute_info (render_input T.answers ctx.now) ctx.now.state
         (expanded_substitutes_of (macro_env ctx.now.style) names.now)
         ≡ choice_info (render_input T.answers ctx.now) ctx.now.state
-        (option_map (expand_nodes (macro_env ctx.now.style)) (option_map (λ ns. view_nodes ns.now) result)) }
-    ensures shown { (v : Variable) → substitute_shows (render_input T.answers ctx.now) ctx.now.state v
+        (option_map (expand_nodes (macro_env ctx.now.style))
+        (option_map (λ ns. view_nodes ns.now) result)) }
+    ensures shown { (v : Variable) → substitute_shows
+        (render_input T.answers ctx.now) ctx.now.state v
         (expanded_substitutes_of (macro_env ctx.now.style) names.now)
         ≡ choice_shows (render_input T.answers ctx.now) ctx.now.state v
-        (option_map (expand_nodes (macro_env ctx.now.style)) (option_map (λ ns. view_nodes ns.now) result)) }
-    ensures made { (inh : Inherited) → (s : State) → substitute_output (render_input T.answers ctx.now)
-        (expanded_substitutes_of (macro_env ctx.now.style) names.now) inh s ≡ first_substitute_output (render_input T.answers ctx.now)
+        (option_map (expand_nodes (macro_env ctx.now.style))
+        (option_map (λ ns. view_nodes ns.now) result)) }
+    ensures made { (inh : Inherited) → (s : State) → substitute_output
+        (render_input T.answers ctx.now)
+        (expanded_substitutes_of (macro_env ctx.now.style) names.now) inh s
+        ≡ first_substitute_output (render_input T.answers ctx.now)
         (option_map (expand_substitute_nodes (macro_env ctx.now.style) (names_node names.now))
         (option_map (λ ns. view_nodes ns.now) result)) inh s }
 {
@@ -181,7 +187,8 @@ fn names_have_variable(variable: NameVariable, names: &Names) -> bool
 
 /// Whether any of the nodes is a `cs:names` of this variable.
 fn any_is_names_of(variable: NameVariable, nodes: &[LayoutRenderingElement]) -> bool
-    ensures { (env : Macros) → result ≡ any_is_names_of variable (expand_nodes env (view_nodes nodes.now)) }
+    ensures { (env : Macros) → result ≡ any_is_names_of variable
+        (expand_nodes env (view_nodes nodes.now)) }
 {
     for node in nodes {
         if is_names_of(variable, node) {
@@ -194,7 +201,8 @@ fn any_is_names_of(variable: NameVariable, nodes: &[LayoutRenderingElement]) -> 
 /// Whether directly in the substitute stand names of the variable.
 #[tactic(auto, using(crate::proofs::NamesOf::substitutes_by))]
 fn substitute_has_names_of(variable: NameVariable, names: &Names) -> bool
-    ensures { (env : Macros) → result ≡ substitute_has_names_of variable (expanded_substitutes_of env names.now) }
+    ensures { (env : Macros) → result ≡ substitute_has_names_of variable
+        (expanded_substitutes_of env names.now) }
 {
     match first_nodes(names) {
         Some(nodes) => any_is_names_of(variable, nodes),
@@ -205,7 +213,8 @@ fn substitute_has_names_of(variable: NameVariable, names: &Names) -> bool
 /// Whether names are refused where that variable alone is to be shown.
 fn refuses_alone(only: Variable, names: &Names, is_empty: bool) -> bool
     ensures { (env : Macros) → result
-        ≡ refuses_alone only (names_node names.now) is_empty (expanded_substitutes_of env names.now) }
+        ≡ refuses_alone only (names_node names.now) is_empty
+        (expanded_substitutes_of env names.now) }
 {
     match only {
         Variable::Standard(_) => true,
@@ -242,7 +251,7 @@ pub(crate) fn names_info<'c, 's, T: EntryLike>(
     ensures kept { run.new ≡ run.old }
 {
     let judged = summarize_names(run.context(), names.parts())?;
-    if refuses(names, run.context(), judged.is_empty)? {
+    if refuses(run.context(), names, judged.is_empty)? {
         return Ok(run.leaf(no_info()));
     }
     if !judged.is_void {
@@ -258,11 +267,12 @@ fn substitute_info<'c, 's, T: EntryLike>(
     names: &'s Names,
     run: &mut DryRun<'c, 's, T>,
 ) -> Result<(bool, UsageInfo), Memory>
-    ensures value { GivesBy info_view result (substitute_info (render_input T.answers run.old) run.old.state
+    ensures value { GivesBy info_view result (substitute_info
+        (render_input T.answers run.old) run.old.state
         (expanded_substitutes_of (macro_env run.old.style) names.now)) }
     ensures kept { run.new ≡ run.old }
 {
-    match substitute_nodes(names, run.context()) {
+    match substitute_nodes(run.context(), names) {
         Some(nodes) => {
             let (sum, _) = nodes_info(nodes, run)?;
             Ok(without_group_flag(sum))
@@ -305,7 +315,7 @@ fn names_or_substitute_show<'c, 's, T: EntryLike>(
     if !is_empty {
         return Ok(false);
     }
-    match substitute_nodes(names, query.context()) {
+    match substitute_nodes(query.context(), names) {
         Some(nodes) => any_shows(nodes, query),
         None => Ok(false),
     }
@@ -313,12 +323,13 @@ fn names_or_substitute_show<'c, 's, T: EntryLike>(
 
 /// Whether the special form of the cite leaves no names. `is_empty` says that there are no persons.
 fn refuses<'s, T: EntryLike>(
-    names: &'s Names,
     ctx: &Context<'s, T>,
+    names: &'s Names,
     is_empty: bool,
 ) -> Result<bool, Memory>
     ensures { GivesBy (λ refused. refused) result (is_refused ctx.now.special
-        (names_node names.now) is_empty (expanded_substitutes_of (macro_env ctx.now.style) names.now)
+        (names_node names.now) is_empty (expanded_substitutes_of
+        (macro_env ctx.now.style) names.now)
         (names_show author (names_node names.now) is_empty (substitute_shows
         (render_input T.answers ctx.now) ctx.now.state author
         (expanded_substitutes_of (macro_env ctx.now.style) names.now)))) }
@@ -328,14 +339,14 @@ fn refuses<'s, T: EntryLike>(
         Some(SpecialForm::VarOnly(only)) => Ok(refuses_alone(only, names, is_empty)),
         Some(SpecialForm::OnlyFirstDate) => Ok(true),
         Some(SpecialForm::OnlyYearSuffix) => Ok(true),
-        Some(SpecialForm::SuppressAuthor) => shows_author(names, ctx, is_empty),
+        Some(SpecialForm::SuppressAuthor) => shows_author(ctx, names, is_empty),
     }
 }
 
 /// Whether names show the authors. `is_empty` says that there are no persons.
 fn shows_author<'s, T: EntryLike>(
-    names: &'s Names,
     ctx: &Context<'s, T>,
+    names: &'s Names,
     is_empty: bool,
 ) -> Result<bool, Memory>
     ensures { GivesBy (λ shows. shows) result (names_show author (names_node names.now) is_empty
@@ -349,8 +360,8 @@ fn shows_author<'s, T: EntryLike>(
 /// Appends what names make.
 #[cycle(render)]
 pub(crate) fn render_names<'s, T: EntryLike>(
-    names: &'s Names,
     ctx: &mut Context<'s, T>,
+    names: &'s Names,
 ) -> Result<(), RenderError>
     ensures { Runs (λ now. with_output (node_output (render_input T.answers now)
         (expand (macro_env now.style) (view_names names.now)) now.inherited now.state) now)
@@ -358,30 +369,33 @@ pub(crate) fn render_names<'s, T: EntryLike>(
 {
     let parts = names.parts();
     let lists = resolved_lists(ctx, parts.variables)?;
-    render_lists(names, ctx, &lists)?;
+    render_lists(ctx, names, &lists)?;
     Ok(())
 }
 
 /// Appends what names make that have these lists.
 #[cycle(render)]
 fn render_lists<'s, T: EntryLike>(
-    names: &'s Names,
     ctx: &mut Context<'s, T>,
+    names: &'s Names,
     lists: &[PersonList<'s>],
 ) -> Result<(), RenderError>
-    ensures { Runs (λ now. with_output (names_output (render_input T.answers now) (names_node names.now)
-        (expanded_substitutes_of (macro_env now.style) names.now) now.inherited (substitute_output (render_input T.answers now)
-        (expanded_substitutes_of (macro_env now.style) names.now) (in_substitute (names_node names.now) now.inherited)
+    ensures { Runs (λ now. with_output (names_output (render_input T.answers now)
+        (names_node names.now)
+        (expanded_substitutes_of (macro_env now.style) names.now) now.inherited
+        (substitute_output (render_input T.answers now)
+        (expanded_substitutes_of (macro_env now.style) names.now)
+        (in_substitute (names_node names.now) now.inherited)
         (suppressing_from now.state)) (map list_of lists.now) now.state) now)
         result ctx.old ctx.new }
 {
     let is_empty = all_empty(lists);
-    let refused = refuses(names, ctx, is_empty);
+    let refused = refuses(ctx, names, is_empty);
     if ctx.attempt(refused)? {
         return push_nothing(ctx);
     }
     if is_empty {
-        return render_substitute(names, ctx, lists);
+        return render_substitute(ctx, names, lists);
     }
     write_names(ctx, names.parts(), lists)
 }
@@ -389,17 +403,19 @@ fn render_lists<'s, T: EntryLike>(
 /// Appends what stands for names without persons.
 #[cycle(render)]
 fn render_substitute<'s, T: EntryLike>(
-    names: &'s Names,
     ctx: &mut Context<'s, T>,
+    names: &'s Names,
     lists: &[PersonList<'s>],
 ) -> Result<(), RenderError>
-    ensures { Runs (λ now. with_output (boxed_substitute (names_node names.now) (map list_of lists.now)
-        (substitute_output (render_input T.answers now) (expanded_substitutes_of (macro_env now.style) names.now)
+    ensures { Runs (λ now. with_output (boxed_substitute (names_node names.now)
+        (map list_of lists.now)
+        (substitute_output (render_input T.answers now)
+        (expanded_substitutes_of (macro_env now.style) names.now)
         (in_substitute (names_node names.now) now.inherited) (suppressing_from now.state))
         now.state) now) result ctx.old ctx.new }
 {
-    match substitute_nodes(names, ctx) {
-        Some(nodes) => render_first_substitute(nodes, ctx, names, lists),
+    match substitute_nodes(ctx, names) {
+        Some(nodes) => render_first_substitute(ctx, nodes, names, lists),
         None => push_nothing(ctx),
     }
 }
@@ -408,13 +424,15 @@ fn render_substitute<'s, T: EntryLike>(
 /// text. Their looks suppress their variables.
 #[cycle(render)]
 fn render_first_substitute<'s, T: EntryLike>(
-    nodes: &'s [LayoutRenderingElement],
     ctx: &mut Context<'s, T>,
+    nodes: &'s [LayoutRenderingElement],
     names: &'s Names,
     lists: &[PersonList<'s>],
 ) -> Result<(), RenderError>
-    ensures { Runs (λ now. with_output (boxed_substitute (names_node names.now) (map list_of lists.now)
-        (output_until_text (render_input T.answers now) (expand_substitute_nodes (macro_env now.style) (names_node names.now)
+    ensures { Runs (λ now. with_output (boxed_substitute (names_node names.now)
+        (map list_of lists.now)
+        (output_until_text (render_input T.answers now)
+        (expand_substitute_nodes (macro_env now.style) (names_node names.now)
         (view_nodes nodes.now)) (in_substitute (names_node names.now) now.inherited)
         (render_output [] (suppressing_from now.state))) now.state) now) result ctx.old ctx.new }
 {
@@ -423,7 +441,7 @@ fn render_first_substitute<'s, T: EntryLike>(
     ctx.push_format(parts.formatting)?;
     let suppressing = ctx.start_suppressing_queried_variables();
     let element = ctx.push_elem()?;
-    render_until_text(nodes, ctx, parts)?;
+    render_until_text(ctx, nodes, parts)?;
     commit_names(ctx, element, parts.display, lists)?;
     ctx.restore_suppressing(suppressing);
     ctx.pop_format();
@@ -434,12 +452,13 @@ fn render_first_substitute<'s, T: EntryLike>(
 /// Appends what the children of a substitute make, up to the one that brings the open part a text.
 #[cycle(render)]
 fn render_until_text<'s, T: EntryLike>(
-    nodes: &'s [LayoutRenderingElement],
     ctx: &mut Context<'s, T>,
+    nodes: &'s [LayoutRenderingElement],
     original: NamesParts<'s>,
 ) -> Result<(), RenderError>
     ensures { Runs (λ now. with_whole_output (output_until_text (render_input T.answers now)
-        (expand_substitute_nodes (macro_env now.style) (parts_node original.entry) (view_nodes nodes.now)) now.inherited
+        (expand_substitute_nodes (macro_env now.style) (parts_node original.entry)
+        (view_nodes nodes.now)) now.inherited
         (render_output now.inner now.state)) now) result ctx.old ctx.new }
 {
     ctx.ensure_live()?;
@@ -447,14 +466,15 @@ fn render_until_text<'s, T: EntryLike>(
         if ctx.open_part_has_text() {
             return Ok(());
         }
-        render_in_place(node, ctx, original)?;
+        render_in_place(ctx, node, original)?;
     }
     Ok(())
 }
 
 /// The node, where it is names without children.
 fn shorthand(node: &LayoutRenderingElement) -> Option<&Names>
-    ensures { (original : NamesNode) → (f : ExpandedNode) → as_substitute_child original (view_node node.now) f
+    ensures { (original : NamesNode) → (f : ExpandedNode) → as_substitute_child original
+        (view_node node.now) f
         ≡ standing_in original f (option_map (λ n. names_node n.now) result) }
 {
     match node {
@@ -471,7 +491,8 @@ fn shorthand(node: &LayoutRenderingElement) -> Option<&Names>
 /// The names, where they have no children.
 #[tactic(auto, using(crate::proofs::NamesView::names_out))]
 fn childless_names(names: &Names) -> Option<&Names>
-    ensures { (original : NamesNode) → (f : ExpandedNode) → as_substitute_child original (view_names names.now) f
+    ensures { (original : NamesNode) → (f : ExpandedNode) → as_substitute_child original
+        (view_names names.now) f
         ≡ standing_in original f (option_map (λ n. names_node n.now) result) }
 {
     if names.is_childless() {
@@ -485,17 +506,19 @@ fn childless_names(names: &Names) -> Option<&Names>
 /// they stand in for.
 #[cycle(render)]
 fn render_in_place<'s, T: EntryLike>(
-    node: &'s LayoutRenderingElement,
     ctx: &mut Context<'s, T>,
+    node: &'s LayoutRenderingElement,
     original: NamesParts<'s>,
 ) -> Result<(), RenderError>
-    ensures { Runs (λ now. with_output (node_output (render_input T.answers now) (as_substitute_child (parts_node original.entry)
-        (view_node node.now) (expand (macro_env now.style) (view_node node.now))) now.inherited now.state) now)
+    ensures { Runs (λ now. with_output (node_output (render_input T.answers now)
+        (as_substitute_child (parts_node original.entry)
+        (view_node node.now) (expand (macro_env now.style) (view_node node.now))) now.inherited
+        now.state) now)
         result ctx.old ctx.new }
 {
     match shorthand(node) {
         Some(names) => render_shorthand(ctx, names.parts_in_place_of(original)),
-        None => render_node(node, ctx, None),
+        None => render_node(ctx, node, None),
     }
 }
 

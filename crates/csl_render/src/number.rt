@@ -32,6 +32,6 @@ impl RenderCsl for Number {
     }
 
     fn render<'s, T: EntryLike>(&'s self, ctx: &mut Context<'s, T>) -> Result<(), RenderError> {
-        render_number(self, ctx)
+        render_number(ctx, self)
     }
 }

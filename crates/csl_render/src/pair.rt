@@ -49,7 +49,8 @@ fn render_with_html<'s, T: EntryLike>(
     start: &LeftState,
 ) -> Result<(Rendered, String), RenderError>
     ensures ok { IfOk result (λ p. Prints (layout_output_from (left_state_view start.now)
-        (cite_input style.now scope (cite_state instance.entry.cite_props.now) instance.entry.sorting
+        (cite_input style.now scope (cite_state instance.entry.cite_props.now)
+        instance.entry.sorting
         instance.entry.kind (T.answers instance.entry.entry.now)) layout.now)
         p.0 (string_bytes p.1)) }
     ensures err { IfErr result (λ e. e ≡ RenderError.Memory) }
@@ -118,7 +119,8 @@ pub fn render_pair<'s, T: EntryLike, U: EntryLike>(
         → Keeps s (output_in w r inherited s).state }
     ensures err { IfErr result (λ e. e ≡ RenderError.Memory) }
     ensures alike_make_the_same { (a b : Answers) (inherited : Inherited) (s : State)
-        → SameNamedAnswers (named_in_nodes (expand_layout (macro_env style.now) (view_layout layout.now)).elements) a b
+        → SameNamedAnswers (named_in_nodes (expand_layout (macro_env style.now)
+        (view_layout layout.now)).elements) a b
         → layout_output (cite_input style.now scope (cite_state cite_props.now) sorting kind a)
         (expand_layout (macro_env style.now) (view_layout layout.now)) inherited s
         ≡ layout_output (cite_input style.now scope (cite_state cite_props.now) sorting kind b)

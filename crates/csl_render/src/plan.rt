@@ -4,7 +4,7 @@
 ghost use Rattle.std.specs.Prelude.{◌≡◌, ◌&&◌, not, [], IfOk, IfSome, IsSomeAnd, IsTrue};
 ghost use Rattle.csl_style.specs.Node.{ExpandedNode, ExpandedNodes, expanded_node};
 ghost use Rattle.csl_context.specs.ContextView.{render_input};
-ghost use Rattle.csl_nodes.specs.UsageView.{info_view, usage_flags_of};
+ghost use Rattle.csl_nodes.specs.Usage.{info_view, usage_flags_of};
 ghost use Rattle.csl_render.specs.Plan.{asks_for_dates, AreReadAlike, answer_of, inside_of, IsPlan, ArePlans};
 
 use csl_context::Context;
@@ -83,7 +83,7 @@ fn is_same_mark(special: Option<SpecialForm>, seen: bool, is_first: bool) -> boo
 }
 
 /// Whether these are the suppressed variables of the context.
-fn are_suppressed<'s, T: EntryLike>(variables: &BTreeSet<Variable>, ctx: &Context<'s, T>) -> bool
+fn are_suppressed<'s, T: EntryLike>(ctx: &Context<'s, T>, variables: &BTreeSet<Variable>) -> bool
     ensures { IsTrue result → variables.now.keys ≡ ctx.now.state.suppressed }
 {
     variables == ctx.suppressed()
@@ -103,7 +103,8 @@ impl DryState {
     /// Whether dry runs read this of the context.
     #[tactic(auto, using(crate::proofs::Reading::read_alike))]
     pub(crate) fn is_of<'s, T: EntryLike>(&self, ctx: &Context<'s, T>) -> bool
-        ensures { IsTrue result → AreReadAlike (render_input T.answers ctx.now) self.now ctx.now.state }
+        ensures { IsTrue result → AreReadAlike
+            (render_input T.answers ctx.now) self.now ctx.now.state }
     {
         if !is_same_mark(
             ctx.special_form(),
@@ -112,7 +113,7 @@ impl DryState {
         ) {
             return false;
         }
-        are_suppressed(&self.suppressed, ctx)
+        are_suppressed(ctx, &self.suppressed)
     }
 }
 
@@ -186,11 +187,11 @@ impl<'p> ListPlan<'p> {
     }
 }
 
-/// The plan of the first node, if the nodes have one and it holds for the context. That of the nodes
-/// after it is left.
+/// The plan of the first node, if the nodes have one and it holds for the context. That of the
+/// nodes after it is left.
 pub(crate) fn next_plan<'p, 's, T: EntryLike>(
-    plan: &mut Option<ListPlan<'p>>,
     ctx: &Context<'s, T>,
+    plan: &mut Option<ListPlan<'p>>,
 ) -> Option<NodePlan<'p>>
     ensures next { (f : ExpandedNode) → (fs : ExpandedNodes)
         → IfSome plan.old (ArePlans (render_input T.answers ctx.now) (expanded_node f fs))

@@ -2,7 +2,7 @@
 
 ghost use Rattle.csl_style.specs.Style.{StyleParts};
 ghost use Rattle.csl_context.specs.ContextView.{Runs, Reads, render_input};
-ghost use Rattle.csl_nodes.specs.UsageView.{info_view};
+ghost use Rattle.csl_nodes.specs.Usage.{info_view};
 ghost use Rattle.csl_render.specs.Rendering.{Renderable, info_in, shows_in, after_render};
 
 use csl_context::{Context, RenderError};

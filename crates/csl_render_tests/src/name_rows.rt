@@ -161,7 +161,8 @@ static PLAIN: [Row; 49] = [
         "author Ferrante/Elena; title T",
         "et al., T",
     ),
-    // A list without persons leaves out no name, whether or not the style has a term for who is both.
+    // A list without persons leaves out no name, whether or not the style has a term for who is
+    // both.
     (
         "( +editor,translator:name=min-1;first-0 )",
         "translator Warren/Rosanna @ merging",

@@ -1,7 +1,9 @@
--- Four entries are built in, each with a key (`IsBuiltIn`). Their texts are one normal chunk each.
--- Their parents have no key. The address of one is what the URL Standard's parser makes of its
--- text. The label and the kinds of a built-in entry follow from the listed fields: authors, title
--- and date; own type, the parent's type, and whether there is a publisher and an address.
+-- Four entries are built in, each with a key. An entry is one of them (`IsBuiltIn`) if it has all
+-- the fields, the date and the parents that are listed for it, and no others. Their texts are one
+-- normal chunk each. Their parents have no key. The address of one is what the URL Standard's
+-- parser makes of its text. The label and the kinds of a built-in entry follow from the listed
+-- fields: authors, title and date; own type, the parent's type, and whether there is a publisher
+-- and an address.
 use Rattle.std.specs.Prelude.{◌≡◌, ℕ, pos, Bool, false, List, [], ◌∷◌, Option, Some, None, Ok, Err, codes, option_map, unwrap_or, if◌then◌else◌}
 use Rattle.std.specs.Str.{bytes_eq}
 use Rattle.url.specs.Parser.{Parsed, parse_url}

@@ -71,7 +71,8 @@ fn space_group(
     first: LayoutRenderingElement,
     second: LayoutRenderingElement,
 ) -> Result<LayoutRenderingElement, Memory>
-    ensures { IfOk result (λ made. view_node made ≡ space_group (view_node first) (view_node second)) }
+    ensures { IfOk result (λ made. view_node made ≡ space_group (view_node first)
+        (view_node second)) }
 {
     let children = vec![in alloc; first, second]?;
     Ok(Group::delimited(alloc, " ", children)?.into())

@@ -1,4 +1,5 @@
--- A derived comparison of two values of an enum, as `==` or `cmp`, gives the answer for one value exactly where they are one.
+-- A derived comparison of two values of an enum, as `==` or `cmp`, gives the answer for one value
+-- exactly where they are one.
 use Rattle.std.proofs.Common.{◌≡◌, ◌↔◌, ℕ, zero, suc, List, [], ◌∷◌, inl, inr, refl, ap}
 use denote.Struct.Field.{Field}
 use denote.Struct.Values.{Values}

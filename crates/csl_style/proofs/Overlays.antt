@@ -2,8 +2,7 @@
 use Rattle.std.proofs.Common.{◌≡◌, Option, Some, None, unwrap_or, refl}
 use Rattle.std.specs.Option.{option_or}
 use Rattle.csl_style.specs.declared.formatting.Formatting.{Formatting}
-use Rattle.csl_style.specs.Formatting.{apply_partial}
-use Rattle.csl_style.specs.Overlaid.{IsBoth}
+use Rattle.csl_style.specs.Formatting.{apply_partial, IsBoth}
 
 or-or : {A : Type 0} (x y z : Option A) → option_or (option_or x y) z ≡ option_or x (option_or y z)
 or-or None y z = refl

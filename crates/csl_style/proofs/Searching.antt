@@ -5,7 +5,8 @@ use Rattle.csl_style.specs.GraphReach.{Graph, HasEdge, Reaches, along_edge, alon
 use Rattle.csl_style.proofs.Marks.{marks, marks-none, none-marked, none-length, marks-set, marked-before, still-marked}
 use Rattle.csl_style.proofs.Edges.{reaches-on}
 
--- The place itself and then each marked place is listed. The edges of the first `next` of the list were followed.
+-- The place itself and then each marked place is listed. The edges of the first `next` of the list
+-- were followed.
 pub record IsSearch (g : Graph) (from : ℕ) (seen : List Bool) (found : List ℕ) (next : ℕ) : Type 0 where
   pub each : length seen ≡ length g
   pub counted : length found ≡ suc (marks seen)

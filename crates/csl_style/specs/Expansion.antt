@@ -1,7 +1,8 @@
 -- What a macro's name stands for (CSL 1.0.2, Macro). Of several macros of one name the first
 -- counts; the others are never looked at. Macros have *ranks* if each has a number and calls only
 -- macros of lower number, or names that the style lacks. An accepted style has ranks. Then a name
--- stands for the nodes of its macro, with each name in them replaced in the same way (`macro_expansion`).
+-- stands for the nodes of its macro, with each name in them replaced in the same way
+-- (`macro_expansion`).
 use Rattle.std.specs.Prelude.{◌≡◌, ℕ, zero, suc, nat_lt, Bool, true, ◌&&◌, List, [], ◌∷◌, length, slice_index, Option, Some, None, option_map, if◌then◌else◌}
 use Rattle.std.specs.Str.{bytes_eq}
 use Rattle.csl_style.specs.Node.{Node, text, call, number, label, date, names, choose, group, Nodes, no_nodes, node, Branches, no_branches, otherwise, branch, Substitutes, no_substitutes, substitute, ExpandedNodes, expand_nodes}

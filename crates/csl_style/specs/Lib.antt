@@ -1,6 +1,5 @@
 -- The definitions that the contracts of `csl_style` cite: styles, locales and nodes as plain data,
 -- and what follows from a style alone.
-pub mod Choose
 pub mod Date
 pub mod Formatting
 pub mod Dressing
@@ -24,7 +23,6 @@ pub mod YearSuffix
 pub mod Expanded
 pub mod Scopes
 pub mod OfCitation
-pub mod Overlaid
 pub mod NamesParts
 pub mod Named
 pub mod NamedWalk

@@ -1,5 +1,5 @@
--- `named_set` reads the six sets of a `Named` as one set (`NamedSet`): five of variables, by sort, and
--- one of kinds. A walk over a style adds to it.
+-- `named_set` reads the six sets of a `Named` as one set (`NamedSet`): five of variables, by sort,
+-- and one of kinds. A walk over a style adds to it.
 use Rattle.std.specs.Prelude.{◌≡◌, ℕ, true, List, Option}
 use Rattle.std.specs.BTreeSet.{BTreeSet, contains}
 use Rattle.std.specs.Cmp.Lexicographic.{slice_cmp}

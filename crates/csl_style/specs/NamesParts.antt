@@ -1,11 +1,10 @@
 -- The parts of a names node (CSL 1.0.2, Names, Name, Et-al, Label, Substitute) are the first name,
 -- et-al, label and substitute among its children, each or none. A label is after the names if a
--- name child comes before it.
--- A names node without children in a substitute has its own variables and display, and the name,
--- et-al and label of the node around the substitute. Everything else is its own where it is set,
--- field by field, and that node's elsewhere (`in_place_of`). A node without a name, et-al or label
--- has the standard's, which set nothing. Of the parts of a name, the first for the given name and
--- the first for the family name count.
+-- name child comes before it. A names node without children in a substitute has its own variables
+-- and display, and the name, et-al and label of the node around the substitute. Everything else is
+-- its own where it is set, field by field, and that node's elsewhere (`shorthand_expansion`). A
+-- node without a name, et-al or label has the standard's, which set nothing. Of the parts of a
+-- name, the first for the given name and the first for the family name count.
 use Rattle.std.specs.Prelude.{ℕ, Bool, false, List, [], map, Option, Some, None, option_map, find}
 use denote.Bor.{Bor}
 use denote.Enum.Bare.{sameb}

@@ -1,10 +1,10 @@
 -- The nodes of a style (CSL 1.0.2, Rendering Elements) as plain data, in two forms. As written
--- (`Node`), a text of a macro holds a name. With no name left (`ExpandedNode`), it holds the macro's nodes,
--- filled too, or is `unknown_macro` if the style has no such macro.
--- A names node without children that is directly in a substitute is kept twice, as written and as
--- rendered (`shorthand`). As rendered, it has the name, et-al and label of the names around it, and
--- its own display. Its options, delimiter, affixes and formatting are its own where they are set,
--- field by field, and those of the names around it elsewhere.
+-- (`Node`), a text of a macro holds a name. With no name left (`ExpandedNode`), it holds the
+-- macro's nodes, expanded too, or is `unknown_macro` if the style has no such macro. A names node
+-- without children that is directly in a substitute is kept twice, as written and as rendered
+-- (`shorthand`). As rendered, it has the name, et-al and label of the names around it, and its own
+-- display. Its options, delimiter, affixes and formatting are its own where they are set, field by
+-- field, and those of the names around it elsewhere.
 use Rattle.std.specs.Prelude.{ℕ, ◌+◌, suc, Bool, true, false, ◌&&◌, is_none, List, [], ◌∷◌, Option, Some, None, if◌then◌else◌}
 use Rattle.csl_common.specs.declared.form.LongShortForm.{LongShortForm}
 use Rattle.csl_common.specs.declared.form.NumberForm.{NumberForm}

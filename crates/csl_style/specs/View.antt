@@ -15,7 +15,7 @@ use Rattle.csl_style.specs.declared.date.Date.{Date}
 use Rattle.csl_style.specs.declared.element.LayoutRenderingElement.{LayoutRenderingElement, fold-LayoutRenderingElement}
 use Rattle.csl_style.specs.declared.element.LayoutRenderingElement.TheOpen as level
 use Rattle.csl_style.specs.declared.element.LayoutRenderingElement.TheOpen.{LayoutRenderingElement-F, Choose-F, ChooseBranch-F, Group-F, Names-F, NamesChild-F, Substitute-F}
-use Rattle.csl_style.specs.declared.element.Choose.{Choose, fold-Choose}
+use Rattle.csl_style.specs.declared.element.Choose.{Choose, fold-Choose, out-Choose}
 use Rattle.csl_style.specs.declared.element.ChooseBranch.{ChooseBranch, fold-ChooseBranch}
 use Rattle.csl_style.specs.declared.element.Group.{Group, fold-Group}
 use Rattle.csl_style.specs.declared.element.Names.{Names, fold-Names}
@@ -219,3 +219,7 @@ definitions ms = map definition ms
 -- the macro has that name
 abbrev pub is_named : List ℕ → CslMacro → Bool
 is_named name m = bytes_eq (string_bytes m.name) name
+
+-- the `if` branch, then each `else-if` in order
+abbrev pub branches : Choose → List ChooseBranch
+branches c = (out-Choose c).if_ ∷ (out-Choose c).else_if.items

@@ -62,7 +62,7 @@ pub struct Choose {
 }
 
 impl Choose {
-    ghost use Rattle.csl_style.specs.Choose.{branches};
+    ghost use Rattle.csl_style.specs.View.{branches};
 
     /// The `if` branch, then each `else-if` in order.
     pub fn branches(&self) -> Chain<Once<&ChooseBranch>, Iter<'_, ChooseBranch>>

@@ -2,8 +2,7 @@
 
 ghost use Rattle.std.specs.Prelude.{◌≡◌};
 ghost use Rattle.csl_style.specs.Constructors.{italic};
-ghost use Rattle.csl_style.specs.Formatting.{apply_partial};
-ghost use Rattle.csl_style.specs.Overlaid.{IsBoth};
+ghost use Rattle.csl_style.specs.Formatting.{apply_partial, IsBoth};
 
 /// Whether a text is upright or slanted.
 #[derive(Clone, Copy, Debug, Default, PartialEq, Eq, Hash)]

@@ -51,7 +51,8 @@ fn empty_named(alloc: Global) -> Named
 /// Adds a variable, unless the citation answers it.
 #[tactic(auto, using(crate::proofs::Noted::not_noted, crate::proofs::Noted::number_noted, crate::proofs::Noted::page_noted, crate::proofs::Noted::standard_noted, crate::proofs::Noted::name_noted, crate::proofs::Noted::date_noted))]
 fn note_variable(named: &mut Named, variable: Variable) -> Result<(), Memory>
-    ensures ok { OnOk result (named_set named.new ≡ named_union (named_set named.old) (the_variable variable)) }
+    ensures ok { OnOk result (named_set named.new ≡ named_union (named_set named.old)
+        (the_variable variable)) }
     ensures err { OnErr result (named_set named.new ≡ named_set named.old) }
 {
     if variable.is_of_citation() {
@@ -80,7 +81,8 @@ fn note_variable(named: &mut Named, variable: Variable) -> Result<(), Memory>
 /// Adds a kind.
 #[tactic(auto, using(crate::proofs::Noted::kind_noted))]
 fn note_kind(named: &mut Named, kind: Kind) -> Result<(), Memory>
-    ensures ok { OnOk result (named_set named.new ≡ named_union (named_set named.old) (the_kind kind)) }
+    ensures ok { OnOk result (named_set named.new ≡ named_union (named_set named.old)
+        (the_kind kind)) }
     ensures err { OnErr result (named_set named.new ≡ named_set named.old) }
 {
     named.kinds.insert(kind)?;
@@ -100,6 +102,7 @@ impl<'s> Model for Walk<'s> {
     ghost use Rattle.std.specs.Coded.{codes};
     ghost use Rattle.csl_style.specs.contracts.element.CslMacro as of_macro;
     ghost use Rattle.csl_style.specs.contracts.element.Layout as of_layout;
+    ghost use Rattle.csl_style.specs.Expanded.{macro_env};
     ghost use Rattle.csl_style.specs.NamedWalk.{named_set, WalkView, Covers};
 
     ghost Value = { WalkView };
@@ -155,7 +158,8 @@ impl<'s> Walk<'s> {
     /// Whether the macro was seen.
     fn has_seen(&self, name: &str) -> bool
         ensures { IsTrue result
-            → named_union (named_set self.now.named) (named_in_macro (macro_env self.now.style name.now))
+            → named_union (named_set self.now.named)
+            (named_in_macro (macro_env self.now.style name.now))
             ≡ named_set self.now.named }
     {
         self.seen.contains(name)
@@ -163,7 +167,8 @@ impl<'s> Walk<'s> {
 
     /// Keeps in mind that a macro was seen: all that it names is named.
     fn mark_seen(&mut self, name: &'s str) -> Result<(), Memory>
-        requires { named_union (named_set self.old.named) (named_in_macro (macro_env self.old.style name.now))
+        requires { named_union (named_set self.old.named)
+            (named_in_macro (macro_env self.old.style name.now))
             ≡ named_set self.old.named }
         ensures { OnOk result (self.new ≡ self.old) }
     {
@@ -268,7 +273,8 @@ fn unseen_macro<'s>(walk: &Walk<'s>, name: &str) -> Option<&'s CslMacro>
     ensures meaning { IfSome result (λ found. macro_env walk.now.style name.now
         ≡ Some (expand_nodes (macro_env walk.now.style) (view_nodes found.now.children.items))) }
     ensures known { result ≡ None
-        → named_union (named_set walk.now.named) (named_in_macro (macro_env walk.now.style name.now))
+        → named_union (named_set walk.now.named)
+        (named_in_macro (macro_env walk.now.style name.now))
         ≡ named_set walk.now.named }
 {
     if walk.has_seen(name) {
@@ -281,7 +287,8 @@ fn unseen_macro<'s>(walk: &Walk<'s>, name: &str) -> Option<&'s CslMacro>
 #[cycle(named)]
 fn visit_element<'s>(walk: &mut Walk<'s>, element: &'s LayoutRenderingElement) -> Result<(), Memory>
     ensures { OnOk result (Adds
-        (named_in_node (expand (macro_env walk.old.style) (view_node element.now))) walk.old walk.new) }
+        (named_in_node (expand (macro_env walk.old.style) (view_node element.now))) walk.old
+        walk.new) }
 {
     match element {
         LayoutRenderingElement::Text(text) => match &text.target {
@@ -311,7 +318,8 @@ fn visit_element<'s>(walk: &mut Walk<'s>, element: &'s LayoutRenderingElement) -
 #[cycle(named)]
 fn visit_all<'s>(walk: &mut Walk<'s>, elements: &'s [LayoutRenderingElement]) -> Result<(), Memory>
     ensures { OnOk result (Adds
-        (named_in_nodes (expand_nodes (macro_env walk.old.style) (view_nodes elements.now))) walk.old walk.new) }
+        (named_in_nodes (expand_nodes (macro_env walk.old.style) (view_nodes elements.now)))
+        walk.old walk.new) }
 {
     for element in elements {
         visit_element(walk, element)?;
@@ -323,7 +331,8 @@ fn visit_all<'s>(walk: &mut Walk<'s>, elements: &'s [LayoutRenderingElement]) ->
 #[cycle(named)]
 fn visit_names<'s>(walk: &mut Walk<'s>, names: &'s Names) -> Result<(), Memory>
     ensures { OnOk result (Adds
-        (named_in_node (expand (macro_env walk.old.style) (view_names names.now))) walk.old walk.new) }
+        (named_in_node (expand (macro_env walk.old.style) (view_names names.now))) walk.old
+        walk.new) }
 {
     note_names(walk, &names.variable)?;
     for child in &names.children {
@@ -359,7 +368,8 @@ fn visit_branch<'s>(walk: &mut Walk<'s>, branch: &'s ChooseBranch) -> Result<(),
 #[cycle(named)]
 fn visit_choose<'s>(walk: &mut Walk<'s>, choose: &'s Choose) -> Result<(), Memory>
     ensures { OnOk result (Adds
-        (named_in_node (expand (macro_env walk.old.style) (view_choose choose.now))) walk.old walk.new) }
+        (named_in_node (expand (macro_env walk.old.style) (view_choose choose.now))) walk.old
+        walk.new) }
 {
     visit_branch(walk, &choose.if_)?;
     for branch in &choose.else_if {

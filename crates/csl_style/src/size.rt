@@ -12,9 +12,11 @@ use crate::text::TextTarget;
 /// The room that is left after an element, or `None` where the element is larger than the room.
 #[cycle(size)]
 fn room_after(style: &Style, element: &LayoutRenderingElement, room: u64) -> Option<u64>
-    ensures some { IfSome result (λ left. left + size (expand (macro_env style.now) (view_node element.now))
+    ensures some { IfSome result (λ left. left + size
+        (expand (macro_env style.now) (view_node element.now))
         ≡ room) }
-    ensures none { IfNone result (room < size (expand (macro_env style.now) (view_node element.now))) }
+    ensures none { IfNone result (room < size
+        (expand (macro_env style.now) (view_node element.now))) }
 {
     match element {
         LayoutRenderingElement::Text(text) => match &text.target {
@@ -42,7 +44,8 @@ fn room_after(style: &Style, element: &LayoutRenderingElement, room: u64) -> Opt
 fn room_after_all(style: &Style, elements: &[LayoutRenderingElement], room: u64) -> Option<u64>
     ensures some { IfSome result (λ left. left
         + sizes (expand_nodes (macro_env style.now) (view_nodes elements.now)) ≡ room) }
-    ensures none { IfNone result (room < sizes (expand_nodes (macro_env style.now) (view_nodes elements.now))) }
+    ensures none { IfNone result (room < sizes
+        (expand_nodes (macro_env style.now) (view_nodes elements.now))) }
 {
     let mut left = room;
     for element in elements {
@@ -69,7 +72,8 @@ fn room_after_names(style: &Style, names: &Names, room: u64) -> Option<u64>
 /// elements in it.
 #[cycle(size)]
 fn room_after_child(style: &Style, child: &NamesChild, room: u64) -> Option<u64>
-    ensures some { IfSome result (λ left. left + child_size (macro_env style.now) (view_child child.now)
+    ensures some { IfSome result (λ left. left + child_size (macro_env style.now)
+        (view_child child.now)
         ≡ room) }
     ensures none { IfNone result (room < child_size (macro_env style.now) (view_child child.now)) }
 {
@@ -86,7 +90,8 @@ fn room_after_child(style: &Style, child: &NamesChild, room: u64) -> Option<u64>
 fn room_after_choose(style: &Style, choose: &Choose, room: u64) -> Option<u64>
     ensures some { IfSome result (λ left. left
         + size (expand (macro_env style.now) (view_choose choose.now)) ≡ room) }
-    ensures none { IfNone result (room < size (expand (macro_env style.now) (view_choose choose.now))) }
+    ensures none { IfNone result (room < size
+        (expand (macro_env style.now) (view_choose choose.now))) }
 {
     let mut left = room_after_all(style, &choose.if_.children, room.checked_sub(2)?)?;
     for branch in &choose.else_if {
@@ -110,7 +115,8 @@ impl Style {
     /// no memory, and a number of steps that grows with the smaller of the size and `most`.
     pub fn expanded_size(&self, layout: &Layout, most: u64) -> Option<u64>
         ensures some { IfSome result (λ size. (size
-            ≡ layout_size (expand_layout (macro_env self.now) (view_layout layout.now))) × (size ≤ most)) }
+            ≡ layout_size (expand_layout (macro_env self.now) (view_layout layout.now))) ×
+            (size ≤ most)) }
         ensures none { IfNone result (most
             < layout_size (expand_layout (macro_env self.now) (view_layout layout.now))) }
     {

@@ -214,8 +214,10 @@ impl Style {
         ensures found { option_copied result ≡ find (is_named name.now) self.now.macros }
         ensures first { option_map (λ m. view_nodes m.now.children.items) result
             ≡ macro_body name.now (definitions self.now.macros) }
-        ensures meaning { option_map (λ m. expand_nodes (macro_expansion (definitions self.now.macros))
-            (view_nodes m.now.children.items)) result ≡ macro_expansion (definitions self.now.macros) name.now }
+        ensures meaning { option_map (λ m. expand_nodes
+            (macro_expansion (definitions self.now.macros))
+            (view_nodes m.now.children.items)) result ≡ macro_expansion
+            (definitions self.now.macros) name.now }
     {
         first_macro(&self.macros, &self.places, name)
     }

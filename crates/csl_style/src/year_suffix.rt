@@ -45,7 +45,8 @@ fn has_year_suffix(style: &Style, element: &LayoutRenderingElement) -> bool
 /// Whether a text of the year suffix is in any of the elements.
 #[cycle(reach)]
 fn any_has_year_suffix(style: &Style, elements: &[LayoutRenderingElement]) -> bool
-    ensures { result ≡ any_has_year_suffix (expand_nodes (macro_env style.now) (view_nodes elements.now)) }
+    ensures { result ≡ any_has_year_suffix (expand_nodes (macro_env style.now)
+        (view_nodes elements.now)) }
 {
     for element in elements {
         if has_year_suffix(style, element) {

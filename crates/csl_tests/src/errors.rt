@@ -4,7 +4,7 @@ use crate::asserted::assert_text;
 use csl::literature::NumericError;
 use csl::style::StyleError;
 use csl::{Error, HtmlError, Memory, RenderError};
-use std::alloc::{AllocError, Global};
+use std::alloc::{AllocError, AllocFailed, Global};
 use std::fmt;
 use std::process::Abort;
 use std::test::Fail;
@@ -25,6 +25,8 @@ fn errors_of_the_crates_and_their_texts(rt: HostRuntime) -> Result<(), Fail> {
     let alloc = rt.alloc();
     assert_text_of(&rt, alloc, Memory.into(), "out of memory")?;
     assert_text_of(&rt, alloc, AllocError.into(), "out of memory")?;
+    let failed = AllocFailed { value: true };
+    assert_text_of(&rt, alloc, failed.into(), "out of memory")?;
     assert_text_of(&rt, alloc, NumericError::Memory.into(), "out of memory")?;
     assert_text_of(&rt, alloc, NumericError::NotNumeric.into(), "not numeric")?;
     assert_text_of(&rt, alloc, HtmlError::Memory.into(), "out of memory")?;

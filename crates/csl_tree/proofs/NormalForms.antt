@@ -1,4 +1,5 @@
--- Rounds in a row make a tree normal, and normal trees without empty texts are equal where their styled values are.
+-- Rounds in a row make a tree normal, and normal trees without empty texts are equal where their
+-- styled values are.
 use Rattle.std.proofs.Common.{◌≡◌, ℕ, zero, suc, ◌≤◌, Bool, true, false, not, ◌&&◌, cond, List, [], ◌∷◌, ◌++◌, ◌↔◌, refl, sym, ap, ◌∙◌, append_assoc, arith}
 use Rattle.std.specs.Prelude.{Option, Some, None}
 use Rattle.std.proofs.lemmas.List.{append-nil}

@@ -1,7 +1,7 @@
 -- Formattings over one another and over that of a place.
 use Rattle.std.proofs.Common.{◌≡◌}
 use Rattle.csl_style.specs.declared.formatting.Formatting as partial
-use Rattle.csl_style.specs.Overlaid.{IsBoth}
+use Rattle.csl_style.specs.Formatting.{IsBoth}
 use Rattle.csl_tree.specs.declared.formatting.Formatting.{Formatting}
 use Rattle.csl_tree.specs.Formatting.{apply_formatting}
 

@@ -150,7 +150,7 @@ is_rounded t u h = subst (λ v. Rounded t v) (sym h) (rounded t)
 
 -- the same of an element
 pub record RoundedInside (e new : elem.Elem) : Type 0 where
-  pub simplify_once : elem_tree new ≡ with_inside e (simplify_once (tree_inside e))
+  pub round : elem_tree new ≡ with_inside e (simplify_once (tree_inside e))
   pub kept : styled_value (elem_tree new) ≡ styled_value (elem_tree e)
   pub normal : (elem_tree new ≡ elem_tree e) ↔ IsTrue (is_normal (tree_inside e))
   pub fewer : OnFalse (is_normal (tree_inside e)) (node_count (elem_tree new) < node_count (elem_tree e))
@@ -175,7 +175,7 @@ elem_rounded e new d m h =
     let old : elem_tree e ≡ with_inside e (tree_inside e) = elem_tree_out e in
     let told = rounded_around (elem.out-Elem e).display (optional_meta (elem.out-Elem e).meta) (tree_inside e) (simplify_once (tree_inside e)) (rounded (tree_inside e)) in
     record {
-      simplify_once = made;
+      round = made;
       kept = ap styled_value made ∙ told.0 ∙ sym (ap styled_value old);
       normal = (λ x. told.1.0 (sym made ∙ x ∙ old), λ x. made ∙ told.1.1 x ∙ sym old);
       fewer = subst (λ v. OnFalse (is_normal (tree_inside e)) (node_count v < node_count (elem_tree e))) (sym made) (subst (λ v. OnFalse (is_normal (tree_inside e)) (node_count (with_inside e (simplify_once (tree_inside e))) < node_count v)) (sym old) told.2);

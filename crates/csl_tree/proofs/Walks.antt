@@ -1,4 +1,5 @@
--- A walk down a tree, from children to those of one of them: where its path leads, and what is lent there.
+-- A walk down a tree, from children to those of one of them: where its path leads, and what is lent
+-- there.
 use Rattle.std.proofs.Common.{◌≡◌, ℕ, ◌<◌, suc, zero, Bool, true, false, List, [], ◌∷◌, length, get_or, refl, sym, ap, ◌∙◌, arith, slice_index_or, Some}
 use Rattle.std.specs.Prelude.{unwrap_or}
 use Rattle.std.specs.declared.vec.Vec.{Vec}

@@ -1,7 +1,7 @@
--- A row of items, children and marks, and its contents (`open_parts`), item by item: a child joins the
--- innermost content, and a mark opens a part. So the contents do not depend on how a text is split
--- over items.
--- The definitions from `plain_step` on are the code's own: private contracts alone cite them.
+-- A row of items, children and marks, and its contents (`open_parts`), item by item: a child joins
+-- the innermost content, and a mark opens a part. So the contents do not depend on how a text is
+-- split over items. The definitions from `plain_step` on are the code's own: private contracts
+-- alone cite them.
 use Rattle.std.specs.Prelude.{◌≡◌, ℕ, ◌+◌, ◌-◌, ◌<◌, ◌≤◌, List, [], ◌∷◌, ◌++◌, length, take, drop, get_or}
 use Rattle.csl_tree.specs.Tokens.{Token, child_tokens}
 use Rattle.csl_tree.specs.Content.{◌++>◌}

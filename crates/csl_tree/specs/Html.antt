@@ -1,8 +1,8 @@
--- HTML is the bytes of a list of start tags, end tags and texts, in which texts and addresses are
--- escaped. An element with a display is a `div` around its children. A text whose formatting is not
--- the default is in a `span`. A link is an anchor around its text. A span declares font-style,
--- font-weight, text-decoration, font-variant and vertical-align in this order, with nothing between
--- them. Normal values and the alignments none and baseline declare nothing.
+-- HTML is the bytes (`html_bytes`) of a list of start tags, end tags and texts (`html`), in which
+-- texts and addresses are escaped. An element with a display is a `div` around its children. A text
+-- whose formatting is not the default is in a `span`. A link is an anchor around its text. A span
+-- declares font-style, font-weight, text-decoration, font-variant and vertical-align in this order,
+-- with nothing between them. Normal values and the alignments none and baseline declare nothing.
 -- A list is *nested* if it is empty, or a text and a nested list, or a start tag, a nested list,
 -- its end tag and a nested list. A text is HTML (`IsHtmlOf`) if it is the bytes of a nested list.
 -- Its text is the texts of that list, joined. So a span may have any declarations, in their order

@@ -1,4 +1,5 @@
--- In a tree in which only some addresses are allowed, each other link becomes its text.
+-- In a tree in which only some addresses are allowed, each link to another address becomes its
+-- text, which is not joined with a text beside it.
 use Rattle.std.specs.Prelude.{◌≡◌, ℕ, Bool, List, [], ◌∷◌, map, if◌then◌else◌}
 use Rattle.std.specs.List.{flat_map}
 use Rattle.std.specs.Borrow.{Bor}

@@ -40,8 +40,9 @@ with_text (element_then d m inside t) bs f = element_then d m inside (with_text 
 abbrev pub simplified_elem : Option Display → Option Meta → Tree → Tree → Tree
 simplified_elem d m inside rounded = if is_plain d m then inside else element_then d m rounded empty_tree
 
--- One round: each element is replaced (`simplified_elem`), and each child that is a text joins a text of
--- equal formatting before it, also one from a plain element. A text of a plain element joins none.
+-- One round: each element is replaced (`simplified_elem`), and each child that is a text joins a
+-- text of equal formatting before it, also one from a plain element. A text of a plain element
+-- joins none.
 abbrev pub simplify_once_after : Tree → Tree → Tree
 simplify_once_after before empty_tree = before
 simplify_once_after before (text_then bs f t) = simplify_once_after (with_text before bs f) t

@@ -46,7 +46,8 @@ impl ElemChildren {
         meta: Option<ElemMeta>,
     ) -> Result<(), Memory>
         ensures ok { OnOk result
-            (Appends self.old self.new (elem_content display (optional_meta meta) (tokens children))) }
+            (Appends self.old self.new (elem_content display (optional_meta meta)
+            (tokens children))) }
         ensures err { OnErr result (Stays self.old self.new) }
     {
         if children.0.is_empty() {

@@ -5,7 +5,7 @@ ghost use Rattle.std.specs.List.{list_all};
 ghost use Rattle.std.specs.Fmt.{WritesInCalls};
 ghost use Rattle.csl_tree.specs.Escapes.{is_reserved, is_plain, starts_plain, escape_all, BeginsEscaped};
 
-use lit_model::Sink;
+use csl_common::Sink;
 use std::fmt;
 
 /// Whether a reference stands for the byte in HTML.
@@ -53,7 +53,8 @@ fn reference_of_first(text: &str) -> Option<(&'static str, &str)>
 /// # Errors
 /// [`fmt::Error`]: the sink refused a part of it. What it holds then is left open.
 pub fn write_escaped<S: Sink>(text: &str, sink: &mut S) -> fmt::Result
-    ensures ok { OnOk result (WritesInCalls S.write_str_gives sink.old (escape_all text.now) sink.new) }
+    ensures ok { OnOk result (WritesInCalls S.write_str_gives sink.old
+        (escape_all text.now) sink.new) }
     ensures kept { OnOk result (S.refused sink.new ≡ S.refused sink.old) }
     ensures err { OnErr result (S.refused sink.new ≡ true) }
 {

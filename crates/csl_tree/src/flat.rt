@@ -136,7 +136,8 @@ impl FlatTree {
     ) -> Result<(), Memory>
         requires is_open { 0 < length self.old.outer }
         ensures ok { OnOk result
-            (self.new ≡ close_part (elem_content display (optional_meta meta) self.old.inner) self.old) }
+            (self.new ≡ close_part (elem_content display (optional_meta meta) self.old.inner)
+            self.old) }
         ensures err { OnErr result (self.new ≡ self.old) }
     {
         close_items(&mut self.items, self.alloc, display, meta)?;
@@ -156,7 +157,8 @@ impl FlatTree {
     ) -> Result<(), Memory>
         requires is_open { 0 < length self.old.outer }
         ensures ok { OnOk result (self.new
-            ≡ close_part (affixed_content (affix_content before) (affix_content after) self.old.inner) self.old) }
+            ≡ close_part (affixed_content (affix_content before)
+            (affix_content after) self.old.inner) self.old) }
         ensures err { OnErr result (self.new ≡ self.old) }
     {
         splice_items(&mut self.items, before, after)?;

@@ -74,7 +74,8 @@ fn join_end(items: &mut Vec<Item>, more: &str, formatting: Formatting) -> Result
 
 /// Appends a text that is not empty. If memory runs out, the contents stay as they were.
 fn push_text_item(items: &mut Vec<Item>, text: Formatted) -> Result<(), Memory>
-    ensures ok { OnOk result (open_parts items.new.items ≡ with_tokens (text_tokens text) (open_parts
+    ensures ok { OnOk result (open_parts items.new.items ≡ with_tokens (text_tokens text)
+        (open_parts
         items.old.items)) }
     ensures err { OnErr result (open_parts items.new.items ≡ open_parts items.old.items) }
 {
@@ -152,15 +153,18 @@ fn join_next(items: &mut Vec<Item>, last: usize, next: usize) -> Result<bool, Me
     requires within { (last < next) × (next < length items.old.items) }
     ensures len { length items.new.items ≡ length items.old.items }
     ensures joins { IfOk result (λ did. OnTrue did
-        (open_parts (without_range items.new.items last (next + 1)) ≡ open_parts (without_range items.old.items last next))) }
+        (open_parts (without_range items.new.items last (next + 1)) ≡ open_parts
+        (without_range items.old.items last next))) }
     ensures moves { IfOk result (λ did. OnFalse did (open_parts
-        (without_range items.new.items (last + 1) (next + 1)) ≡ open_parts (without_range items.old.items last next))) }
+        (without_range items.new.items (last + 1) (next + 1)) ≡ open_parts
+        (without_range items.old.items last next))) }
     ensures joined { IfOk result (λ did. OnTrue did (IsJoined (take (last + 1) items.old.items)
         → IsJoined (take (last + 1) items.new.items))) }
     ensures apart { IfOk result (λ did. OnFalse did (IsJoined (take (last + 1) items.old.items)
         → IsJoined (take (last + 1 + 1) items.new.items))) }
     ensures err { OnErr result
-        (open_parts (without_range items.new.items last next) ≡ open_parts (without_range items.old.items last next)) }
+        (open_parts (without_range items.new.items last next) ≡ open_parts
+        (without_range items.old.items last next)) }
 {
     let right = mem::replace(&mut items[next], Item::Mark);
     match join_onto(&mut items[last], &right) {
@@ -216,7 +220,8 @@ pub(crate) fn take_part(items: &mut Vec<Item>, alloc: Global) -> Result<Vec<Elem
     ensures children { IfOk result (λ ks. flat_map child_tokens ks.items ≡ plain_inner
         items.old.items) }
     ensures left { OnOk result (0 < length (open_parts items.old.items).outer → ((open_parts
-        items.old.items).outer ≡ (open_parts items.new.items).inner ∷ (open_parts items.new.items).outer)
+        items.old.items).outer ≡ (open_parts items.new.items).inner ∷
+        (open_parts items.new.items).outer)
         × (vec_len items.new < vec_capacity items.new)) }
     ensures err { OnErr result (items.new ≡ items.old) }
 {
@@ -268,7 +273,8 @@ pub(crate) fn close_items(
     meta: Option<ElemMeta>,
 ) -> Result<(), Memory>
     requires is_open { 0 < length (open_parts items.old.items).outer }
-    ensures ok { OnOk result (open_parts items.new.items ≡ close_part (elem_content display (optional_meta
+    ensures ok { OnOk result (open_parts items.new.items ≡ close_part
+        (elem_content display (optional_meta
         meta) (open_parts items.old.items).inner) (open_parts items.old.items)) }
     ensures err { OnErr result (open_parts items.new.items ≡ open_parts items.old.items) }
 {
@@ -316,7 +322,8 @@ fn unmark(items: &mut Vec<Item>, at: usize, text: Option<Formatted>)
 /// Puts a text behind the others, where there is room for it.
 fn put_text(items: &mut Vec<Item>, text: Option<Formatted>)
     requires room { vec_len items.old < vec_capacity items.old }
-    ensures { open_parts items.new.items ≡ with_tokens (affix_content text) (open_parts items.old.items) }
+    ensures { open_parts items.new.items ≡ with_tokens (affix_content text)
+        (open_parts items.old.items) }
 {
     match text {
         Some(text) => {
@@ -336,7 +343,8 @@ pub(crate) fn splice_items(
     after: Option<Formatted>,
 ) -> Result<(), Memory>
     requires is_open { 0 < length (open_parts items.old.items).outer }
-    ensures ok { OnOk result (open_parts items.new.items ≡ close_part (affixed_content (affix_content before)
+    ensures ok { OnOk result (open_parts items.new.items ≡ close_part
+        (affixed_content (affix_content before)
         (affix_content after) (open_parts items.old.items).inner) (open_parts items.old.items)) }
     ensures err { OnErr result (open_parts items.new.items ≡ open_parts items.old.items) }
 {

@@ -68,10 +68,11 @@ impl ElemChildren {
         }
     }
 
-    /// Makes each link its text whose address is not allowed, at any depth. Takes no memory.
+    /// Turns each link whose address is not allowed into its text, at any depth. Takes no memory.
     pub fn keep_links<F: FnMut(&str) -> bool>(&mut self, mut is_allowed: F)
         requires { F.IsAlwaysCallable is_allowed }
-        // Where `is_allowed` answers by the address alone, exactly the other links are texts now.
+        // Where `is_allowed` answers by the address alone, exactly the links whose address it
+        // rejects are texts now.
         ensures kept { (allowed : List ℕ → Bool) → AllowsBy F.step allowed
             → tokens self.new ≡ kept_links allowed (tokens self.old) }
         ensures allowed { (allowed : List ℕ → Bool) → AllowsBy F.step allowed

@@ -48,7 +48,8 @@ fn reference_at(html: &str) -> Option<(&'static str, &str)>
 /// The text that HTML begins with, unescaped, and the rest: as many characters as stand for
 /// themselves, or the character of one reference.
 fn text_at(html: &str) -> Option<(&str, &str)>
-    ensures found { IfSome result (λ x. (0 < length x.0.now) × (html.now ≡ escape_all x.0.now ++ x.1.now)) }
+    ensures found { IfSome result (λ x. (0 < length x.0.now) ×
+        (html.now ≡ escape_all x.0.now ++ x.1.now)) }
     ensures none { IfNone result (byte_at html.now ≡ None) }
 {
     let (plain, rest) = split_plain(html);

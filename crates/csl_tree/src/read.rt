@@ -26,9 +26,11 @@ impl Reading {
     /// Reads a tag or a text. Returns whether it may stand there: an end tag has to end the
     /// innermost element.
     fn take(&mut self, mark: Mark<'_>) -> Result<bool, AllocError>
-        ensures within { IfOk result (λ fits. within_after_mark (reverse self.old.within.items) mark.entry
+        ensures within { IfOk result (λ fits. within_after_mark
+            (reverse self.old.within.items) mark.entry
             ≡ (if fits then Some (reverse self.new.within.items) else None)) }
-        ensures leaves { OnOk result (string_bytes self.new.leaves ≡ string_bytes self.old.leaves ++ mark_text mark.entry) }
+        ensures leaves { OnOk result (string_bytes self.new.leaves
+            ≡ string_bytes self.old.leaves ++ mark_text mark.entry) }
     {
         match mark {
             Mark::Start(element) => {
@@ -73,13 +75,16 @@ pub fn leaf_text_of_html(alloc: Global, html: &str) -> Result<String, HtmlError>
         → MatchResult result (λ text. string_bytes text ≡ leaves) (λ e. e ≡ HtmlError.Memory) }
     ensures not_html { IsErrOf result HtmlError.NotHtml → IsNotHtml html.now }
     // Follows from `found`.
-    ensures refused { IsNotHtml html.now → (result ≡ Err HtmlError.NotHtml) ⊎ (result ≡ Err HtmlError.Memory) }
+    ensures refused { IsNotHtml html.now → (result ≡ Err HtmlError.NotHtml) ⊎
+        (result ≡ Err HtmlError.Memory) }
     // HTML has one text.
     ensures unique { (x y : List ℕ) → IsHtmlOf html.now x → IsHtmlOf html.now y → x ≡ y }
     // What any tree is written as is HTML of its leaf text, empty texts in it or not.
-    ensures law { (c : ElemChildren) → IsHtmlOf (text_in_format Html (tokens c)) (leaf_text (tokens c)) }
+    ensures law { (c : ElemChildren) → IsHtmlOf (text_in_format Html (tokens c))
+        (leaf_text (tokens c)) }
     // And so is what any content is written as.
-    ensures content_law { (c : List Token) → IsContent c → IsHtmlOf (text_in_format Html c) (leaf_text c) }
+    ensures content_law { (c : List Token) → IsContent c → IsHtmlOf (text_in_format Html c)
+        (leaf_text c) }
 {
     let mut reading = Reading {
         within: Vec::new(alloc),

@@ -28,7 +28,8 @@ pub fn simplify_children(alloc: Global, children: &ElemChildren) -> Result<ElemC
     ensures normal { IfOk result (λ r.
         (tree r ≡ tree children.now) ↔ IsTrue (is_normal (tree children.now))) }
     ensures fewer { IfOk result (λ r.
-        OnFalse (is_normal (tree children.now)) (node_count (tree r) < node_count (tree children.now))) }
+        OnFalse (is_normal (tree children.now))
+        (node_count (tree r) < node_count (tree children.now))) }
     ensures as_tokens { IfOk result (λ r. tokens r ≡ tokens_of (simplify_once (tree children.now))) }
 {
     let mut simplified = Vec::new(alloc);
@@ -80,7 +81,8 @@ impl Elem {
     pub fn simplify(&self, alloc: Global) -> Result<Elem, Memory>
         ensures round { IfOk result (λ r.
             elem_tree r ≡ with_inside self.now (simplify_once (tree_inside self.now))) }
-        ensures kept { IfOk result (λ r. styled_value (elem_tree r) ≡ styled_value (elem_tree self.now)) }
+        ensures kept { IfOk result (λ r. styled_value (elem_tree r) ≡ styled_value
+            (elem_tree self.now)) }
         ensures normal { IfOk result (λ r.
             (elem_tree r ≡ elem_tree self.now) ↔ IsTrue (is_normal (tree_inside self.now))) }
         ensures fewer { IfOk result (λ r. OnFalse (is_normal (tree_inside self.now))

@@ -1,8 +1,8 @@
 -- A film of the examples: its answers to a style, and the one that is made.
 use Rattle.std.specs.Prelude.{◌≡◌, ℕ, pos, List, [], ◌∷◌, Option, Some, None, Bool, true, false, codes}
-use Rattle.csl.specs.Literature.Chunks.{text_of}
-use Rattle.csl.specs.Literature.Date.{Parts, date_parts}
-use Rattle.csl.specs.Literature.Person.{Named, named, person_of}
+use Rattle.csl.specs.Literature.Chunks.{chunks_text}
+use Rattle.csl.specs.Literature.Date.{DateView, date_view}
+use Rattle.csl.specs.Literature.Person.{PersonView, person_view, person_of}
 use Rattle.csl.specs.Literature.Text.{Chunk, chunks, in_one_piece}
 use Rattle.csl.specs.Common.declared.form.LongShortForm.TheVariants.{Long}
 use Rattle.csl.specs.Style.declared.taxonomy.DateVariable.{DateVariable}
@@ -20,12 +20,12 @@ abbrev pub standard_of : Film → StandardVariable → Option (List Chunk)
 standard_of film Title = Some (chunks film.title)
 standard_of film _ = None
 
-abbrev pub persons_of : Film → NameVariable → List Named
-persons_of film Director = named film.director ∷ []
+abbrev pub persons_of : Film → NameVariable → List PersonView
+persons_of film Director = person_view film.director ∷ []
 persons_of film _ = []
 
-abbrev pub date_of : Film → DateVariable → Option Parts
-date_of film Issued = Some (date_parts film.shown)
+abbrev pub date_of : Film → DateVariable → Option DateView
+date_of film Issued = Some (date_view film.shown)
 date_of film _ = None
 
 abbrev pub is_film : Kind → Bool
@@ -44,16 +44,16 @@ answers_of film = record {
 
 -- the title among the answers of an entry of any type
 abbrev pub title_among : Option (List Chunk) → List ℕ
-title_among (Some title) = text_of title
+title_among (Some title) = chunks_text title
 title_among None = []
 
 abbrev pub title_of : Answers → List ℕ
 title_of answers = title_among (answers.standards Long Title)
 
-abbrev pub january_10_1927 : Parts
+abbrev pub january_10_1927 : DateView
 january_10_1927 = record { year = pos 1927; month = Some 0; day = Some 9; season = None; approximate = false }
 
 pub record IsMetropolis (film : Film) : Type 0 where
   pub title_is : chunks film.title ≡ in_one_piece (codes "Metropolis")
-  pub director_is : named film.director ≡ person_of (codes "Lang") (codes "Fritz")
-  pub date_is : date_parts film.shown ≡ january_10_1927
+  pub director_is : person_view film.director ≡ person_of (codes "Lang") (codes "Fritz")
+  pub date_is : date_view film.shown ≡ january_10_1927

@@ -1,6 +1,6 @@
 -- A web page of the examples, as an entry: its answers to a style; and a line of a numbered list.
 use Rattle.std.specs.Prelude.{ℕ, List, [], ◌∷◌, Option, Some, None, Bool, true, false, option_map, unwrap_or}
-use Rattle.csl.specs.Literature.Person.{Named, named}
+use Rattle.csl.specs.Literature.Person.{PersonView, person_view}
 use Rattle.csl.specs.Literature.Text.{Chunk, chunks}
 use Rattle.csl.specs.Style.declared.taxonomy.Kind.{Kind}
 use Rattle.csl.specs.Style.declared.taxonomy.Kind.TheVariants.{Webpage}
@@ -12,8 +12,8 @@ use Rattle.csl.specs.Style.declared.style.settings.Scope.TheVariants.{Bibliograp
 use Rattle.csl.specs.Style.Style.{StyleParts}
 use Rattle.csl.specs.Tree.Tokens.{Token}
 use Rattle.csl.specs.Entry.Answers.{Answers}
-use Rattle.csl.specs.Entry.Cite.{CiteState, first_cite, nothing}
-use Rattle.csl.specs.Render.Cited.{whole_cite}
+use Rattle.csl.specs.Entry.Cite.{CiteState, first_cite, no_disambiguation}
+use Rattle.csl.specs.Render.CiteContent.{whole_cite}
 use Rattle.csl_uses.specs.declared.page.WebPage.{WebPage}
 
 abbrev pub standard_of : WebPage → StandardVariable → Option (List Chunk)
@@ -21,8 +21,8 @@ standard_of page Title = Some (chunks page.title)
 standard_of page URL = Some (chunks page.address)
 standard_of page _ = None
 
-abbrev pub persons_of : WebPage → NameVariable → List Named
-persons_of page Author = named page.author ∷ []
+abbrev pub persons_of : WebPage → NameVariable → List PersonView
+persons_of page Author = person_view page.author ∷ []
 persons_of page _ = []
 
 abbrev pub is_web_page : Kind → Bool
@@ -43,7 +43,7 @@ answers_of page = record {
 
 -- the state of a first cite of this citation number
 abbrev pub numbered_cite : ℕ → CiteState
-numbered_cite number = record (first_cite nothing) { citation_number = number }
+numbered_cite number = record (first_cite no_disambiguation) { citation_number = number }
 
 -- the content of an entry in the bibliography, nothing where the style has none
 abbrev pub numbered_line : StyleParts → ℕ → Answers → List Token

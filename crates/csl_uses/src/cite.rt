@@ -4,11 +4,11 @@
 ghost use Rattle.std.specs.Prelude.{◌≡◌, IfOk, option_map};
 ghost use Rattle.csl.specs.Style.declared.style.settings.Scope.TheVariants as scopes;
 ghost use Rattle.csl.specs.Tree.Tokens.{tokens};
-ghost use Rattle.csl.specs.Entry.Cite.{first_cite, nothing};
-ghost use Rattle.csl.specs.Render.Cited.{cited, whole_cite};
+ghost use Rattle.csl.specs.Entry.Cite.{first_cite, no_disambiguation};
+ghost use Rattle.csl.specs.Render.CiteContent.{cite_content, whole_cite};
 ghost use Rattle.csl_uses.specs.Cite.{cite_of_page};
 
-use csl::entry::{LocatorPayload, SpecificLocator};
+use csl::entry::{LocatorPayload, SpecificLocator, SpeculativeCiteProperties};
 use csl::literature::{self, Entry, EntryType, FormatString, Person};
 use csl::style::{
     Affixes, Choose, ChooseBranch, CslMacro, Date, DatePart, DatePartName, DateVariable, EtAl,
@@ -185,7 +185,7 @@ pub fn house_style(alloc: Global) -> Result<Style, Error> {
 /// # Errors
 /// [`Error::Memory`]: there was no memory left, or the entry said so.
 pub fn cite<T: EntryLike>(alloc: Global, style: &Style, entry: &T) -> Result<ElemChildren, Error>
-    ensures { IfOk result (λ content. tokens content ≡ cited style.now (T.answers entry.now)) }
+    ensures { IfOk result (λ content. tokens content ≡ cite_content style.now (T.answers entry.now)) }
 {
     let first = CiteProperties::first(DisambiguateState::None);
     let rendered = csl::cite(alloc, style, entry, &first)?;
@@ -205,8 +205,15 @@ pub fn page_cite<T: EntryLike>(
     ensures { IfOk result (λ content. tokens content ≡ (whole_cite style.now scopes.Citation
         (cite_of_page page.now) (T.answers entry.now) style.now.citation).content) }
 {
-    let mut cite = CiteProperties::first(DisambiguateState::None);
-    cite.speculative.locator = Some(SpecificLocator(Locator::Page, LocatorPayload::Str(page)));
+    let first = CiteProperties::first(DisambiguateState::None);
+    let locator = SpecificLocator(Locator::Page, LocatorPayload::Str(page));
+    let cite = CiteProperties {
+        certain: first.certain,
+        speculative: SpeculativeCiteProperties {
+            locator: Some(locator),
+            ..first.speculative
+        },
+    };
     let rendered = csl::cite(alloc, style, entry, &cite)?;
     Ok(rendered.content)
 }
@@ -221,7 +228,8 @@ pub fn bibliography_line<T: EntryLike>(
     entry: &T,
 ) -> Result<Option<ElemChildren>, Error>
     ensures { IfOk result (λ line. option_map tokens line
-        ≡ option_map (λ layout. (whole_cite style.now scopes.Bibliography (first_cite nothing)
+        ≡ option_map (λ layout. (whole_cite style.now scopes.Bibliography
+        (first_cite no_disambiguation)
         (T.answers entry.now) layout).content) style.now.bibliography) }
 {
     let props = CiteProperties::first(DisambiguateState::None);

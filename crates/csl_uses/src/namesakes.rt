@@ -3,9 +3,9 @@
 ghost use Rattle.std.specs.Prelude.{◌≡◌, IfOk, string_bytes};
 ghost use Rattle.csl.specs.Style.declared.style.settings.Scope.TheVariants as scopes;
 ghost use Rattle.csl.specs.Tree.declared.elem.BufWriteFormat.TheVariants as formats;
-ghost use Rattle.csl.specs.Tree.Writing.{written};
+ghost use Rattle.csl.specs.Tree.Writing.{text_in_format};
 ghost use Rattle.csl.specs.Entry.Cite.{first_cite, disambiguation_of};
-ghost use Rattle.csl.specs.Render.Cited.{whole_cite};
+ghost use Rattle.csl.specs.Render.CiteContent.{whole_cite};
 
 use csl::literature::{self, Entry, EntryType, Person};
 use csl::style::{
@@ -100,7 +100,7 @@ fn cite_by<T: EntryLike>(
     entry: &T,
     told_apart: DisambiguateState,
 ) -> Result<Cite, Error>
-    ensures { IfOk result (λ cite. string_bytes cite.text ≡ written formats.Plain
+    ensures { IfOk result (λ cite. string_bytes cite.text ≡ text_in_format formats.Plain
         (whole_cite style.now scopes.Citation (first_cite (disambiguation_of told_apart))
         (T.answers entry.now) style.now.citation).content) }
 {

@@ -4,6 +4,7 @@ ghost use Rattle.std.specs.Prelude.{◌≡◌, IfOk, string_bytes};
 ghost use Rattle.csl.specs.Tree.Tokens.{tokens, leaf_text};
 ghost use Rattle.csl_uses.specs.Page.{answers_of, numbered_line};
 
+use csl::entry::SpeculativeCiteProperties;
 use csl::literature::{
     ChunkedString, Date, LongShortForm, MaybeTyped, Numeric, PageRanges, Person,
 };
@@ -233,8 +234,14 @@ fn list_line<T: EntryLike>(
     let Some(number) = CitationNumber::new(place) else {
         return Err(Error::NotNumeric);
     };
-    let mut cite = CiteProperties::first(DisambiguateState::None);
-    cite.speculative.citation_number = number;
+    let first = CiteProperties::first(DisambiguateState::None);
+    let cite = CiteProperties {
+        certain: first.certain,
+        speculative: SpeculativeCiteProperties {
+            citation_number: number,
+            ..first.speculative
+        },
+    };
     match csl::bibliography_entry(alloc, style, entry, &cite)? {
         Some(rendered) => Ok(with_web_links(alloc, rendered.content)),
         None => Ok(ElemChildren::new(alloc)),

@@ -2,14 +2,14 @@
 
 ghost use Rattle.std.specs.Prelude.{◌≡◌, true, IfOk, string_bytes};
 ghost use Rattle.std.specs.Bool.{Decides};
-ghost use Rattle.csl.specs.Style.Named.{of_fulls};
-ghost use Rattle.csl.specs.Style.Node.{fill_layout};
-ghost use Rattle.csl.specs.Style.Reached.{env};
+ghost use Rattle.csl.specs.Style.Named.{named_in_nodes};
+ghost use Rattle.csl.specs.Style.Node.{expand_layout};
+ghost use Rattle.csl.specs.Style.Expanded.{macro_env};
 ghost use Rattle.csl.specs.Style.View.{view_layout};
 ghost use Rattle.csl.specs.Tree.Tokens.{tokens};
-ghost use Rattle.csl.specs.Entry.Alike.{Alike};
-ghost use Rattle.csl.specs.Render.Cited.{cited};
-ghost use Rattle.csl.specs.Render.Printed.{PrintsSame};
+ghost use Rattle.csl.specs.Entry.Alike.{SameNamedAnswers};
+ghost use Rattle.csl.specs.Render.CiteContent.{cite_content};
+ghost use Rattle.csl.specs.Render.PairOutput.{PrintsSame};
 
 use csl::literature::{Entry, EntryType, FormatString, Person};
 use csl::style::{Formatting, Layout, StandardVariable, Style, StyleSettings, Text};
@@ -56,11 +56,13 @@ pub fn pair_of<T: EntryLike, U: EntryLike>(
     left: &T,
     right: &U,
 ) -> Result<Pair, Error>
-    ensures left { IfOk result (λ p. tokens p.left.content ≡ cited style.now (T.answers left.now)) }
+    ensures left { IfOk result (λ p. tokens p.left.content ≡ cite_content style.now
+        (T.answers left.now)) }
     ensures right { IfOk result (λ p. tokens p.right.content
-        ≡ cited style.now (U.answers right.now)) }
-    ensures alike { IfOk result (λ p. Decides p.alike (Alike
-        (of_fulls (fill_layout (env style.now) (view_layout style.now.citation)).elements)
+        ≡ cite_content style.now (U.answers right.now)) }
+    ensures alike { IfOk result (λ p. Decides p.alike (SameNamedAnswers
+        (named_in_nodes (expand_layout (macro_env style.now)
+        (view_layout style.now.citation)).elements)
         (T.answers left.now) (U.answers right.now))) }
     ensures same { IfOk result (λ p. p.alike ≡ true
         → PrintsSame p.left (string_bytes p.left_html) p.right (string_bytes p.right_html)) }

@@ -25,7 +25,6 @@ pub mod SpelledTexts
 pub mod Texts
 pub mod Whole
 pub mod Works
-pub mod Writes
 pub mod RoundTrip
 pub mod Writable
 pub mod PageRoundTrip

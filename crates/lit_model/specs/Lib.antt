@@ -8,7 +8,6 @@ pub mod FirstNames
 pub mod Initials
 pub mod Marked
 pub mod MaybeTyped
-pub mod TrackingWriter
 pub mod Name
 pub mod Numeric
 pub mod NumericReading
@@ -23,7 +22,6 @@ pub mod SamePerson
 pub mod Scan
 pub mod Select
 pub mod Shortened
-pub mod Sink
 pub mod Source
 pub mod Spelled
 pub mod Text

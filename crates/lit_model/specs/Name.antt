@@ -1,6 +1,5 @@
 -- The parts of a person's name.
--- - An *institution* has no given name, no prefix and no suffix. A given name that is present and
---   empty counts as present.
+-- - An *institution* has no given name, no prefix and no suffix, not even an empty one.
 -- - A *CJK name*: the name and the given name together have a letter, and each of their letters has
 --   the script Han, Hiragana, Katakana, Hangul or Bopomofo. A letter has the property Alphabetic
 --   (Unicode Standard, DerivedCoreProperties). Its script is the property Script (UAX #24), not

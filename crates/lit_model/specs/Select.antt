@@ -128,7 +128,9 @@ chapter =
 abbrev pub part : List ClauseView
 part = child_of [] (Article ∷ Blog ∷ Book ∷ Legislation ∷ []) ∷ []
 
--- the work whose title is the title of a volume
+-- The work whose title is the title of a volume is the parent of a work of type Anthos in an
+-- anthology, of an entry (type Entry) in anything, of anything in a work of reference, or of an
+-- article in proceedings.
 abbrev pub volume_title : List ClauseView
 volume_title =
     parent_of (Anthos ∷ []) (Anthology ∷ [])

@@ -9,7 +9,7 @@ ghost use Rattle.lit_model.specs.Marked.{gap_after};
 ghost use Rattle.lit_model.specs.Person.{person_view};
 
 use crate::person::Person;
-use crate::sink::{Sink, TrackingWriter};
+use csl_common::{Sink, TrackingWriter};
 use std::fmt;
 use unicode::properties::GeneralCategory;
 

@@ -7,7 +7,7 @@ ghost use Rattle.lit_model.specs.Person.{person_view};
 ghost use Rattle.lit_model.specs.Shortened.{gap, word_text, before_piece, before_word, end_text};
 
 use crate::person::Person;
-use crate::sink::{Sink, TrackingWriter};
+use csl_common::{Sink, TrackingWriter};
 use std::fmt;
 use unicode_segmentation::UnicodeSegmentation;
 

@@ -102,8 +102,7 @@ impl Person {
         })
     }
 
-    /// An institution: no given name, no prefix and no suffix. One that is present and empty
-    /// counts.
+    /// An institution: no given name, no prefix and no suffix, not even an empty one.
     pub fn is_institutional(&self) -> bool
         ensures { result ≡ is_institutional (person_view self.now) }
     {

@@ -236,7 +236,9 @@ static VOLUME_TITLE: [Clause<'static>; 4] = [
     },
 ];
 
-/// The work whose title is the title of a volume.
+/// The work whose title is the title of a volume: the parent of a work of type Anthos in an
+/// anthology, of an entry (type Entry) in anything, of anything in a work of reference, or of an
+/// article in proceedings.
 pub fn volume_title() -> &'static [Clause<'static>]
     ensures { map clause_view result.now ≡ volume_title }
 {

@@ -68,7 +68,8 @@ fn same(a: &Numeric, b: &Numeric) -> bool
 /// the same.
 fn same_value(a: &NumericValue, b: &NumericValue) -> bool
     ensures equal { IsTrue result ↔ (value_view a.now ≡ value_view b.now) }
-    ensures hashed { value_view a.now ≡ value_view b.now → hash_value.it a.now ≡ hash_value.it b.now }
+    ensures hashed { value_view a.now ≡ value_view b.now → hash_value.it a.now
+        ≡ hash_value.it b.now }
 {
     *a == *b
 }
@@ -122,7 +123,7 @@ fn is_copied(alloc: Global, text: &str) -> Result<bool, NumericError> {
 fn are_same_values(alloc: Global, text: &str, other: &str) -> Result<bool, NumericError> {
     let read = Numeric::parse(alloc, text)?;
     let other = Numeric::parse(alloc, other)?;
-    let copy = read.value.clone(alloc)?;
+    let copy: NumericValue = read.value.clone(alloc)?;
     Ok(same_value(&copy, &other.value))
 }
 

@@ -20,7 +20,8 @@ pub(super) fn name_variable(
     entry: &Entry,
     variable: NameVariable,
 ) -> Result<Vec<Cow<'_, Person>>, Memory>
-    ensures { IfOk result (λ found. map (cow_view person_view) found.items ≡ names_of entry.now variable) }
+    ensures { IfOk result (λ found. map (cow_view person_view) found.items
+        ≡ names_of entry.now variable) }
 {
     match variable {
         NameVariable::Author => name_answer(alloc, authors(Some(entry))),
@@ -130,7 +131,8 @@ fn editors_or_of_container(entry: &Entry) -> &[Person]
 
 /// Persons of the entry as an answer, each borrowed.
 fn name_answer(alloc: Global, persons: &[Person]) -> Result<Vec<Cow<'_, Person>>, Memory>
-    ensures { IfOk result (λ found. map (cow_view person_view) found.items ≡ map person_view persons.now) }
+    ensures { IfOk result (λ found. map (cow_view person_view) found.items
+        ≡ map person_view persons.now) }
 {
     let mut found = Vec::with_capacity(alloc, persons.len())?;
     for person in persons {

@@ -6,7 +6,7 @@ ghost use Rattle.lit_model.specs.Numeric.{numeric_view};
 ghost use Rattle.csl_entry.specs.Answers.{cow_view};
 ghost use Rattle.csl_entry.specs.EntryNumber.{number_of, number_answer, numeric_answer, serial_answer, first_page_of, chapter_number, collection_number, own_number, part_number, printing_number, version_number, volume_number};
 
-use crate::numeric_text::numeric_or_text;
+use crate::entry::numeric_text::numeric_or_text;
 use csl_style::NumberVariable;
 use lit_model::select::{chapter, part};
 use lit_model::{Entry, EntryType, MaybeTyped, Memory, Numeric};

@@ -9,9 +9,9 @@ ghost use Rattle.lit_model.specs.declared.text.ChunkKind.TheVariants.{Normal};
 ghost use Rattle.lit_model.specs.Select.{clause_view};
 ghost use Rattle.lit_model.specs.Text.{chunks};
 
-use crate::chunk::one_chunk;
-use crate::citation_label::Alphanumerical;
-use crate::language::csl_language;
+use crate::entry::chunk::one_chunk;
+use crate::entry::language::csl_language;
+use crate::label::citation_label::Alphanumerical;
 use csl_style::StandardVariable;
 use lit_model::select::{event, volume_title};
 use lit_model::{

@@ -12,14 +12,12 @@ ghost use Rattle.csl_entry.specs.Answers.{cow_view};
 ghost use Rattle.csl_context.specs.Texts.{text_in};
 ghost use Rattle.csl_context.specs.ContextView.{Runs, IsInnermost, close_part_by, with_content};
 ghost use Rattle.csl_names.specs.CiteForms.{forms_in, with_first_forms, with_first_forms_by};
-ghost use Rattle.csl_names.specs.NamesContent.{names_style, with_lists, names_body, names_content, names_state, lists_meta};
-ghost use Rattle.csl_names.specs.NamesStyles.{names_style_view};
+ghost use Rattle.csl_names.specs.NamesContent.{names_style, with_lists, names_body, names_content, names_state, lists_meta, names_style_view};
 ghost use Rattle.csl_names.specs.PersonLists.{list_of};
 
 use crate::names::forms::count_of;
 use crate::names::kept::forms_in;
 use crate::names::lists::PersonList;
-use crate::names::options::options_over;
 use crate::names::written::NamesStyle;
 use csl_context::{Context, Mark, RenderError};
 use csl_style::{Display, EtAl, InheritedNameOptions, Name, NameForm, NameVariable, NamesParts};
@@ -30,7 +28,8 @@ use std::borrow::Cow;
 
 /// Copies of the persons.
 fn persons_of(alloc: Global, persons: &[Cow<'_, Person>]) -> Result<Vec<Person>, Memory>
-    ensures { IfOk result (λ copies. map person_view copies.items ≡ map (cow_view person_view) persons.now) }
+    ensures { IfOk result (λ copies. map person_view copies.items ≡ map
+        (cow_view person_view) persons.now) }
 {
     let mut copies = Vec::with_capacity(alloc, persons.len())?;
     for person in persons {
@@ -66,7 +65,7 @@ fn names_style<'n>(
         (inherited_options inherited.entry) }
 {
     let name = parts.name().unwrap_or(missing_name);
-    let base = options_over(parts.options, inherited);
+    let base = parts.options.or(inherited);
     let own_delimiter = name.options.names_delimiter.as_deref().or(parts.delimiter);
     NamesStyle {
         name,
@@ -97,7 +96,8 @@ fn push_all<T>(
           (is_some now.sorting) (names_style_view style.entry) now.inherited true 0
           (forms_in now.cite variables.now (names_style_view style.entry).options
           (map list_of lists.now)).lists (map list_of lists.now) now.inner;
-      state = with_first_forms (forms_in now.cite variables.now (names_style_view style.entry).options
+      state = with_first_forms (forms_in now.cite variables.now
+          (names_style_view style.entry).options
           (map list_of lists.now)) now.state;
     }) result ctx.old ctx.new }
 {
@@ -118,10 +118,12 @@ fn push_body<T>(
     requires { OnFalse ctx.old.failed (ctx.old.inner ≡ []) }
     ensures { Runs (λ now. record now {
       inner =
-          names_body (names_style_view style.entry).options.form now.style (is_some now.sorting) now.cite
+          names_body (names_style_view style.entry).options.form now.style
+          (is_some now.sorting) now.cite
           variables.now (names_style_view style.entry) (map list_of lists.now) now.inherited;
       state =
-          with_first_forms_by (names_style_view style.entry).options.form (forms_in now.cite variables.now
+          with_first_forms_by (names_style_view style.entry).options.form
+          (forms_in now.cite variables.now
           (names_style_view style.entry).options (map list_of lists.now)) now.state;
     }) result ctx.old ctx.new }
 {
@@ -146,15 +148,17 @@ pub fn commit_names<T>(
     lists: &[PersonList<'_>],
 ) -> Result<(), RenderError>
     requires innermost { IsInnermost mark ctx.old }
-    ensures { Runs (close_part_by (λ _ c. elem_content display (lists_meta (map list_of lists.now)) c))
+    ensures { Runs (close_part_by (λ _ c. elem_content display
+        (lists_meta (map list_of lists.now)) c))
         result ctx.old ctx.new }
 {
     let meta = ctx.attempt(lists_meta(ctx.alloc(), lists))?;
     ctx.commit_elem(mark, display, Some(meta))
 }
 
-/// Writes a names node that has persons: its box around the affixed lists. The first that is not
-/// counted keeps the forms of its names.
+/// Writes a names node that has persons: its box around the affixed lists, or, if its form is the
+/// count, the affixed number of names. The forms of the first names that are not counted are kept
+/// in the state.
 ///
 /// # Errors
 /// [`RenderError::Memory`]: there was no memory left. The context has failed.

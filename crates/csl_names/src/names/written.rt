@@ -10,8 +10,7 @@ ghost use Rattle.csl_style.specs.declared.term.Term.TheVariants.{Name as name_te
 ghost use Rattle.csl_entry.specs.Answers.{cow_view};
 ghost use Rattle.csl_context.specs.World.{term_in};
 ghost use Rattle.csl_context.specs.ContextView.{Runs, with_content};
-ghost use Rattle.csl_names.specs.NamesContent.{label_content, label_on, with_label, with_list, with_labelled_list, with_list_if_any, is_skipped, with_lists};
-ghost use Rattle.csl_names.specs.NamesStyles.{names_style_view};
+ghost use Rattle.csl_names.specs.NamesContent.{label_content, label_on, with_label, with_list, with_labelled_list, with_list_if_any, is_skipped, with_lists, names_style_view};
 ghost use Rattle.csl_names.specs.PersonLists.{list_of};
 
 use crate::list_styles::write_name_list;
@@ -84,7 +83,8 @@ impl NamesStyle<'_> {
     ) -> Result<(), RenderError>
         ensures { Runs (λ now. record now {
           inner = with_label now.style
-              (label_on (is_some now.sorting) behind (names_style_view self.entry).label) variable count
+              (label_on (is_some now.sorting) behind (names_style_view self.entry).label) variable
+              count
               now.inherited now.inner;
         }) result ctx.old ctx.new }
     {
@@ -162,7 +162,8 @@ impl NamesStyle<'_> {
         ensures { Runs (λ now. record now {
           inner = with_list_if_any now.style
               (is_some now.sorting) (names_style_view self.entry) now.inherited first
-              (map (cow_view person_view) persons.now) variable (option_map (λ f. f.now) forms.entry)
+              (map (cow_view person_view) persons.now) variable
+              (option_map (λ f. f.now) forms.entry)
               now.inner;
         }) result ctx.old ctx.new }
     {

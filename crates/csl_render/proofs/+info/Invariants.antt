@@ -3,8 +3,7 @@ use Rattle.csl_style.specs.Node.{size, sizes, expanded_substitutes_size, expand,
 use Rattle.csl_style.specs.View.{view_node, view_text, view_group, view_choose, view_names, view_nodes}
 use Rattle.csl_style.specs.Expanded.{macro_env}
 use Rattle.csl_context.specs.ContextView.{render_input}
-use Rattle.csl_nodes.specs.Flags.{info_union}
-use Rattle.csl_nodes.specs.UsageView.{info_view}
+use Rattle.csl_nodes.specs.Usage.{info_union, info_view}
 use Rattle.csl_render.specs.declared.plan.NodeInfo.{NodeInfo}
 use Rattle.csl_render.specs.Names.{expanded_substitutes_of}
 use Rattle.csl_render.specs.Plan.{AreInfos}
@@ -35,8 +34,8 @@ decreases-names::substitute_info g l = 2 * expanded_substitutes_size (expanded_s
 abbrev pub decreases-element::nodes_info : goal.decreases-element::nodes_info
 decreases-element::nodes_info g l = 2 * sizes (expand_nodes (macro_env l.run.now.style) (view_nodes l.nodes.now))
 
--- The sum of the answers so far, with that of the rest, is that of all; and the answers so far, with
--- any of the rest, are answers of all.
+-- The sum of the answers so far, with that of the rest, is that of all; and the answers so far,
+-- with any of the rest, are answers of all.
 abbrev pub invariant-element::nodes_info-loop-node : goal.invariant-element::nodes_info-loop-node
 invariant-element::nodes_info-loop-node g l =
     let w = render_input g.T.EntryLike.answers l.fn.run in

@@ -56,29 +56,7 @@ impl InheritableNameOptions {
         ensures { inherited_options result
             ≡ apply_options (partial_options self.now) (inherited_options base.entry) }
     {
-        InheritedNameOptions {
-            and: self.and.or(base.and),
-            delimiter: self.delimiter.as_deref().or(base.delimiter),
-            delimiter_precedes_et_al: self
-                .delimiter_precedes_et_al
-                .or(base.delimiter_precedes_et_al),
-            delimiter_precedes_last: self
-                .delimiter_precedes_last
-                .or(base.delimiter_precedes_last),
-            et_al_min: self.et_al_min.or(base.et_al_min),
-            et_al_use_first: self.et_al_use_first.or(base.et_al_use_first),
-            et_al_subsequent_min: self.et_al_subsequent_min.or(base.et_al_subsequent_min),
-            et_al_subsequent_use_first: self
-                .et_al_subsequent_use_first
-                .or(base.et_al_subsequent_use_first),
-            et_al_use_last: self.et_al_use_last.or(base.et_al_use_last),
-            form: self.form.or(base.form),
-            initialize: self.initialize.or(base.initialize),
-            initialize_with: self.initialize_with.as_deref().or(base.initialize_with),
-            name_as_sort_order: self.name_as_sort_order.or(base.name_as_sort_order),
-            sort_separator: self.sort_separator.as_deref().or(base.sort_separator),
-            names_delimiter: self.names_delimiter.as_deref().or(base.names_delimiter),
-        }
+        self.as_inherited().or(base)
     }
 }
 
@@ -103,6 +81,36 @@ pub struct InheritedNameOptions<'s> {
 }
 
 impl<'s> InheritedNameOptions<'s> {
+    /// The options over others: each one that is set here, else that of `base`.
+    pub fn or(self, base: InheritedNameOptions<'s>) -> InheritedNameOptions<'s>
+        ensures { inherited_options result
+            ≡ apply_options (inherited_options self.entry) (inherited_options base.entry) }
+    {
+        InheritedNameOptions {
+            and: self.and.or(base.and),
+            delimiter: self.delimiter.or(base.delimiter),
+            delimiter_precedes_et_al: self
+                .delimiter_precedes_et_al
+                .or(base.delimiter_precedes_et_al),
+            delimiter_precedes_last: self
+                .delimiter_precedes_last
+                .or(base.delimiter_precedes_last),
+            et_al_min: self.et_al_min.or(base.et_al_min),
+            et_al_use_first: self.et_al_use_first.or(base.et_al_use_first),
+            et_al_subsequent_min: self.et_al_subsequent_min.or(base.et_al_subsequent_min),
+            et_al_subsequent_use_first: self
+                .et_al_subsequent_use_first
+                .or(base.et_al_subsequent_use_first),
+            et_al_use_last: self.et_al_use_last.or(base.et_al_use_last),
+            form: self.form.or(base.form),
+            initialize: self.initialize.or(base.initialize),
+            initialize_with: self.initialize_with.or(base.initialize_with),
+            name_as_sort_order: self.name_as_sort_order.or(base.name_as_sort_order),
+            sort_separator: self.sort_separator.or(base.sort_separator),
+            names_delimiter: self.names_delimiter.or(base.names_delimiter),
+        }
+    }
+
     /// The options by which names are written: each one that is set, else its default.
     pub fn name_options(self) -> NameOptions<'s>
         ensures { complete_options result ≡ with_defaults (inherited_options self.entry) }

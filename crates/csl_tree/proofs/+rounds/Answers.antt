@@ -32,10 +32,10 @@ simplify::simplify_children-returns t c =
     tree_out new ∙ all_put _ c.deref-child-items.result.now _ _ c.loop-child-test.false c.loop-child.invariant
     ∙ ap (λ l. simplify_once (row l)) c.deref-child-items.ensures.value ∙ sym (ap simplify_once (tree_out c.args.children.now)) in
     let r = is_rounded (tree c.args.children.now) (tree new) made in
-    record { simplify_once = made; kept = r.kept; normal = r.normal; fewer = r.fewer; as_tokens = tokens_are new ∙ ap tokens_of made }
+    record { round = made; kept = r.kept; normal = r.normal; fewer = r.fewer; as_tokens = tokens_are new ∙ ap tokens_of made }
 
 pub elem::Elem::simplify-returns : goal.elem::Elem::simplify-returns
 elem::Elem::simplify-returns t c =
     let new : Elem = record { children = c.in_ok-children.children; display = c.args.self.now.display; meta = c.in_ok-meta.meta } in
     let r = elem_rounded c.args.self.now new refl c.in_ok-meta.ensures c.in_ok-children.ensures.round in
-    record { simplify_once = r.round; kept = r.kept; normal = r.normal; fewer = r.fewer }
+    record { round = r.round; kept = r.kept; normal = r.normal; fewer = r.fewer }

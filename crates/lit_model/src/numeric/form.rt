@@ -9,8 +9,7 @@ ghost use Rattle.lit_model.specs.NumericForm.{roman_text, ordinal_text, long_ord
 use super::roman::write_roman;
 use super::write::{delimiter_str, write_integer};
 use super::{Numeric, NumericDelimiter, NumericValue};
-use crate::sink::{Sink, TrackingWriter, WriteTo};
-use csl_common::{GrammarGender, NumberForm, Ordinals};
+use csl_common::{GrammarGender, NumberForm, Ordinals, Sink, TrackingWriter, WriteTo};
 use std::fmt;
 
 /// Writes a number in roman numerals, where it has some.
@@ -27,7 +26,7 @@ fn write_in_roman<S: Sink>(sink: &mut S, number: i32) -> fmt::Result
 }
 
 /// Writes a number and the suffix of its ordinal, if there is one.
-#[tactic(auto, using(crate::proofs::Writes::two_writes))]
+#[tactic(auto, using(csl_common::proofs::Writes::two_writes))]
 fn write_ordinal<S: Sink, O: Ordinals>(
     sink: &mut S,
     number: i32,
@@ -111,9 +110,9 @@ fn write_numbers_in_form<S: Sink, O: Ordinals>(
 }
 
 impl Numeric {
-    /// Writes the number in a form to a sink, or each number of several (CSL 1.0.2, Number). What a
-    /// form cannot write is written plainly, and a number with a prefix or a suffix is written as
-    /// it stands.
+    /// Writes the number in a form to a sink, or each number of several (CSL 1.0.2, Number). Where
+    /// there is no long ordinal, the ordinal is written; where another form has no text, the number
+    /// in decimal. A number with a prefix or a suffix is written as `Display` writes it.
     ///
     /// # Errors
     /// [`fmt::Error`]: the sink refused a text; what it holds then is left open.

@@ -5,7 +5,7 @@ ghost use Rattle.std.specs.Fmt.{WritesInCalls};
 ghost use Rattle.lit_model.specs.Characters.{letter_m};
 ghost use Rattle.lit_model.specs.Roman.{hundreds, tens, units, roman};
 
-use crate::sink::Sink;
+use csl_common::Sink;
 use std::fmt;
 
 /// The thousands, of which there are three at most.
@@ -79,7 +79,7 @@ fn units(digit: u32) -> &'static str
 }
 
 /// Writes a number from 1 to 3999 as a roman numeral in lower case.
-#[tactic(auto, using(crate::proofs::Writes::four_writes))]
+#[tactic(auto, using(csl_common::proofs::Writes::four_writes))]
 pub fn write_roman<S: Sink>(sink: &mut S, number: u32) -> fmt::Result
     requires { number < 4000 }
     ensures ok { OnOk result (WritesInCalls S.write_str_gives sink.old (roman number) sink.new) }

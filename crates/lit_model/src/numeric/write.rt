@@ -7,7 +7,7 @@ ghost use Rattle.lit_model.specs.Characters.{zero_char};
 ghost use Rattle.lit_model.specs.NumericText.{integer_text, delimiter_text, numbers_text, value_text, numeric_text};
 
 use super::{Numeric, NumericDelimiter, NumericValue};
-use crate::sink::{Sink, TrackingWriter, WriteTo, display_text};
+use csl_common::{Sink, TrackingWriter, WriteTo, display_text};
 use itoa::Buffer;
 use std::fmt;
 
@@ -26,7 +26,7 @@ fn zeros(count: usize) -> &'static str
 }
 
 /// Writes a number, for sorting in four places at least.
-#[tactic(auto, using(crate::proofs::Writes::two_writes, crate::proofs::Writes::three_writes))]
+#[tactic(auto, using(csl_common::proofs::Writes::two_writes, csl_common::proofs::Writes::three_writes))]
 pub fn write_integer<S: Sink>(sink: &mut S, number: i32, machine_readable: bool) -> fmt::Result
     ensures ok { OnOk result (WritesInCalls S.write_str_gives sink.old
         (integer_text machine_readable number) sink.new) }
@@ -140,7 +140,7 @@ impl Numeric {
 impl WriteTo for Numeric {
     ghost text = { λ n. numeric_text (numeric_view n) };
 
-    #[tactic(auto, using(crate::proofs::Writes::three_writes))]
+    #[tactic(auto, using(csl_common::proofs::Writes::three_writes))]
     fn write_to<S: Sink>(&self, sink: &mut S) -> fmt::Result {
         sink.put(text_or_empty(&self.prefix))?;
         self.value.write_into(sink, false)?;

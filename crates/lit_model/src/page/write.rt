@@ -8,11 +8,11 @@ ghost use Rattle.lit_model.specs.PageText.{part_text, pages_text};
 
 use super::{PageRanges, PageRangesPart};
 use crate::numeric::Numeric;
-use crate::sink::{Sink, WriteTo, display_text};
+use csl_common::{Sink, WriteTo, display_text};
 use std::fmt;
 
 /// Writes two pages joined by a `-`.
-#[tactic(auto, using(crate::proofs::Writes::three_writes))]
+#[tactic(auto, using(csl_common::proofs::Writes::three_writes))]
 fn write_range<S: Sink>(sink: &mut S, first: &Numeric, last: &Numeric) -> fmt::Result
     ensures ok { OnOk result (WritesInCalls S.write_str_gives sink.old
         (part_text (range (numeric_view first.now) (numeric_view last.now))) sink.new) }

@@ -1,5 +1,5 @@
 use Rattle.std.proofs.Common.{rules}
-use Rattle.lit_model.proofs.Writes.{passed_back, kept_back}
+use Rattle.csl_common.proofs.Writes.{passed_back, kept_back}
 use Rattle.csl_cli.proofs.Taken.{some_passed_back}
 use Rattle.csl_cli.proofs.run.run.Goals as goal
 

@@ -1,7 +1,7 @@
 use Rattle.std.proofs.Common.{◌≡◌, ◌∙◌, rules}
 use Rattle.csl_entry.specs.NameForm.{form_cmp}
-use Rattle.csl_entry.specs.declared.name_form.DisambiguatedNameForm.{DisambiguatedNameForm}
-use Rattle.csl_entry.specs.contracts.name_form.DisambiguatedNameFormOrd.TheImpl.{cmp-value as cmp_form}
+use Rattle.csl_entry.specs.declared.forms.name_form.DisambiguatedNameForm.{DisambiguatedNameForm}
+use Rattle.csl_entry.specs.contracts.forms.name_form.DisambiguatedNameFormOrd.TheImpl.{cmp-value as cmp_form}
 use Rattle.csl_entry_tests.proofs.name_form.order.Goals as goal
 
 by_place : (a b : DisambiguatedNameForm) → cmp_form.it a b ≡ form_cmp a b

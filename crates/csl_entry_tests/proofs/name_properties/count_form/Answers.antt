@@ -1,4 +1,4 @@
-use Rattle.csl_entry.specs.declared.name_form.DisambiguatedNameForm.TheVariants.{Count}
+use Rattle.csl_entry.specs.declared.forms.name_form.DisambiguatedNameForm.TheVariants.{Count}
 use Rattle.csl_entry_tests.proofs.name_properties.count_form.Goals as goal
 
 pub returns : goal.returns

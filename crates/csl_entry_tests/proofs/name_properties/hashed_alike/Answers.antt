@@ -1,4 +1,4 @@
-use Rattle.csl_entry.specs.contracts.name_properties.NameDisambiguationPropertiesHash.TheImpl.Laws.{respects_eq-law}
+use Rattle.csl_entry.specs.contracts.forms.name_properties.NameDisambiguationPropertiesHash.TheImpl.Laws.{respects_eq-law}
 use Rattle.csl_entry.proofs.PropertiesEqual.{properties_decide}
 use Rattle.csl_entry_tests.proofs.name_properties.hashed_alike.Goals as goal
 

@@ -9,8 +9,7 @@ use Rattle.csl_tree.specs.Content.{◌++>◌}
 use Rattle.csl_tree.specs.Tokens.{has_children}
 use Rattle.csl_context.specs.ContextView.{render_input}
 use Rattle.csl_context.specs.Texts.{text_in_if}
-use Rattle.csl_nodes.specs.Dates.{part_content, joined_by}
-use Rattle.csl_nodes.specs.LocalizedDates.{localized_node}
+use Rattle.csl_nodes.specs.Dates.{part_content, joined_by, localized_node}
 use Rattle.csl_nodes.proofs.JoinedParts.{behind_delimiter, none_to_come, one_to_come, part_of, contents_of, parts_of, with_one_more}
 use Rattle.csl_nodes.proofs.date_parts.render_parts.Goals as goal
 
@@ -36,7 +35,7 @@ loop-part-preserved g c =
     c.in_ok-first.ensures.value
     ∙ ap (λ b. first && not (has_children (part_of g.T.EntryLike.answers c.args.written c.args.found b p))) c.loop-part.invariant.frame in
     record {
-      was_live = c.loop-part.invariant.sound;
+      sound = c.loop-part.invariant.sound;
       frame = step ∙ ap (λ ts. record now { inner = ts }) (sym inner);
       told = ap (λ ts. ts ++> made c.in_ok-first.first rest) inner
           ∙ ap (λ b. (ctx.inner ++> behind) ++> made b rest) value

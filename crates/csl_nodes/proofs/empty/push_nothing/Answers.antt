@@ -2,4 +2,4 @@ use Rattle.csl_nodes.proofs.MadeNothing.{made_nothing}
 use Rattle.csl_nodes.proofs.empty.push_nothing.Goals as goal
 
 pub returns : goal.returns
-returns g c = record { was_live = c.in_ok-ensure_live.ensures.sound; becomes = made_nothing _ }
+returns g c = record { was_live = c.in_ok-ensure_live.ensures.was_live; becomes = made_nothing _ }

@@ -3,8 +3,7 @@ use Rattle.csl_style.specs.Node.{expand_nodes, expanded_macro}
 use Rattle.csl_style.specs.View.{view_nodes, text_dressing}
 use Rattle.csl_style.specs.Expanded.{macro_env}
 use Rattle.csl_context.specs.ContextView.{render_input}
-use Rattle.csl_nodes.specs.Flags.{without_group_flag, macro_info}
-use Rattle.csl_nodes.specs.UsageView.{info_view}
+use Rattle.csl_nodes.specs.Usage.{without_group_flag, macro_info, info_view}
 use Rattle.csl_render.specs.Plan.{AreInfos}
 use Rattle.csl_render.specs.Tree.{nodes_info}
 use Rattle.csl_render.proofs.Plans.{info_moved}

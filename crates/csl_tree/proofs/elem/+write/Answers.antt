@@ -1,6 +1,6 @@
 use Rattle.std.proofs.Common.{arith}
 use Rattle.std.proofs.lemmas.Grind.{common_steps}
-use Rattle.lit_model.proofs.Writes.{two_writes, three_writes, writes_of_eq}
+use Rattle.csl_common.proofs.Writes.{two_writes, three_writes, writes_of_eq}
 use Rattle.csl_tree.proofs.Written.{written-elem, written-children}
 use Rattle.csl_tree.proofs.elem.+write.Goals as goal
 

@@ -7,7 +7,7 @@ use Rattle.lit_model.specs.Marked.{names_text}
 use Rattle.lit_model.specs.Initials.{given_words}
 use Rattle.lit_model.proofs.Marking.{next_name, last_name, all_written}
 use Rattle.lit_model.proofs.Shortening.{words_more, words_none}
-use Rattle.lit_model.proofs.Writes.{three_writes, writes_of_eq}
+use Rattle.csl_common.proofs.Writes.{three_writes, writes_of_eq}
 use Rattle.lit_model.proofs.first_names.write_names.Goals as goal
 
 pub loop-word-init : goal.loop-word-init

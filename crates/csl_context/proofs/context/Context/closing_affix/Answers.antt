@@ -14,4 +14,4 @@ returns g c =
     ∙ ap (λ s. optional_formatted_text s c.text_writer.result.formatting front ++> optional_formatted_text s c.text_writer.result.formatting close) c.text_writer.ensures.strip_periods
     ∙ ap (λ f. optional_formatted_text now.inherited.strip_periods f front ++> optional_formatted_text now.inherited.strip_periods f close) c.text_writer.ensures.formatting
     ∙ ap (λ o. text_in_if now.inherited o ++> text_in_if now.inherited close) c.moved_punctuation-front.ensures
-    ∙ ap (λ o. text_in_if now.inherited (moved_punctuation now.style (option_map (λ t. t.now) c.args.suffix)) ++> text_in_if now.inherited o) (c.quote_text-close.ensures ∙ ap (quote_text now.style) (c.closing.ensures ∙ ap closing_quote c.in_quotes.ensures))
+    ∙ ap (λ o. text_in_if now.inherited (moved_punctuation now.style (option_map (λ t. t.now) c.args.suffix)) ++> text_in_if now.inherited o) (c.quote_text-close.ensures ∙ ap (quote_text now.style) (c.closing_quote.ensures ∙ ap closing_quote c.in_quotes.ensures))

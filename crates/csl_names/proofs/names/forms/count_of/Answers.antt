@@ -19,7 +19,7 @@ loop-list-preserved c =
     let more : c.saturating_add-count.result ≡ saturated_count (count + shown) = grind (arith, common_steps) in
     record {
       kept = ap saturated_count more ∙ twice _ (count + shown) ∙ sym more;
-      becomes = ap (λ n. saturated_count (n + rest)) more ∙ capped _ count shown rest
+      left = ap (λ n. saturated_count (n + rest)) more ∙ capped _ count shown rest
           ∙ ap (λ y. saturated_count (count + count_of o c.args.later (map list_of (y ∷ drop (i + 1) lists)))) c.list-item.is
           ∙ sym (at_drop_more (λ ys. saturated_count (count + count_of o c.args.later (map list_of ys))) lists i x (omega arith))
           ∙ c.loop-list.invariant.left;

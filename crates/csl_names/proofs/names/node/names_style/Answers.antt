@@ -4,7 +4,7 @@ use Rattle.csl_style.specs.Names.{NameNode, view_name, view_et_al}
 use Rattle.csl_style.specs.NameOptions.{inherited_options, apply_options, with_defaults, names_delimiter_of}
 use Rattle.csl_style.specs.NamesParts.{parts_node, default_name, default_et_al}
 use Rattle.csl_names.specs.NamesContent.{name_of}
-use Rattle.csl_names.proofs.Options.{map-or, map-unwrap}
+use Rattle.csl_style.proofs.Options.{map-or, map-unwrap}
 use Rattle.csl_names.proofs.names.node.names_style.Goals as goal
 
 pub returns : goal.returns
@@ -12,7 +12,7 @@ returns c =
     let node = parts_node c.args.parts in
     let inherited = inherited_options c.args.inherited in
     let around = apply_options node.options inherited in
-    let base = c.options_over-base.ensures in
+    let base = c.or-base.ensures in
     let name : view_name c.unwrap_or-name.result.now ≡ name_of node =
     ap (λ n. view_name n.now) c.unwrap_or-name.ensures ∙ map-unwrap (λ n. view_name n.now) c.name.result c.args.missing_name
     ∙ ap (λ d. unwrap_or (option_map (λ n. view_name n.now) c.name.result) d) c.requires.name ∙ ap (λ o. unwrap_or o default_name) c.name.ensures in

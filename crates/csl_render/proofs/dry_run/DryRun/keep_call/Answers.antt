@@ -2,7 +2,7 @@ use Rattle.std.proofs.Common.{◌≡◌, ℕ, List, Bool}
 use Rattle.csl_style.specs.Expanded.{macro_env}
 use Rattle.csl_context.specs.ContextView.{render_input}
 use Rattle.csl_nodes.specs.declared.usage.UsageInfo.{UsageInfo}
-use Rattle.csl_nodes.specs.UsageView.{info_view}
+use Rattle.csl_nodes.specs.Usage.{info_view}
 use Rattle.csl_render.specs.DryRun.{call_info}
 use Rattle.csl_render.proofs.DryRuns.{learned}
 use Rattle.csl_render.proofs.dry_run.DryRun.keep_call.Goals as goal

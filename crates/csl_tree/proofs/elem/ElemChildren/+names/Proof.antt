@@ -1,4 +1,5 @@
--- `names_items_mut` lends the children that end the tree, and the tree follows them: by recursion on the length of the path.
+-- `names_items_mut` lends the children that end the tree, and the tree follows them: by recursion
+-- on the length of the path.
 use Rattle.std.proofs.Common.{◌≡◌, ℕ, ◌<◌, Bool, true, false, List, [], ◌∷◌, length, refl, sym, ap, ◌∙◌, MutBor, IsTrue, is_some, Some}
 use mathlib.Core.Path.{subst}
 use seplogic.Ra.Ura.{Ura}
@@ -203,7 +204,8 @@ module _ {M : Type 1} {𝓤 : Ura M} (𝓛 : Logic 𝓤) (mem : Memory → SProp
         settles_as ! (ap only at_w) $ lands_last ! refl (tt, tt) $
         exec ! C Λ En body.t-4 (at_ret En Done) $ sets ! (of_opd ! (get ! refl)) refl (tt, tt) $
         returns ! (look_at ! 0 refl) $ free_all ! refl $
-        -- [the result; how the inner children follow it; the token; how the child follows them; how the tree follows the child]
+        -- [the result; how the inner children follow it; the token; how the child follows them; how
+        -- the tree follows the child]
         move ! (4 ∷ 3 ∷ []) $ use2 𝓛 (‵ (follows R R γ y.ghost_name (λ c. put_child h (names_index h) (with_children x.now c)))) (follows_then 𝓛 R K R (put_child h (names_index h)) (with_children x.now) γ x.ghost_name y.ghost_name) $
         move ! (0 ∷ 2 ∷ []) $ use2 𝓛 (‵ (follows R V γ w.ghost_name (items_with h x.now y.now)))
         (follows_then 𝓛 R R V (λ c. put_child h (names_index h) (with_children x.now c)) (put_names_items y.now) γ y.ghost_name w.ghost_name) $

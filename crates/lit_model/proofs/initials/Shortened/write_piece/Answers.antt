@@ -1,5 +1,5 @@
 use Rattle.std.proofs.Common.{sym, ◌∙◌}
-use Rattle.lit_model.proofs.Writes.{two_writes}
+use Rattle.csl_common.proofs.Writes.{two_writes}
 use Rattle.lit_model.proofs.Shortening.{first_is, piece_written}
 use Rattle.lit_model.proofs.initials.Shortened.write_piece.Goals as goal
 

@@ -5,7 +5,7 @@ use Rattle.std.proofs.lemmas.Str.Pattern.{split_parts}
 use Rattle.lit_model.specs.Initials.{first_grapheme, initials_of}
 use Rattle.lit_model.specs.Shortened.{word_text}
 use Rattle.lit_model.proofs.Shortening.{initials_more, initials_one, next_piece, next_place, last_piece, last_place}
-use Rattle.lit_model.proofs.Writes.{two_writes}
+use Rattle.csl_common.proofs.Writes.{two_writes}
 use Rattle.lit_model.proofs.initials.Shortened.write_word.Goals as goal
 
 pub loop-piece-smaller : goal.loop-piece-smaller

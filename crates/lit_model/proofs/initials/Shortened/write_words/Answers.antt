@@ -5,7 +5,7 @@ use Rattle.lit_model.specs.Initials.{given_words, initials_of}
 use Rattle.lit_model.specs.Shortened.{word_text, words_text, before_word}
 use Rattle.lit_model.specs.declared.initials.Before.TheVariants.{Nothing}
 use Rattle.lit_model.proofs.Shortening.{words_more, words_none, next_word, last_word, written_initials}
-use Rattle.lit_model.proofs.Writes.{two_writes}
+use Rattle.csl_common.proofs.Writes.{two_writes}
 use Rattle.lit_model.proofs.initials.Shortened.write_words.Goals as goal
 
 pub loop-word-init : goal.loop-word-init

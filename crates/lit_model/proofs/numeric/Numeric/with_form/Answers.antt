@@ -1,5 +1,5 @@
 use Rattle.std.proofs.Common.{rules}
-use Rattle.lit_model.proofs.Writes.{passed_on}
+use Rattle.csl_common.proofs.Writes.{passed_on}
 use Rattle.lit_model.proofs.numeric.Numeric.with_form.Goals as goal
 
 pub returns : goal.returns

@@ -4,7 +4,7 @@ use Rattle.std.specs.Int.{w32}
 use Rattle.std.proofs.lemmas.Int.{to_z-of_z}
 use Rattle.std.proofs.lemmas.Grind.{common_steps}
 use Rattle.lit_model.specs.NumericForm.{form_text}
-use Rattle.lit_model.proofs.Writes.{three_writes}
+use Rattle.csl_common.proofs.Writes.{three_writes}
 use Rattle.lit_model.proofs.Texts.{numbers_text-more}
 use Rattle.lit_model.proofs.numeric.form.write_numbers_in_form.Goals as goal
 

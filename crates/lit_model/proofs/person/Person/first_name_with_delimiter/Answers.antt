@@ -1,5 +1,5 @@
 use Rattle.std.proofs.Common.{rules}
-use Rattle.lit_model.proofs.Writes.{passed_on}
+use Rattle.csl_common.proofs.Writes.{passed_on}
 use Rattle.lit_model.proofs.person.Person.first_name_with_delimiter.Goals as goal
 
 pub returns : goal.returns

@@ -1,6 +1,5 @@
 use Rattle.std.proofs.Common.{◌≡◌, drop, map, true, false, is_some}
-use Rattle.csl_names.specs.NamesContent.{with_lists}
-use Rattle.csl_names.specs.NamesStyles.{names_style_view}
+use Rattle.csl_names.specs.NamesContent.{with_lists, names_style_view}
 use Rattle.csl_names.specs.PersonLists.{list_of}
 use Rattle.csl_names.proofs.names.written.NamesStyle.push_lists.Given as goal
 

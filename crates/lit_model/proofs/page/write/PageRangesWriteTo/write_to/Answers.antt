@@ -1,6 +1,6 @@
 use Rattle.std.proofs.Common.{arith}
 use Rattle.std.proofs.lemmas.Grind.{common_steps}
-use Rattle.lit_model.proofs.Writes.{two_writes}
+use Rattle.csl_common.proofs.Writes.{two_writes}
 use Rattle.lit_model.proofs.PageTexts.{pages_text-more}
 use Rattle.lit_model.proofs.page.write.PageRangesWriteTo.write_to.Goals as goal
 

@@ -1,7 +1,0 @@
-use Rattle.std.proofs.Common.{◌≡◌, ◌↔◌}
-use Rattle.csl_entry.specs.Alike.{Each}
-use Rattle.csl_entry.proofs.alike.are_names_alike.Given as goal
-
--- the rest is alike exactly where all is
-abbrev pub invariant-loop-v : goal.invariant-loop-v
-invariant-loop-v g l = Each (λ v. (g.T.EntryLike.answers l.a).names v ≡ (g.U.EntryLike.answers l.b).names v) l.v-iterator ↔ Each (λ v. (g.T.EntryLike.answers l.a).names v ≡ (g.U.EntryLike.answers l.b).names v) l.set.keys

@@ -1,5 +1,0 @@
-use Rattle.csl_entry.proofs.AlikeSets.{decides_at}
-use Rattle.csl_entry.proofs.alike.are_pages_alike.Goals as goal
-
-pub returns : goal.returns
-returns g c = decides_at _ _ _ _ _ c.same_pages.ensures c.in_ok-left.ensures c.in_ok-right.ensures

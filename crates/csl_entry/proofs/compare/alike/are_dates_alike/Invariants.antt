@@ -1,0 +1,7 @@
+use Rattle.std.proofs.Common.{◌≡◌, ◌↔◌}
+use Rattle.csl_entry.specs.Alike.{Each}
+use Rattle.csl_entry.proofs.compare.alike.are_dates_alike.Given as goal
+
+-- the rest is alike exactly where all is
+abbrev pub invariant-loop-v : goal.invariant-loop-v
+invariant-loop-v g l = Each (λ v. (g.T.EntryLike.answers l.a).dates v ≡ (g.U.EntryLike.answers l.b).dates v) l.v-iterator ↔ Each (λ v. (g.T.EntryLike.answers l.a).dates v ≡ (g.U.EntryLike.answers l.b).dates v) l.set.keys

@@ -1,9 +1,0 @@
-use Rattle.std.proofs.Common.{◌≡◌, map, drop, length}
-use Rattle.lit_model.specs.Person.{person_view}
-use Rattle.lit_model.specs.SamePerson.{same_people}
-use Rattle.csl_entry.specs.Answers.{cow_view}
-use Rattle.csl_entry.proofs.same.same_each.Given as goal
-
--- the rest is the same exactly where all is
-abbrev pub invariant-loop-place : goal.invariant-loop-place
-invariant-loop-place l = (length l.people ≡ length l.others) × (same_people (map (cow_view person_view) (drop l.place l.people)) (map (cow_view person_view) (drop l.place l.others)) ≡ same_people (map (cow_view person_view) l.people) (map (cow_view person_view) l.others))

@@ -1,0 +1,14 @@
+//! A cite: what the citation says, and what it answers with its entry.
+
+pub(crate) mod cite;
+pub(crate) mod instance;
+pub(crate) mod letters;
+pub(crate) mod numbers;
+
+pub use cite::{
+    CertainCiteProperties, CiteProperties, DisambiguateState, IbidState, LocatorPayload, Sorting,
+    SpecialForm, SpecificLocator, SpeculativeCiteProperties,
+};
+pub use instance::InstanceContext;
+pub use letters::letter;
+pub use numbers::{CitationNumber, NoteNumber};

@@ -1,0 +1,94 @@
+//! In which forms the names of one list are shown.
+
+ghost use Rattle.std.specs.Prelude.{◌≡◌, ◌≤◌, ◌<◌, ◌↔◌, Bool, Some, is_some, length, All, IsTrue, IsSome, option_and_then, slice_get, count_by};
+ghost use Rattle.std.specs.Borrow.{sem};
+ghost use Rattle.csl_entry.specs.LentForm.{lends_shown};
+ghost use Rattle.csl_entry.specs.NameForm.{further_form};
+ghost use Rattle.csl_entry.specs.NameProperties.{all_shown, first_shown, disambiguated_forms};
+
+use crate::forms::name_form::DisambiguatedNameForm;
+
+/// Shows each name that is not shown, in that form.
+fn show_all(forms: &mut [Option<DisambiguatedNameForm>], form: DisambiguatedNameForm)
+    ensures { forms.new ≡ all_shown form forms.old }
+{
+    for shown in forms.iter_mut() {
+        *shown = Some(shown.unwrap_or(form));
+    }
+}
+
+/// Shows those of the first `num` names that are not shown, in that form.
+pub(crate) fn show_first(
+    forms: &mut [Option<DisambiguatedNameForm>],
+    num: usize,
+    form: DisambiguatedNameForm,
+)
+    requires { num ≤ length forms.old }
+    ensures { forms.new ≡ first_shown form num forms.old }
+{
+    let (first, _others) = forms.split_at_mut(num);
+    show_all(first, form);
+}
+
+/// The form that tells a name further apart from others, where there is one. A name that is not
+/// shown comes to be shown in the default form.
+fn further(
+    form: Option<DisambiguatedNameForm>,
+    default: DisambiguatedNameForm,
+) -> Option<DisambiguatedNameForm>
+    ensures { result ≡ further_form default form }
+{
+    match form {
+        None => Some(default),
+        Some(form) => form.disambiguate(true),
+    }
+}
+
+/// Tells the names at these places apart from others, place by place, and answers whether a form
+/// changed.
+pub(crate) fn disambiguate_forms(
+    forms: &mut [Option<DisambiguatedNameForm>],
+    default: DisambiguatedNameForm,
+    places: &[usize],
+) -> bool
+    requires { All (λ k. k < length forms.old) places.now }
+    ensures forms { forms.new ≡ disambiguated_forms default places.now forms.old }
+    ensures answer { (result ≡ Bool.false) ↔ (forms.new ≡ forms.old) }
+{
+    let mut changed = false;
+    for &place in places {
+        let next = further(forms[place], default);
+        changed |= next.is_some();
+        forms[place] = next.or(forms[place]);
+    }
+    changed
+}
+
+/// Whether the list holds each of these places.
+pub(crate) fn holds_each(forms: &[Option<DisambiguatedNameForm>], places: &[usize]) -> bool
+    ensures { IsTrue result ↔ All (λ k. k < length forms.now) places.now }
+{
+    places.iter().all(|place| *place < forms.len())
+}
+
+/// How many of these names are shown.
+pub(crate) fn count_shown(forms: &[Option<DisambiguatedNameForm>]) -> usize
+    ensures { result ≡ count_by is_some forms.now }
+{
+    forms.iter().filter(|form| form.is_some()).count()
+}
+
+/// The form at this place, which is not absent, as a mutable reference. Nothing else changes.
+pub(crate) fn shown_mut(
+    forms: &mut Vec<Option<DisambiguatedNameForm>>,
+    place: usize,
+) -> &mut DisambiguatedNameForm
+    requires { IsSome (option_and_then (λ f. f) (slice_get forms.old.items place)) }
+    ensures* writes_back { sem 𝓛 (lends_shown forms.entry place result) }
+    ensures value { slice_get forms.old.items place ≡ Some (Some result.now) }
+{
+    match &mut forms[place] {
+        Some(form) => form,
+        None => unreachable!(),
+    }
+}

@@ -1,6 +1,0 @@
-use Rattle.std.proofs.Common.{rules}
-use Rattle.lit_model.proofs.Writes.{passed_on}
-use Rattle.lit_model.proofs.sink.write_text.Goals as goal
-
-pub returns : goal.returns
-returns g c = passed_on _ (λ s. s.inner) _ _ _ _ _ _ _ c.new-sink.ensures.lent c.into_inner.ensures (λ same. search rules) c.write_to-written.ensures.ok
