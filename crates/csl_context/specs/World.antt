@@ -1,8 +1,8 @@
--- The *world* of a rendering is style, scope and the cite with its entry (`Instance` of
+-- The *input* of a rendering is style, scope and the cite with its entry (`Instance` of
 -- `csl_entry`). It never changes. A *look* for a variable finds nothing (no names) if the variable
 -- is suppressed, else the cite's answer (CSL 1.0.2, Appendix IV, Variables). A silent look changes
 -- nothing. A look for printing returns what the state before it gives; then, while the switch is
--- on, it suppresses its variable, whatever it returned (`looked` of `State`).
+-- on, it suppresses its variable, whatever it returned (`state_after_resolve`).
 use Rattle.std.specs.Prelude.{ℕ, Bool, true, false, List, [], Option, None, map, option_map, if◌then◌else◌}
 use Rattle.csl_common.specs.declared.form.LongShortForm.{LongShortForm}
 use Rattle.csl_common.specs.declared.form.NumberForm.{NumberForm}

@@ -1,6 +1,6 @@
 -- The definitions that the contracts of `csl_nodes` cite: what a node that holds no other nodes
 -- returns in a dry run and renders. They are whole contents over nodes with no macro name left.
--- They read the world (style, scope and cite), the state, and, for contents, what the node
+-- They read the input (style, scope and cite), the state, and, for contents, what the node
 -- inherits.
 pub mod Usage
 pub mod Pages

@@ -54,7 +54,7 @@ then_output c m = render_output (c ++> m.content) m.state
 abbrev pub with_output : {T : Type 0} → RenderOutput → ContextView T → ContextView T
 with_output m now = record now { inner = now.inner ++> m.content; state = m.state }
 
--- A call appends what is made of the world, of what is inherited and of the state, or it fails.
+-- A call appends what is made of the input, of what is inherited and of the state, or it fails.
 abbrev pub Appends : {R T : Type 0} → (T → Answers) → (RenderInput → Inherited → State → RenderOutput) → Result R RenderError → ContextView T → ContextView T → Type 0
 Appends answers m result old new = Runs (λ now. with_output (m (render_input answers now) now.inherited now.state) now) result old new
 
@@ -213,7 +213,7 @@ begins_link d v = is_address_prefix (url_prefix v) d.dressing.affixes.prefix
 -- ---- rendering
 -- A text that finds something is a box, in its own formatting, around its body in quotes and
 -- affixes. Periods are stripped in the body alone. The body of a standard answer is its chunks, or
--- its link. For a number or page variable it is `text_node_text` of `Answered`. The box has the
+-- its link. For a number or page variable it is `text_node_text` of `NumberOrPage`. The box has the
 -- meta of a text, a citation label or a citation number if a variable is printed, and none else. A
 -- text of a variable, unless a name or a date, looks it up for printing, whatever it finds. If a
 -- form leaves the variable out, there is no look.

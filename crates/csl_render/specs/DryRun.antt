@@ -1,4 +1,4 @@
--- What a dry run keeps of macros (CSL 1.0.2, Macro). In one world and state the result for a text
+-- What a dry run keeps of macros (CSL 1.0.2, Macro). In one input and state the result for a text
 -- of a macro depends on the macro's name alone, so a macro is gone through once.
 use Rattle.std.specs.Prelude.{◌≡◌, ℕ, Bool, false, List, Option, Some, None}
 use Rattle.std.specs.HashMap.{HashMap, get}

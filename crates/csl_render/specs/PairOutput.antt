@@ -26,7 +26,7 @@ use Rattle.csl_context.specs.World.{RenderInput}
 use Rattle.csl_nodes.specs.Text.{RenderOutput, render_output}
 use Rattle.csl_render.specs.Tree.{layout_output}
 
--- the world of a cite of an entry with these answers
+-- the input of a cite of an entry with these answers
 abbrev pub cite_input : StyleParts → Scope → CiteState → Option Sorting → Option SpecialForm → Answers → RenderInput
 cite_input style scope cite sorting special answers = record {
   style = style;
@@ -34,7 +34,7 @@ cite_input style scope cite sorting special answers = record {
   instance = record { answers = answers; cite = cite; sorting = sorting; special = special };
 }
 
--- the world of a cite with the answers of another entry
+-- the input of a cite with the answers of another entry
 abbrev pub with_answers : Answers → RenderInput → RenderInput
 with_answers answers w = record w { instance = record w.instance { answers = answers } }
 

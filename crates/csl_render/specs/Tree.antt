@@ -1,6 +1,6 @@
 -- The dry run of a node (`info`), the variables that it shows (`shows`), and its content and the
 -- state that it leaves (`node_output`), for nodes with no macro name left (CSL 1.0.2, Rendering
--- Elements; Group; Layout; Macro; Choose; Names). They read the world, the state and, for contents,
+-- Elements; Group; Layout; Macro; Choose; Names). They read the input, the state and, for contents,
 -- what the node inherits. A text of a macro, a group and a layout show what a child shows. A choice
 -- has the dry run of the nodes that it takes, together, and shows what one of them shows. If it
 -- takes none, it does not print, has no flags and shows nothing. A layout is what its elements make

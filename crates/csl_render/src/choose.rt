@@ -162,8 +162,7 @@ fn taken_nodes<'s, T: EntryLike>(
         (expand (macro_env ctx.now.style) (view_choose choose.now)) ctx.now.inherited ctx.now.state
         ≡ choice_output (render_input T.answers ctx.now)
         (option_map (expand_nodes (macro_env ctx.now.style))
-        (option_map (λ ns. view_nodes ns.now) taken))
-        ctx.now.inherited ctx.now.state) }
+        (option_map (λ ns. view_nodes ns.now) taken)) ctx.now.inherited ctx.now.state) }
     ensures asked { IfOk result (λ taken. (infos : List NodeInfo)
         → AreOfTaken (render_input T.answers ctx.now) ctx.now.state
         (option_map (expand_nodes (macro_env ctx.now.style))

@@ -114,7 +114,7 @@ pub fn render_pair<'s, T: EntryLike, U: EntryLike>(
         (T.answers left.now) (U.answers right.now))) }
     ensures same { IfOk result (λ p. p.alike ≡ true
         → PrintsSame p.left (string_bytes p.left_html) p.right (string_bytes p.right_html)) }
-    // What the state left by any node or layout keeps of the one before, in every world.
+    // What the state left by any node or layout keeps of the one before, for every input.
     ensures keeps { (w : RenderInput) (r : Renderable) (inherited : Inherited) (s : State)
         → Keeps s (output_in w r inherited s).state }
     ensures err { IfErr result (λ e. e ≡ RenderError.Memory) }
