@@ -1,7 +1,7 @@
 -- The one error above those of the crates: what each of theirs becomes, and the text of each. Being
 -- out of memory is the same error whoever says so. A context fails only where memory ran out, so a
 -- failed one says so too.
-use Rattle.std.specs.Prelude.{ℕ, List, codes, ◌++◌, string_bytes}
+use Rattle.std.specs.Prelude.{ℕ, List, codes}
 use Rattle.csl_style.specs.Style.{refusal_text}
 use Rattle.csl_style.specs.declared.style.error.StyleError.{StyleError}
 use Rattle.csl_style.specs.declared.style.error.StyleError.TheVariants as style

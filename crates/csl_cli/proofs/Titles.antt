@@ -18,7 +18,7 @@ use Rattle.csl_tree.specs.declared.elem.BufWriteFormat.TheVariants.{Plain, Html}
 use Rattle.csl_entry.specs.Cite.{first_cite, no_disambiguation}
 use Rattle.csl_context.specs.ContextView.{base_inherited, initial_state}
 use Rattle.csl_context.specs.State.{Inherited, with_node_formatting}
-use Rattle.csl_context.specs.World.{RenderInput}
+use Rattle.csl_context.specs.RenderInput.{RenderInput}
 use Rattle.csl_nodes.specs.Usage.{should_render_group, Info, info_of, usage_flags, no_usage_flags, no_info, info_union, as_child_info}
 use Rattle.csl_nodes.specs.Text.{RenderOutput, render_output, then_output}
 use Rattle.csl_render.specs.PairOutput.{cite_input}

@@ -12,7 +12,7 @@ use csl_context::{Context, LeftState, RenderError, Rendered};
 use csl_entry::{CiteProperties, DisambiguateState, EntryLike, InstanceContext};
 use csl_render::{RenderCsl, UsageInfo, cite};
 use csl_samples::{BuiltIn, BuiltInStyle};
-use csl_style::{Layout, LayoutRenderingElement, Scope, Style};
+use csl_style::{LayoutRenderingElement, Scope, Style};
 use std::alloc::{AllocError, Global};
 use std::process::Abort;
 use std::test::Fail;

@@ -1,10 +1,10 @@
 -- Each call leaves contents without empty leaves and elements.
-use Rattle.std.proofs.Common.{◌≡◌, ℕ, suc, Bool, true, false, not, List, [], ◌∷◌, ◌++◌, length, refl, sym, ap, ◌∙◌, subst, arith}
+use Rattle.std.proofs.Common.{◌≡◌, ℕ, suc, Bool, true, false, not, List, [], ◌∷◌, ◌++◌, length, refl, sym, ap, subst, arith}
 use Rattle.std.proofs.lemmas.Grind.{common_steps}
 use Rattle.std.specs.List.{list_all}
 use Rattle.std.specs.Prelude.{◌&&◌, ◌==◌, Option, Some, None, Result, Ok, Err, OnOk, OnErr, string_bytes}
 use Rattle.csl_tree.specs.Tokens.{Token, solid, elem_end, is_empty_token, is_empty, has_children}
-use Rattle.csl_tree.specs.Content.{◌++>◌, IsContent, nothing, text_then, markup_then, link_then, transparent_then, element_then}
+use Rattle.csl_tree.specs.Content.{IsContent, nothing, text_then, markup_then, link_then, transparent_then, element_then}
 use Rattle.csl_tree.specs.declared.formatting.Formatted.{Formatted}
 use Rattle.csl_tree.specs.Flat.{OpenParts, only_root, with_tokens, open_part, close_part, affix_content}
 use Rattle.csl_tree.proofs.ContentLaws.{IsContent-join, IsContent-text}

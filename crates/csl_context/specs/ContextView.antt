@@ -38,7 +38,7 @@ use Rattle.csl_entry.specs.Instance.{Instance}
 use Rattle.csl_context.specs.State.{State, Inherited, state_after_resolve}
 use Rattle.csl_context.specs.Quotes.{quoted_content}
 use Rattle.csl_context.specs.Texts.{text_in, wanted_space}
-use Rattle.csl_context.specs.World.{RenderInput}
+use Rattle.csl_context.specs.RenderInput.{RenderInput}
 use Rattle.csl_context.specs.declared.error.RenderError.{RenderError}
 use Rattle.csl_context.specs.declared.error.RenderError.TheVariants.{Memory, Failed}
 

@@ -3,7 +3,7 @@
 pub mod Errors
 pub mod Contents
 pub mod State
-pub mod World
+pub mod RenderInput
 pub mod Texts
 pub mod Quotes
 pub mod ContextView

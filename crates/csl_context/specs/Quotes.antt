@@ -18,7 +18,7 @@ use Rattle.csl_tree.specs.Tokens.{Token, has_children}
 use Rattle.csl_tree.specs.Content.{◌++>◌, affixed_content}
 use Rattle.csl_context.specs.State.{Inherited}
 use Rattle.csl_context.specs.Texts.{text_in_if, affixed_in}
-use Rattle.csl_context.specs.World.{term_in}
+use Rattle.csl_context.specs.RenderInput.{term_in}
 
 -- the opening term: the inner one inside of an odd number of quotes
 abbrev pub opening_quote : Bool → OtherTerm

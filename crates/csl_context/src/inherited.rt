@@ -8,7 +8,6 @@ ghost use Rattle.csl_context.specs.ContextView.{Runs, with_format, without_forma
 use crate::context::Context;
 use crate::error::RenderError;
 use csl_style::{InheritableNameOptions, formatting};
-use std::mem;
 
 impl<'s, T> Context<'s, T> {
     /// Puts a node's formatting over the inherited one, until it is popped.

@@ -3,7 +3,7 @@
 
 ghost use Rattle.std.specs.Prelude.{◌≡◌, option_map};
 ghost use Rattle.csl_style.specs.Date.{date_in_form};
-ghost use Rattle.csl_context.specs.World.{term_in, gender_in, should_disambiguate};
+ghost use Rattle.csl_context.specs.RenderInput.{term_in, gender_in, should_disambiguate};
 
 use crate::context::Context;
 use csl_entry::DisambiguateState;

@@ -9,7 +9,7 @@ ghost use Rattle.lit_model.specs.Text.{chunks};
 ghost use Rattle.csl_style.specs.declared.taxonomy.Variable.{Variable};
 ghost use Rattle.csl_entry.specs.Answers.{cow_view};
 ghost use Rattle.csl_entry.specs.NumberResult.{result_view};
-ghost use Rattle.csl_context.specs.World.{peek_number, peek_page, peek_standard, peek_names, peek_date};
+ghost use Rattle.csl_context.specs.RenderInput.{peek_number, peek_page, peek_standard, peek_names, peek_date};
 ghost use Rattle.csl_context.specs.ContextView.{Looks, GivesBy, Runs, render_input, after_resolve};
 
 use crate::context::Context;

@@ -3,9 +3,8 @@ use crate::asserted::assert_same;
 use crate::cite::{Told, state};
 use crate::described::{alone, pieces};
 use csl_entry::{
-    CertainCiteProperties, CitationNumber, CiteProperties, DisambiguateState,
-    DisambiguatedNameForm, EntryLike, IbidState, InstanceContext, LocatorPayload,
-    NameDisambiguationProperties, NoteNumber, NumberVariableResult, SpecificLocator,
+    CertainCiteProperties, CitationNumber, CiteProperties, DisambiguateState, EntryLike, IbidState,
+    InstanceContext, LocatorPayload, NoteNumber, NumberVariableResult, SpecificLocator,
     SpeculativeCiteProperties,
 };
 use csl_style::{

@@ -15,7 +15,7 @@ use Rattle.csl_style.specs.Names.{NameNode, EtAlNode}
 use Rattle.csl_style.specs.Style.{StyleParts}
 use Rattle.csl_entry.specs.NameProperties.{NameForms}
 use Rattle.csl_context.specs.ContextView.{ContextView}
-use Rattle.csl_context.specs.World.{term_in}
+use Rattle.csl_context.specs.RenderInput.{term_in}
 use Rattle.csl_names.specs.declared.list.ListStyle.{ListStyle}
 use Rattle.csl_names.specs.OneName.{name_style_view}
 use Rattle.csl_names.specs.NameList.{ListStyleView, with_names}

@@ -7,7 +7,6 @@ use Rattle.csl_style.specs.declared.names.NameForm.{NameForm}
 use Rattle.csl_style.specs.declared.names.NameForm.TheVariants.{Count, Short, Long}
 use Rattle.csl_style.specs.declared.taxonomy.NameVariable.{NameVariable}
 use Rattle.csl_style.specs.declared.term.Term.TheVariants as terms
-use Rattle.csl_style.specs.Dressing.{Dressing}
 use Rattle.csl_style.specs.NameOptions.{PartialOptions, CompleteOptions, apply_options, with_defaults, names_delimiter_of, complete_options}
 use Rattle.csl_style.specs.Names.{NameNode, EtAlNode, LabelNode, NamesLabel, NamesNode, first_name, view_name, view_et_al}
 use Rattle.csl_style.specs.NamesParts.{default_name, default_et_al, placed_label}
@@ -18,7 +17,7 @@ use Rattle.csl_entry.specs.Cite.{CiteState}
 use Rattle.csl_entry.specs.NameProperties.{NameForms}
 use Rattle.csl_context.specs.State.{State, Inherited, with_node_formatting}
 use Rattle.csl_context.specs.Texts.{text_in, affixed_in}
-use Rattle.csl_context.specs.World.{term_in}
+use Rattle.csl_context.specs.RenderInput.{term_in}
 use Rattle.csl_names.specs.Piece.{append_pieces}
 use Rattle.csl_names.specs.NameList.{name_list}
 use Rattle.csl_names.specs.ListStyles.{list_style}

@@ -20,7 +20,7 @@ use Rattle.csl_style.specs.declared.term.Term.TheVariants as terms
 use Rattle.csl_style.specs.declared.term.TermForm.TheVariants.{Long}
 use Rattle.csl_style.specs.Style.{StyleParts}
 use Rattle.csl_context.specs.State.{State, state_after_resolve}
-use Rattle.csl_context.specs.World.{RenderInput, peek_names, term_in}
+use Rattle.csl_context.specs.RenderInput.{RenderInput, peek_names, term_in}
 
 -- the persons of each variable
 abbrev pub PersonLists : Type 0

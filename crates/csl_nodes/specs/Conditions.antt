@@ -29,7 +29,7 @@ use Rattle.csl_entry.specs.declared.citation.cite.IbidState.TheVariants as ibid
 use Rattle.csl_entry.specs.Cite.{CiteState}
 use Rattle.csl_entry.specs.NumberResult.{ResultView, regular, transparent}
 use Rattle.csl_context.specs.State.{State}
-use Rattle.csl_context.specs.World.{RenderInput, should_disambiguate, peek_number, peek_page, peek_standard, peek_names, peek_date}
+use Rattle.csl_context.specs.RenderInput.{RenderInput, should_disambiguate, peek_number, peek_page, peek_standard, peek_names, peek_date}
 use Rattle.csl_nodes.specs.declared.branch_conditions.BranchConditionPos.{BranchConditionPos}
 use Rattle.csl_nodes.specs.declared.branch_conditions.BranchConditionPos.TheVariants as arm
 

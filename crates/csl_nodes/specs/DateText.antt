@@ -32,7 +32,7 @@ use Rattle.csl_style.specs.Locale.{ordinals_of}
 use Rattle.csl_style.specs.Ordinal.{ordinals}
 use Rattle.csl_style.specs.Scopes.{are_day_ordinals_limited}
 use Rattle.csl_style.specs.Style.{StyleParts}
-use Rattle.csl_context.specs.World.{term_in, gender_in}
+use Rattle.csl_context.specs.RenderInput.{term_in, gender_in}
 
 -- ---- which parts are written
 

@@ -33,7 +33,7 @@ use Rattle.csl_entry.specs.declared.citation.cite.SpecialForm.{SpecialForm}
 use Rattle.csl_entry.specs.declared.citation.cite.SpecialForm.TheVariants.{VarOnly, OnlyFirstDate, OnlyYearSuffix, SuppressAuthor}
 use Rattle.csl_context.specs.State.{State, Inherited, state_after_resolve}
 use Rattle.csl_context.specs.Texts.{text_in, text_in_if}
-use Rattle.csl_context.specs.World.{RenderInput, peek_standard, peek_date, localized_date}
+use Rattle.csl_context.specs.RenderInput.{RenderInput, peek_standard, peek_date, localized_date}
 use Rattle.csl_nodes.specs.Boxes.{in_plain, plain_between, plain_box}
 use Rattle.csl_nodes.specs.DateText.{is_written, part_text}
 use Rattle.csl_nodes.specs.DateKey.{sort_key}

@@ -37,7 +37,7 @@ use Rattle.csl_entry.specs.Cite.{CiteState, LocatorView}
 use Rattle.csl_entry.specs.NumberResult.{ResultView, regular, transparent, NumberOrPageView, number, page}
 use Rattle.csl_context.specs.State.{State, Inherited}
 use Rattle.csl_context.specs.Texts.{text_in}
-use Rattle.csl_context.specs.World.{RenderInput, term_in}
+use Rattle.csl_context.specs.RenderInput.{RenderInput, term_in}
 use Rattle.csl_nodes.specs.NumberOrPage.{peek_number_or_page}
 use Rattle.csl_nodes.specs.Boxes.{in_plain, plain_box}
 use Rattle.csl_nodes.specs.Usage.{no_usage_flags, Info, info_of}

@@ -16,7 +16,7 @@ use Rattle.csl_tree.specs.Tokens.{Token}
 use Rattle.csl_entry.specs.NumberResult.{ResultView, regular, transparent, NumberOrPageView, number, page}
 use Rattle.csl_context.specs.State.{State, Inherited}
 use Rattle.csl_context.specs.Texts.{text_in, transparent_in}
-use Rattle.csl_context.specs.World.{RenderInput, peek_number, peek_page, number_text}
+use Rattle.csl_context.specs.RenderInput.{RenderInput, peek_number, peek_page, number_text}
 use Rattle.csl_nodes.specs.declared.number_or_page.NumberText.{NumberText}
 use Rattle.csl_nodes.specs.declared.number_or_page.NumberText.TheVariants as of_shown
 use Rattle.csl_nodes.specs.Pages.{pages_in_style, with_dashes}

@@ -28,7 +28,7 @@ use Rattle.csl_entry.specs.declared.citation.cite.SpecialForm.TheVariants.{VarOn
 use Rattle.csl_entry.specs.NumberResult.{regular, transparent, NumberOrPageView, number, page}
 use Rattle.csl_context.specs.State.{State, Inherited, state_after_resolve}
 use Rattle.csl_context.specs.Texts.{text_in}
-use Rattle.csl_context.specs.World.{RenderInput, gender_in}
+use Rattle.csl_context.specs.RenderInput.{RenderInput, gender_in}
 use Rattle.csl_nodes.specs.NumberOrPage.{peek_number_or_page, shown_in, number_node_text}
 use Rattle.csl_nodes.specs.Boxes.{in_plain, plain_box}
 use Rattle.csl_nodes.specs.Usage.{usage_flags, Info, info_of}

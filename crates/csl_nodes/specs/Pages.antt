@@ -17,7 +17,7 @@ use Rattle.csl_style.specs.declared.term.OtherTerm.TheVariants.{PageRangeDelimit
 use Rattle.csl_style.specs.declared.term.Term.TheVariants.{Other}
 use Rattle.csl_style.specs.declared.term.TermForm.TheVariants.{Long}
 use Rattle.csl_style.specs.Style.{StyleParts}
-use Rattle.csl_context.specs.World.{term_in}
+use Rattle.csl_context.specs.RenderInput.{term_in}
 
 -- the bytes of an en dash
 abbrev pub en_dash : List ℕ

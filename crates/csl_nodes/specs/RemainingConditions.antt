@@ -2,14 +2,14 @@
 -- condition, or an error, after which nothing is left.
 -- `next_arm`, `after_first`, `after_deciding` and `ReadsAt` are the code's own: private
 -- contracts alone cite them.
-use Rattle.std.specs.Prelude.{◌≡◌, ℕ, Bool, true, false, not, List, [], ◌∷◌, ◌++◌, drop, Option, Some, None, option_map, Result, MatchOption, MatchResult, if◌then◌else◌}
+use Rattle.std.specs.Prelude.{◌≡◌, ℕ, Bool, false, not, List, [], ◌∷◌, ◌++◌, drop, Option, Some, None, option_map, Result, MatchOption, MatchResult, if◌then◌else◌}
 use Rattle.csl_style.specs.Node.{Tests}
 use Rattle.csl_style.specs.declared.element.ChooseMatch.{ChooseMatch}
 use Rattle.csl_style.specs.declared.element.ChooseMatch.TheVariants as matched
 use Rattle.csl_style.specs.declared.element.ChooseBranch.{ChooseBranch, out-ChooseBranch}
 use Rattle.csl_entry.specs.Answers.{Answers}
 use Rattle.csl_context.specs.State.{State}
-use Rattle.csl_context.specs.World.{RenderInput}
+use Rattle.csl_context.specs.RenderInput.{RenderInput}
 use Rattle.csl_context.specs.ContextView.{ContextView, FailsSilently, render_input}
 use Rattle.csl_context.specs.declared.error.RenderError.{RenderError}
 use Rattle.csl_nodes.specs.Conditions.{conditions_at, of_numbers, of_dates, of_locators, of_positions, of_kinds}

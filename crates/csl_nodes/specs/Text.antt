@@ -16,7 +16,6 @@ use Rattle.csl_style.specs.declared.taxonomy.NumberOrPageVariable.TheVariants as
 use Rattle.csl_style.specs.contracts.taxonomy.StandardVariable.{the_type as the_standard}
 use Rattle.csl_style.specs.contracts.taxonomy.NumberVariable.{the_type as the_number}
 use Rattle.csl_style.specs.contracts.taxonomy.VariablePartialEq.TheImpl.{eq-value}
-use Rattle.csl_style.specs.declared.formatting.Formatting as partial
 use Rattle.csl_style.specs.declared.term.Term.{Term}
 use Rattle.csl_style.specs.declared.term.TermForm.{TermForm}
 use Rattle.csl_style.specs.Dressing.{AffixTexts, TextDressing}
@@ -30,7 +29,7 @@ use Rattle.csl_entry.specs.declared.citation.cite.SpecialForm.TheVariants.{VarOn
 use Rattle.csl_entry.specs.Answers.{Answers}
 use Rattle.csl_entry.specs.NumberResult.{NumberOrPageView}
 use Rattle.csl_context.specs.State.{State, Inherited, state_after_resolve, with_node_formatting}
-use Rattle.csl_context.specs.World.{RenderInput, peek_standard, term_in}
+use Rattle.csl_context.specs.RenderInput.{RenderInput, peek_standard, term_in}
 use Rattle.csl_context.specs.Texts.{text_in, chunks_in, link_in}
 use Rattle.csl_context.specs.ContextView.{ContextView, Runs, render_input}
 use Rattle.csl_context.specs.declared.error.RenderError.{RenderError}

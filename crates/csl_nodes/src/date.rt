@@ -4,9 +4,9 @@ ghost use Rattle.std.specs.Prelude.{◌≡◌, Some, option_map};
 ghost use Rattle.lit_model.specs.Date.{date_view};
 ghost use Rattle.csl_style.specs.View.{view_date};
 ghost use Rattle.csl_entry.specs.Answers.{cow_view};
-ghost use Rattle.csl_context.specs.World.{peek_date};
+ghost use Rattle.csl_context.specs.RenderInput.{peek_date};
 ghost use Rattle.csl_context.specs.ContextView.{GivesBy, render_input};
-ghost use Rattle.csl_nodes.specs.Dates.{date_info, date_shows, date_output, is_own, date_shows_variable, is_first, date_shows_own, printed_date, date_or_key, resolved_date, localized_node};
+ghost use Rattle.csl_nodes.specs.Dates.{date_info, date_shows, date_output, is_own, date_shows_variable, date_shows_own, printed_date, date_or_key, resolved_date, localized_node};
 ghost use Rattle.csl_nodes.specs.Text.{Appends};
 ghost use Rattle.csl_nodes.specs.Usage.{info_view};
 

@@ -2,7 +2,7 @@
 
 ghost use Rattle.std.specs.Prelude.{◌≡◌, string_bytes};
 ghost use Rattle.csl_context.specs.ContextView.{Runs, GivesBy, render_input, with_first_date};
-ghost use Rattle.csl_nodes.specs.Dates.{suffix_text, implicit_suffix, first_suffix, is_suffix_alone};
+ghost use Rattle.csl_nodes.specs.Dates.{implicit_suffix, first_suffix, is_suffix_alone};
 
 use crate::resolved::peek_standard;
 use csl_context::{Context, RenderError};

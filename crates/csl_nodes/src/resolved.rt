@@ -6,7 +6,7 @@ ghost use Rattle.lit_model.specs.Text.{chunks};
 ghost use Rattle.csl_style.specs.Node.{of_variable, of_term, of_value};
 ghost use Rattle.csl_entry.specs.Answers.{cow_view};
 ghost use Rattle.csl_entry.specs.NumberResult.{number_or_page_view};
-ghost use Rattle.csl_context.specs.World.{peek_standard};
+ghost use Rattle.csl_context.specs.RenderInput.{peek_standard};
 ghost use Rattle.csl_context.specs.ContextView.{Runs, GivesBy, render_input};
 ghost use Rattle.csl_nodes.specs.Text.{resolved_text, resolved_info, number_result, variable_state};
 ghost use Rattle.csl_nodes.specs.Resolved.{resolved_view};

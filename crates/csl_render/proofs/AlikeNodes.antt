@@ -31,7 +31,7 @@ use Rattle.csl_entry.specs.Answers.{Answers}
 use Rattle.csl_entry.specs.declared.citation.cite.Sorting.{Sorting}
 use Rattle.csl_entry.specs.NumberResult.{NumberOrPageView}
 use Rattle.csl_context.specs.State.{State, Inherited, state_after_resolve, with_node_formatting}
-use Rattle.csl_context.specs.World.{RenderInput, peek_names, peek_date, term_in}
+use Rattle.csl_context.specs.RenderInput.{RenderInput, peek_names, peek_date, term_in}
 use Rattle.csl_names.specs.NamesLists.{PersonLists, same_variables, may_merge, merged_lists, all_empty, each_resolved, state_after_resolve_all, peeked_lists, resolved_lists, lists_state, is_pair}
 use Rattle.csl_nodes.specs.NumberOrPage.{peek_number_or_page}
 use Rattle.csl_nodes.specs.Conditions.{is_some_and, is_number, is_typed, is_typed_result, is_numeric, is_uncertain, is_disambiguated, is_of_kind, is_present, one_if, all_if, branch_matches}

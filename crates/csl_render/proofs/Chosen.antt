@@ -6,7 +6,7 @@ use Rattle.csl_style.specs.declared.element.LayoutRenderingElement.TheFolds.{fol
 use Rattle.csl_style.specs.Node.{Node, choose, Nodes, Branches, no_branches, otherwise, branch, ExpandedNodes, expand, expand_nodes, expand_branches, size, sizes, expanded_branches_size}
 use Rattle.csl_style.specs.View.{view_choose, NamesChildView, BranchView, element_step, child_step, choose_step, branch_step, group_step, names_step, substitute_step}
 use Rattle.csl_context.specs.State.{State, Inherited}
-use Rattle.csl_context.specs.World.{RenderInput}
+use Rattle.csl_context.specs.RenderInput.{RenderInput}
 use Rattle.csl_nodes.specs.Conditions.{branch_matches, chosen_nodes, chosen_children}
 use Rattle.csl_render.specs.Tree.{info, shows, node_output, branches_info, branches_show, branches_output, choice_info, choice_shows, choice_output}
 

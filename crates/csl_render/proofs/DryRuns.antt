@@ -8,7 +8,7 @@ use Rattle.csl_style.specs.declared.taxonomy.Variable.{Variable}
 use Rattle.csl_style.specs.Dressing.{TextDressing}
 use Rattle.csl_style.specs.Node.{ExpandedNodes, expand_call}
 use Rattle.csl_context.specs.State.{State}
-use Rattle.csl_context.specs.World.{RenderInput}
+use Rattle.csl_context.specs.RenderInput.{RenderInput}
 use Rattle.csl_render.specs.DryRun.{text_eq, call_info, call_shows}
 use Rattle.csl_render.specs.Tree.{info, shows}
 

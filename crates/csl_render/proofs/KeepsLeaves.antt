@@ -24,7 +24,7 @@ use Rattle.csl_style.proofs.Sets.{or_right}
 use Rattle.csl_entry.specs.NameProperties.{NameProperties}
 use Rattle.csl_entry.specs.declared.citation.cite.Sorting.{Sorting}
 use Rattle.csl_context.specs.State.{State, Inherited, state_after_resolve, variable_cmp}
-use Rattle.csl_context.specs.World.{RenderInput, peek_date}
+use Rattle.csl_context.specs.RenderInput.{RenderInput, peek_date}
 use Rattle.csl_names.specs.CiteForms.{with_first_forms, with_first_forms_by}
 use Rattle.csl_names.specs.NamesLists.{PersonLists, may_merge, all_empty, state_after_resolve_all, lists_state}
 use Rattle.csl_nodes.specs.Dates.{date_shows_own, printed_date, date_or_key, resolved_date, variable_output, localized_over}

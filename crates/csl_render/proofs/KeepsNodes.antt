@@ -5,7 +5,7 @@ use Rattle.std.proofs.Common.{Bool, true, false, []}
 use Rattle.csl_style.specs.Node.{ExpandedNode, expanded_text, expanded_macro, unknown_macro, expanded_number, expanded_label, expanded_date, expanded_names, shorthand, expanded_choose, expanded_group, ExpandedNodes, no_expanded_nodes, expanded_node, ExpandedBranches, no_expanded_branches, expanded_otherwise, expanded_branch, ExpandedSubstitutes, no_expanded_substitutes, expanded_substitute}
 use Rattle.csl_tree.specs.Tokens.{has_text}
 use Rattle.csl_context.specs.State.{State, Inherited, with_node_formatting}
-use Rattle.csl_context.specs.World.{RenderInput}
+use Rattle.csl_context.specs.RenderInput.{RenderInput}
 use Rattle.csl_names.specs.NamesLists.{lists_state, resolved_lists}
 use Rattle.csl_nodes.specs.Conditions.{branch_matches}
 use Rattle.csl_nodes.specs.Usage.{should_render_group}

@@ -20,7 +20,7 @@ use Rattle.csl_entry.specs.Answers.{Answers}
 use Rattle.csl_entry.specs.NumberResult.{number, page}
 use Rattle.csl_entry.proofs.Looks.{number_alike, standard_alike}
 use Rattle.csl_context.specs.State.{State, is_suppressed}
-use Rattle.csl_context.specs.World.{RenderInput, peek_number, peek_page, peek_standard, peek_names, peek_date}
+use Rattle.csl_context.specs.RenderInput.{RenderInput, peek_number, peek_page, peek_standard, peek_names, peek_date}
 use Rattle.csl_nodes.specs.NumberOrPage.{peek_number_or_page}
 use Rattle.csl_render.specs.PairOutput.{with_answers}
 

@@ -14,7 +14,7 @@ use Rattle.csl_context.specs.declared.error.RenderError.{RenderError}
 use Rattle.csl_context.specs.declared.error.RenderError.TheVariants.{Memory, Failed}
 use Rattle.csl_context.specs.ContextView.{ContextView, FailsAs, base_inherited}
 use Rattle.csl_context.specs.State.{State}
-use Rattle.csl_context.specs.World.{RenderInput}
+use Rattle.csl_context.specs.RenderInput.{RenderInput}
 use Rattle.csl_render.specs.PairOutput.{with_answers, layout_output_from, Prints, PrintsSame}
 use Rattle.csl_render.proofs.AlikeNodes.{layout_alike}
 

@@ -1,15 +1,15 @@
 -- Plans: what is known of a node is known in each state of which dry runs read the same, and of a
 -- group, a macro and a choice it is known of the nodes inside.
-use Rattle.std.proofs.Common.{◌≡◌, ℕ, ◌<◌, ◌+◌, ◌++◌, get_or, drop, Bool, true, false, length, subst, List, [], ◌∷◌, Option, Some, None, option_map, if◌then◌else◌, refl, sym, ap, ◌∙◌, arith}
+use Rattle.std.proofs.Common.{◌≡◌, ℕ, ◌<◌, ◌+◌, ◌++◌, get_or, drop, Bool, true, false, length, subst, List, [], ◌∷◌, Option, Some, option_map, if◌then◌else◌, refl, sym, ap, ◌∙◌, arith}
 use Rattle.std.specs.Bool.{MatchBool}
 use Rattle.std.proofs.lemmas.List.{append_assoc, at_drop_more}
 use Rattle.csl_style.specs.declared.element.Choose.{Choose}
 use Rattle.csl_style.specs.declared.element.Group.{Group}
 use Rattle.csl_style.specs.declared.element.LayoutRenderingElement.{LayoutRenderingElement}
-use Rattle.csl_style.specs.Node.{Node, choose, Nodes, Branches, no_branches, otherwise, branch, ExpandedNode, expanded_text, expanded_macro, unknown_macro, expanded_number, expanded_label, expanded_date, expanded_names, shorthand, expanded_choose, expanded_group, ExpandedNodes, no_expanded_nodes, expanded_node, ExpandedBranches, no_expanded_branches, expanded_otherwise, expanded_branch, expand, expand_nodes, expand_branches}
+use Rattle.csl_style.specs.Node.{Node, Nodes, Branches, no_branches, otherwise, branch, ExpandedNode, expanded_text, expanded_macro, unknown_macro, expanded_number, expanded_label, expanded_date, expanded_names, shorthand, expanded_choose, expanded_group, ExpandedNodes, no_expanded_nodes, expanded_node, ExpandedBranches, no_expanded_branches, expanded_otherwise, expanded_branch, expand, expand_nodes, expand_branches}
 use Rattle.csl_style.specs.View.{view_node, view_choose, view_group, view_nodes}
 use Rattle.csl_context.specs.State.{State}
-use Rattle.csl_context.specs.World.{RenderInput}
+use Rattle.csl_context.specs.RenderInput.{RenderInput}
 use Rattle.csl_nodes.specs.Conditions.{branch_matches, chosen_nodes, chosen_children}
 use Rattle.csl_render.specs.declared.plan.NodeInfo.{NodeInfo}
 use Rattle.csl_render.specs.declared.plan.NodePlan.{NodePlan}

@@ -13,7 +13,7 @@ use Rattle.csl_style.specs.Node.{Tests, Target, of_variable, of_term, of_value, 
 use Rattle.csl_entry.specs.declared.citation.cite.SpecialForm.{SpecialForm}
 use Rattle.csl_entry.specs.declared.citation.cite.SpecialForm.TheVariants.{VarOnly, OnlyFirstDate, OnlyYearSuffix, SuppressAuthor}
 use Rattle.csl_context.specs.State.{State}
-use Rattle.csl_context.specs.World.{RenderInput, peek_names, peek_date}
+use Rattle.csl_context.specs.RenderInput.{RenderInput, peek_names, peek_date}
 use Rattle.csl_names.specs.NamesLists.{all_empty, peeked_lists}
 use Rattle.csl_nodes.specs.NumberOrPage.{peek_number_or_page}
 use Rattle.csl_nodes.specs.Conditions.{is_numeric, is_present, all_if, branch_matches}

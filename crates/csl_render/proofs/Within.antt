@@ -9,7 +9,7 @@ use Rattle.csl_style.specs.Names.{NamesNode, shorthand_expansion}
 use Rattle.csl_style.specs.NamesParts.{first_substitute}
 use Rattle.csl_style.specs.Node.{Node, text, call, number, label, date, names, choose, group, Nodes, no_nodes, node, Substitutes, no_substitutes, substitute, ExpandedNode, expanded_names, shorthand, ExpandedNodes, no_expanded_substitutes, is_childless, as_substitute_child, expand, expand_nodes, expand_substitutes, expand_substitute_nodes, size, sizes, expanded_substitutes_size}
 use Rattle.csl_context.specs.State.{State, Inherited}
-use Rattle.csl_context.specs.World.{RenderInput}
+use Rattle.csl_context.specs.RenderInput.{RenderInput}
 use Rattle.csl_nodes.specs.Usage.{info_union, as_child_info, without_group_flag}
 use Rattle.csl_render.specs.Names.{is_names_of, any_is_names_of, choice_is_names_of, substitute_has_names_of}
 use Rattle.csl_render.specs.Tree.{is_group, info, nodes_info, shows, any_shows, substitute_info, substitute_shows, substitute_output, choice_info, choice_shows, first_substitute_output}

@@ -9,7 +9,7 @@ use Rattle.csl_style.specs.Node.{ExpandedNodes}
 use Rattle.csl_style.specs.Expanded.{macro_env}
 use Rattle.csl_context.specs.ContextView.{ContextView}
 use Rattle.csl_context.specs.State.{State}
-use Rattle.csl_context.specs.World.{RenderInput}
+use Rattle.csl_context.specs.RenderInput.{RenderInput}
 use Rattle.csl_nodes.specs.declared.usage.UsageInfo.{UsageInfo}
 use Rattle.csl_nodes.specs.Usage.{Info, no_info, without_group_flag, macro_info, info_view}
 use Rattle.csl_render.specs.Tree.{nodes_info, any_shows}

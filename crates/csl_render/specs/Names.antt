@@ -18,7 +18,7 @@ use Rattle.csl_tree.specs.Content.{elem_content}
 use Rattle.csl_entry.specs.declared.citation.cite.SpecialForm.{SpecialForm}
 use Rattle.csl_entry.specs.declared.citation.cite.SpecialForm.TheVariants.{VarOnly, OnlyFirstDate, OnlyYearSuffix, SuppressAuthor}
 use Rattle.csl_context.specs.State.{State, Inherited, with_node_formatting}
-use Rattle.csl_context.specs.World.{RenderInput}
+use Rattle.csl_context.specs.RenderInput.{RenderInput}
 use Rattle.csl_names.specs.NamesContent.{lists_meta, names_content, names_state}
 use Rattle.csl_names.specs.NamesForms.{writes_no_name}
 use Rattle.csl_names.specs.NamesLists.{PersonLists, all_empty}

@@ -22,7 +22,7 @@ use Rattle.csl_context.specs.declared.context.Rendered.{Rendered}
 use Rattle.csl_context.specs.LeftState.{left_state_view}
 use Rattle.csl_context.specs.ContextView.{base_inherited}
 use Rattle.csl_context.specs.State.{State}
-use Rattle.csl_context.specs.World.{RenderInput}
+use Rattle.csl_context.specs.RenderInput.{RenderInput}
 use Rattle.csl_nodes.specs.Text.{RenderOutput, render_output}
 use Rattle.csl_render.specs.Tree.{layout_output}
 

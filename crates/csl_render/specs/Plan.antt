@@ -10,7 +10,7 @@ use Rattle.csl_style.specs.Node.{ExpandedNode, expanded_text, expanded_macro, un
 use Rattle.csl_entry.specs.declared.citation.cite.SpecialForm.{SpecialForm}
 use Rattle.csl_entry.specs.declared.citation.cite.SpecialForm.TheVariants.{VarOnly, OnlyFirstDate, OnlyYearSuffix, SuppressAuthor}
 use Rattle.csl_context.specs.State.{State}
-use Rattle.csl_context.specs.World.{RenderInput}
+use Rattle.csl_context.specs.RenderInput.{RenderInput}
 use Rattle.csl_nodes.specs.Conditions.{branch_matches}
 use Rattle.csl_nodes.specs.Usage.{Info, info_view}
 use Rattle.csl_render.specs.declared.plan.NodeInfo.{NodeInfo, out-NodeInfo}

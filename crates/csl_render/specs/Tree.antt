@@ -15,7 +15,7 @@ use Rattle.csl_style.specs.Node.{ExpandedNode, expanded_text, expanded_macro, un
 use Rattle.csl_tree.specs.Tokens.{Token, has_text}
 use Rattle.csl_tree.specs.Content.{◌++>◌, elem_content}
 use Rattle.csl_context.specs.State.{State, Inherited, with_node_formatting}
-use Rattle.csl_context.specs.World.{RenderInput}
+use Rattle.csl_context.specs.RenderInput.{RenderInput}
 use Rattle.csl_context.specs.Texts.{text_in, affixed_in}
 use Rattle.csl_names.specs.NamesLists.{PersonLists, all_empty, peeked_lists, resolved_lists, lists_state}
 use Rattle.csl_nodes.specs.Conditions.{branch_matches}

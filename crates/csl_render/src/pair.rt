@@ -11,7 +11,7 @@ ghost use Rattle.csl_entry.specs.Answers.{Answers};
 ghost use Rattle.csl_entry.specs.Cite.{cite_state};
 ghost use Rattle.csl_context.specs.LeftState.{left_state_view};
 ghost use Rattle.csl_context.specs.State.{Inherited, State};
-ghost use Rattle.csl_context.specs.World.{RenderInput};
+ghost use Rattle.csl_context.specs.RenderInput.{RenderInput};
 ghost use Rattle.csl_render.specs.Keeps.{Keeps};
 ghost use Rattle.csl_render.specs.PairOutput.{cite_input, layout_output_from, Prints, PrintsSame};
 ghost use Rattle.csl_render.specs.Rendering.{Renderable, output_in};

@@ -1,7 +1,7 @@
 //! Plans: the result of a dry run of a node and of the nodes inside it, by which the node is then
 //! rendered without another one (CSL 1.0.2, Group).
 
-ghost use Rattle.std.specs.Prelude.{◌≡◌, ◌&&◌, not, [], IfOk, IfSome, IsSomeAnd, IsTrue};
+ghost use Rattle.std.specs.Prelude.{◌≡◌, ◌&&◌, not, IfOk, IfSome, IsSomeAnd, IsTrue};
 ghost use Rattle.csl_style.specs.Node.{ExpandedNode, ExpandedNodes, expanded_node};
 ghost use Rattle.csl_context.specs.ContextView.{render_input};
 ghost use Rattle.csl_nodes.specs.Usage.{info_view, usage_flags_of};

@@ -6,7 +6,7 @@ use crate::made::style;
 use crate::nodes::element;
 use crate::scene::Scene;
 use crate::work::described;
-use csl_entry::{CiteProperties, EntryLike, InstanceContext};
+use csl_entry::{EntryLike, InstanceContext};
 use csl_style::Style;
 use std::alloc::Global;
 use std::process::Abort;

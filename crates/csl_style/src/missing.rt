@@ -1,7 +1,7 @@
 //! Which macro a style calls and does not have (CSL 1.0.2, Macro).
 
 ghost use Rattle.std.specs.Prelude.{◌≡◌, option_map};
-ghost use Rattle.csl_style.specs.Missing.{if_missing, missing_in, missing_in_all, missing_in_child, missing_in_layout, missing_in_macros, missing_macro};
+ghost use Rattle.csl_style.specs.Missing.{if_missing, missing_in, missing_in_all, missing_in_child, missing_in_macros, missing_macro};
 ghost use Rattle.csl_style.specs.View.{definitions, view_node, view_child, view_choose, view_nodes};
 
 use crate::element::{Choose, CslMacro, LayoutRenderingElement, NamesChild};

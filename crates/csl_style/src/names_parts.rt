@@ -2,8 +2,7 @@
 //! for.
 
 ghost use Rattle.std.specs.Prelude.{◌≡◌, false, map, option_map};
-ghost use Rattle.csl_style.specs.NameOptions.{partial_options};
-ghost use Rattle.csl_style.specs.Names.{first_of, first_name, shorthand_expansion, view_name, view_et_al, view_label, view_part};
+ghost use Rattle.csl_style.specs.Names.{first_of, first_name, shorthand_expansion, view_name, view_et_al, view_part};
 ghost use Rattle.csl_style.specs.Node.{names, is_childless};
 ghost use Rattle.csl_style.specs.View.{view_child, view_names, view_substitute, name_children, first_et_al, first_label, substitutes};
 ghost use Rattle.csl_style.specs.NamesParts.{names_node, names_substitutes, first_substitute, parts_node, placed_label, default_name, first_part};

@@ -1,7 +1,7 @@
 //! A style: its settings, macros, layouts and locales. No macro of it leads back to itself (CSL
 //! 1.0.2, Style Structure; Macro).
 
-ghost use Rattle.std.specs.Prelude.{◌≡◌, false, None, IfOk, OnOk, IfErr, map, find, option_map, option_copied};
+ghost use Rattle.std.specs.Prelude.{◌≡◌, false, IfOk, OnOk, IfErr, map, find, option_map, option_copied};
 ghost use Rattle.csl_style.specs.Node.{expand_nodes};
 ghost use Rattle.csl_style.specs.View.{definitions, is_named, view_nodes};
 ghost use Rattle.csl_style.specs.Expansion.{macro_body, macro_expansion, IsAcyclic};

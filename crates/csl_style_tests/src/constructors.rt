@@ -22,7 +22,6 @@ use csl_style::{
 use lit_model::{Memory, NumberForm};
 use std::alloc::Global;
 use std::process::Abort;
-use std::test::Fail;
 
 /// Italics alone.
 const SLANTED: Formatting = Formatting {

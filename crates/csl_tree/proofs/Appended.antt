@@ -6,8 +6,7 @@ use Rattle.csl_tree.specs.Tokens.{Token, Solid, text, Meta, solid, elem_start, e
 use Rattle.csl_tree.specs.Formatting.{same_formatting}
 use Rattle.csl_tree.specs.Content.{last_before, ◌++>◌, elem_content, affixed_content, layer_content, child_content}
 use Rattle.csl_tree.proofs.Joins.{join_assoc}
-use Rattle.std.proofs.Common.{Bool, true, false, not, cond, Option, vec_len, ◌==◌}
-use Rattle.std.specs.Bool.{OnFalse}
+use Rattle.std.proofs.Common.{true, false, not, cond, Option, vec_len, ◌==◌}
 use Rattle.std.specs.Prelude.{Result, Ok, Err, OnErr}
 use Rattle.std.proofs.lemmas.Grind.{common_steps}
 use Rattle.std.specs.List.{remove}

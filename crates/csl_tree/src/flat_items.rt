@@ -1,11 +1,11 @@
 //! The items of a flat list of contents: children, and a mark where each open part begins.
 
-ghost use Rattle.std.specs.Prelude.{◌≡◌, ◌+◌, ◌-◌, ◌<◌, ◌≤◌, ℕ, string_bytes, not, [], ◌∷◌, ◌++◌, length, get_or, set, take, drop, remove, OnOk, IfOk, IfErr, OnErr, vec_len, vec_capacity};
+ghost use Rattle.std.specs.Prelude.{◌≡◌, ◌+◌, ◌-◌, ◌<◌, ◌≤◌, not, [], ◌∷◌, ◌++◌, length, get_or, take, drop, remove, OnOk, IfOk, OnErr, vec_len, vec_capacity};
 ghost use Rattle.std.specs.Bool.{OnTrue, OnFalse};
 ghost use Rattle.std.specs.List.{flat_map};
-ghost use Rattle.csl_tree.specs.Content.{◌++>◌, text_content, optional_text, elem_content, affixed_content};
-ghost use Rattle.csl_tree.specs.Tokens.{tokens, child_tokens, text, text_tokens, optional_meta, leaf_text, last_char, has_children};
-ghost use Rattle.csl_tree.specs.Flat.{OpenParts, only_root, with_tokens, open_part, close_part, discard_part, affix_content};
+ghost use Rattle.csl_tree.specs.Content.{◌++>◌, elem_content, affixed_content};
+ghost use Rattle.csl_tree.specs.Tokens.{child_tokens, text, text_tokens, optional_meta, leaf_text, last_char, has_children};
+ghost use Rattle.csl_tree.specs.Flat.{with_tokens, close_part, affix_content};
 ghost use Rattle.csl_tree.specs.FlatItems.{step, open_parts, plain_inner, last_run_len, IsJoined, IsFresh, IsRun, IsLastPart, without_range, JoinsAs, Joins, IsSame, IsApartFrom, IsApart};
 ghost use Rattle.csl_tree.specs.declared.flat_items.Item.TheVariants.{Mark};
 

@@ -9,7 +9,7 @@ use Rattle.std.proofs.Math.Seq.{drop-append_seam}
 use Rattle.std.proofs.lemmas.List.{length-append}
 use Rattle.std.proofs.lemmas.Str.{encodes-append, encodes-chars, IsUtf8-past_char, chars_past_char, chars-nil}
 use Rattle.unicode.specs.GeneralCategory.{general_category}
-use Rattle.lit_model.specs.FirstNames.{is_capital, is_single_capital, without_dot, single_letter, letter_or_word, last_letter_or_word, ends_in_white_space, space_behind, lettered_words}
+use Rattle.lit_model.specs.FirstNames.{is_capital, is_single_capital, without_dot, single_letter, letter_or_word, last_letter_or_word, space_behind, lettered_words}
 use Rattle.lit_model.specs.Marked.{gap_after, names_text}
 
 -- ---- one uppercase letter

@@ -4,7 +4,6 @@
 -- that `f` returns along the preorder.
 use Rattle.std.specs.Prelude.{◌≡◌, ℕ, List, [], ◌∷◌, Option, None, Some, option_copied, option_and_then, flat_map, string_bytes, Vec}
 use Rattle.std.specs.Borrow.{Bor}
-use Rattle.std.specs.Option.{option_or}
 use Rattle.std.specs.declared.alloc.Global.{Global}
 use Rattle.lit_model.specs.declared.person.PersonsWithRoles.{PersonsWithRoles}
 use Rattle.lit_model.specs.Source.{serial}

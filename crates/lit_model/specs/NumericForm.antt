@@ -4,7 +4,7 @@
 -- - Ordinal: the number, then the suffix that the locale has for it, if any.
 -- - LongOrdinal: the word that the locale has for 1 to 10, else as Ordinal.
 -- - Roman: a lower-case roman numeral for 1 to 3999, else the number in decimal.
-use Rattle.std.specs.Prelude.{ℕ, Bool, ◌&&◌, if◌then◌else◌, int_le, List, [], ◌++◌, ℤ, pos, negsuc, Option, unwrap_or}
+use Rattle.std.specs.Prelude.{ℕ, if◌then◌else◌, List, [], ◌++◌, ℤ, pos, negsuc, Option, unwrap_or}
 use Rattle.std.specs.Fmt.{signed_decimal}
 use Rattle.csl_common.specs.declared.form.NumberForm.{NumberForm}
 use Rattle.csl_common.specs.declared.form.NumberForm.TheVariants as forms

@@ -1,6 +1,6 @@
 //! Given names whose letters are marked, as `Karl J.`.
 
-ghost use Rattle.std.specs.Prelude.{◌≡◌, true, [], option_copied, chars, OnOk, OnErr, IfOk};
+ghost use Rattle.std.specs.Prelude.{◌≡◌, true, option_copied, chars, OnOk, OnErr};
 ghost use Rattle.unicode.specs.GeneralCategory.{general_category};
 ghost use Rattle.std.specs.Fmt.{WritesInCalls};
 ghost use Rattle.lit_model.specs.FirstNames.{is_capital, is_single_capital, without_dot, single_letter, last_letter_or_word, lettered_words, person_first_name};

@@ -1,6 +1,6 @@
 //! Given names cut down to their initials.
 
-ghost use Rattle.std.specs.Prelude.{◌≡◌, true, map, option_to_list, option_copied, OnOk, OnErr, IfOk};
+ghost use Rattle.std.specs.Prelude.{◌≡◌, true, option_to_list, option_copied, OnOk, OnErr, IfOk};
 ghost use Rattle.std.specs.Fmt.{WritesInCalls};
 ghost use Rattle.lit_model.specs.Initials.{first_grapheme, initials_of, initials, person_initials};
 ghost use Rattle.lit_model.specs.Person.{person_view};

@@ -4,7 +4,7 @@ ghost use Rattle.std.specs.Prelude.{◌≡◌, ◌++◌, map, option_copied, IfO
 ghost use Rattle.std.specs.List.{list_all};
 ghost use Rattle.lit_model.specs.Entry.{role_groups};
 ghost use Rattle.lit_model.specs.Person.{same_role, with_role};
-ghost use Rattle.lit_model.specs.Select.{clause_view, is_among, has_field, has_parent, parent_among, fits, bound_by, bound_select, matches, container, collection, original, event, chapter, part, volume_title, audio_video, is_untitled_part, first_parent, container_of, collection_of, full_of};
+ghost use Rattle.lit_model.specs.Select.{clause_view, is_among, has_field, has_parent, parent_among, fits, bound_by, bound_select, matches, container, collection, original, event, chapter, part, volume_title, audio_video, is_untitled_part, container_of, collection_of, full_of};
 
 use crate::entry::Entry;
 use crate::entry_type::EntryType;

@@ -1,6 +1,6 @@
 //! Texts that a style prints.
 
-ghost use Rattle.std.specs.Prelude.{◌≡◌, map, option_map, string_bytes, IfOk};
+ghost use Rattle.std.specs.Prelude.{◌≡◌, option_map, string_bytes, IfOk};
 ghost use Rattle.lit_model.specs.Text.{chunk_of, chunks, format_string_view, in_one_piece, plain_forms, select};
 
 use csl_common::{LongShortForm, Memory};

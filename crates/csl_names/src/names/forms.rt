@@ -1,12 +1,12 @@
 //! In which form each name of a names node is written, which are left out, and when none is written
 //! (CSL 1.0.2, Name: form, initialize, et-al-min and those after it).
 
-ghost use Rattle.std.specs.Prelude.{◌≡◌, map, length, IfOk};
-ghost use Rattle.csl_style.specs.NameOptions.{complete_options, partial_options, inherited_options};
+ghost use Rattle.std.specs.Prelude.{◌≡◌, map, IfOk};
+ghost use Rattle.csl_style.specs.NameOptions.{complete_options, inherited_options};
 ghost use Rattle.csl_style.specs.Names.{view_name};
 ghost use Rattle.csl_style.specs.NamesParts.{parts_node};
 ghost use Rattle.csl_style.specs.View.{view_child, name_children};
-ghost use Rattle.csl_names.specs.NamesForms.{is_initialized, form_by, default_form, form_in, list_forms, default_forms, shown_count, count_of, saturated_count, hides_all, name_hides, each_hides, writes_no_name};
+ghost use Rattle.csl_names.specs.NamesForms.{default_form, form_in, list_forms, default_forms, shown_count, count_of, saturated_count, hides_all, name_hides, each_hides, writes_no_name};
 ghost use Rattle.csl_names.specs.PersonLists.{list_of};
 
 use crate::names::lists::{PersonList, all_empty};

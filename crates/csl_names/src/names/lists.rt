@@ -2,11 +2,11 @@
 //! Name Variables: editortranslator).
 
 ghost use Rattle.std.specs.Prelude.{◌≡◌, [], ◌∷◌, ◌++◌, map, IfOk, OnOk};
-ghost use Rattle.lit_model.specs.Person.{PersonView, person_view};
+ghost use Rattle.lit_model.specs.Person.{person_view};
 ghost use Rattle.csl_entry.specs.Answers.{cow_view};
-ghost use Rattle.csl_context.specs.World.{peek_names};
+ghost use Rattle.csl_context.specs.RenderInput.{peek_names};
 ghost use Rattle.csl_context.specs.ContextView.{Runs, GivesBy, render_input};
-ghost use Rattle.csl_names.specs.NamesLists.{has_none, all_empty, is_pair, may_merge, merged_lists, peeked_lists, each_resolved, state_after_resolve_all, resolved_lists, lists_state};
+ghost use Rattle.csl_names.specs.NamesLists.{all_empty, is_pair, may_merge, merged_lists, peeked_lists, each_resolved, state_after_resolve_all, resolved_lists, lists_state};
 ghost use Rattle.csl_names.specs.PersonLists.{list_of, lists_view};
 
 use csl_context::{Context, RenderError};

@@ -3,12 +3,9 @@
 
 ghost use Rattle.std.specs.Prelude.{◌≡◌, map, slice_get, option_map, is_some, true};
 ghost use Rattle.lit_model.specs.Person.{person_view};
-ghost use Rattle.csl_style.specs.Names.{view_label, view_name, view_et_al};
-ghost use Rattle.csl_style.specs.NameOptions.{complete_options};
+ghost use Rattle.csl_style.specs.Names.{view_label};
 ghost use Rattle.csl_style.specs.NamesParts.{placed_label};
-ghost use Rattle.csl_style.specs.declared.term.Term.TheVariants.{Name as name_term};
 ghost use Rattle.csl_entry.specs.Answers.{cow_view};
-ghost use Rattle.csl_context.specs.World.{term_in};
 ghost use Rattle.csl_context.specs.ContextView.{Runs, with_content};
 ghost use Rattle.csl_names.specs.NamesContent.{label_content, label_on, with_label, with_list, with_labelled_list, with_list_if_any, is_skipped, with_lists, names_style_view};
 ghost use Rattle.csl_names.specs.PersonLists.{list_of};

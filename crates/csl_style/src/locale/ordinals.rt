@@ -1,6 +1,6 @@
 //! The ordinals of a style's locales (CSL 1.0.2, Ordinals and Gender-specific Ordinals).
 
-ghost use Rattle.std.specs.Prelude.{ℕ, ◌≡◌, map, option_map};
+ghost use Rattle.std.specs.Prelude.{◌≡◌, map, option_map};
 ghost use Rattle.csl_style.specs.Locale.{ordinal_view, ordinals_of};
 ghost use Rattle.csl_style.specs.Ordinal.{digits_for, is_in_group, first_of, for_gender, first_ordinals, ordinal_for, ordinals, long_ordinals};
 

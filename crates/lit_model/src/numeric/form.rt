@@ -1,6 +1,6 @@
 //! Numbers in the forms that a style asks for.
 
-ghost use Rattle.std.specs.Prelude.{◌≡◌, Option, true, OnOk, OnErr, option_map};
+ghost use Rattle.std.specs.Prelude.{◌≡◌, Option, true, OnOk, OnErr};
 ghost use Rattle.std.specs.Fmt.{WritesInCalls};
 ghost use Rattle.lit_model.specs.Numeric.{numeric_view};
 ghost use Rattle.lit_model.specs.NumericText.{numbers_text};

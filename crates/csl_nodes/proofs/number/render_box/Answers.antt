@@ -4,7 +4,7 @@ use Rattle.csl_style.specs.View.{view_number}
 use Rattle.csl_entry.specs.NumberResult.{number_or_page_view}
 use Rattle.csl_context.specs.ContextView.{ContextView, Runs, FailsAs, with_content}
 use Rattle.csl_context.specs.declared.error.RenderError.{RenderError}
-use Rattle.csl_context.specs.World.{gender_in}
+use Rattle.csl_context.specs.RenderInput.{gender_in}
 use Rattle.csl_nodes.specs.NumberOrPage.{number_text_view, shown_in, number_node_text}
 use Rattle.csl_nodes.specs.Boxes.{in_plain, plain_box}
 use Rattle.csl_nodes.specs.Numbers.{number_meta}

@@ -1,4 +1,4 @@
-use Rattle.std.proofs.Common.{◌<◌, ◌≤◌, ◌≢◌, List, length, ap, set, sym, subst, ◌∙◌, arith, add-one, length-set, get_or-set_other}
+use Rattle.std.proofs.Common.{◌<◌, ◌≢◌, List, length, ap, set, sym, subst, ◌∙◌, arith, add-one, length-set, get_or-set_other}
 use denote.Param.Members.{Called}
 use Rattle.csl_tree.specs.declared.elem.ElemChild.{ElemChild}
 use Rattle.csl_tree.proofs.KeptLinks.{kept_inside, given_inside, Visited, one_visited, all_kept, all_leaves, all_plains}

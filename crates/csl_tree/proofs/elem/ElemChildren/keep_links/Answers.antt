@@ -1,4 +1,4 @@
-use Rattle.std.proofs.Common.{sym, ap, ◌∙◌}
+use Rattle.std.proofs.Common.{ap, ◌∙◌}
 use Rattle.std.specs.List.{list_all}
 use Rattle.csl_tree.specs.Links.{addresses}
 use Rattle.csl_tree.specs.Tokens.{tokens}

@@ -26,12 +26,11 @@ use Rattle.csl_style.specs.declared.term.Term.{Term}
 use Rattle.csl_style.specs.declared.term.TermForm.{TermForm}
 use Rattle.csl_style.specs.Date.{date_in_form}
 use Rattle.csl_style.specs.Locale.{TermView, terms_of, ordinals_of}
-use Rattle.csl_style.specs.Expansion.{macro_expansion}
-use Rattle.csl_style.specs.Node.{ExpandedNodes, DateNode}
+use Rattle.csl_style.specs.Node.{DateNode}
 use Rattle.csl_style.specs.Ordinal.{ordinals, long_ordinals}
 use Rattle.csl_style.specs.Style.{StyleParts}
 use Rattle.csl_style.specs.Term.{term_text, term_gender}
-use Rattle.csl_style.specs.View.{definitions, view_date}
+use Rattle.csl_style.specs.View.{view_date}
 use Rattle.csl_entry.specs.Cite.{Disambiguation, no_disambiguation, by_names, by_choose, by_year_suffix}
 use Rattle.csl_entry.specs.NumberResult.{ResultView}
 use Rattle.csl_entry.specs.Instance.{Instance, resolve_number, resolve_page, resolve_standard, resolve_names, resolve_date}
