@@ -27,6 +27,7 @@ use std::borrow::Cow;
 ///
 /// # Errors
 /// [`Memory`]: there was no memory left, or the entry said so, or the context had failed.
+#[inline(never)]
 pub fn date_info<'s, T: EntryLike>(
     ctx: &Context<'s, T>,
     node: &Date,
@@ -58,6 +59,7 @@ pub fn date_shows<'s, T: EntryLike>(ctx: &Context<'s, T>, node: &Date, asked: Va
 /// # Errors
 /// [`RenderError::Memory`]: there was no memory left, or the entry said so. The context has failed.
 /// [`RenderError::Failed`]: the context had failed before.
+#[inline(never)]
 pub fn render_date<'s, T: EntryLike>(
     ctx: &mut Context<'s, T>,
     node: &Date,

@@ -25,6 +25,7 @@ use lit_model::{MaybeTyped, Memory};
 ///
 /// # Errors
 /// [`Memory`]: there was no memory left, or the entry said so, or the context had failed.
+#[inline(never)]
 pub fn label_info<'s, T: EntryLike>(
     ctx: &Context<'s, T>,
     label: &Label,
@@ -46,6 +47,7 @@ pub fn label_info<'s, T: EntryLike>(
 /// # Errors
 /// [`RenderError::Memory`]: there was no memory left, or the entry said so. The context has failed.
 /// [`RenderError::Failed`]: the context had failed before.
+#[inline(never)]
 pub fn render_label<'s, T: EntryLike>(
     ctx: &mut Context<'s, T>,
     label: &Label,

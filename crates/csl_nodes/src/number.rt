@@ -28,6 +28,7 @@ use std::alloc::Global;
 ///
 /// # Errors
 /// [`Memory`]: there was no memory left, or the entry said so, or the context had failed.
+#[inline(never)]
 pub fn number_info<'s, T: EntryLike>(
     ctx: &Context<'s, T>,
     number: &Number,
@@ -60,6 +61,7 @@ pub fn number_shows<'s, T: EntryLike>(
 /// # Errors
 /// [`RenderError::Memory`]: there was no memory left, or the entry said so. The context has failed.
 /// [`RenderError::Failed`]: the context had failed before.
+#[inline(never)]
 pub fn render_number<'s, T: EntryLike>(
     ctx: &mut Context<'s, T>,
     number: &Number,

@@ -46,6 +46,7 @@ fn calls_variable(variable: Variable) -> bool
 ///
 /// # Errors
 /// [`Memory`]: there was no memory left, or the entry said so, or the context had failed.
+#[inline(never)]
 pub fn variable_info<'s, T: EntryLike>(
     ctx: &Context<'s, T>,
     form: LongShortForm,
@@ -102,6 +103,7 @@ pub fn value_info<'s, T: EntryLike>(ctx: &Context<'s, T>, value: &str) -> (bool,
 /// # Errors
 /// [`RenderError::Memory`]: there was no memory left, or the entry said so. The context has failed.
 /// [`RenderError::Failed`]: the context had failed before.
+#[inline(never)]
 pub fn render_variable<'s, T: EntryLike>(
     ctx: &mut Context<'s, T>,
     text: &Text,
@@ -122,6 +124,7 @@ pub fn render_variable<'s, T: EntryLike>(
 /// # Errors
 /// [`RenderError::Memory`]: there was no memory left. The context has failed.
 /// [`RenderError::Failed`]: the context had failed before.
+#[inline(never)]
 pub fn render_term<'s, T: EntryLike>(
     ctx: &mut Context<'s, T>,
     text: &Text,
@@ -142,6 +145,7 @@ pub fn render_term<'s, T: EntryLike>(
 ///
 /// # Errors
 /// As [`render_term`].
+#[inline(never)]
 pub fn render_value<'s, T: EntryLike>(
     ctx: &mut Context<'s, T>,
     text: &Text,

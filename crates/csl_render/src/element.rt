@@ -195,6 +195,7 @@ pub(crate) fn any_shows<'c, 's, T: EntryLike>(
 }
 
 /// The dry run of a node, with the state that it read.
+#[inline(never)]
 fn ask_node<'s, T: EntryLike>(
     ctx: &Context<'s, T>,
     node: &'s LayoutRenderingElement,

@@ -77,6 +77,7 @@ pub(crate) fn group_shows<'c, 's, T: EntryLike>(
 }
 
 /// The dry run of a group, with the state that it read.
+#[inline(never)]
 fn ask_group<'s, T: EntryLike>(
     ctx: &Context<'s, T>,
     group: &'s Group,

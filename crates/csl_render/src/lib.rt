@@ -1,7 +1,9 @@
 //! What each node of a style makes of a cite (CSL 1.0.2, Rendering Elements): whether it prints
 //! and what it notes, whether it shows a variable, and its content, in a context that the caller
 //! lends. Here stand the nodes that hold other nodes, or call them by a macro; what the others make
-//! is in `csl_nodes`, and how persons are written in `csl_names`.
+//! is in `csl_nodes`, and how persons are written in `csl_names`. What would take stack at each
+//! level of nesting, and is not needed while the nodes inside run, is kept out of line
+//! (`inline(never)`).
 #![tactic(auto)]
 
 mod choose;

@@ -242,6 +242,7 @@ fn has_or_substitutes(variable: NameVariable, names: &Names, is_empty: bool) -> 
 
 /// The dry run of names.
 #[cycle(info)]
+#[inline(never)]
 pub(crate) fn names_info<'c, 's, T: EntryLike>(
     names: &'s Names,
     run: &mut DryRun<'c, 's, T>,
@@ -359,6 +360,7 @@ fn shows_author<'s, T: EntryLike>(
 
 /// Appends what names make.
 #[cycle(render)]
+#[inline(never)]
 pub(crate) fn render_names<'s, T: EntryLike>(
     ctx: &mut Context<'s, T>,
     names: &'s Names,
@@ -540,6 +542,7 @@ fn refuses_shorthand<'s, T: EntryLike>(ctx: &Context<'s, T>, parts: NamesParts<'
 }
 
 /// Appends what names of these parts make, which have no substitute.
+#[inline(never)]
 fn render_shorthand<'s, T: EntryLike>(
     ctx: &mut Context<'s, T>,
     parts: NamesParts<'s>,
