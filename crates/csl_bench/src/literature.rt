@@ -2,8 +2,8 @@
 //! on it.
 
 use crate::error::WorkError;
-use crate::style::{one_item, put};
-use lit_model::{Date, Entry, EntryType, Memory, Numeric, NumericValue, PageRanges, Person};
+use crate::style::put;
+use lit_model::{Entry, EntryType, Memory, Numeric, NumericValue, PageRanges, Person};
 use std::alloc::Global;
 
 /// A text of so many units, and its end.
@@ -111,54 +111,4 @@ pub fn clone_entry(alloc: Global, size: usize) -> Result<usize, Memory> {
     let count = authors_of_copy(alloc, &entry);
     drop(entry);
     count
-}
-
-/// A work with these parents.
-fn work_with_parents(
-    alloc: Global,
-    parents: Vec<Entry>,
-    date: Option<Date>,
-) -> Result<Vec<Entry>, Memory> {
-    let mut work = Entry::new(alloc, "work", EntryType::Book)?;
-    work.date = date;
-    work.parents = parents;
-    one_item(alloc, work)
-}
-
-/// A work with that many others behind it, each the parent of the one before; the last has a date.
-fn work_with_ancestors(alloc: Global, parents: usize) -> Result<Vec<Entry>, Memory> {
-    let date = Date::new(1605, None, None, None, false);
-    let mut works = work_with_parents(alloc, Vec::new(alloc), date)?;
-    for _ in 0..parents {
-        works = work_with_parents(alloc, works, None)?;
-    }
-    Ok(works)
-}
-
-/// The first of some works, copied.
-fn copy_of_works(alloc: Global, works: &[Entry]) -> Result<Vec<Entry>, Memory> {
-    match works {
-        [work, ..] => one_item(alloc, work.clone(alloc)?),
-        [] => Ok(Vec::new(alloc)),
-    }
-}
-
-/// Compares a copy of works, and looks for the date at the end of the first.
-fn compare(copies: &[Entry], works: &[Entry]) -> Result<(), WorkError> {
-    if copies != works {
-        return Err(WorkError::Unexpected("the copy differs"));
-    }
-    match copies {
-        [copy, ..] if copy.date_any().is_some() => Ok(()),
-        _ => Err(WorkError::Unexpected("no date")),
-    }
-}
-
-/// Copies a chain of parents, compares it, looks for the date at the copy's end, and answers how
-/// many parents there are.
-pub fn family(alloc: Global, size: usize) -> Result<usize, WorkError> {
-    let works = work_with_ancestors(alloc, size)?;
-    let copies = copy_of_works(alloc, &works)?;
-    compare(&copies, &works)?;
-    Ok(size)
 }

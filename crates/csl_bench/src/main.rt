@@ -28,17 +28,13 @@ use std::rt::Env;
 /// The size of a work that is done without words.
 const SMALL: usize = 10;
 
-/// As many parents one above the other as any chain may be expected to have.
-const MANY_PARENTS: usize = 500;
-
 /// The works, by name, and the size in which each is done without words.
-static WORKS: [(&'static str, usize); 31] = [
+static WORKS: [(&'static str, usize); 30] = [
     ("numeric", SMALL),
     ("pages", SMALL),
     ("initials", SMALL),
     ("particle", SMALL),
     ("clone_entry", SMALL),
-    ("family", MANY_PARENTS),
     ("stack", SMALL),
     ("drain", SMALL),
     ("search", SMALL),
@@ -74,7 +70,6 @@ fn checksum(alloc: Global, work: &str, size: usize) -> Result<usize, WorkError> 
         "initials" => literature::initials(alloc, size),
         "particle" => literature::particle(alloc, size),
         "clone_entry" => Ok(literature::clone_entry(alloc, size)?),
-        "family" => literature::family(alloc, size),
         "stack" => Ok(tree::stack(alloc, size)?),
         "drain" => Ok(tree::drain(alloc, size)?),
         "search" => Ok(tree::search(alloc, size)?),
