@@ -1,4 +1,4 @@
--- Writes that follow one another, and writes through a borrow.
+-- Consecutive writes, and writes through a borrow.
 use Rattle.std.proofs.Common.{◌≡◌, ℕ, List, [], ◌∷◌, ◌++◌, sym, ap, subst, ◌∙◌, MutBor}
 use Rattle.std.specs.Fmt.{WritesInCalls, HasWritten, HasWrittenStyled, IsFlush, IsPlainFormatter, IsDefaultSpec}
 use Rattle.std.specs.List.{FoldsTo, concat}
@@ -7,11 +7,11 @@ use Rattle.std.specs.declared.fmt.Formatter.{Formatter}
 use Rattle.std.proofs.Output.{writes_in_calls_single, writes_in_calls_append, has_written_styled_nil, has_written_styled_append}
 
 module _ {W : Type 0} (took : W → List ℕ → W → Type 0) where
-  -- the same write, with its bytes in another form
+  -- a write of equal bytes
   pub writes_of_eq : (w : W) (a b : List ℕ) (v : W) → a ≡ b → WritesInCalls took w a v → WritesInCalls took w b v
   writes_of_eq w a b v e = subst (λ (bytes : List ℕ). WritesInCalls took w bytes v) e
 
-  -- writes in a row are one write
+  -- two writes in a row are one write
   pub two_writes : (w v u : W) (a b all : List ℕ) → WritesInCalls took w a v → WritesInCalls took v b u → a ++ b ≡ all → WritesInCalls took w all u
   two_writes w v u a b all p q e = writes_of_eq w (a ++ b) all u e (writes_in_calls_append took w a v b u p q)
 
@@ -38,7 +38,7 @@ module _ {W : Type 0} (took : W → List ℕ → W → Type 0) where
     passed_on_calls s [] t p = (ap (λ (x : S). (inner x).ghost_name) (sym p), ap (λ (x : S). (inner x).now) p)
     passed_on_calls s (x ∷ texts) t p = let rest = passed_on_calls p.0 texts t p.2 in (rest.0 ∙ p.1.0, (((inner p.0).now, p.1.1, rest.1)))
 
-    -- what it took, the borrowed one took, which is v once the loan has ended
+    -- The borrowed writer took the texts that this writer took. It is v after the end of the loan.
     pub passed_back : (s t : S) (lent back : MutBor W) (v : W) (bs : List ℕ) → inner s ≡ lent → back ≡ inner t → (back.ghost_name ≡ lent.ghost_name → v ≡ back.now) → WritesInCalls PassedOn s bs t → WritesInCalls took lent.now bs v
     passed_back s t lent back v bs from to ends p =
         let all = passed_on_calls s p.parts t p.calls in
@@ -47,12 +47,12 @@ module _ {W : Type 0} (took : W → List ℕ → W → Type 0) where
         subst (λ (w : W). WritesInCalls took w bs v) (ap (λ (m : MutBor W). m.now) from)
         (subst (WritesInCalls took (inner s).now bs) last (record { parts = p.parts; calls = all.1; whole = p.whole }))
 
-    -- the same of a call that may fail
+    -- on success of a call, the borrowed writer took the texts that this writer took
     pub passed_on : {T E : Type 0} (r : Result T E) (s t : S) (lent back : MutBor W) (v : W) (bs : List ℕ) → inner s ≡ lent → back ≡ inner t → (back.ghost_name ≡ lent.ghost_name → v ≡ back.now) → OnOk r (WritesInCalls PassedOn s bs t) → OnOk r (WritesInCalls took lent.now bs v)
     passed_on (Err e) s t lent back v bs from to ends p = p
     passed_on (Ok x) s t lent back v bs from to ends p = passed_back s t lent back v bs from to ends p
 
-  -- the formatter, which a styled write leaves plain if it was
+  -- a styled write leaves a plain formatter plain
   pub plain_written : (f : Formatter W) (bs : List ℕ) (g : Formatter W) → HasWrittenStyled took f bs g → IsPlainFormatter f → HasWritten took f bs g
   plain_written f bs g h plain = record { wrote = h.wrote; plain = record { bare = subst IsDefaultSpec (sym h.spec) plain.bare; flush = h.flush } }
 
@@ -67,7 +67,8 @@ module _ {W : Type 0} (took : W → List ℕ → W → Type 0) where
         let rest = displayed_calls p.0 texts t p.2 in
         (rest.0 ∙ p.1.0, λ flush. let first = p.1.1 flush in has_written_styled_append took (inner s).now x (inner p.0).now (concat texts) (inner t).now first (rest.1 first.flush))
 
-    -- what it took, the formatter has written, which is g once the loan has ended
+    -- On success, the formatter wrote the texts that this writer took. It is g after the end of the
+    -- loan.
     pub displayed : {T E : Type 0} (r : Result T E) (s t : S) (lent back : MutBor (Formatter W)) (g : Formatter W) (bs : List ℕ) → inner s ≡ lent → back ≡ inner t → (back.ghost_name ≡ lent.ghost_name → g ≡ back.now) → OnOk r (WritesInCalls Displayed s bs t) → IsFlush lent.now → IsOk r → HasWrittenStyled took lent.now bs g
     displayed (Err e) s t lent back g bs from to ends p flush ok = cc
     displayed (Ok x) s t lent back g bs from to ends p flush ok =
@@ -78,12 +79,12 @@ module _ {W : Type 0} (took : W → List ℕ → W → Type 0) where
         subst (λ (f : Formatter W). HasWrittenStyled took f bs g) first
         (subst (HasWrittenStyled took (inner s).now bs) last (all.1 (subst IsFlush (sym first) flush)))
 
--- a fact that always holds beside one that holds on success
+-- a fact that always holds, together with one that holds on success
 pub on_ok_both : {T E A : Type 0} (B : Type 0) (r : Result T E) → A → OnOk r B → OnOk r (A × B)
 on_ok_both B (Ok x) a b = (a, b)
 on_ok_both B (Err e) a b = b
 
--- where a writer stayed as it was, so did the one that it borrows
+-- if a writer is unchanged, so is the writer that it borrows
 pub kept_back : {W S : Type 0} (inner : S → MutBor W) (s t : S) (lent back : MutBor W) (v : W) → inner s ≡ lent → back ≡ inner t → (back.ghost_name ≡ lent.ghost_name → v ≡ back.now) → t ≡ s → v ≡ lent.now
 kept_back {W} inner s t lent back v from to ends same =
     let whole : back ≡ lent = to ∙ ap inner same ∙ from in

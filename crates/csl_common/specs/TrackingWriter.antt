@@ -1,5 +1,6 @@
--- A writer or formatter that remembers a refusal is seen as the one inside it, and whether that has
--- refused a text (`has_refused`) or, for a formatter, a part (`has_refused_part`).
+-- The view of a writer or formatter that records refusals: the one inside it (`writer_of`,
+-- `formatter_of`), and whether that has refused a text (`has_refused`) or a part of one
+-- (`has_refused_part`).
 use Rattle.std.specs.Prelude.{Bool}
 use Rattle.std.specs.Borrow.{MutBor}
 use Rattle.std.specs.declared.fmt.Formatter.{Formatter}

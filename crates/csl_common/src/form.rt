@@ -6,7 +6,7 @@ pub enum LongShortForm {
     /// The whole text.
     #[default]
     Long,
-    /// A shortened text, where there is one.
+    /// A shortened text, if there is one.
     Short,
 }
 

@@ -1,5 +1,5 @@
-//! What several crates share: forms, seasons, ordinals, the error of running out of memory, and
-//! writers that say whether they refused a text.
+//! Types that several crates share: forms, seasons, ordinals, the error for running out of memory,
+//! and writers that record whether they refused a text.
 #![tactic(auto)]
 
 pub mod form;

@@ -6,9 +6,9 @@ use std::alloc::{AllocError, AllocFailed};
 use std::error::Error;
 use std::fmt;
 
-/// There was no memory: the one error of a call that only grows something.
+/// Out of memory: the only error of a call that just allocates.
 ///
-/// Each crate of the workspace answers it, so that a caller can pass it on.
+/// The crates of the workspace share it, so a caller can pass it on.
 #[derive(Clone, Copy, Debug, PartialEq, Eq, Hash)]
 pub struct Memory;
 

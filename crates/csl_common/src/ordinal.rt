@@ -18,11 +18,11 @@ pub trait Ordinals {
     /// A number's long ordinal, if there is one.
     ghost long_ordinals: { Self → OrdinalTexts };
 
-    /// The suffix that makes an ordinal of the number in this gender, as `nd` of 2.
+    /// Returns the suffix of the number's ordinal in this gender, as `nd` for 2.
     fn lookup(&self, number: i32, gender: Option<GrammarGender>) -> Option<&str>
         ensures { option_map (λ text. text.now) result ≡ ordinals self.now number gender };
 
-    /// The word for the ordinal of the number in this gender, as `second` of 2.
+    /// Returns the word for the number's ordinal in this gender, as `second` for 2.
     fn long(&self, number: i32, gender: Option<GrammarGender>) -> Option<&str>
         ensures { option_map (λ text. text.now) result ≡ long_ordinals self.now number gender };
 }

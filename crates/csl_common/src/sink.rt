@@ -1,7 +1,8 @@
-//! Writers that say whether they have refused a text.
+//! Writers that record whether they have refused a text.
 //!
-//! `fmt::Write` tells nothing of its errors, so no contract over it can say that a call fails only
-//! where the writer refused. A [`Sink`] tells it, and [`TrackingWriter`] makes one of any writer.
+//! The contract of `fmt::Write` says nothing about errors. So no contract over it can state that a
+//! call fails only if the writer refused a text. A [`Sink`] can, and [`TrackingWriter`] turns any
+//! writer into one.
 
 ghost use Rattle.std.specs.Prelude.{◌≡◌, ℕ, List, Bool, false, true, OnOk, OnErr};
 ghost use Rattle.std.specs.Fmt.{WritesInCalls, WritesOnOk, WritesStyledOnOk, HasWrittenStyled, IsFlush};
@@ -10,12 +11,12 @@ ghost use Rattle.csl_common.specs.TrackingWriter.{writer_of, has_refused, format
 
 use std::fmt;
 
-/// A writer that tells whether it has refused a text.
+/// A writer whose contract covers whether it has refused a text.
 pub trait Sink: fmt::Write {
     /// Whether the writer has refused a text.
     ghost refused: { Self → Bool };
 
-    /// Hands over a text.
+    /// Writes a text.
     ///
     /// # Errors
     /// [`fmt::Error`]: the writer refused it.
@@ -24,7 +25,7 @@ pub trait Sink: fmt::Write {
         ensures kept { OnOk result (refused self.new ≡ refused self.old) }
         ensures err { OnErr result (refused self.new ≡ true) };
 
-    /// Hands over some texts in a row.
+    /// Writes texts one after another.
     ///
     /// # Errors
     /// [`fmt::Error`]: the writer refused one of them.
@@ -43,7 +44,7 @@ pub trait Sink: fmt::Write {
     }
 }
 
-/// Any writer, with a note of its refusals.
+/// Any writer, and whether it has refused a text.
 #[derive(Drop)]
 pub struct TrackingWriter<'a, W> {
     inner: &'a mut W,
@@ -62,14 +63,14 @@ impl<'a, W: fmt::Write> TrackingWriter<'a, W> {
         }
     }
 
-    /// Gives the writer back.
+    /// Returns the writer.
     pub fn into_inner(self) -> &'a mut W
         ensures { result ≡ writer_of self.entry }
     {
         self.inner
     }
 
-    /// Passes a text on.
+    /// Writes a text to the writer inside, and records a refusal.
     fn pass(&mut self, text: &str) -> fmt::Result
         ensures ok { OnOk result
             (W.write_str_gives self.old.inner.now text.now self.new.inner.now) }
@@ -104,7 +105,7 @@ impl<W: fmt::Write> Sink for TrackingWriter<'_, W> {
     }
 }
 
-/// A formatter as a sink, for a `Display` of what writes into sinks.
+/// A formatter as a sink, for the `Display` of types that write into sinks.
 #[derive(Drop)]
 pub struct TrackingFormatter<'a, W> {
     inner: &'a mut fmt::Formatter<W>,
@@ -123,14 +124,14 @@ impl<'a, W: fmt::Write> TrackingFormatter<'a, W> {
         }
     }
 
-    /// Gives the formatter back.
+    /// Returns the formatter.
     pub fn into_inner(self) -> &'a mut fmt::Formatter<W>
         ensures { result ≡ formatter_of self.entry }
     {
         self.inner
     }
 
-    /// Passes a part of what is displayed on.
+    /// Writes a part of a displayed text to the formatter, and records a refusal.
     fn pass(&mut self, part: &str) -> fmt::Result
         ensures ok { OnOk result (IsFlush self.old.inner.now
             → HasWrittenStyled W.write_str_gives self.old.inner.now part.now self.new.inner.now) }
@@ -167,15 +168,15 @@ impl<W: fmt::Write> Sink for TrackingFormatter<'_, W> {
     }
 }
 
-/// What has a text that a sink can take.
+/// A type with a text that can be written to a sink.
 pub trait WriteTo {
     /// The bytes of the text.
     ghost text: { Self → List ℕ };
 
-    /// Hands the text over.
+    /// Writes the text to a sink.
     ///
     /// # Errors
-    /// [`fmt::Error`]: the sink refused a part of it; what it holds then is left open.
+    /// [`fmt::Error`]: the sink refused a part of it; its contents are then unspecified.
     fn write_to<S: Sink>(&self, sink: &mut S) -> fmt::Result
         ensures ok { OnOk result (WritesInCalls S.write_str_gives sink.old
             (text self.now) sink.new) }
@@ -186,25 +187,28 @@ pub trait WriteTo {
 /// Writes a text to any writer.
 ///
 /// # Errors
-/// [`fmt::Error`]: the writer refused a part of it; what it holds then is left open.
+/// [`fmt::Error`]: the writer refused a part of it; its contents are then unspecified.
 pub fn write_text<T: WriteTo, W: fmt::Write>(text: &T, w: &mut W) -> fmt::Result
     ensures { OnOk result (WritesInCalls W.write_str_gives w.old (T.text text.now) w.new) }
 {
     let mut sink = TrackingWriter::new(w);
     let written = text.write_to(&mut sink);
-    // It does nothing: the proof reads what `w` holds from the reference that comes back.
+    // Does nothing. The proof reads the content of `w` from the returned reference.
     sink.into_inner();
     written
 }
 
 /// Writes a text as `{}` does, whatever options the formatter has.
+///
+/// # Errors
+/// [`fmt::Error`]: the formatter refused a part of it; its contents are then unspecified.
 pub fn display_text<T: WriteTo, W: fmt::Write>(text: &T, f: &mut fmt::Formatter<W>) -> fmt::Result
     ensures plain { WritesOnOk W.write_str_gives f.old result (T.text text.now) f.new }
     ensures styled { WritesStyledOnOk W.write_str_gives f.old result (T.text text.now) f.new }
 {
     let mut sink = TrackingFormatter::new(f);
     let displayed = text.write_to(&mut sink);
-    // As above.
+    // Does nothing. The proof reads the content of `f` from the returned reference.
     sink.into_inner();
     displayed
 }

@@ -1,4 +1,4 @@
--- What `==` says of a value, from what it says of its parts.
+-- A test of a whole value decides equality if the tests of its parts do.
 use Rattle.std.proofs.Common.{◌≡◌, Bool, true, false, ◌&&◌, Option, Some, None, refl}
 use Rattle.std.specs.Prelude.{String, string_bytes, option_map}
 use Rattle.std.specs.Bool.{Decides}

@@ -1,11 +1,11 @@
--- No character is of two classes.
+-- No character is in two of the classes: digits, white space, delimiters and affix characters.
 use Rattle.std.proofs.Common.{◌≡◌, ℕ, ◌≤◌, Bool, true, false, not, ◌&&◌, refl, sym, ◌∙◌, arith}
 use Rattle.std.specs.Char.{is_ascii_digit, is_whitespace}
 use Rattle.std.proofs.lemmas.Bool.Decides.{nat_tests}
 use Rattle.std.proofs.lemmas.Bool.{false≢true}
 use Rattle.lit_model.specs.Numeric.{is_affix, is_delimiter}
 
--- a test that excludes another is excluded by it
+-- if one test excludes another, the other excludes it too
 pub excluded : (a b : Bool) → (a ≡ true → b ≡ false) → b ≡ true → a ≡ false
 excluded true b h e = sym e ∙ h refl
 excluded false b h e = refl

@@ -1,4 +1,4 @@
--- What is spelled so is read.
+-- The parser is complete: if characters spell a value, it reads that value.
 use Rattle.std.proofs.Common.{◌≡◌, ℕ, suc, ◌<◌, ◌^◌, Bool, true, false, List, [], ◌∷◌, ◌++◌, length, Option, Some, None, ℤ, pos, count_by, refl, sym, ap, ◌∙◌, subst, append_assoc, arith}
 use Rattle.std.specs.Char.{is_ascii_digit, is_whitespace}
 use Rattle.std.specs.Str.Parse.{digits_value}
@@ -69,7 +69,7 @@ begins_with_digit p (x ∷ y ∷ more) cs tail apart (d, digits, before, behind,
     subst (λ (z : List ℕ). Stops p (z ++ tail)) (sym whole)
     (subst (Stops p) (sym (append_assoc digits tail' tail)) (stops_first p is_ascii_digit digits (tail' ++ tail) apart spelled.digits spelled.nonempty))
 
--- white space or a delimiter ends digits
+-- white space or a delimiter ends a run of digits
 gap_ends_digits : (d : NumericDelimiter) (before rest : List ℕ) → IsBlank before → Stops is_ascii_digit (before ++ (delimiter_char d ∷ rest))
 gap_ends_digits d before rest blank =
     let sep : is_ascii_digit (delimiter_char d) ≡ false = excluded (is_ascii_digit (delimiter_char d)) (is_delimiter (delimiter_char d)) (digit_is_no_delimiter (delimiter_char d)) (delimiter_char_is d) in
@@ -91,7 +91,7 @@ integers_complete x (y ∷ more) cs tail (d, digits, before, behind, rest, has, 
     let third = integers_complete y more rest tail others stops in
     ap (integers_at (suc (length more))) grouped ∙ rw (first, second, third) (ap (λ (o : Option NumericDelimiter). Some ((x.0, o) ∷ y ∷ more, tail)) (sym has))
 
--- how many delimiters a list of numbers has
+-- the text of several numbers has one delimiter fewer than numbers
 pub count_integers : (x : ℤ × Option NumericDelimiter) (more : Numbers) (cs : List ℕ) → SpellsIntegers (x ∷ more) cs → count_by is_delimiter cs ≡ length more
 count_integers x [] cs s = count_none is_delimiter is_ascii_digit cs digit_is_no_delimiter s.1.digits
 count_integers x (y ∷ more) cs (d, digits, before, behind, rest, has, whole, spelled, blank_before, blank_behind, others) =
@@ -103,7 +103,7 @@ count_integers x (y ∷ more) cs (d, digits, before, behind, rest, has, whole, s
     let inner : count_by is_delimiter (delimiter_char d ∷ (behind ++ rest)) ≡ suc (length more) = count_yes is_delimiter (delimiter_char d) (behind ++ rest) sep ∙ ap suc (omega (arith, count_append is_delimiter behind rest, c, r)) in
     ap (count_by is_delimiter) whole ∙ omega (arith, count_append is_delimiter digits (before ++ (delimiter_char d ∷ (behind ++ rest))), count_append is_delimiter before (delimiter_char d ∷ (behind ++ rest)), a, b, inner)
 
--- ---- a number with its texts
+-- ---- a number with its prefix and suffix
 
 pub value_complete : (v : ValueView) (cs tail : List ℕ) → SpellsValue v cs → Stops is_ascii_digit tail → value_at (count_by is_delimiter cs) (cs ++ tail) ≡ Some (v, tail)
 unfolding value_at
@@ -148,7 +148,7 @@ pub blank_stops : (p : ℕ → Bool) (cs : List ℕ) → ((c : ℕ) → is_white
 blank_stops p [] apart blank = tt
 blank_stops p (c ∷ cs) apart blank = apart c blank.0
 
--- what a text spells is read of it
+-- if characters spell a value, the parser reads it
 pub numeric_complete : (v : NumericView) (cs : List ℕ) → Spells v cs → numeric_from cs ≡ Some v
 unfolding numeric_from
 numeric_complete v cs s =

@@ -1,4 +1,4 @@
--- A parent is less deep than the entry that it is a parent of.
+-- The depth of a parent is less than that of the entry.
 use Rattle.std.proofs.Common.{ℕ, ◌<◌, ◌≤◌, List, [], ◌∷◌, subst}
 use mathlib.Core.Former.{Count, none_left, one_more, list, this, children}
 use mathlib.Core.Former as One
@@ -9,7 +9,7 @@ use Rattle.lit_model.specs.declared.entry.Entry.{Entry, out-Entry}
 use Rattle.lit_model.specs.declared.entry.Entry.TheBlock as block
 use Rattle.lit_model.specs.Entry.{parents_of}
 
--- each of the list has the property
+-- each item of the list has the property
 abbrev pub EachOf : {A : Type 0} → (A → Type 0) → List A → Type 0
 EachOf P [] = Unit {0}
 EachOf P (x ∷ xs) = P x × EachOf P xs
@@ -18,7 +18,7 @@ each_listed : (I : Type 0) (X : I → Type 0) (P : (j : I) → X j → Type 0) (
 each_listed I X P i none_left ys all = tt
 each_listed I X P i (one_more m) ys all = (all.0, each_listed I X P i m ys.1 all.1)
 
--- how deep an entry is
+-- the depth of an entry
 abbrev pub depth_of : Entry → ℕ
 depth_of e = block.the_depth block.member-Entry e
 

@@ -1,4 +1,4 @@
--- `==` of two entries: true exactly where they are spelled alike.
+-- `==` of two entries is true exactly if they have the same `spelled_works`.
 use Rattle.std.proofs.Common.{◌≡◌, ℕ, zero, suc, ◌<◌, Bool, arith, subst, List, [], ◌∷◌, map, length, refl, sym, ap, rules, ◌∙◌}
 use Rattle.std.specs.Prelude.{Option, None, Some, option_map, Vec}
 use Rattle.std.specs.Bool.{Decides}
@@ -79,7 +79,7 @@ tells a b = ap (λ (s : Spelled). s.parent_count)
 same_count : (xs ys : List Entry) → map spelled_works xs ≡ map spelled_works ys → length xs ≡ length ys
 same_count xs ys h = simp length-map at (ap length h)
 
--- `==` of two entries, where that of their parents is known
+-- if `==` decides equal `spelled_works` for the parents of two entries, it does for the entries
 one_level : (a b : Entry) → Decides (pointwise eq_entry.it (parents_of a) (parents_of b)) (map spelled_works (parents_of a) ≡ map spelled_works (parents_of b)) → Decides (eq_entry.it a b) (spelled_works a ≡ spelled_works b)
 one_level a b parents = subst (λ q. Decides q (spelled_works a ≡ spelled_works b)) (sym (eq_out a b)) (through _
     (both _ _ (text_decides (out-Entry a).key (out-Entry b).key)
@@ -239,7 +239,7 @@ lists_decide E v P d (x ∷ xs) (y ∷ ys) p = through _ (both _ _ (d x y p.0) (
     (λ h. λ i. h.0 i ∷ h.1 i)
     (λ h. (cc, cc))
 
--- of entries less deep than n
+-- it does for two entries if the first has a depth less than n
 decides_below : (n : ℕ) (a b : Entry) → depth_of a < n → Decides (eq_entry.it a b) (spelled_works a ≡ spelled_works b)
 decides_below zero a b p = absurd (omega (arith, p))
 decides_below (suc n) a b p = one_level a b (lists_decide eq_entry.it spelled_works (λ y. depth_of y < n) (decides_below n) (parents_of a) (parents_of b) (parents_less a n (omega (arith, p))))
@@ -247,7 +247,7 @@ decides_below (suc n) a b p = one_level a b (lists_decide eq_entry.it spelled_wo
 pub entries_decide : (a b : Entry) → Decides (eq_entry.it a b) (spelled_works a ≡ spelled_works b)
 entries_decide a b = decides_below (suc (depth_of a)) a b (omega arith)
 
--- ---- what shows the same is spelled alike
+-- ---- entries with the same `works` have the same `spelled_works`
 
 spell : Address → AddressText
 spell u = record { text = serialize u.value; visit_date = option_map date_view u.visit_date }

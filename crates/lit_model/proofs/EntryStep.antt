@@ -1,4 +1,4 @@
--- `==` of two entries: that of each field in turn, and of the parents one by one.
+-- `==` of two entries compares each field in turn, and then the parents one by one.
 use Rattle.std.proofs.Common.{◌≡◌, ◌<◌, Bool, true, ◌&&◌, List, [], ◌∷◌, refl, ap}
 use Rattle.std.specs.Prelude.{string_bytes, Vec}
 use Rattle.std.specs.Option.{option_eq}
@@ -44,7 +44,7 @@ same_maybe_number = (eq_maybe of_numeric.the_row of_numeric_eq.ghosts no_dict).i
 abbrev pub same_maybe_pages : MaybeTyped PageRanges → MaybeTyped PageRanges → Bool
 same_maybe_pages = (eq_maybe of_pages.the_row of_pages_eq.ghosts no_dict).it
 
--- each field of the two, and whether their parents are the same
+-- whether each field of two entries is equal, given whether their parents are
 abbrev pub same_fields : Entry → Entry → Bool → Bool
 same_fields a b parents =
     bytes_eq (string_bytes (out-Entry a).key) (string_bytes (out-Entry b).key)
@@ -82,7 +82,7 @@ module _ {A : Type 0} (r t : A → A → Bool) (P : A → Type 0) (agree : (x y 
   pointwise_agree (x ∷ xs) [] p q = refl
   pointwise_agree (x ∷ xs) (y ∷ ys) p q = λ i. agree x y p.0 q.0 i && pointwise_agree xs ys p.1 q.1 i
 
--- one level asks only of entries that are less deep
+-- one step of `==` depends only on `==` of entries of smaller depth
 step_local : Local block.the_members block.the_family block.the_depth Bool true the_step
 step_local r t n agree block.member-Entry a b p q =
     ap (same_fields a b) (pointwise_agree (r block.member-Entry) (t block.member-Entry) (λ y. depth_of y < n) (agree block.member-Entry) (parents_of a) (parents_of b) (parents_less a n p) (parents_less b n q))

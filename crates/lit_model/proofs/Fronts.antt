@@ -3,7 +3,7 @@ use Rattle.std.proofs.Common.{◌≡◌, ℕ, ◌+◌, ◌-◌, ◌≤◌, Bool,
 use Rattle.std.proofs.lemmas.List.{take_at, length-append}
 use Rattle.lit_model.specs.NumericReading.{longest_prefix, after_longest_prefix}
 
--- a text without its end, where the rest is a piece and the end
+-- the text before the rest grows by the piece that is cut from the rest
 pub take_grown : (text rest next e : List ℕ) → length rest ≤ length text → text ≡ take (length text - length rest) text ++ rest → rest ≡ e ++ next → take (length text - length next) text ≡ take (length text - length rest) text ++ e
 take_grown text rest next e le whole split =
     let f = take (length text - length rest) text in
@@ -19,7 +19,7 @@ whole_grown text rest next e le whole split =
     let regrouped : text ≡ (f ++ e) ++ next = whole ∙ ap (λ (x : List ℕ). f ++ x) split ∙ sym (append_assoc f e next) in
     regrouped ∙ ap (λ (x : List ℕ). x ++ next) (sym (take_grown text rest next e le whole split))
 
--- one more character that passes
+-- the longest front, and the characters after it, by whether the first character passes
 pub front-cons_yes : (p : ℕ → Bool) (c : ℕ) (cs : List ℕ) → p c ≡ true → longest_prefix p (c ∷ cs) ≡ c ∷ longest_prefix p cs
 front-cons_yes p c cs h = rw h refl
 

@@ -15,7 +15,7 @@ only_front_case : (p : ℕ → Bool) (c : ℕ) (cs : List ℕ) (b : Bool) → p 
 only_front_case p c cs true h rest = (h, rest)
 only_front_case p c cs false h rest = tt
 
--- the front passes the test
+-- the characters of the longest front pass the test
 pub Only-front : (p : ℕ → Bool) (cs : List ℕ) → AllChars p (longest_prefix p cs)
 Only-front p [] = tt
 Only-front p (c ∷ cs) = only_front_case p c cs (p c) refl (Only-front p cs)
@@ -26,7 +26,7 @@ digits_test = search rules
 pub digits_model : IsNumeralModel (AllChars is_ascii_digit) (digits_value 10)
 digits_model = numerals_by_value (AllChars is_ascii_digit) digits_test
 
--- digits are their own bytes
+-- digits are their own UTF-8 bytes
 pub encodes-digits : (ds : List ℕ) → AllChars is_ascii_digit ds → encode_utf8_all ds ≡ ds
 encodes-digits ds h = encodes-IsAscii ds (IsAscii-from_digits ds (digits_model.to ds h))
 
@@ -41,7 +41,7 @@ integer_from_none (d ∷ ds) h = elim (cases_lt (digits_value 10 (d ∷ ds)) (2 
   | inr le ↦ rw (le-ltb _ _ le) refl
 ]
 
--- what `parse` answers of digits
+-- the result of `parse` for digits agrees with `integer_from`
 pub integer_parsed : {E : Type 0} (ds bytes : List ℕ) (r : Result ℤ E) → AllChars is_ascii_digit ds → bytes ≡ encode_utf8_all ds → ParsesSigned w32 10 bytes r → MatchResult r (λ n. integer_from ds ≡ Some n) (λ e. integer_from ds ≡ None)
 integer_parsed ds bytes r digits is h =
     let here : ParsesSigned w32 10 ds r = subst (λ (b : List ℕ). ParsesSigned w32 10 b r) (is ∙ encodes-digits ds digits) h in

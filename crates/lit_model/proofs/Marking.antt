@@ -1,4 +1,4 @@
--- Lemmas on the given name with its letters marked.
+-- Lemmas on a given name with its single letters marked.
 use Rattle.std.proofs.Common.{◌≡◌, ◌≢◌, ℕ, Bool, true, false, cond, List, [], ◌∷◌, ◌++◌, length, Option, refl, sym, ap, ◌∙◌, arith, ⊎_elim, append_assoc, append-nil, chars, encode_utf8}
 use Rattle.std.specs.Prelude.{IsUtf8, Some, None, codes, drop, nat_lt, ◌==◌, ◌&&◌, encode_utf8_all, if◌then◌else◌}
 use Rattle.std.specs.Char.{is_whitespace}
@@ -18,11 +18,11 @@ none_left : (xs : List ℕ) → length xs ≡ 0 → chars xs ≡ []
 none_left [] h = chars-nil
 none_left (x ∷ xs) h = absurd (omega (arith, h))
 
--- a text of one character is a letter where that is one
+-- a text of one character is a single uppercase letter exactly if that character is one
 pub one_letter : (bs rest : List ℕ) (c : ℕ) → IsUtf8 bs → bs ≡ encode_utf8 c ++ rest → length rest ≡ 0 → is_capital (general_category c) ≡ is_single_capital (chars bs)
 one_letter bs rest c u e h = sym (ap is_single_capital (chars_past_char bs rest c u e ∙ ap (λ (l : List ℕ). c ∷ l) (none_left rest h)))
 
--- a text of more characters is none
+-- a text of two or more characters is none
 pub more_letters : (bs rest more : List ℕ) (c d : ℕ) → IsUtf8 bs → bs ≡ encode_utf8 c ++ rest → rest ≡ encode_utf8 d ++ more → false ≡ is_single_capital (chars bs)
 more_letters bs rest more c d u e f = sym (ap is_single_capital (chars_past_char bs rest c u e ∙ ap (λ (l : List ℕ). c ∷ l) (chars_past_char rest more d (IsUtf8-past_char bs rest c u e) f)))
 
@@ -40,7 +40,7 @@ dot_none (b ∷ c ∷ cs) h = ap (λ (l : List ℕ). b ∷ l) (dot_none (c ∷ c
 
 -- ---- a loop over the words of a name
 
--- one word more was written
+-- the invariant still holds after one more word
 pub next_name : (text so_far target gap after w : List ℕ) (o : Option (List ℕ)) (all more : List (List ℕ)) → all ≡ w ∷ more → o ≡ single_letter w → after ≡ gap_after text o → so_far ++ names_text text gap all ≡ target → (so_far ++ (gap ++ last_letter_or_word text o w)) ++ names_text text after more ≡ target
 next_name text so_far target gap after w o all more split letter behind whole =
     append_assoc so_far (gap ++ last_letter_or_word text o w) (names_text text after more)
@@ -50,13 +50,13 @@ next_name text so_far target gap after w o all more split letter behind whole =
     ∙ ap (names_text text gap) (sym split))
     ∙ whole
 
--- no word is left
+-- after the last word, the text so far is the whole text
 pub last_name : (text so_far target gap : List ℕ) (all : List (List ℕ)) → all ≡ [] → so_far ++ names_text text gap all ≡ target → so_far ≡ target
 last_name text so_far target gap all none whole = sym (append-nil so_far) ∙ ap (λ (ws : List (List ℕ)). so_far ++ names_text text gap ws) (sym none) ∙ whole
 
 -- ---- the words, as they are written and as they are defined
 
--- the characters are those before the white space at their end, and that white space
+-- `drop_trailing_whitespace` returns a front of the characters
 trailing : (cs : List ℕ) → (t : List ℕ) × (drop_trailing_whitespace cs ++ t ≡ cs)
 trailing [] = ([], refl)
 trailing (c ∷ cs) = cut (trailing cs) (is_whitespace c && length (drop_trailing_whitespace cs) == 0)
@@ -65,14 +65,15 @@ trailing (c ∷ cs) = cut (trailing cs) (is_whitespace c && length (drop_trailin
     cut rest true = (c ∷ cs, refl)
     cut rest false = (rest.0, ap (λ (l : List ℕ). c ∷ l) rest.1)
 
--- so is a text
+-- `trim_end` returns a front of the text
 trimmed : (text : List ℕ) → IsUtf8 text → (t : List ℕ) × (trim_end text ++ t ≡ text)
 unfolding trim_end
 trimmed text u =
     let parts = trailing (chars text) in
     (encode_utf8_all parts.0, sym (encodes-append (drop_trailing_whitespace (chars text)) parts.0) ∙ ap encode_utf8_all parts.1 ∙ encodes-chars text u)
 
--- behind a word: what is left of the text, and a space unless there is some
+-- A word written as the last one, then the gap after it, has the same bytes as the word written as
+-- any other one, then the space after it.
 gap_written : (text w : List ℕ) (o : Option (List ℕ)) → IsUtf8 text → last_letter_or_word text o w ++ gap_after text o ≡ letter_or_word text o w ++ space_behind text o
 gap_written text w None u = refl
 gap_written text w (Some letter) u = written (trimmed text u) (nat_lt (length (trim_end text)) (length text)) refl
@@ -98,7 +99,7 @@ written_names text gap w (v ∷ ws) u =
     ∙ ap (λ (x : List ℕ). x ++ lettered_words text (v ∷ ws)) (gap_written text w o u)
     ∙ append_assoc (letter_or_word text o w) (space_behind text o) (lettered_words text (v ∷ ws)))
 
--- all words of a name
+-- the written text of all words is the defined one
 pub all_written : (text : List ℕ) (ws : List (List ℕ)) → IsUtf8 text → names_text text [] ws ≡ lettered_words text ws
 all_written text [] u = refl
 all_written text (w ∷ ws) u = written_names text [] w ws u

@@ -21,7 +21,7 @@ module _ {X : Type 0} (p q : X → Bool) where
   some_kept x true r fs h = grind (arith, nat_tests)
   some_kept x false r fs h = h
 
-  -- some element is kept where some element passes
+  -- some element is kept exactly if some element passes
   kept-list_any : (xs : List X) → ltb 0 (length (filter p xs)) ≡ list_any p xs
   kept-list_any [] = refl
   kept-list_any (x ∷ xs) = some_kept x (p x) _ (filter p xs) (kept-list_any xs)
@@ -30,7 +30,7 @@ module _ {X : Type 0} (p q : X → Bool) where
   all_kept x true r fs h = ap (λ t. q x && t) h
   all_kept x false r fs h = h
 
-  -- each kept element passes q where each element that passes p does
+  -- each kept element passes q exactly if each element that passes p does
   kept-list_all : (xs : List X) → list_all q (filter p xs) ≡ list_all (λ x. not (p x) || q x) xs
   kept-list_all [] = refl
   kept-list_all (x ∷ xs) = all_kept x (p x) _ (filter p xs) (kept-list_all xs)
@@ -39,7 +39,7 @@ some-append : {X : Type 0} (xs ys : List X) → ltb 0 (length (xs ++ ys)) ≡ (l
 some-append [] ys = refl
 some-append (x ∷ xs) ys = grind (arith, nat_tests)
 
--- the letters of two texts, by a look at each character
+-- whether the letters of two texts are CJK, by a test of each character
 pub are_cjk-letters : (name given : List ℕ) → are_cjk (letters name ++ letters given) ≡ ((list_any is_alphabetic (chars name) || list_any is_alphabetic (chars given)) && (list_all (λ c. not (is_alphabetic c) || is_cjk_script (script c)) (chars name) && list_all (λ c. not (is_alphabetic c) || is_cjk_script (script c)) (chars given)))
 are_cjk-letters name given =
     let q : ℕ → Bool = λ c. is_cjk_script (script c) in
@@ -61,14 +61,14 @@ module _ (a s x : List ℕ) (strips : StripsPrefix (FindsTextPrefix a) s x) wher
   begins : starts_with eqb s a ≡ true
   begins = sym (starts_text true a s (strips.0, strips.1, subst (λ i. IsCharBoundary s i) (sym strips.1.0) strips.1.2))
 
-  -- one that is the article alone loses nothing
+  -- a text that is the article alone loses nothing
   pub without_alone : length x ≡ 0 → None ≡ strip_article a s
   without_alone h =
       let cut : ltb (length a) (length s) ≡ false = grind (arith, nat_tests, strips.3, strips.1.0) in
       let none : strip_article a s ≡ None = ap (λ b. cond (b && ltb (length a) (length s)) (Some (drop (length a) s)) None) begins ∙ ap (λ b. cond b (Some (drop (length a) s)) None) cut in
       sym none
 
-  -- any other that begins with it loses it
+  -- any other text that begins with the article loses it
   pub without_more : 0 < length x → Some x ≡ strip_article a s
   without_more h =
       let more : ltb (length a) (length s) ≡ true = grind (arith, nat_tests, strips.3, strips.1.0) in

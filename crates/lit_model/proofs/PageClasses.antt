@@ -1,4 +1,4 @@
--- No character of a page's text is of two classes.
+-- No character of a page's text is in two classes.
 use Rattle.std.proofs.Common.{◌≡◌, ℕ, Bool, true, false, not, ◌&&◌, ◌||◌, eqb, refl, sym, arith}
 use Rattle.std.specs.Char.{is_ascii_digit, is_whitespace}
 use Rattle.std.proofs.lemmas.Bool.Decides.{nat_tests}
@@ -21,7 +21,7 @@ neither false false false h = (refl, refl, refl)
 either_false : (a b : Bool) → a ≡ false → b ≡ false → a || b ≡ false
 either_false a b e f = rw (e, f) refl
 
--- what a character of a prefix or a suffix is not
+-- an affix character is no digit, no white space, no separator and no range mark
 pub page_affix_is_other : (c : ℕ) → is_page_affix c ≡ true → (is_ascii_digit c ≡ false) × (is_whitespace c ≡ false) × (is_separator c ≡ false) × (is_range_mark c ≡ false)
 page_affix_is_other c h =
     let parts = both (is_affix c) (eqb c 0x2013) h in
@@ -29,7 +29,7 @@ page_affix_is_other c h =
     let no = neither (eqb c 44) (eqb c 38) (eqb c 45) other.2 in
     (other.0, other.1, either_false (eqb c 44) (eqb c 38) no.0 no.1, either_false (eqb c 45) (eqb c 0x2013) no.2 parts.1)
 
--- what a mark is not
+-- a range mark is no digit, no white space, no separator and no affix character
 pub mark_is_no_digit : (c : ℕ) → is_range_mark c ≡ true → is_ascii_digit c ≡ false
 mark_is_no_digit c h = grind (arith, nat_tests)
 
@@ -42,7 +42,7 @@ mark_is_no_separator c h = grind (arith, nat_tests)
 pub mark_is_no_affix : (c : ℕ) → is_range_mark c ≡ true → is_page_affix c ≡ false
 mark_is_no_affix c h = excluded (is_page_affix c) (is_range_mark c) (λ e. (page_affix_is_other c e).3) h
 
--- what a separator is not
+-- a separator is no digit, no white space, no range mark and no affix character
 pub separator_is_no_digit : (c : ℕ) → is_separator c ≡ true → is_ascii_digit c ≡ false
 separator_is_no_digit c h = grind (arith, nat_tests)
 
@@ -55,14 +55,14 @@ separator_is_no_mark c h = excluded (is_range_mark c) (is_separator c) (mark_is_
 pub separator_is_no_affix : (c : ℕ) → is_separator c ≡ true → is_page_affix c ≡ false
 separator_is_no_affix c h = excluded (is_page_affix c) (is_separator c) (λ e. (page_affix_is_other c e).2) h
 
--- what a digit is not
+-- a digit is no affix character and no separator
 pub digit_is_no_page_affix : (c : ℕ) → is_ascii_digit c ≡ true → is_page_affix c ≡ false
 digit_is_no_page_affix c h = excluded (is_page_affix c) (is_ascii_digit c) (λ e. (page_affix_is_other c e).0) h
 
 pub digit_is_no_separator : (c : ℕ) → is_ascii_digit c ≡ true → is_separator c ≡ false
 digit_is_no_separator c h = excluded (is_separator c) (is_ascii_digit c) (separator_is_no_digit c) h
 
--- what white space is not
+-- white space is no affix character and no separator
 pub space_is_no_page_affix : (c : ℕ) → is_whitespace c ≡ true → is_page_affix c ≡ false
 space_is_no_page_affix c h = excluded (is_page_affix c) (is_whitespace c) (λ e. (page_affix_is_other c e).1) h
 

@@ -1,4 +1,4 @@
--- What is spelled as pages is read.
+-- The parser of pages is complete: if characters spell pages, it reads these pages.
 use Rattle.std.proofs.Common.{◌≡◌, ℕ, suc, ◌+◌, Bool, true, false, List, [], ◌∷◌, ◌++◌, Option, Some, None, ℤ, count_by, refl, sym, ap, ◌∙◌, subst, append_assoc, arith}
 use Rattle.std.specs.Char.{is_ascii_digit, is_whitespace}
 use Rattle.std.proofs.lemmas.List.{append-nil}
@@ -16,7 +16,7 @@ Parts = List PartView
 
 -- ---- a page
 
--- three pieces and what follows
+-- three pieces and the characters after them, regrouped
 regrouped : (a b c tail : List ℕ) → (a ++ (b ++ c)) ++ tail ≡ a ++ (b ++ (c ++ tail))
 regrouped a b c tail = append_assoc a (b ++ c) tail ∙ ap (λ (x : List ℕ). a ++ x) (append_assoc b c tail)
 
@@ -27,7 +27,7 @@ page_stops p v cs tail no_affix no_digit s =
     subst (Stops p) (sym (ap (λ (x : List ℕ). x ++ tail) s.whole ∙ regrouped s.prefix s.digits s.suffix tail))
     (stops_by p is_page_affix s.prefix (s.digits ++ (s.suffix ++ tail)) no_affix (affix_only is_page_affix v.prefix s.prefix s.has_prefix) digits)
 
--- what follows a page goes on neither with its suffix nor with a digit
+-- after a page comes neither an affix character nor a digit
 pub record Ends (tail : List ℕ) : Type 0 where
   pub no_affix : Stops is_page_affix tail
   pub no_digit : Stops is_ascii_digit tail
@@ -56,7 +56,7 @@ page_complete v cs tail s ends =
     )
     (ap (λ (w : NumericView). Some (w, tail)) (view_is v s.number (affix_from s.prefix) (affix_from s.suffix) s.is_one (affix_complete is_page_affix v.prefix s.prefix s.has_prefix) (affix_complete is_page_affix v.suffix s.suffix s.has_suffix)))
 
--- ---- a mark, a separator
+-- ---- a range mark, a separator
 
 mark_complete : (c : ℕ) (before behind rest : List ℕ) → is_range_mark c ≡ true → IsBlank before → IsBlank behind → Stops is_whitespace rest → mark_at (before ++ (c ∷ (behind ++ rest))) ≡ Some rest
 unfolding mark_at
@@ -76,14 +76,14 @@ separator_complete s c before behind rest is blank_before blank_behind stops =
     let k = separator_char s c is in
     rw (after_is is_whitespace before (c ∷ (behind ++ rest)) blank_before (separator_is_no_space c k.0), k.1, after_is is_whitespace behind rest blank_behind stops) refl
 
--- a character that is none of a page's, with white space before it, ends a page
+-- a character that is no affix character and no digit ends a page, also after white space
 gap_ends : (c : ℕ) (before rest : List ℕ) → IsBlank before → is_page_affix c ≡ false → is_ascii_digit c ≡ false → Ends (before ++ (c ∷ rest))
 gap_ends c before rest blank no_affix no_digit = record {
   no_affix = stops_by is_page_affix is_whitespace before (c ∷ rest) space_is_no_page_affix blank no_affix;
   no_digit = stops_by is_ascii_digit is_whitespace before (c ∷ rest) space_is_no_digit blank no_digit;
 }
 
--- no mark follows
+-- there is no range mark at another character, also after white space, or at the end
 mark_first_no : (c : ℕ) (rest : List ℕ) → is_range_mark c ≡ false → mark_first (c ∷ rest) ≡ None
 mark_first_no c rest h = rw h refl
 
@@ -105,7 +105,7 @@ item_from_range : (v w : NumericView) (a b rest : List ℕ) → page_at b ≡ So
 unfolding item_from
 item_from_range v w a b rest h = rw h refl
 
--- five pieces and what follows
+-- five pieces and the characters after them, regrouped
 regroup : (first before behind last tail : List ℕ) (c : ℕ) → (first ++ (before ++ (c ∷ (behind ++ last)))) ++ tail ≡ first ++ (before ++ (c ∷ (behind ++ (last ++ tail))))
 regroup first before behind last tail c =
     append_assoc first (before ++ (c ∷ (behind ++ last))) tail
@@ -138,7 +138,7 @@ item_no_space (range v w) cs tail s =
 
 -- ---- all items
 
--- how many separators stand among the parts after the first
+-- the number of separators in the parts after the first
 abbrev pub pairs : Parts → ℕ
 pairs [] = 0
 pairs (s ∷ []) = 0
@@ -165,7 +165,7 @@ parts_complete p (q ∷ r ∷ more) cs tail (item, before, c, behind, rest, whol
     let third = parts_complete r more rest tail others ends unmarked in
     ap (parts_at (suc (pairs more))) (ap (λ (x : List ℕ). x ++ tail) whole ∙ regroup item before behind rest tail c) ∙ rw (first, second, third) refl
 
--- ---- how many separators a text has
+-- ---- the number of separators in a text
 
 count_page : (v : NumericView) (cs : List ℕ) → SpellsPage v cs → count_by is_separator cs ≡ 0
 count_page v cs s =
@@ -177,7 +177,8 @@ count_page v cs s =
 count_no : (p : ℕ → Bool) (c : ℕ) (cs : List ℕ) → p c ≡ false → count_by p (c ∷ cs) ≡ count_by p cs
 count_no p c cs h = let none : count_by p (c ∷ []) ≡ 0 = rw h refl in omega (arith, count_append p (c ∷ []) cs, none)
 
--- the pieces round a character
+-- if the pieces before a character have no separator, and the character counts k, then the whole
+-- has k more than the last piece
 count_around : (first before behind last : List ℕ) (c : ℕ) (k : ℕ) → IsBlank before → IsBlank behind → count_by is_separator first ≡ 0 → count_by is_separator (c ∷ (behind ++ last)) ≡ k + count_by is_separator (behind ++ last)
     → count_by is_separator (first ++ (before ++ (c ∷ (behind ++ last)))) ≡ k + count_by is_separator last
 count_around first before behind last c k blank_before blank_behind none here =
@@ -204,7 +205,7 @@ count_parts p (q ∷ r ∷ more) cs (item, before, c, behind, rest, whole, spell
     ∙ count_around item before behind rest c 1 blank_before blank_behind (count_item p item spelled) (omega (arith, count_yes is_separator c (behind ++ rest) k.0))
     ∙ omega (arith, count_parts r more rest others)
 
--- what a text spells is read of it
+-- if characters spell pages, the parser reads them
 pub pages_complete : (parts : Parts) (cs : List ℕ) → SpellsPages parts cs → pages_from cs ≡ Some parts
 unfolding pages_from
 pages_complete [] cs s = absurd s.has_parts

@@ -1,4 +1,4 @@
--- The text that pages write spells them, and what some text spells can be written.
+-- The text of writable pages spells them, and pages that some text spells are writable.
 use Rattle.std.proofs.Common.{◌≡◌, ℕ, true, List, [], ◌∷◌, ◌++◌, ℤ, chars, codes, refl, sym, ap, ◌∙◌, subst, append_assoc, lit<}
 use Rattle.std.specs.Prelude.{IsUtf8, IsAscii, unwrap_or}
 use Rattle.std.specs.Fmt.{signed_decimal}
@@ -21,7 +21,7 @@ one_spelled : (v : ValueView) → IsOneWritable v → (n : ℤ) × (v ≡ one n)
 one_spelled (one n) w = (n, refl, w)
 one_spelled (several xs) w = absurd w
 
--- an ASCII text between two others
+-- the characters of three texts, if the middle one is ASCII
 chars_around : (a b c : List ℕ) → IsUtf8 a → IsAscii b → chars (a ++ (b ++ c)) ≡ chars a ++ (b ++ chars c)
 chars_around a b c utf8 ascii =
     chars-append a (b ++ c) utf8 ∙ ap (λ (x : List ℕ). chars a ++ x) (chars-append b c (IsUtf8-from_ascii b ascii) ∙ ap (λ (x : List ℕ). x ++ chars c) (chars-IsAscii b ascii))
@@ -86,7 +86,7 @@ item_spelled (range v u) w = record {
 
 -- ---- all parts
 
--- what is written between two items
+-- the text of a separator: its character, with white space around it
 record Separates (s : PartView) : Type 0 where
   before : List ℕ
   c : ℕ
@@ -116,11 +116,11 @@ parts_spelled (p ∷ s ∷ q ∷ more) w =
     chars_around (part_text p) (part_text s) rest (item_utf8 p w.0) sep.ascii ∙ ap (λ (x : List ℕ). chars (part_text p) ++ x) inner in
     (chars (part_text p), sep.before, sep.c, sep.behind, chars rest, all, item_spelled p w.0, sep.blank_before, sep.is, sep.blank_behind, parts_spelled (q ∷ more) w.2)
 
--- what pages write spells them
+-- the text of writable pages spells them
 pub pages_spelled : (ps : Parts) → AreWritable ps → SpellsPages ps (chars (pages_text ps))
 pages_spelled ps w = record { before = []; inner = chars (pages_text ps); after = []; whole = sym (append-nil (chars (pages_text ps))); blank_before = tt; has_parts = parts_spelled ps w; blank_after = tt }
 
--- ---- what some text spells can be written
+-- ---- pages that some text spells are writable
 
 one_writable : (v : ValueView) (n : ℤ) → v ≡ one n → IsWritableInteger n → IsOneWritable v
 one_writable v n e w = subst IsOneWritable (sym e) w
@@ -135,7 +135,7 @@ page_writable v cs is_scalar s =
       suffix = affix_writable is_page_affix v.suffix s.suffix second.1 s.has_suffix;
     }
 
--- the scalars of the texts round a character
+-- if the whole has only scalar values, so have the pieces before and after a character
 scalars_around : (first before behind last : List ℕ) (c : ℕ) (cs : List ℕ) → cs ≡ first ++ (before ++ (c ∷ (behind ++ last))) → all_scalars cs ≡ true → (all_scalars first ≡ true) × (all_scalars last ≡ true)
 scalars_around first before behind last c cs whole is_scalar =
     let a = scalars_parts first (before ++ (c ∷ (behind ++ last))) (sym (ap all_scalars whole) ∙ is_scalar) in

@@ -1,4 +1,4 @@
--- What is read of pages is spelled so.
+-- The parser of pages is sound: if it reads pages, the characters spell them.
 use Rattle.std.proofs.Common.{◌≡◌, ℕ, zero, suc, true, cond, List, [], ◌∷◌, ◌++◌, Option, Some, None, count_by, refl, sym, ap, ◌∙◌, subst, append_assoc, inl, inr}
 use Rattle.std.specs.Prelude.{nat_eq}
 use Rattle.std.specs.Char.{is_ascii_digit, is_whitespace}
@@ -15,7 +15,7 @@ use Rattle.lit_model.proofs.Sound.{integer_sound, affix_sound, blank_is}
 abbrev pub Parts : Type 0
 Parts = List PartView
 
--- a text in front, of which a fact holds, and the rest
+-- the characters are a text with the property P, followed by the rest
 pub record Begins (P : List ℕ → Type 0) (cs rest : List ℕ) : Type 0 where
   pub text : List ℕ
   pub whole : cs ≡ text ++ rest
@@ -51,7 +51,7 @@ page_sound cs x h =
       };
     })
 
--- ---- a mark, a separator
+-- ---- a range mark, a separator
 
 pub record HasCharacter (P : ℕ → Type 0) (cs rest : List ℕ) : Type 0 where
   pub before : List ℕ
@@ -62,7 +62,7 @@ pub record HasCharacter (P : ℕ → Type 0) (cs rest : List ℕ) : Type 0 where
   pub is : P c
   pub blank_behind : IsBlank behind
 
--- behind white space
+-- a character with white space before and after it
 behind_space : (P : ℕ → Type 0) (cs : List ℕ) (c : ℕ) (tail rest : List ℕ) → after_longest_prefix is_whitespace cs ≡ c ∷ tail → after_longest_prefix is_whitespace tail ≡ rest → P c → HasCharacter P cs rest
 behind_space P cs c tail rest here ends is =
     record {
@@ -108,7 +108,7 @@ separator_sound cs x h = separator_from cs (after_longest_prefix is_whitespace c
 
 -- ---- an item
 
--- a text, a character with white space round it, and another text
+-- a text, a character with white space around it, and another text
 joined : (P Q : List ℕ → Type 0) (R : ℕ → Type 0) (cs a b rest : List ℕ) (first : Begins P cs a) (mark : HasCharacter R a b) (last : Begins Q b rest) → cs ≡ (first.text ++ (mark.before ++ (mark.c ∷ (mark.behind ++ last.text)))) ++ rest
 joined P Q R cs a b rest first mark last =
     let tail = mark.c ∷ (mark.behind ++ last.text) in
@@ -156,7 +156,7 @@ parts_sound (suc k) cs x h =
     subst (λ (y : Parts × List ℕ). Begins (SpellsParts y.0) cs y.1) (some_is (b.0.0 ∷ d.0.0 ∷ e.0.0, e.0.1) x e.2)
     (more_sound cs b.0.1 d.0.1 e.0.1 b.0.0 d.0.0 e.0.0 (item_sound cs b.0 b.1) (separator_sound b.0.1 d.0 d.1) (parts_sound k d.0.1 e.0 e.1))
 
--- what is read of a text is spelled by it
+-- if the parser reads pages, the characters spell them
 pub pages_sound : (cs : List ℕ) (parts : Parts) → pages_from cs ≡ Some parts → SpellsPages parts cs
 unfolding pages_from
 pages_sound cs parts h =

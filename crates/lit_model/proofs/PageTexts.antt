@@ -1,4 +1,4 @@
--- The texts of pages.
+-- The text of pages, part by part.
 use Rattle.std.proofs.Common.{◌≡◌, ℕ, ◌+◌, ◌<◌, List, [], ◌∷◌, ◌++◌, length, get_or, take, sym, ap, ◌∙◌}
 use Rattle.std.proofs.lemmas.List.{take_more, append-nil, map_push}
 use Rattle.std.proofs.lemmas.List.Concat.{flat_map-append}
@@ -6,7 +6,7 @@ use Rattle.lit_model.specs.declared.page.PageRangesPart.{PageRangesPart}
 use Rattle.lit_model.specs.Page.{part_view, parts_view}
 use Rattle.lit_model.specs.PageText.{part_text, pages_text}
 
--- one more part
+-- one more part adds its text
 pub pages_text-more : (xs : List PageRangesPart) (i : ℕ) (x : PageRangesPart) → i < length xs → x ≡ get_or xs i x
     → pages_text (parts_view (take i xs)) ++ part_text (part_view x) ≡ pages_text (parts_view (take (i + 1) xs))
 pages_text-more xs i x lt is =

@@ -1,4 +1,4 @@
--- What the answer of the parser of pages says, from the exact answer.
+-- Consequences of the exact result of the parser of pages.
 use Rattle.std.proofs.Common.{◌≡◌, ℕ, true, List, Option, Some, None, Result, Ok, Err, MatchResult, refl, sym, ◌∙◌}
 use Rattle.std.specs.Prelude.{IfOk}
 use Rattle.lit_model.specs.declared.numeric.error.NumericError.{NumericError}
@@ -28,15 +28,15 @@ none_if : (cs : List ℕ) (o : Option Parts) → pages_from cs ≡ o → ((v : P
 none_if cs None e h = e
 none_if cs (Some v) e h = absurd (h v (pages_sound cs v e))
 
--- what no value spells is not read
+-- if the characters spell no pages, none are read
 pub nothing_read : (cs : List ℕ) → ((v : Parts) → SpellsPages v cs → ⊥) → pages_from cs ≡ None
 nothing_read cs h = none_if cs (pages_from cs) refl h
 
--- a text has one value at most
+-- characters spell at most one list of pages
 pub unique : (cs : List ℕ) (v w : Parts) → SpellsPages v cs → SpellsPages w cs → v ≡ w
 unique cs v w s t = some_is v w (sym (pages_complete v cs s) ∙ pages_complete w cs t)
 
--- what is read can be written
+-- pages that are read are writable
 pub writable : {X : Type 0} (view : X → Parts) (cs : List ℕ) → all_scalars cs ≡ true → (r : Result X NumericError) → Gives view r (pages_from cs) → IfOk r (λ n. AreWritable (view n))
 writable view cs is_scalar (Ok n) h = pages_writable (view n) cs is_scalar (pages_sound cs (view n) h)
 writable view cs is_scalar (Err e) h = tt

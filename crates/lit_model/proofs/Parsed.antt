@@ -1,4 +1,4 @@
--- What the answer of `parse` says, from the exact answer.
+-- Consequences of the exact result of `parse`.
 use Rattle.std.proofs.Common.{◌≡◌, ◌↔◌, ℕ, true, List, Option, Some, None, Result, Ok, Err, MatchResult, refl, sym, ◌∙◌}
 use Rattle.std.specs.Prelude.{IfOk}
 use Rattle.lit_model.specs.declared.numeric.error.NumericError.{NumericError}
@@ -25,19 +25,19 @@ none_if : (cs : List ℕ) (o : Option NumericView) → numeric_from cs ≡ o →
 none_if cs None e h = e
 none_if cs (Some v) e h = absurd (h v (numeric_sound cs v e))
 
--- what no value spells is not read
+-- if the characters spell no value, none is read
 pub nothing_read : (cs : List ℕ) → ((v : NumericView) → Spells v cs → ⊥) → numeric_from cs ≡ None
 nothing_read cs h = none_if cs (numeric_from cs) refl h
 
--- a text has one value at most
+-- characters spell at most one value
 pub unique : (cs : List ℕ) (v w : NumericView) → Spells v cs → Spells w cs → v ≡ w
 unique cs v w s t = some_is v w (sym (numeric_complete v cs s) ∙ numeric_complete w cs t)
 
--- what is read can be written
+-- a value that is read is writable
 pub writable : {X : Type 0} (view : X → NumericView) (cs : List ℕ) → all_scalars cs ≡ true → (r : Result X NumericError) → Gives view r (numeric_from cs) → IfOk r (λ n. IsWritable (view n))
 writable view cs is_scalar (Ok n) h = numeric_writable (view n) cs is_scalar (numeric_sound cs (view n) h)
 writable view cs is_scalar (Err e) h = tt
 
--- a value is read exactly where it is spelled
+-- a value is read exactly if the characters spell it
 pub grammar : (cs : List ℕ) (v : NumericView) → (numeric_from cs ≡ Some v) ↔ Spells v cs
 grammar cs v = (numeric_sound cs v, numeric_complete v cs)

@@ -15,7 +15,7 @@ use Rattle.lit_model.specs.Name.{words, is_particle_word, particle_words, after_
 eqb_apart : (a b : ℕ) → a ≢ b → eqb a b ≡ false
 eqb_apart a b h = ⊎_elim (λ same. absurd (h same.1)) (λ other. other.0) (eqb_tells a b)
 
--- a test of a byte that a text lacks fails at each of its bytes
+-- if a byte is not in a text, each byte of the text differs from it
 pub lacks : (c : ℕ) (xs : List ℕ) → ((i : ℕ) → i < length xs → get_or xs i 0 ≢ c) → All (λ b. eqb b c ≡ false) xs
 lacks c xs h = All-from_get_or (λ b. eqb b c ≡ false) xs 0 (λ i k. eqb_apart (get_or xs i 0) c (h i k))
 
@@ -38,14 +38,14 @@ cut_some_first : (b : Bool) (x : ℕ) (ws : List (List ℕ)) → HasFirst (if b 
 cut_some_first true x ws = ([], ws, refl)
 cut_some_first false x ws = onto_first_some x ws
 
--- there is a first word
+-- there is always a first word
 words_some : (text : List ℕ) → HasFirst (words text)
 words_some [] = ([], [], refl)
 words_some (x ∷ xs) = cut_some_first (eqb x 32) x (words xs)
 
--- ---- what is left after a particle
+-- ---- the name after its particle
 
--- one word is left as it is
+-- a name of one word is unchanged
 pub left_one : (text : List ℕ) → words text ≡ text ∷ [] → name_without_particle text ≡ text
 left_one text e = ap (λ ws. join_with_byte 32 (after_particle ws)) e
 
@@ -56,21 +56,21 @@ module _ (text w after : List ℕ) (split : words text ≡ w ∷ words after) wh
   left : (v : List ℕ) (vs : List (List ℕ)) → words after ≡ v ∷ vs → (b : Bool) → is_particle_word w ≡ b → name_without_particle text ≡ then_word b v vs
   left v vs e b h = ap (λ ws. join_with_byte 32 (after_particle ws)) (split ∙ ap (λ ws. w ∷ ws) e) ∙ ap (λ c. then_word c v vs) h
 
-  -- a particle word is cut off
+  -- a particle word with more words after it is dropped
   pub left_step : is_particle_word w ≡ true → name_without_particle text ≡ name_without_particle after
   left_step h =
       let s = words_some after in
       left s.0 s.1 s.2 true h ∙ ap (λ ws. join_with_byte 32 (after_particle ws)) (sym s.2)
 
-  -- any other word ends the particle
+  -- a name that begins with any other word is unchanged
   pub left_stop : is_particle_word w ≡ false → name_without_particle text ≡ text
   left_stop h =
       let s = words_some after in
       left s.0 s.1 s.2 false h ∙ ap (join_with_byte 32) (sym (split ∙ ap (λ ws. w ∷ ws) s.2)) ∙ join_with_byte-slice_split 32 text
 
--- ---- the particle before what is left
+-- ---- the particle before the rest of the name
 
--- the words are those of the particle, if there is one, a space, and the others
+-- the text is the particle, a space and the rest, or only the rest if there is no particle
 abbrev IsCut : Option (List ℕ) → List ℕ → List ℕ → Type 0
 IsCut particle rest text = MatchOption particle (text ≡ rest) (λ p. text ≡ p ++ (32 ∷ rest))
 
@@ -115,7 +115,7 @@ space_at (Some p) rest text e h =
     let n : length text - length rest - 1 ≡ length p = omega (arith, ap length e, length-append p (32 ∷ rest)) in
     ap (λ t. get_or t (length text - length rest - 1) 0) e ∙ space_after p rest (length text - length rest - 1) n
 
--- the front of a text as a range of it
+-- the range from 0 to n is the first n bytes
 pub range_front : (s : List ℕ) (n : ℕ) → slice_range s 0 n ≡ take n s
 range_front s n = grind (arith, common_steps)
 
@@ -130,11 +130,11 @@ module _ (text rest : List ℕ) (is : rest ≡ name_without_particle text) where
   pub rest_within : length rest ≤ length text
   rest_within = within (name_particle text) rest text cut
 
-  -- nothing was cut off: no particle
+  -- if nothing was cut off, there is no particle
   pub particle_none : length text - length rest ≡ 0 → None ≡ name_particle text
   particle_none = none_at (name_particle text) rest text cut
 
-  -- what was cut off is the particle and a space
+  -- if something was cut off, it is the particle and one space
   pub particle_some : 0 < length text - length rest → Some (take (length text - length rest - 1) text) ≡ name_particle text
   particle_some = some_at (name_particle text) rest text cut
 

@@ -1,4 +1,4 @@
--- `==` of persons compares their texts.
+-- `==` of persons compares their texts and the comma. `==` of groups compares persons and role.
 use Rattle.std.proofs.Common.{◌≡◌, ap, rules}
 use Rattle.std.specs.Bool.{Decides, beq}
 use Rattle.lit_model.specs.Person.{PersonView, person_view, role_of, RoleGroup, role_group}

@@ -1,4 +1,5 @@
--- What entries show in preorder, where each tells how many parents it has, tells the entry: where it ends, and what each parent shows.
+-- Let each entry show an item that determines its number of parents. Then the items of an entry in
+-- preorder determine where they end and what each parent shows.
 use Rattle.std.proofs.Common.{◌≡◌, ℕ, zero, suc, ◌<◌, List, [], ◌∷◌, ◌++◌, length, map, refl, sym, ap, ◌∙◌, arith, append_assoc}
 use Rattle.std.specs.List.{flat_map}
 use Rattle.std.proofs.lemmas.List.{map-append}
@@ -19,7 +20,8 @@ module _ {W : Type 0} (w : Entry → W) (tells : (a b : Entry) → w a ≡ w b �
   pub shown_out : (e : Entry) → shown e ≡ w e ∷ flat_map shown (parents_of e)
   shown_out e = ap (map w) (preorder_out e) ∙ ap (λ l. w e ∷ l) (map-flat_map w preorder (parents_of e))
 
-  -- what n such entries show at the front of a list tells what each shows
+  -- For two entries, the first of depth less than n: if two equal lists begin with their items,
+  -- these items are equal, and so are the rests of the lists.
   abbrev pub Fronts : ℕ → Type 0
   Fronts n = (a b : Entry) (r s : List W) → depth_of a < n → shown a ++ r ≡ shown b ++ s → (shown a ≡ shown b) × (r ≡ s)
 
@@ -43,7 +45,7 @@ module _ {W : Type 0} (w : Entry → W) (tells : (a b : Entry) → w a ≡ w b �
       let inside = all_fronts n (fronts n) (parents_of a) (parents_of b) r s (parents_less a n (omega (arith, p))) (tells a b both.0) both.1 in
       (shown_out a ∙ ap (λ l. w a ∷ l) (sym (flat_map-map (λ (l : List W). l) shown (parents_of a))) ∙ (λ i. both.0 i ∷ flat_map (λ (l : List W). l) (inside.0 i)) ∙ ap (λ l. w b ∷ l) (flat_map-map (λ (l : List W). l) shown (parents_of b)) ∙ sym (shown_out b), inside.1)
 
-  -- what two entries show is the same exactly where they show the same themselves, and so does each parent
+  -- two entries show the same exactly if their own items are equal and each parent shows the same
   pub shown_same : (a b : Entry) → w a ≡ w b → map shown (parents_of a) ≡ map shown (parents_of b) → shown a ≡ shown b
   shown_same a b own parents =
       shown_out a ∙ ap (λ l. w a ∷ l) (sym (flat_map-map (λ (l : List W). l) shown (parents_of a))) ∙ (λ i. own i ∷ flat_map (λ (l : List W). l) (parents i)) ∙ ap (λ l. w b ∷ l) (flat_map-map (λ (l : List W). l) shown (parents_of b)) ∙ sym (shown_out b)

@@ -1,4 +1,4 @@
--- The text that a value writes spells it.
+-- The text of a writable value spells it.
 use Rattle.std.proofs.Common.{◌≡◌, ℕ, zero, suc, ◌<◌, ◌^◌, Bool, List, [], ◌∷◌, ◌++◌, length, Option, Some, None, ℤ, pos, negsuc, chars, decimal, encode_utf8_all, refl, sym, ap, ◌∙◌, subst, append_assoc, arith, lit<}
 use Rattle.std.specs.Prelude.{IsSome, IsUtf8, IsAscii, unwrap_or}
 use Rattle.std.specs.Fmt.{signed_decimal}
@@ -30,7 +30,7 @@ integer_ascii (negsuc n) small = absurd small
 
 -- ---- several numbers
 
--- the white space that is written round a delimiter
+-- the white space that is written around a delimiter
 abbrev gap_before : NumericDelimiter → List ℕ
 gap_before Comma = []
 gap_before Ampersand = 32 ∷ []
@@ -97,7 +97,7 @@ integers_ascii [] w = absurd w
 integers_ascii (x ∷ []) w = IsAscii-append (signed_decimal x.0 ++ delimiter_text x.1) [] (IsAscii-append (signed_decimal x.0) (delimiter_text x.1) (integer_ascii x.0 w.0) (delimiter_ascii x.1)) ascii_nil
 integers_ascii (x ∷ y ∷ more) w = IsAscii-append (signed_decimal x.0 ++ delimiter_text x.1) (numbers_text signed_decimal (y ∷ more)) (IsAscii-append (signed_decimal x.0) (delimiter_text x.1) (integer_ascii x.0 w.0) (delimiter_ascii x.1)) (integers_ascii (y ∷ more) w.2)
 
--- ---- a number with its texts
+-- ---- a number with its prefix and suffix
 
 value_spelled : (v : ValueView) → IsWritableValue v → SpellsValue v (value_text signed_decimal v)
 value_spelled (one n) w = integer_spelled n w
@@ -119,7 +119,7 @@ pub affix_spelled : (p : ℕ → Bool) (o : Option (List ℕ)) → IsWritableAff
 affix_spelled p None w = chars-nil
 affix_spelled p (Some bytes) w = (chars_nonempty bytes (chars bytes) (encodes-chars bytes w.0) w.1, w.2, sym (encodes-chars bytes w.0))
 
--- what a value writes spells it
+-- the text of a writable value spells it
 pub numeric_spelled : (v : NumericView) → IsWritable v → Spells v (chars (numeric_text v))
 numeric_spelled v w =
     let prefix = unwrap_or v.prefix [] in

@@ -1,4 +1,4 @@
--- `==` of persons compares what they show.
+-- `==` of persons, and of lists of persons, is whether they show the same.
 use Rattle.std.proofs.Common.{◌≡◌, Bool, ◌&&◌, List, [], ◌∷◌, map, Option, Some, None, option_map, refl}
 use Rattle.std.specs.Prelude.{String, string_bytes}
 use Rattle.std.specs.Cmp.Lexicographic.{pointwise}

@@ -1,4 +1,4 @@
--- A numeric text taken apart.
+-- The shape of a numeric text: its parts, and the value that they give.
 use Rattle.std.proofs.Common.{◌≡◌, ℕ, zero, suc, true, false, List, [], ◌∷◌, Option, Some, None, count_by, chars, encode_utf8_all, refl, sym, ap, ◌∙◌}
 use Rattle.std.specs.Char.{is_whitespace}
 use Rattle.lit_model.specs.declared.numeric.parse.Shape.{Shape}
@@ -10,7 +10,7 @@ rest_of_bind : {A B : Type 0} (o : Option (A × List ℕ)) (f : A → B) → res
 rest_of_bind None f = refl
 rest_of_bind (Some n) f = refl
 
--- the value leaves what the numbers leave
+-- the characters after a value are those after its numbers
 pub rest_of_value : (k : ℕ) (cs : List ℕ) → rest_of (value_at k cs) ≡ rest_of (integers_at k cs)
 unfolding value_at integers_at
 rest_of_value zero cs = rest_of_bind (integer_at cs) one ∙ sym (rest_of_bind (integer_at cs) (λ n. (n, None) ∷ []))
@@ -24,16 +24,16 @@ some_from_rest : {A : Type 0} (o : Option (A × List ℕ)) (r : List ℕ) → re
 some_from_rest None r h = absurd cc
 some_from_rest (Some x) r h = (x.0, let e : x.1 ≡ r = cc in ap (λ (s : List ℕ). Some (x.0, s)) e)
 
--- the text from the first number on
+-- the characters from the first number on
 abbrev pub numbers_of : List ℕ → List ℕ
 numbers_of cs = after_longest_prefix is_affix (after_longest_prefix is_whitespace cs)
 
--- no numbers, no value
+-- without numbers there is no value
 pub shape_none : (cs : List ℕ) → rest_of (integers_at (count_by is_delimiter cs) (numbers_of cs)) ≡ None → numeric_from cs ≡ None
 unfolding numeric_from
 shape_none cs h = rw (none_from_rest (value_at (count_by is_delimiter cs) (numbers_of cs)) (rest_of_value (count_by is_delimiter cs) (numbers_of cs) ∙ h)) refl
 
--- something stands after the suffix
+-- if more than white space is after the suffix, there is no value
 pub shape_unended : (cs r : List ℕ) → rest_of (integers_at (count_by is_delimiter cs) (numbers_of cs)) ≡ Some r → is_blank (after_longest_prefix is_affix r) ≡ false → numeric_from cs ≡ None
 unfolding numeric_from
 shape_unended cs r h ended =
@@ -45,7 +45,7 @@ numeric_from_is : (cs r : List ℕ) (v : ValueView) → value_at (count_by is_de
 unfolding numeric_from
 numeric_from_is cs r v h ended = rw (h, ended) refl
 
--- the value, and the texts round it
+-- else there is a value, with this prefix and suffix
 pub shape_some : (cs r : List ℕ) → rest_of (integers_at (count_by is_delimiter cs) (numbers_of cs)) ≡ Some r → is_blank (after_longest_prefix is_affix r) ≡ true
     → (v : ValueView) × (read_of (value_at (count_by is_delimiter cs) (numbers_of cs)) ≡ Some v)
     × (numeric_from cs ≡ Some (record { value = v; prefix = affix_from (longest_prefix is_affix (after_longest_prefix is_whitespace cs)); suffix = affix_from (longest_prefix is_affix r) }))
@@ -53,7 +53,7 @@ shape_some cs r h ended =
     let v = some_from_rest (value_at (count_by is_delimiter cs) (numbers_of cs)) r (rest_of_value (count_by is_delimiter cs) (numbers_of cs) ∙ h) in
     (v.0, ap read_of v.1, numeric_from_is cs r v.0 v.1 ended)
 
--- the parts as the code has them
+-- a shape with these parts is the shape of the characters
 pub shape_made : (cs : List ℕ) (s : Shape) (r : List ℕ) (v : ValueView) → s.delimiters ≡ count_by is_delimiter cs → chars s.numbers.now ≡ numbers_of cs
     → s.prefix.now ≡ encode_utf8_all (longest_prefix is_affix (after_longest_prefix is_whitespace cs)) → s.suffix.now ≡ encode_utf8_all (longest_prefix is_affix r)
     → read_of (value_at (count_by is_delimiter cs) (numbers_of cs)) ≡ Some v

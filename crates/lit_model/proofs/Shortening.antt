@@ -16,7 +16,7 @@ use Rattle.lit_model.proofs.Particles.{lacks}
 
 -- ---- pieces of a word
 
--- the first cluster of a text is its first grapheme
+-- the first grapheme of a text is the first of its clusters; without clusters there is none
 pub first_is : (piece g : List ℕ) (gs : List (List ℕ)) → graphemes true piece ≡ g ∷ gs → first_grapheme piece ≡ Some g
 first_is piece g gs h = ap (λ (l : List (List ℕ)). slice_get l 0) h
 
@@ -24,11 +24,11 @@ pub first_none : (piece : List ℕ) → graphemes true piece ≡ [] → first_gr
 first_none piece h = ap (λ (l : List (List ℕ)). slice_get l 0) h
 
 module _ (text : List ℕ) (hyphen : Bool) where
-  -- an initial after its gap
+  -- the text of a piece with an initial is the gap and the initial
   pub piece_written : (before : Before) (piece g : List ℕ) → first_grapheme piece ≡ Some g → gap text hyphen before ++ g ≡ word_text text hyphen before (option_to_list (first_grapheme piece))
   piece_written before piece g h = ap (λ (r : List ℕ). gap text hyphen before ++ r) (sym (append-nil g)) ∙ ap (λ (o : Option (List ℕ)). word_text text hyphen before (option_to_list o)) (sym h)
 
-  -- a word's initials, a piece at a time
+  -- the text of a word's initials, one piece at a time
   pub word_step : (before : Before) (o : Option (List ℕ)) (gs : List (List ℕ)) → word_text text hyphen before (option_to_list o) ++ word_text text hyphen (before_piece before (option_to_list o)) gs ≡ word_text text hyphen before (cons_option o gs)
   word_step before None gs = refl
   word_step before (Some g) gs = simp (append_assoc, append-nil)
@@ -73,7 +73,7 @@ take_word : (w ds : List ℕ) → NonePass is_whitespace w → 0 < length w → 
 take_word w [] none some starts = ap char_words (append-nil w) ∙ ap (filter is_nonempty) (slice_split_none is_whitespace w (none_all is_whitespace w none)) ∙ kept_word w [] some
 take_word w (d ∷ ds) none some starts = ap (filter is_nonempty) (slice_split_at is_whitespace w d ds (none_all is_whitespace w none) starts) ∙ kept_word w (slice_split is_whitespace ds) some ∙ ap (λ (l : List (List ℕ)). w ∷ l) (sym (skip_space d ds starts))
 
--- what follows some characters of a text is text
+-- the bytes after some characters of a text are UTF-8 too
 after_chars : (cs bs rest : List ℕ) → IsUtf8 bs → bs ≡ encode_utf8_all cs ++ rest → IsUtf8 rest
 after_chars [] bs rest u e = subst IsUtf8 e u
 after_chars (c ∷ cs) bs rest u e =
@@ -116,7 +116,7 @@ option_alone : (o : Option (List ℕ)) → cons_option o [] ≡ option_to_list o
 option_alone None = refl
 option_alone (Some g) = refl
 
--- one piece more was written
+-- the invariants still hold after one more piece
 pub next_piece : (text : List ℕ) (hyphen : Bool) (so_far target : List ℕ) (before place : Before) (o : Option (List ℕ)) (all gs : List (List ℕ)) → all ≡ cons_option o gs → place ≡ before_piece before (option_to_list o) → so_far ++ word_text text hyphen before all ≡ target → (so_far ++ word_text text hyphen before (option_to_list o)) ++ word_text text hyphen place gs ≡ target
 next_piece text hyphen so_far target before place o all gs split at whole =
     append_assoc so_far (word_text text hyphen before (option_to_list o)) (word_text text hyphen place gs)
@@ -127,7 +127,7 @@ next_piece text hyphen so_far target before place o all gs split at whole =
 pub next_place : (before place target : Before) (o : Option (List ℕ)) (all gs : List (List ℕ)) → all ≡ cons_option o gs → place ≡ before_piece before (option_to_list o) → before_piece before all ≡ target → before_piece place gs ≡ target
 next_place before place target o all gs split at whole = ap (λ (b : Before). before_piece b gs) at ∙ place_step before o gs ∙ ap (before_piece before) (sym split) ∙ whole
 
--- the last piece was written
+-- after the last piece, the text and the position are those of the whole word
 pub last_piece : (text : List ℕ) (hyphen : Bool) (so_far target : List ℕ) (before : Before) (o : Option (List ℕ)) (all : List (List ℕ)) → all ≡ cons_option o [] → so_far ++ word_text text hyphen before all ≡ target → so_far ++ word_text text hyphen before (option_to_list o) ≡ target
 last_piece text hyphen so_far target before o all split whole = ap (λ (gs : List (List ℕ)). so_far ++ word_text text hyphen before gs) (sym (split ∙ option_alone o)) ∙ whole
 
@@ -136,7 +136,7 @@ last_place before place target o all split at whole = at ∙ ap (before_piece be
 
 -- ---- a loop over the words of a name
 
--- one word more was written
+-- the invariant still holds after one more word
 pub next_word : (text : List ℕ) (hyphen : Bool) (so_far target : List ℕ) (before place : Before) (w : List ℕ) (all more : List (List ℕ)) → all ≡ w ∷ more → place ≡ before_word (before_piece before (initials_of w)) → so_far ++ words_text text hyphen before (map initials_of all) ≡ target → (so_far ++ word_text text hyphen before (initials_of w)) ++ words_text text hyphen place (map initials_of more) ≡ target
 next_word text hyphen so_far target before place w all more split at whole =
     append_assoc so_far (word_text text hyphen before (initials_of w)) (words_text text hyphen place (map initials_of more))
@@ -144,19 +144,19 @@ next_word text hyphen so_far target before place w all more split at whole =
     ∙ ap (λ (ws : List (List ℕ)). so_far ++ words_text text hyphen before (map initials_of ws)) (sym split)
     ∙ whole
 
--- no word is left
+-- after the last word, the text so far and the text at the end are the whole text
 pub last_word : (text : List ℕ) (hyphen : Bool) (so_far target : List ℕ) (before : Before) (all : List (List ℕ)) → all ≡ [] → so_far ++ words_text text hyphen before (map initials_of all) ≡ target → so_far ++ end_text text before ≡ target
 last_word text hyphen so_far target before all none whole = ap (λ (ws : List (List ℕ)). so_far ++ words_text text hyphen before (map initials_of ws)) (sym none) ∙ whole
 
 -- ---- the initials, as they are written and as they are defined
 
--- what is written of a word behind its first initial
+-- the initials of a word are its first one and the text of those after it
 later : (text : List ℕ) (hyphen : Bool) (g : List ℕ) (gs : List (List ℕ)) → g ++ word_text text hyphen Piece gs ≡ word_initials text hyphen (g ∷ gs)
 later text hyphen g [] = append-nil g
 later text hyphen g (h ∷ gs) = ap (λ (x : List ℕ). g ++ (initials_separator text hyphen ++ x)) (later text hyphen h gs)
 
 module _ (text : List ℕ) (hyphen : Bool) where
-  -- what stands behind a word that has initials, given the words behind it that have some
+  -- the text after a word that has initials, given the later words that have some
   abbrev behind : List (List (List ℕ)) → List ℕ
   behind [] = trim_end text
   behind (w ∷ ws) = text ++ all_initials text hyphen (w ∷ ws)

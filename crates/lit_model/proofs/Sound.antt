@@ -1,4 +1,4 @@
--- What is read of a number is spelled so.
+-- The parser is sound: if it reads a value, the characters spell it.
 use Rattle.std.proofs.Common.{◌≡◌, ℕ, zero, suc, ◌<◌, ◌^◌, Bool, true, cond, List, [], ◌∷◌, ◌++◌, length, Option, Some, None, ℤ, pos, count_by, encode_utf8_all, refl, sym, ap, ◌∙◌, subst, append_assoc, inl, inr, arith}
 use Rattle.std.specs.Prelude.{nat_lt, nat_eq, drop}
 use Rattle.std.specs.Char.{is_ascii_digit, is_whitespace}
@@ -90,7 +90,7 @@ pub record HasNumbers (cs : List ℕ) (k : ℕ) (numbers : Numbers) (rest : List
   pub spelled : SpellsIntegers numbers text
   pub count : length numbers ≡ suc k
 
--- one number and its delimiter before the others
+-- a number with its delimiter before the other numbers
 more_sound : (cs : List ℕ) (n : ℤ) (digits a : List ℕ) (d : NumericDelimiter) (b : List ℕ) (k : ℕ) (more : Numbers) (r : List ℕ) → SpellsInteger n digits → cs ≡ digits ++ a → HasDelimiter a d b → HasNumbers b k more r → HasNumbers cs (suc k) ((n, Some d) ∷ more) r
 more_sound cs n digits a d b k [] r hn ha hd hm = absurd (omega (arith, hm.count))
 more_sound cs n digits a d b k (y ∷ more) r hn ha hd hm =
@@ -121,7 +121,7 @@ integers_sound (suc k) cs x h =
     subst (λ (y : Numbers × List ℕ). HasNumbers cs (suc k) y.0 y.1) (some_is ((b.0.0, Some c.0.0) ∷ e.0.0, e.0.1) x e.2)
     (more_sound cs b.0.0 (longest_prefix is_ascii_digit cs) b.0.1 c.0.0 c.0.1 k e.0.0 e.0.1 s.0 s.1 t u)
 
--- ---- a number with its texts
+-- ---- a number with its prefix and suffix
 
 pub record HasValue (cs : List ℕ) (v : ValueView) (rest : List ℕ) : Type 0 where
   pub text : List ℕ
@@ -143,7 +143,7 @@ from_list : (xs : List ℕ) → 0 < length xs → (b : ℕ) × (bytes : List ℕ
 from_list [] h = absurd (omega arith)
 from_list (x ∷ xs) h = (x, xs, refl)
 
--- the bytes of a prefix or a suffix are those of its characters
+-- one or more characters have one or more bytes
 pub encodes_some : (c : ℕ) (cs : List ℕ) → (b : ℕ) × (bytes : List ℕ) × (encode_utf8_all (c ∷ cs) ≡ b ∷ bytes)
 encodes_some c cs = from_list (encode_utf8_all (c ∷ cs)) (omega (arith, length-le-encodes (c ∷ cs)))
 
@@ -159,7 +159,7 @@ blank_is cs h =
     let all : cs ≡ longest_prefix is_whitespace cs = front_after is_whitespace cs ∙ ap (λ (r : List ℕ). longest_prefix is_whitespace cs ++ r) none ∙ append-nil (longest_prefix is_whitespace cs) in
     subst IsBlank (sym all) (Only-front is_whitespace cs)
 
--- what is read of a text is spelled by it
+-- if the parser reads a value, the characters spell it
 pub numeric_sound : (cs : List ℕ) (v : NumericView) → numeric_from cs ≡ Some v → Spells v cs
 unfolding numeric_from
 numeric_sound cs v h =

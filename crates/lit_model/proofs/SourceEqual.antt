@@ -1,4 +1,5 @@
--- `==` of publishers, addresses, serial numbers and languages compares their texts.
+-- `==` of publishers, serial numbers and languages compares their texts. `==` of dates compares
+-- their parts, and `==` of addresses their texts and visit dates.
 use Rattle.std.proofs.Common.{◌≡◌, ℕ, ℤ, ◌≤◌, Bool, ◌&&◌, List, Option, Some, None, refl, ap, rules}
 use Rattle.std.specs.Prelude.{String, string_bytes, option_map, nat_eq}
 use Rattle.std.specs.Bool.{Decides, beq}
@@ -78,7 +79,7 @@ month_prop o = Π_prop (λ x. →_prop le_prop)
 day_prop : (o : Option ℕ) → IsProp (ForSome o (λ d. d ≤ 30))
 day_prop o = Π_prop (λ x. →_prop le_prop)
 
--- dates of the same parts are the same
+-- dates with the same parts are equal
 pub same_date : (a b : Date) → date_view a ≡ date_view b → a ≡ b
 same_date a b h = λ i. record {
   year = (h i).year;
@@ -96,7 +97,7 @@ same_optional_date None (Some y) h = cc
 same_optional_date (Some x) None h = cc
 same_optional_date (Some x) (Some y) h = let e : date_view x ≡ date_view y = cc in ap (λ (d : Date). Some d) (same_date x y e)
 
--- of addresses as the parser gives them
+-- `==` of valid and canonical addresses, such as the parser returns, compares their parts
 pub address_decides : (a b : QualifiedUrl) → IsValid a.value → IsValid b.value → IsCanonical a.value → IsCanonical b.value → Decides (eq_url.it a b) (address_of a ≡ address_of b)
 address_decides a b valid_a valid_b canonical_a canonical_b = through _ (url_decides a b)
     (λ h. λ i. record { value = serialize_injective a.value b.value valid_a canonical_a valid_b canonical_b h.0 i; visit_date = same_optional_date a.visit_date b.visit_date h.1 i })

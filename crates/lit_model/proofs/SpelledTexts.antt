@@ -1,4 +1,4 @@
--- Whether a text was taken apart says whether a number is spelled by it.
+-- A shape is found exactly if the text spells a number.
 use Rattle.std.proofs.Common.{◌≡◌, ◌↔◌, ℕ, Bool, List, Option, Some, None, IsTrue, sym, ◌∙◌}
 use Rattle.std.specs.Prelude.{MatchOption, is_some}
 use Rattle.std.proofs.lemmas.Bool.{false≢true}

@@ -1,4 +1,4 @@
--- The whole that an entry is a part of, a step at a time.
+-- The whole of an entry, one step at a time.
 use Rattle.std.proofs.Common.{◌≡◌, List, [], ◌∷◌, Some, None, Bool, true, false, if◌then◌else◌, map, refl, sym, ap, ◌∙◌}
 use Rattle.std.specs.Prelude.{slice_get}
 use Rattle.lit_model.specs.Entry.{parents_of}
@@ -19,7 +19,7 @@ full_out e =
     let rolled : walk (roll-Entry (out-Entry e)) e ≡ (if is_untitled_part e then first_full (map (λ y. (y, walk y)) (parents_of e)) e else e) = ap (λ f. f e) (para-roll-Entry (Entry → Entry) full_step (out-Entry e)) in
     ap (λ d. walk d e) (sym (roll-out-Entry e)) ∙ rolled ∙ ap (λ w. if is_untitled_part e then w else e) (first_full-map (parents_of e) e)
 
--- a work that is no untitled part is whole
+-- an entry that is no untitled part is its own whole
 pub full_whole : (e : Entry) → is_untitled_part e ≡ false → full_of e ≡ e
 full_whole e h = full_out e ∙ ap (λ b. if b then full_among (parents_of e) e else e) h
 
@@ -35,10 +35,10 @@ if_same : (b : Bool) (e : Entry) → (if b then e else e) ≡ e
 if_same true e = refl
 if_same false e = refl
 
--- a work without parents is whole
+-- an entry without parents is its own whole
 pub full_alone : (e : Entry) → slice_get (parents_of e) 0 ≡ None → full_of e ≡ e
 full_alone e h = full_out e ∙ ap (λ w. if is_untitled_part e then w else e) (full_among-none (parents_of e) e h) ∙ if_same (is_untitled_part e) e
 
--- an untitled part is a part of its first parent's whole
+-- the whole of an untitled part is the whole of its first parent
 pub full_up : (e p : Entry) → is_untitled_part e ≡ true → slice_get (parents_of e) 0 ≡ Some p → full_of e ≡ full_of p
 full_up e p h k = full_out e ∙ ap (λ b. if b then full_among (parents_of e) e else e) h ∙ full_among-some (parents_of e) e p k

@@ -1,4 +1,4 @@
--- What an entry shows, from its own fields and what its parents show.
+-- `works` of an entry, from its own fields and `works` of its parents.
 use Rattle.std.proofs.Common.{◌≡◌, List, length, map, ap}
 use Rattle.std.proofs.lemmas.List.{length-map}
 use Rattle.lit_model.specs.Entry.{parents_of}
@@ -12,7 +12,7 @@ tells a b = ap (λ (w : Work). w.parent_count)
 same_count : (xs ys : List Entry) → map works xs ≡ map works ys → length xs ≡ length ys
 same_count xs ys h = simp length-map at (ap length h)
 
--- entries with the same own fields and parents that show the same show the same
+-- entries have the same `works` if their own fields and `works` of their parents are the same
 pub works_same : (e d : Entry) → own_of e ≡ own_of d → map works (parents_of e) ≡ map works (parents_of d) → works e ≡ works d
 works_same e d own parents =
     let count = same_count (parents_of e) (parents_of d) parents in

@@ -1,5 +1,5 @@
 -- The characters that the grammars of numbers, pages and names refer to, by their Unicode code
--- points. For an ASCII character that is also its byte.
+-- points. The code point of an ASCII character is also its byte.
 use Rattle.std.specs.Prelude.{ℕ}
 
 abbrev pub space_char : ℕ

@@ -9,10 +9,10 @@ use Rattle.lit_model.specs.Text.{Chunk}
 abbrev pub chunks_text : List Chunk → List ℕ
 chunks_text cs = flat_map (λ c. c.value) cs
 
--- the text is empty
+-- whether the text is empty
 abbrev pub is_empty : List Chunk → Bool
 is_empty cs = length (chunks_text cs) == 0
 
--- each character of the text is white space (Unicode White_Space); an empty text has none
+-- whether each character of the text is white space (Unicode White_Space); true if it is empty
 abbrev pub is_white_space : List Chunk → Bool
 is_white_space cs = list_all is_whitespace (chars (chunks_text cs))

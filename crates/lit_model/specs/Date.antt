@@ -1,13 +1,13 @@
 -- A date has a year, may have a month, a day and a season, and may be approximate. Year 0 is the
 -- year before year 1. Months and days count from 0: month 0 is January, month 11 is December, and
 -- day 0 is the first day.
--- A month and a day are on the calendar (`IsOnCalendar`) if the month, where there is one, is at
--- most 11 and the day, where there is one, is at most 30. The length of the month does not count.
+-- A month and a day are on the calendar (`IsOnCalendar`) if the month is absent or at most 11, and
+-- the day is absent or at most 30. The length of the month does not count.
 use Rattle.std.specs.Prelude.{ℕ, ℤ, ◌≤◌, Bool, false, Option, None, IfSome}
 use Rattle.lit_model.specs.declared.date.Date.{Date}
 use Rattle.csl_common.specs.declared.season.Season.{Season}
 
--- a month of a year and a day of a month, where they are given
+-- a month of a year and a day of a month, if they are given
 abbrev pub IsOnCalendar : Option ℕ → Option ℕ → Type 0
 IsOnCalendar month day = IfSome month (λ m. m ≤ 11) × IfSome day (λ d. d ≤ 30)
 
@@ -22,6 +22,6 @@ pub record DateView : Type 0 where
 abbrev pub date_view : Date → DateView
 date_view d = record { year = d.year; month = d.month; day = d.day; season = d.season; approximate = d.approximate }
 
--- a date of which the year alone is known
+-- a date with only a year
 abbrev pub year_alone : ℤ → DateView
 year_alone year = record { year = year; month = None; day = None; season = None; approximate = false }

@@ -14,7 +14,7 @@ use Rattle.lit_model.specs.declared.entry.Entry.{Entry, Entry-F, out-Entry, para
 abbrev pub parents_of : Entry → List Entry
 parents_of e = (out-Entry e).parents.items
 
--- One entry, given each parent with its walk: the entry, then each parent's walk.
+-- one step, given each parent with its preorder: the entry, then the preorder of each parent
 abbrev pub preorder_step : Entry-F (Entry × (Entry → List Entry)) → Entry → List Entry
 preorder_step x e = e ∷ flat_map (λ p. p.1 p.0) x.parents.items
 
@@ -22,11 +22,11 @@ preorder_step x e = e ∷ flat_map (λ p. p.1 p.0) x.parents.items
 abbrev pub preorder : Entry → List Entry
 preorder e = para-Entry (Entry → List Entry) preorder_step e e
 
--- a closure returns what the function g gives for the entry
+-- each result of a closure is the result of the function g for the same entry
 abbrev pub AnswersBy : {X : Type 0} → (Bor Entry → Option (Bor X) → Type 0) → (Entry → Option X) → Type 0
 AnswersBy {X} post g = (e : Bor Entry) (r : Option (Bor X)) → post e r → option_copied r ≡ g e.now
 
--- an entry with this key and type, and no other field
+-- an entry with only this key and this type
 pub record IsBare (key : List ℕ) (entry_type : EntryType) (e : Entry) : Type 0 where
   pub key_is : string_bytes (out-Entry e).key ≡ key
   pub type_is : (out-Entry e).entry_type ≡ entry_type
@@ -57,7 +57,7 @@ pub record IsBare (key : List ℕ) (entry_type : EntryType) (e : Entry) : Type 0
   pub no_genre : (out-Entry e).genre ≡ None
   pub no_parents : parents_of e ≡ []
 
--- the entry's own number under a scheme
+-- the entry's own number under the name of a scheme, if there is one
 abbrev pub own_serial : List ℕ → Entry → Option (List ℕ)
 own_serial scheme e = option_and_then (serial scheme) (out-Entry e).serial_number
 

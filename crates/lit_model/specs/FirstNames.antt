@@ -1,7 +1,7 @@
--- A given name with its single letters marked (CSL 1.0.2, Name, `initialize-with` where
--- `initialize` is off). The words are those of `Initials`. A word that is one uppercase letter
--- (general category Lu), with or without a dot at its end, becomes that letter and the given text.
--- Any other word stays as it is.
+-- A given name with its single letters marked (CSL 1.0.2, Name, `initialize-with` if `initialize`
+-- is off). The words are those of `Initials`. A word that is one uppercase letter (general category
+-- Lu), with or without a dot at its end, becomes that letter and the given text. Any other word is
+-- unchanged.
 -- A space separates two words, unless the given text follows the first of them and ends in white
 -- space. After the last word the given text loses its trailing white space.
 use Rattle.std.specs.Prelude.{ℕ, Bool, true, false, ◌==◌, List, [], ◌∷◌, ◌++◌, Option, Some, None, unwrap_or, codes, nat_lt, length, chars, if◌then◌else◌}
@@ -17,7 +17,7 @@ abbrev pub is_capital : GeneralCategory → Bool
 is_capital UppercaseLetter = true
 is_capital _ = false
 
--- one uppercase letter, general category Lu
+-- whether the text is one uppercase letter (general category Lu)
 abbrev pub is_single_capital : List ℕ → Bool
 is_single_capital [] = false
 is_single_capital (c ∷ []) = is_capital (general_category c)
@@ -46,12 +46,12 @@ last_letter_or_word text (Some letter) word = letter ++ trim_end text
 abbrev pub ends_in_white_space : List ℕ → Bool
 ends_in_white_space text = nat_lt (length (trim_end text)) (length text)
 
--- the space after a word, unless the given text is there and ends in white space
+-- the space after a word; none if the given text follows the word and ends in white space
 abbrev pub space_behind : List ℕ → Option (List ℕ) → List ℕ
 space_behind text None = codes " "
 space_behind text (Some letter) = if ends_in_white_space text then [] else codes " "
 
--- the words of a given name as they are written, with a space between two of them
+-- the words of a given name as they are written, with the spaces between them
 abbrev pub lettered_words : List ℕ → List (List ℕ) → List ℕ
 lettered_words text [] = []
 lettered_words text (w ∷ []) = last_letter_or_word text (single_letter w) w
@@ -61,6 +61,6 @@ abbrev pub optional_names : List ℕ → Option (List ℕ) → List ℕ
 optional_names text None = []
 optional_names text (Some given) = lettered_words text (given_words given)
 
--- the given name of a person, each letter in it followed by a text
+-- the given name of a person, with the text after each single letter
 abbrev pub person_first_name : Option (List ℕ) → PersonView → List ℕ
 person_first_name text p = optional_names (unwrap_or text []) p.given_name

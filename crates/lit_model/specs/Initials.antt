@@ -2,9 +2,9 @@
 -- name is cut into words: its longest runs of characters that are not white space (Unicode
 -- White_Space). Each word is cut into pieces at each `-`. The initial of a piece is its first
 -- extended grapheme cluster (UAX #29), so an empty piece has none.
--- The initials follow one another in order, each with the given text after it. At the end that text
--- loses its trailing white space. Where hyphens are kept, the initials of one word have between
--- them the given text without its trailing white space, and a `-`.
+-- The initials follow one another in order, each with the given text after it. At the end the given
+-- text loses its trailing white space. If hyphens are kept, the text between two initials of one
+-- word is the given text without its trailing white space, then a `-`.
 use Rattle.std.specs.Prelude.{ℕ, Bool, true, false, ◌==◌, List, [], ◌∷◌, ◌++◌, map, filter, Option, Some, None, unwrap_or, codes, slice_get, chars, encode_utf8_all, filter_map, if◌then◌else◌}
 use Rattle.std.specs.Char.{is_whitespace}
 use Rattle.std.specs.List.{slice_split}
@@ -17,7 +17,7 @@ abbrev pub is_nonempty : {A : Type 0} → List A → Bool
 is_nonempty [] = false
 is_nonempty (c ∷ cs) = true
 
--- the longest runs of characters that are no white space
+-- the longest runs of characters that are not white space
 abbrev pub char_words : List ℕ → List (List ℕ)
 char_words cs = filter is_nonempty (slice_split is_whitespace cs)
 
@@ -33,8 +33,8 @@ first_grapheme piece = slice_get (graphemes true piece) 0
 abbrev pub initials_of : List ℕ → List (List ℕ)
 initials_of word = filter_map first_grapheme (slice_split (λ b. b == hyphen_char) word)
 
--- The text between two initials of a word: the given text; where hyphens are kept, that text
--- without its trailing white space, and a hyphen.
+-- The text between two initials of a word: the given text, or, if hyphens are kept, the given text
+-- without its trailing white space, then a `-`.
 abbrev pub initials_separator : List ℕ → Bool → List ℕ
 initials_separator text hyphen = if hyphen then trim_end text ++ codes "-" else text
 
@@ -44,8 +44,8 @@ word_initials text hyphen [] = []
 word_initials text hyphen (g ∷ []) = g
 word_initials text hyphen (g ∷ h ∷ gs) = g ++ (initials_separator text hyphen ++ word_initials text hyphen (h ∷ gs))
 
--- The initials of words that each have some. The given text follows those of each word, at the end
--- without its trailing white space.
+-- The initials of words that each have some. The given text follows each word; at the end it loses
+-- its trailing white space.
 abbrev pub all_initials : List ℕ → Bool → List (List (List ℕ)) → List ℕ
 all_initials text hyphen [] = []
 all_initials text hyphen (w ∷ []) = word_initials text hyphen w ++ trim_end text

@@ -1,10 +1,9 @@
--- A field of an entry as plain data: the value that its text was parsed to, or the text where it
--- was not parsed.
+-- A field of an entry as plain data: a typed value, or a text in its place.
 use Rattle.std.specs.Prelude.{ℕ, List, string_bytes}
 use Rattle.lit_model.specs.declared.maybe_typed.MaybeTyped.{MaybeTyped}
 use Rattle.lit_model.specs.declared.maybe_typed.MaybeTyped.TheVariants as of_kind
 
--- an understood value by a view of it, or the bytes of a text
+-- the view of a typed value, or the bytes of a text
 pub data MaybeView (V : Type 0) : Type 0 where
   typed : V → MaybeView V
   text : List ℕ → MaybeView V

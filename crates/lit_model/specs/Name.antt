@@ -6,10 +6,10 @@
 --   Script_Extensions.
 -- - The *particle*: the name is cut at each space (U+0020), and empty words count. A particle word
 --   begins with a character of general category Ll (UAX #44). The particle is the longest run of
---   particle words at the front that leaves the last word. If it has no word, there is no particle.
---   The rest of the name is what follows the particle and one space.
--- - The *article*: a name that begins with `The `, `the `, `A `, `a `, `An ` or `an `, and goes on
---   after it, loses it. Any other name stays as it is.
+--   particle words at the front that leaves at least the last word. If the run is empty, there is
+--   no particle. The rest of the name is the text after the particle and one space.
+-- - The *article*: a name that begins with `The `, `the `, `A `, `a `, `An ` or `an ` loses this
+--   text if more follows. Any other name is unchanged.
 use Rattle.std.specs.Prelude.{ℕ, Bool, true, false, not, ◌&&◌, ◌==◌, List, [], ◌∷◌, ◌++◌, filter, drop, length, Option, Some, None, is_some, unwrap_or, codes, nat_lt, chars, if◌then◌else◌}
 use Rattle.std.specs.Option.{option_or}
 use Rattle.std.specs.List.{list_all, slice_split, join_with_byte, starts_with}
@@ -25,13 +25,13 @@ use Rattle.lit_model.specs.Person.{PersonView}
 
 -- ---- institutions
 
--- an institution has a name alone: no given name, no prefix and no suffix
+-- whether there is no given name, no prefix and no suffix
 abbrev pub is_institutional : PersonView → Bool
 is_institutional p = not (is_some p.given_name) && (not (is_some p.prefix) && not (is_some p.suffix))
 
 -- ---- CJK names
 
--- a script of Chinese, Japanese or Korean
+-- whether the script is one of Chinese, Japanese or Korean
 abbrev pub is_cjk_script : Script → Bool
 is_cjk_script Han = true
 is_cjk_script Hiragana = true
@@ -44,7 +44,7 @@ is_cjk_script _ = false
 abbrev pub letters : List ℕ → List ℕ
 letters text = filter is_alphabetic (chars text)
 
--- there are letters, and each has a script of Chinese, Japanese or Korean
+-- whether there are letters and each has a script of Chinese, Japanese or Korean
 abbrev pub are_cjk : List ℕ → Bool
 are_cjk cs = nat_lt 0 (length cs) && list_all (λ c. is_cjk_script (script c)) cs
 
@@ -52,7 +52,7 @@ are_cjk cs = nat_lt 0 (length cs) && list_all (λ c. is_cjk_script (script c)) c
 abbrev pub given_or_empty : PersonView → List ℕ
 given_or_empty p = unwrap_or p.given_name []
 
--- the letters of the name and the given name together are in such scripts
+-- whether the name and the given name together have letters, all in CJK scripts
 abbrev pub is_cjk : PersonView → Bool
 is_cjk p = are_cjk (letters p.name ++ letters (given_or_empty p))
 
@@ -70,11 +70,11 @@ abbrev pub first_is_lowercase : List ℕ → Bool
 first_is_lowercase [] = false
 first_is_lowercase (c ∷ cs) = is_lowercase_letter (general_category c)
 
--- a word begins with a lowercase letter, general category Ll
+-- whether a word begins with a lowercase letter (general category Ll)
 abbrev pub is_particle_word : List ℕ → Bool
 is_particle_word word = first_is_lowercase (chars word)
 
--- the longest front of the words that are particle words, never the last word
+-- the longest run of particle words at the front; the last word is never part of it
 abbrev pub particle_words : List (List ℕ) → List (List ℕ)
 particle_words [] = []
 particle_words (w ∷ []) = []
@@ -86,12 +86,12 @@ after_particle [] = []
 after_particle (w ∷ []) = w ∷ []
 after_particle (w ∷ v ∷ ws) = if is_particle_word w then after_particle (v ∷ ws) else w ∷ v ∷ ws
 
--- words with a space between them, if there are any
+-- the words with a space between each two, if there are any
 abbrev pub join_words : List (List ℕ) → Option (List ℕ)
 join_words [] = None
 join_words (w ∷ ws) = Some (join_with_byte space_char (w ∷ ws))
 
--- the particle of a name
+-- the particle of a name, if it has one
 abbrev pub name_particle : List ℕ → Option (List ℕ)
 name_particle name = join_words (particle_words (words name))
 
@@ -101,11 +101,11 @@ name_without_particle name = join_with_byte space_char (after_particle (words na
 
 -- ---- articles
 
--- the text without the article, where it begins with it and more follows
+-- the text after the article, if it begins with the article and more follows
 abbrev pub strip_article : List ℕ → List ℕ → Option (List ℕ)
 strip_article article text = if starts_with ◌==◌ text article && nat_lt (length article) (length text) then Some (drop (length article) text) else None
 
--- the text without the first of several articles that it begins with
+-- the first result of `strip_article` over the articles, if there is one
 abbrev pub strip_any_article : List (List ℕ) → List ℕ → Option (List ℕ)
 strip_any_article [] text = None
 strip_any_article (a ∷ articles) text = option_or (strip_article a text) (strip_any_article articles text)
@@ -114,6 +114,6 @@ strip_any_article (a ∷ articles) text = option_or (strip_article a text) (stri
 abbrev pub articles : List (List ℕ)
 articles = codes "The " ∷ codes "the " ∷ codes "A " ∷ codes "a " ∷ codes "An " ∷ codes "an " ∷ []
 
--- the name without an article before it
+-- the name without the article at its front, if it has one
 abbrev pub name_without_article : List ℕ → List ℕ
 name_without_article name = unwrap_or (strip_any_article articles name) name

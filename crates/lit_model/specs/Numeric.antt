@@ -23,9 +23,9 @@ use Rattle.lit_model.specs.declared.numeric.NumericValue.TheVariants.{Number, Se
 use Rattle.lit_model.specs.declared.numeric.NumericDelimiter.{NumericDelimiter}
 use Rattle.lit_model.specs.declared.numeric.NumericDelimiter.TheVariants.{Comma, Ampersand, Hyphen}
 
--- ---- values, without where they lie in memory
+-- ---- values as plain data
 
--- one number, or several, each with what separates it from the next
+-- one number, or several, each with the delimiter after it
 pub data ValueView : Type 0 where
   one : ℤ → ValueView
   several : List (ℤ × Option NumericDelimiter) → ValueView
@@ -48,26 +48,26 @@ abbrev pub numbers : ValueView → List ℤ
 numbers (one n) = n ∷ []
 numbers (several xs) = map (λ x. x.0) xs
 
--- the number, where there is just one
+-- the number, if there is exactly one
 abbrev pub only_number : List ℤ → Option ℤ
 only_number [] = None
 only_number (n ∷ []) = Some n
 only_number (n ∷ m ∷ more) = None
 
--- whether a term beside the numbers is in the plural: beside several numbers, and beside one above
--- 1 where they count things, such as pages or volumes
+-- whether a term beside the numbers is in the plural: beside several numbers, or beside one number
+-- above 1 that counts things, such as pages or volumes
 abbrev pub is_plural_number : Bool → List ℤ → Bool
 is_plural_number counts [] = false
 is_plural_number counts (n ∷ []) = counts && int_lt (pos 1) n
 is_plural_number counts (n ∷ m ∷ more) = true
 
--- neither a prefix nor a suffix
+-- whether there is neither a prefix nor a suffix
 abbrev pub is_bare : NumericView → Bool
 is_bare v = is_none v.prefix && is_none v.suffix
 
 -- ---- the grammar, over the characters of a text
 
--- the character that separates two numbers
+-- the character of a delimiter
 abbrev pub delimiter_char : NumericDelimiter → ℕ
 delimiter_char Comma = comma_char
 delimiter_char Ampersand = ampersand_char
@@ -76,7 +76,7 @@ delimiter_char Hyphen = hyphen_char
 abbrev pub is_delimiter : ℕ → Bool
 is_delimiter c = (c == comma_char || c == ampersand_char) || c == hyphen_char
 
--- a character of a prefix or a suffix: no digit, no white space and no delimiter
+-- whether a character may be in a prefix or a suffix: no digit, no white space and no delimiter
 abbrev pub is_affix : ℕ → Bool
 is_affix c = (not (is_ascii_digit c) && not (is_whitespace c)) && not (is_delimiter c)
 
@@ -88,15 +88,14 @@ AllChars p cs = AllByRecursion (λ c. p c ≡ true) cs
 abbrev pub IsBlank : List ℕ → Type 0
 IsBlank cs = AllChars is_whitespace cs
 
--- one digit or more, which write the number in base ten; it is below 2 ^ 31
+-- one or more digits that write the number in base ten; the number is below 2 ^ 31
 pub record SpellsInteger (n : ℤ) (cs : List ℕ) : Type 0 where
   pub nonempty : 0 < length cs
   pub digits : AllChars is_ascii_digit cs
   pub fits : digits_value 10 cs < 2 ^ 31
   pub is : n ≡ pos (digits_value 10 cs)
 
--- The last number has no delimiter. Each other one has one, with white space round it or none,
--- before the numbers that follow.
+-- each number but the last has a delimiter after it, with or without white space around it
 abbrev pub SpellsIntegers : List (ℤ × Option NumericDelimiter) → List ℕ → Type 0
 SpellsIntegers [] cs = ⊥
 SpellsIntegers (x ∷ []) cs = (x.1 ≡ None) × SpellsInteger x.0 cs
@@ -104,18 +103,18 @@ SpellsIntegers (x ∷ y ∷ more) cs = (d : NumericDelimiter) × (digits : List 
     × (x.1 ≡ Some d) × (cs ≡ digits ++ (before ++ (delimiter_char d ∷ (after ++ rest))))
     × SpellsInteger x.0 digits × IsBlank before × IsBlank after × SpellsIntegers (y ∷ more) rest
 
--- one number, or two and more
+-- one number, or two or more
 abbrev pub SpellsValue : ValueView → List ℕ → Type 0
 SpellsValue (one n) cs = SpellsInteger n cs
 SpellsValue (several numbers) cs = (2 ≤ length numbers) × SpellsIntegers numbers cs
 
--- nothing, or the characters of a prefix or a suffix that is there
+-- the characters of a prefix or a suffix; no characters if it is absent
 abbrev pub SpellsAffix : (ℕ → Bool) → Option (List ℕ) → List ℕ → Type 0
 SpellsAffix p None cs = cs ≡ []
 SpellsAffix p (Some bytes) cs = (0 < length cs) × AllChars p cs × (bytes ≡ encode_utf8_all cs)
 
--- The characters spell the value: white space or none, the prefix, the numbers, the suffix, white
--- space or none.
+-- The characters spell the value: optional white space, the prefix, the numbers, the suffix,
+-- optional white space.
 pub record Spells (v : NumericView) (cs : List ℕ) : Type 0 where
   pub before : List ℕ
   pub prefix : List ℕ
@@ -146,7 +145,7 @@ abbrev pub IsWritableValue : ValueView → Type 0
 IsWritableValue (one n) = IsWritableInteger n
 IsWritableValue (several numbers) = (2 ≤ length numbers) × AreWritableIntegers numbers
 
--- a prefix or a suffix that is there has a character, and only such characters
+-- a prefix or a suffix that is present is one or more characters that pass the test
 abbrev pub IsWritableAffix : (ℕ → Bool) → Option (List ℕ) → Type 0
 IsWritableAffix p None = ⊤
 IsWritableAffix p (Some bytes) = IsUtf8 bytes × (0 < length bytes) × AllChars p (chars bytes)

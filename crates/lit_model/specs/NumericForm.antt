@@ -14,16 +14,16 @@ use Rattle.lit_model.specs.Numeric.{NumericView, is_bare}
 use Rattle.lit_model.specs.NumericText.{value_text, numeric_text}
 use Rattle.lit_model.specs.Roman.{roman, has_roman}
 
--- the number in lower case roman numerals, where it has one
+-- the number as a lower-case roman numeral if it has one, else in decimal
 abbrev pub roman_text : ℤ → List ℕ
 roman_text (pos n) = if has_roman n then roman n else signed_decimal (pos n)
 roman_text (negsuc n) = signed_decimal (negsuc n)
 
--- the number and the suffix of its ordinal, if there is one
+-- the number, and the suffix of its ordinal if there is one
 abbrev pub ordinal_text : OrdinalTexts → Option GrammarGender → ℤ → List ℕ
 ordinal_text ordinals gender n = signed_decimal n ++ unwrap_or (ordinals n gender) []
 
--- the long ordinal, else the ordinal
+-- the long ordinal if there is one, else the ordinal
 abbrev pub long_ordinal_text : OrdinalTexts → OrdinalTexts → Option GrammarGender → ℤ → List ℕ
 long_ordinal_text ordinals long gender n = if has_long_ordinal n then unwrap_or (long n gender) (ordinal_text ordinals gender n) else ordinal_text ordinals gender n
 

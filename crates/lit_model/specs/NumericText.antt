@@ -9,16 +9,16 @@ use Rattle.lit_model.specs.declared.numeric.NumericDelimiter.{NumericDelimiter}
 use Rattle.lit_model.specs.declared.numeric.NumericDelimiter.TheVariants.{Comma, Ampersand, Hyphen}
 use Rattle.lit_model.specs.Numeric.{ValueView, one, several, NumericView}
 
--- the digits, with zeros before them up to this many
+-- the digits, with zeros before them up to this width
 abbrev pub with_zeros : ℕ → List ℕ → List ℕ
 with_zeros width digits = replicate (width - length digits) zero_char ++ digits
 
--- a number for sorting: in four places at least, the sign among them
+-- a number for sorting: in at least four places, including the sign
 abbrev pub sorted_integer : ℤ → List ℕ
 sorted_integer (pos n) = with_zeros 4 (decimal n)
 sorted_integer (negsuc n) = hyphen_char ∷ with_zeros 3 (decimal (suc n))
 
--- a number for sorting, or to be read
+-- a number for sorting, or for display
 abbrev pub integer_text : Bool → ℤ → List ℕ
 integer_text true n = sorted_integer n
 integer_text false n = signed_decimal n
@@ -30,7 +30,7 @@ delimiter_text (Some Comma) = codes ", "
 delimiter_text (Some Ampersand) = codes " & "
 delimiter_text (Some Hyphen) = codes "-"
 
--- numbers by the given text of each, with their delimiters
+-- the text of each number, with its delimiter
 abbrev pub numbers_text : (ℤ → List ℕ) → List (ℤ × Option NumericDelimiter) → List ℕ
 numbers_text text numbers = flat_map (λ x. text x.0 ++ delimiter_text x.1) numbers
 

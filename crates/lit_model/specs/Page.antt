@@ -7,9 +7,8 @@
 -- - A text spells pages (`SpellsPages`) if it is optional white space, items with a separator
 --   between each two, and optional white space. A separator may have white space around it. The
 --   parts are the items and the separators, in order. No text spells an escaped range.
--- - `first_page` is the page that the first item begins with; separators are passed over. A term is
---   in the plural (`plural_pages`) beside a range, also an escaped one, and beside more than one
---   part.
+-- - `first_page` is the page that the first item begins with. It skips separators. A term is in the
+--   plural (`plural_pages`) beside a range, even an escaped one, and beside more than one part.
 use Rattle.std.specs.Prelude.{◌≡◌, ℕ, Bool, true, false, not, ◌&&◌, ◌||◌, ◌==◌, List, [], ◌∷◌, ◌++◌, map, ℤ, Option, Some, None, ⊤}
 use Rattle.std.specs.Option.{option_or}
 use Rattle.lit_model.specs.Characters.{ampersand_char, comma_char, en_dash_char, hyphen_char}
@@ -18,7 +17,7 @@ use Rattle.lit_model.specs.declared.page.PageRangesPart.{PageRangesPart}
 use Rattle.lit_model.specs.declared.page.PageRangesPart.TheVariants.{Ampersand, Comma, EscapedRange, SinglePage, Range}
 use Rattle.lit_model.specs.Numeric.{ValueView, NumericView, one, several, numeric_view, is_affix, IsBlank, SpellsInteger, SpellsAffix, IsWritableInteger, IsWritableAffix}
 
--- ---- values, without where they lie in memory
+-- ---- values as plain data
 
 pub data PartView : Type 0 where
   ampersand : PartView
@@ -41,7 +40,7 @@ parts_view parts = map part_view parts
 abbrev pub pages_view : PageRanges → List PartView
 pages_view pages = parts_view pages.ranges.items
 
--- the page that an item begins with
+-- the page that an item begins with; None for a separator
 abbrev pub starting_page : PartView → Option NumericView
 starting_page ampersand = None
 starting_page comma = None
@@ -54,7 +53,7 @@ abbrev pub first_page : List PartView → Option NumericView
 first_page [] = None
 first_page (p ∷ more) = option_or (starting_page p) (first_page more)
 
--- the part is a range
+-- whether the part is a range
 abbrev pub is_range : PartView → Bool
 is_range ampersand = false
 is_range comma = false
@@ -62,7 +61,7 @@ is_range (escaped from to) = true
 is_range (single page) = false
 is_range (range from to) = true
 
--- whether a term beside the pages is in the plural: where there is a range, or more than one part
+-- whether a term beside the pages is in the plural: beside a range, or beside more than one part
 abbrev pub plural_pages : List PartView → Bool
 plural_pages [] = false
 plural_pages (p ∷ []) = is_range p
@@ -70,15 +69,15 @@ plural_pages (p ∷ q ∷ more) = true
 
 -- ---- the grammar, over the characters of a text
 
--- the two characters that join the ends of a range: `-`, and the en dash
+-- whether a character joins the ends of a range: `-` or the en dash
 abbrev pub is_range_mark : ℕ → Bool
 is_range_mark c = c == hyphen_char || c == en_dash_char
 
--- the two characters that separate the items
+-- whether a character separates two items: `,` or `&`
 abbrev pub is_separator : ℕ → Bool
 is_separator c = c == comma_char || c == ampersand_char
 
--- a character of the prefix or the suffix of a page: as of a number, but no en dash
+-- whether a character may be in the prefix or the suffix of a page: as for a number, but no en dash
 abbrev pub is_page_affix : ℕ → Bool
 is_page_affix c = is_affix c && not (c == 0x2013)
 
@@ -94,7 +93,7 @@ pub record SpellsPage (v : NumericView) (cs : List ℕ) : Type 0 where
   pub has_number : SpellsInteger number digits
   pub has_suffix : SpellsAffix is_page_affix v.suffix suffix
 
--- two pages joined by a mark, with white space round it or none
+-- two pages with a range mark between them, with or without white space around it
 pub record SpellsRange (v w : NumericView) (cs : List ℕ) : Type 0 where
   pub first : List ℕ
   pub before : List ℕ
@@ -124,7 +123,7 @@ SpellsSeparator (escaped v w) c = ⊥
 SpellsSeparator (single v) c = ⊥
 SpellsSeparator (range v w) c = ⊥
 
--- items, with a separator between two of them, and white space round it or none
+-- items with a separator between each two, with or without white space around it
 abbrev pub SpellsParts : List PartView → List ℕ → Type 0
 SpellsParts [] cs = ⊥
 SpellsParts (p ∷ []) cs = SpellsItem p cs
@@ -133,8 +132,7 @@ SpellsParts (p ∷ s ∷ q ∷ more) cs = (item : List ℕ) × (before : List �
     × (cs ≡ item ++ (before ++ (c ∷ (behind ++ rest))))
     × SpellsItem p item × IsBlank before × SpellsSeparator s c × IsBlank behind × SpellsParts (q ∷ more) rest
 
--- The characters spell the pages: white space or none, the items and separators, white space or
--- none.
+-- the characters spell the pages: optional white space, items and separators, optional white space
 pub record SpellsPages (parts : List PartView) (cs : List ℕ) : Type 0 where
   pub before : List ℕ
   pub inner : List ℕ
@@ -169,7 +167,7 @@ IsSeparator (escaped v w) = ⊥
 IsSeparator (single v) = ⊥
 IsSeparator (range v w) = ⊥
 
--- items, with a separator between two of them
+-- writable items with a separator between each two
 abbrev pub AreWritable : List PartView → Type 0
 AreWritable [] = ⊥
 AreWritable (p ∷ []) = IsWritableItem p

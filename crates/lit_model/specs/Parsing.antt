@@ -1,5 +1,5 @@
--- The result of a parser, against the value that the text spells. `Ok` is that value, `NotNumeric`
--- means that there is none, and `Memory` may come with any text.
+-- The result of a parser, compared with the value that the text spells. `Ok` has that value,
+-- `NotNumeric` means that there is none, and `Memory` may come with any text.
 use Rattle.std.specs.Prelude.{◌≡◌, ℕ, List, Option, Some, None, Result, Ok, Err, chars}
 use Rattle.lit_model.specs.Numeric.{ValueView}
 use Rattle.lit_model.specs.NumericReading.{read_of, value_at, text_from, numeric_from}
@@ -7,17 +7,17 @@ use Rattle.lit_model.specs.declared.numeric.parse.Shape.{Shape}
 use Rattle.lit_model.specs.declared.numeric.error.NumericError.{NumericError}
 use Rattle.lit_model.specs.declared.numeric.error.NumericError.TheVariants as errors
 
--- an error means that no value was read, or that memory ran out
+-- the error is `Memory`, or the text spells no value
 abbrev pub Fails : {Y : Type 0} → NumericError → Option Y → Type 0
 Fails errors.Memory read = Unit {0}
 Fails errors.NotNumeric read = read ≡ None
 
--- what was answered, seen by the view, is what was read, unless memory ran out
+-- the view of the value returned is the value read, or the error fits (`Fails`)
 abbrev pub Gives : {X Y : Type 0} → (X → Y) → Result X NumericError → Option Y → Type 0
 Gives view (Ok x) read = read ≡ Some (view x)
 Gives view (Err e) read = Fails e read
 
--- a text of the grammar, taken apart
+-- the parts of a text in the grammar
 pub record IsShapeOf (cs : List ℕ) (s : Shape) : Type 0 where
   pub value : ValueView
   pub has_value : read_of (value_at s.delimiters (chars s.numbers.now)) ≡ Some value

@@ -6,7 +6,7 @@ use Rattle.lit_model.specs.declared.person.PersonRole.TheVariants.{Unknown}
 use Rattle.lit_model.specs.contracts.person.PersonRolePartialEq.TheImpl.{eq-value}
 use Rattle.lit_model.specs.declared.person.PersonsWithRoles.{PersonsWithRoles}
 
--- a person, without where the texts lie
+-- a person as plain data
 pub record PersonView : Type 0 where
   pub name : List ℕ
   pub given_name : Option (List ℕ)
@@ -25,14 +25,14 @@ person_view p = record {
   comma_suffix = p.comma_suffix;
 }
 
--- a person of a name and a given name alone, and one of a name alone
+-- a person with only a name and a given name; `institution_of` has only a name
 abbrev pub person_of : List ℕ → List ℕ → PersonView
 person_of name given = record { name = name; given_name = Some given; prefix = None; suffix = None; alias = None; comma_suffix = false }
 
 abbrev pub institution_of : List ℕ → PersonView
 institution_of name = record { name = name; given_name = None; prefix = None; suffix = None; alias = None; comma_suffix = false }
 
--- a role: one of those with a name, or a text
+-- a role: a known one, or the text of any other
 pub data Role : Type 0 where
   known : PersonRole → Role
   unknown : List ℕ → Role
@@ -41,7 +41,7 @@ abbrev pub role_of : PersonRole → Role
 role_of (Unknown text) = unknown (string_bytes text)
 role_of role = known role
 
--- the two roles are one, as `==` has it
+-- whether the two roles are equal (`==`)
 abbrev pub same_role : PersonRole → PersonRole → Bool
 same_role = eq-value.it
 

@@ -3,8 +3,7 @@
 use Rattle.std.specs.Prelude.{ℕ, ◌-◌, ◌/◌, ◌%◌, ◌==◌, Bool, ◌&&◌, nat_lt, if◌then◌else◌, List, [], ◌∷◌, ◌++◌, replicate}
 use Rattle.lit_model.specs.Characters.{letter_c, letter_d, letter_i, letter_l, letter_m, letter_v, letter_x}
 
--- a digit by the letters for one, five and ten of its place: four is one before five, nine one
--- before ten
+-- the numeral of a digit, by the letters for one, five and ten of its place
 abbrev pub roman_digit : ℕ → ℕ → ℕ → ℕ → List ℕ
 roman_digit i v x d =
     if d == 4 then i ∷ v ∷ [] else (if d == 9 then i ∷ x ∷ [] else (if nat_lt d 5 then replicate d i else v ∷ replicate (d - 5) i))
@@ -23,6 +22,6 @@ units d = roman_digit letter_i letter_v letter_x d
 abbrev pub roman : ℕ → List ℕ
 roman n = replicate (n / 1000) letter_m ++ (hundreds (n / 100 % 10) ++ (tens (n / 10 % 10) ++ units (n % 10)))
 
--- the numbers that have a roman numeral
+-- whether the number has a roman numeral
 abbrev pub has_roman : ℕ → Bool
 has_roman n = nat_lt 0 n && nat_lt n 4000

@@ -8,14 +8,14 @@ use Rattle.std.specs.Option.{option_eq}
 use Rattle.std.specs.Str.{bytes_eq}
 use Rattle.lit_model.specs.Person.{PersonView}
 
--- both texts are absent, or both are there and equal
+-- whether both texts are absent, or both are present and equal
 abbrev pub same_text : Option (List ℕ) → Option (List ℕ) → Bool
 same_text = option_eq bytes_eq
 
--- each text of the one is that of the other
+-- whether two persons show the same
 abbrev pub same_person : PersonView → PersonView → Bool
 same_person a b = bytes_eq a.name b.name && (same_text a.given_name b.given_name && (same_text a.prefix b.prefix && (same_text a.suffix b.suffix && (same_text a.alias b.alias && beq a.comma_suffix b.comma_suffix))))
 
--- as many persons, and each shows what the one at its place shows
+-- whether two lists have the same length and show the same at each place
 abbrev pub same_people : List PersonView → List PersonView → Bool
 same_people = pointwise same_person

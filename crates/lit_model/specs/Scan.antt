@@ -14,6 +14,6 @@ passes Digit = is_ascii_digit
 passes Affix = is_affix
 passes PageAffix = is_page_affix
 
--- what was read, and the characters of what follows
+-- the value that was read, and the characters after it
 abbrev pub read_view : {A : Type 0} → Option (A × Bor (List ℕ)) → Option (A × List ℕ)
 read_view o = option_map (λ x. (x.0, chars x.1.now)) o

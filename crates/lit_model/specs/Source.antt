@@ -43,7 +43,7 @@ scheme_and_number e = (string_bytes e.0, string_bytes e.1)
 abbrev pub serials : SerialNumber → List (List ℕ × List ℕ)
 serials s = map scheme_and_number s.0.entries
 
--- the number under a scheme
+-- the number under the name of a scheme, if there is one
 abbrev pub serial : List ℕ → SerialNumber → Option (List ℕ)
 serial scheme s = option_map string_bytes (get_by_text s.0 scheme)
 

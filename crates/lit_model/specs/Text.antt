@@ -1,7 +1,6 @@
 -- A text is a list of chunks. Each chunk is a run of bytes with a kind: normal, verbatim or
 -- mathematics. A format string is a text that may have a short form. `select` returns the short
--- form where the style asks for Short and there is one, else the whole text (CSL 1.0.2, Text,
--- `form`).
+-- form if the style requests Short and there is one, else the whole text (CSL 1.0.2, Text, `form`).
 use Rattle.std.specs.Prelude.{ℕ, List, [], ◌∷◌, map, Option, None, option_map, string_bytes, unwrap_or}
 use Rattle.lit_model.specs.declared.text.StringChunk.{StringChunk}
 use Rattle.lit_model.specs.declared.text.ChunkKind.{ChunkKind}
@@ -31,14 +30,14 @@ pub record FormatStringView : Type 0 where
 abbrev pub format_string_view : FormatString → FormatStringView
 format_string_view t = record { value = chunks t.value; short = option_map chunks t.short }
 
--- a text in one piece that a style may change, and such a text without a short form
+-- a text in one piece that a style may change; in `plain_forms` it has no short form
 abbrev pub in_one_piece : List ℕ → List Chunk
 in_one_piece text = record { value = text; kind = Normal } ∷ []
 
 abbrev pub plain_forms : List ℕ → FormatStringView
 plain_forms text = record { value = in_one_piece text; short = None }
 
--- the text in a form: the short form where it is requested and there is one
+-- the text in a form: the short form if it is requested and there is one, else the whole text
 abbrev pub select : LongShortForm → FormatString → ChunkedString
 select Long t = t.value
 select Short t = unwrap_or t.short t.value

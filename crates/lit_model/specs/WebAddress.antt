@@ -4,6 +4,6 @@ use Rattle.std.specs.Prelude.{◌≡◌, ◌⊎◌, ℕ, List, None, Ok, codes}
 use Rattle.url.specs.Parser.{parse_url}
 use Rattle.url.specs.Parts.{Parts}
 
--- by the URL Standard (4.1, 4.4) the text is an absolute address of this scheme
+-- the text parses to a URL with the scheme `http` or `https`
 abbrev pub IsWebAddress : List ℕ → Type 0
 IsWebAddress text = (url : Parts) × (parse_url None text ≡ Ok url) × ((url.scheme ≡ codes "http") ⊎ (url.scheme ≡ codes "https"))

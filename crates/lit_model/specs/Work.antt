@@ -1,7 +1,8 @@
--- What an entry *shows*. Texts show their bytes, lists show their items, and addresses show their
--- parts (URL Standard). An entry shows `works`: the preorder of the entry and its parents, each
--- with its own fields and its number of parents. A copy shows the same. Two entries are equal
--- (`==`) if they have the same `spelled_works`, which is `works` with each address by its text.
+-- The data that an entry *shows*. Texts show their bytes, lists show their items, and addresses
+-- show their parts (URL Standard). An entry shows `works`: the preorder of the entry and its
+-- parents, each with its own fields and its number of parents. A copy shows the same. Two entries
+-- are equal (`==`) if they have the same `spelled_works`, which is `works` with each address by its
+-- text.
 use Rattle.std.specs.Prelude.{ℕ, List, map, length, Option, None, option_map, string_bytes}
 use Rattle.lit_model.specs.declared.date.Date.{Date}
 use Rattle.lit_model.specs.declared.entry.Entry.{Entry, out-Entry}
@@ -75,7 +76,7 @@ own_of e = record {
   genre = option_map format_string_view (out-Entry e).genre;
 }
 
--- an entry's own fields, and how many parents it has
+-- an entry's own fields, and its number of parents
 pub record Work : Type 0 where
   pub own : Own
   pub parent_count : ℕ
@@ -83,12 +84,12 @@ pub record Work : Type 0 where
 abbrev pub work_of : Entry → Work
 work_of e = record { own = own_of e; parent_count = length (parents_of e) }
 
--- The entry and its parents in preorder. Two entries show the same list exactly where they agree in
+-- The entry and its parents in preorder. Two entries show the same list exactly if they agree in
 -- every field, at every level.
 abbrev pub works : Entry → List Work
 works e = map work_of (preorder e)
 
--- an entry's own fields with its address by the text alone, and how many parents it has
+-- an entry's own fields with its address by the text alone, and its number of parents
 pub record Spelled : Type 0 where
   pub own : Own
   pub address : Option AddressText

@@ -1,4 +1,4 @@
-//! The text of chunks: joined, empty, white space alone.
+//! The text of chunks: joining it, and testing whether it is empty or white space.
 
 ghost use Rattle.std.specs.Prelude.{◌≡◌, string_bytes, chars, IfOk};
 ghost use Rattle.std.specs.Char.{is_whitespace};
@@ -11,10 +11,10 @@ use csl_common::Memory;
 use std::alloc::Global;
 
 impl ChunkedString {
-    /// The text: that of the chunks, one after another.
+    /// The whole text: the texts of the chunks, one after another.
     ///
     /// # Errors
-    /// [`Memory`]: there was no memory left.
+    /// [`Memory`]: out of memory.
     pub fn to_text(&self, alloc: Global) -> Result<String, Memory>
         ensures { IfOk result (λ text. string_bytes text ≡ chunks_text (chunks self.now)) }
     {
@@ -37,7 +37,8 @@ impl ChunkedString {
         true
     }
 
-    /// Whether the text is white space alone (Unicode White_Space). An empty text is.
+    /// Whether each character of the text is white space (Unicode White_Space); true if it is
+    /// empty.
     pub fn is_white_space(&self) -> bool
         ensures { result ≡ is_white_space (chunks self.now) }
     {

@@ -23,7 +23,7 @@ impl Entry {
     /// A copy, with copies of its parents.
     ///
     /// # Errors
-    /// [`Memory`]: there was no memory left.
+    /// [`Memory`]: out of memory.
     pub fn clone(&self, alloc: Global) -> Result<Entry, Memory>
         ensures { IfOk result (λ e. works e ≡ works self.now) }
     {
@@ -32,8 +32,8 @@ impl Entry {
         Ok(copy)
     }
 
-    /// Copies of the parents. It goes as deep as they do, so no copy stands on its stack: each is
-    /// made by [`Entry::push_copy`].
+    /// Copies of the parents. It recurses as deep as they are nested, so it keeps no copy in its
+    /// own stack frame: [`Entry::push_copy`] builds each one.
     fn copy_parents(&self, alloc: Global) -> Result<Vec<Entry>, Memory>
         ensures { IfOk result
             (λ copies. map works copies.items ≡ map works (parents_of self.now)) }
@@ -46,7 +46,7 @@ impl Entry {
         Ok(copies)
     }
 
-    /// Appends a copy to the copies, given those of its parents.
+    /// Appends a copy of the entry to `copies`, given the copies of its parents.
     #[inline(never)]
     fn push_copy(
         &self,
@@ -63,7 +63,7 @@ impl Entry {
         Ok(())
     }
 
-    /// A copy of the entry's own fields, under other parents.
+    /// A copy of the entry's own fields, with the given parents.
     fn copy_under(&self, parents: Vec<Entry>, alloc: Global) -> Result<Entry, Memory>
         ensures own { IfOk result (λ e. own_of e ≡ own_of self.now) }
         ensures parents { IfOk result (λ e. parents_of e ≡ parents.items) }

@@ -5,7 +5,7 @@ ghost use Rattle.std.specs.Option.{ForSome};
 
 use csl_common::Season;
 
-/// A date: a year, and what more is known.
+/// A date: a year, with a month, a day and a season if they are known.
 #[derive(Clone, Copy, Debug, PartialEq, Eq, Hash)]
 pub struct Date {
     year: i32,
@@ -20,8 +20,8 @@ pub struct Date {
 impl Date {
     ghost use Rattle.lit_model.specs.Date.{IsOnCalendar, date_view, year_alone};
 
-    /// A date, where the month is at most 11 and the day at most 30: both count from 0, so January
-    /// is month 0. Otherwise `None`.
+    /// Returns a date if a given month is at most 11 and a given day at most 30, else `None`. Both
+    /// count from 0, so January is month 0.
     pub fn new(
         year: i32,
         month: Option<u8>,
@@ -50,7 +50,7 @@ impl Date {
         })
     }
 
-    /// A date of which the year alone is known; 0 is the year before the year 1.
+    /// A date with only a year; year 0 is the year before year 1.
     pub fn of_year(year: i32) -> Date
         ensures { date_view result ≡ year_alone year }
     {
@@ -63,14 +63,14 @@ impl Date {
         }
     }
 
-    /// The year; 0 is the year before the year 1.
+    /// The year; year 0 is the year before year 1.
     pub fn year(&self) -> i32
         ensures { result ≡ (date_view self.now).year }
     {
         self.year
     }
 
-    /// The month, from 0 for January to 11, where it is known.
+    /// The month, from 0 for January to 11, if it is known.
     pub fn month(&self) -> Option<u8>
         ensures value { result ≡ (date_view self.now).month }
         ensures range { IfSome result (λ m. m ≤ 11) }
@@ -78,7 +78,7 @@ impl Date {
         self.month
     }
 
-    /// The day, from 0 for the first of the month to 30, where it is known.
+    /// The day, from 0 for the first of the month to 30, if it is known.
     pub fn day(&self) -> Option<u8>
         ensures value { result ≡ (date_view self.now).day }
         ensures range { IfSome result (λ d. d ≤ 30) }
@@ -86,14 +86,14 @@ impl Date {
         self.day
     }
 
-    /// The season, where it is known.
+    /// The season, if it is known.
     pub fn season(&self) -> Option<Season>
         ensures { result ≡ (date_view self.now).season }
     {
         self.season
     }
 
-    /// The date is about right.
+    /// Whether the date is approximate.
     pub fn approximate(&self) -> bool
         ensures { result ≡ (date_view self.now).approximate }
     {

@@ -19,9 +19,9 @@ use std::alloc::Global;
 /// A work, with the works that it is a part of.
 #[derive(PartialEq, Eq, Drop)]
 pub struct Entry {
-    /// The key that cites it.
+    /// The key that citations use.
     pub key: String,
-    /// What kind of work it is.
+    /// The type of the work.
     pub entry_type: EntryType,
     /// The title.
     pub title: Option<FormatString>,
@@ -29,17 +29,17 @@ pub struct Entry {
     pub authors: Option<Vec<Person>>,
     /// The editors.
     pub editors: Option<Vec<Person>>,
-    /// When it was published.
+    /// The date of publication.
     pub date: Option<Date>,
-    /// Where it can be read.
+    /// The address where it can be read.
     pub url: Option<QualifiedUrl>,
-    /// Further persons, by what they did.
+    /// Further persons, in groups with one role each.
     pub affiliated: Option<Vec<PersonsWithRoles>>,
     /// The publisher.
     pub publisher: Option<Publisher>,
-    /// Where it was made or kept.
+    /// The place where it was made or kept.
     pub location: Option<FormatString>,
-    /// The organization behind it.
+    /// The organization responsible for it.
     pub organization: Option<FormatString>,
     /// The issue.
     pub issue: Option<MaybeTyped<Numeric>>,
@@ -49,23 +49,23 @@ pub struct Entry {
     pub edition: Option<MaybeTyped<Numeric>>,
     /// The chapter.
     pub chapter: Option<MaybeTyped<Numeric>>,
-    /// How many volumes it has.
+    /// The number of its volumes.
     pub volume_total: Option<Numeric>,
-    /// How many pages it has.
+    /// The number of its pages.
     pub page_total: Option<Numeric>,
-    /// The pages on which it stands.
+    /// The pages that it occupies.
     pub page_range: Option<MaybeTyped<PageRanges>>,
-    /// How long it runs.
+    /// The running time.
     pub runtime: Option<FormatString>,
-    /// The numbers that name it.
+    /// The serial numbers, such as a DOI.
     pub serial_number: Option<SerialNumber>,
     /// The language of the work.
     pub language: Option<LanguageIdentifier>,
     /// The archive that keeps it.
     pub archive: Option<FormatString>,
-    /// Where the archive is.
+    /// The place of the archive.
     pub archive_location: Option<FormatString>,
-    /// Where the archive keeps it.
+    /// The call number: its place in the archive.
     pub call_number: Option<FormatString>,
     /// A note.
     pub note: Option<FormatString>,
@@ -78,10 +78,10 @@ pub struct Entry {
 }
 
 impl Entry {
-    /// An entry of which only the key and the type are known.
+    /// An entry with only a key and a type.
     ///
     /// # Errors
-    /// [`Memory`]: there was no memory left.
+    /// [`Memory`]: out of memory.
     pub fn new(alloc: Global, key: &str, entry_type: EntryType) -> Result<Entry, Memory>
         ensures { IfOk result (IsBare key.now entry_type) }
     {
@@ -118,14 +118,14 @@ impl Entry {
         })
     }
 
-    /// The key that cites the entry.
+    /// The key that citations use for the entry.
     pub fn key(&self) -> &str
         ensures { result.now ≡ string_bytes (out-Entry self.now).key }
     {
         self.key.as_str()
     }
 
-    /// What kind of work it is.
+    /// The type of the work.
     pub fn entry_type(&self) -> EntryType
         ensures { result ≡ (out-Entry self.now).entry_type }
     {
@@ -159,21 +159,21 @@ impl Entry {
         }
     }
 
-    /// When it was published.
+    /// The date of publication.
     pub fn date(&self) -> Option<&Date>
         ensures { option_copied result ≡ (out-Entry self.now).date }
     {
         self.date.as_ref()
     }
 
-    /// Where it can be read.
+    /// The address where it can be read.
     pub fn url(&self) -> Option<&QualifiedUrl>
         ensures { option_copied result ≡ (out-Entry self.now).url }
     {
         self.url.as_ref()
     }
 
-    /// Further persons, by what they did.
+    /// Further persons, in groups with one role each.
     pub fn affiliated(&self) -> Option<&[PersonsWithRoles]>
         ensures { option_copied result ≡ option_map (λ v. v.items) (out-Entry self.now).affiliated }
     {
@@ -190,14 +190,14 @@ impl Entry {
         self.publisher.as_ref()
     }
 
-    /// Where it was made or kept.
+    /// The place where it was made or kept.
     pub fn location(&self) -> Option<&FormatString>
         ensures { option_copied result ≡ (out-Entry self.now).location }
     {
         self.location.as_ref()
     }
 
-    /// The organization behind it.
+    /// The organization responsible for it.
     pub fn organization(&self) -> Option<&FormatString>
         ensures { option_copied result ≡ (out-Entry self.now).organization }
     {
@@ -232,35 +232,35 @@ impl Entry {
         self.chapter.as_ref()
     }
 
-    /// How many volumes it has.
+    /// The number of its volumes.
     pub fn volume_total(&self) -> Option<&Numeric>
         ensures { option_copied result ≡ (out-Entry self.now).volume_total }
     {
         self.volume_total.as_ref()
     }
 
-    /// How many pages it has.
+    /// The number of its pages.
     pub fn page_total(&self) -> Option<&Numeric>
         ensures { option_copied result ≡ (out-Entry self.now).page_total }
     {
         self.page_total.as_ref()
     }
 
-    /// The pages on which it stands.
+    /// The pages that it occupies.
     pub fn page_range(&self) -> Option<&MaybeTyped<PageRanges>>
         ensures { option_copied result ≡ (out-Entry self.now).page_range }
     {
         self.page_range.as_ref()
     }
 
-    /// How long it runs.
+    /// The running time.
     pub fn runtime(&self) -> Option<&FormatString>
         ensures { option_copied result ≡ (out-Entry self.now).runtime }
     {
         self.runtime.as_ref()
     }
 
-    /// The numbers that name it.
+    /// The serial numbers, such as a DOI.
     pub fn serial_number(&self) -> Option<&SerialNumber>
         ensures { option_copied result ≡ (out-Entry self.now).serial_number }
     {
@@ -281,14 +281,14 @@ impl Entry {
         self.archive.as_ref()
     }
 
-    /// Where the archive is.
+    /// The place of the archive.
     pub fn archive_location(&self) -> Option<&FormatString>
         ensures { option_copied result ≡ (out-Entry self.now).archive_location }
     {
         self.archive_location.as_ref()
     }
 
-    /// Where the archive keeps it.
+    /// The call number: its place in the archive.
     pub fn call_number(&self) -> Option<&FormatString>
         ensures { option_copied result ≡ (out-Entry self.now).call_number }
     {
@@ -316,7 +316,7 @@ impl Entry {
         self.genre.as_ref()
     }
 
-    /// The entry's own number under the name of a scheme.
+    /// The entry's own number under the name of a scheme, if there is one.
     pub fn keyed_serial_number(&self, scheme: &str) -> Option<&str>
         ensures { option_copied result ≡ own_serial scheme.now self.now }
     {
@@ -370,10 +370,10 @@ impl Entry {
 }
 
 impl Entry {
-    /// The first answer that `f` gives, asked of the entry, and then of each parent and that
-    /// parent's own parents, before the next parent.
+    /// Returns the first value that `f` returns for the entry and its parents, in preorder. So a
+    /// parent's own parents come before the next parent.
     ///
-    /// `f` is to answer by the entry alone.
+    /// The result is specified only for an `f` that depends on the entry alone.
     pub fn map<'a, X, F: Fn(&Entry) -> Option<&X>>(&'a self, f: F) -> Option<&'a X>
         requires { F.IsAlwaysCallable f }
         ensures { (g : Entry → Option X) → AnswersBy (F.post f) g
@@ -398,14 +398,14 @@ impl Entry {
         None
     }
 
-    /// The first date along the entry and its parents, in the order of `map`.
+    /// The first date of the entry and its parents, in the order of [`Entry::map`].
     pub fn date_any(&self) -> Option<&Date>
         ensures { option_copied result ≡ first_some (λ e. (out-Entry e).date) (preorder self.now) }
     {
         self.map(|entry| entry.date.as_ref())
     }
 
-    /// The first address along the entry and its parents, in the order of `map`.
+    /// The first address of the entry and its parents, in the order of [`Entry::map`].
     pub fn url_any(&self) -> Option<&QualifiedUrl>
         ensures { option_copied result ≡ first_some (λ e. (out-Entry e).url) (preorder self.now) }
     {

@@ -1,4 +1,4 @@
-/// What kind of work an entry is.
+/// The type of a work.
 #[derive(Clone, Copy, Debug, PartialEq, Eq, PartialOrd, Ord, Hash)]
 pub enum EntryType {
     /// A short text, as in a journal.
@@ -7,7 +7,7 @@ pub enum EntryType {
     Chapter,
     /// A short part of a reference work.
     Entry,
-    /// A work that stands in an anthology.
+    /// A work in an anthology.
     Anthos,
     /// A report.
     Report,
@@ -27,7 +27,7 @@ pub enum EntryType {
     Newspaper,
     /// A law, or a bill.
     Legislation,
-    /// A text that was not published.
+    /// An unpublished text.
     Manuscript,
     /// A post on a microblog.
     Post,

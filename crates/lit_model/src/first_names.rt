@@ -1,4 +1,4 @@
-//! Given names whose letters are marked, as `Karl J.`.
+//! Given names with their single letters marked, such as `Karl J.`.
 
 ghost use Rattle.std.specs.Prelude.{◌≡◌, true, option_copied, chars, OnOk, OnErr};
 ghost use Rattle.unicode.specs.GeneralCategory.{general_category};
@@ -22,7 +22,7 @@ fn is_capital(c: char) -> bool
     )
 }
 
-/// The text is one uppercase letter.
+/// Whether the text is one uppercase letter.
 fn is_single_capital(text: &str) -> bool
     ensures { result ≡ is_single_capital (chars text.now) }
 {
@@ -57,8 +57,8 @@ fn single_letter(word: &str) -> Option<&str>
     }
 }
 
-/// What a word leaves to be written before the next: the white space that ends the text, or else a
-/// space.
+/// The gap between a word and the next. After a single letter it is the white space at the end of
+/// `text`, if there is any. Otherwise it is a space.
 fn gap_after<'a>(text: &'a str, letter: Option<&str>) -> &'a str
     ensures { result.now ≡ gap_after text.now (option_copied letter.entry) }
 {
@@ -99,11 +99,12 @@ fn write_names<S: Sink>(sink: &mut S, text: &str, given: &str) -> fmt::Result
 
 impl Person {
     /// Writes the given name to a sink. A word that is one uppercase letter (general category Lu),
-    /// with or without a dot, is written as the letter and the text `delimiter`, any other as it
-    /// stands. A space separates words, unless white space is there; no white space ends the whole.
+    /// with or without a dot, becomes the letter and the text `delimiter`. Any other word is
+    /// unchanged. A space separates two words, unless `delimiter` follows the first of them and
+    /// ends in white space. After the last word `delimiter` loses its trailing white space.
     ///
     /// # Errors
-    /// [`fmt::Error`]: the sink refused a text; what it holds then is left open.
+    /// [`fmt::Error`]: the sink refused a text; the contents of the sink are then unspecified.
     pub fn first_name_with_delimiter_into<S: Sink>(
         &self,
         sink: &mut S,
@@ -125,7 +126,7 @@ impl Person {
     /// sink.
     ///
     /// # Errors
-    /// [`fmt::Error`]: the writer refused a text; what it holds then is left open.
+    /// [`fmt::Error`]: the writer refused a text; its contents are then unspecified.
     pub fn first_name_with_delimiter<W: fmt::Write>(
         &self,
         w: &mut W,
@@ -136,7 +137,7 @@ impl Person {
     {
         let mut sink = TrackingWriter::new(w);
         let result = self.first_name_with_delimiter_into(&mut sink, delimiter);
-        // It does nothing: the proof reads what `w` holds from the reference that comes back.
+        // No effect: the proof gets the contents of `w` from the returned reference.
         sink.into_inner();
         result
     }

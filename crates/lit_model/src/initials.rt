@@ -1,4 +1,4 @@
-//! Given names cut down to their initials.
+//! The initials of given names.
 
 ghost use Rattle.std.specs.Prelude.{◌≡◌, true, option_to_list, option_copied, OnOk, OnErr, IfOk};
 ghost use Rattle.std.specs.Fmt.{WritesInCalls};
@@ -11,18 +11,18 @@ use csl_common::{Sink, TrackingWriter};
 use std::fmt;
 use unicode_segmentation::UnicodeSegmentation;
 
-/// What precedes an initial.
+/// The position of an initial, by what precedes it.
 #[derive(Clone, Copy)]
 enum Before {
     /// No other initial.
     Nothing,
-    /// Another word.
+    /// An initial of an earlier word.
     Word,
-    /// Another piece of its word.
+    /// An initial of the same word.
     Piece,
 }
 
-/// How initials are written.
+/// The settings for writing initials.
 #[derive(Clone, Copy)]
 struct Shortened<'a> {
     /// The text that follows each initial.
@@ -46,7 +46,8 @@ impl Shortened<'_> {
         }
     }
 
-    /// Writes the initial of a piece, unless that is empty.
+    /// Writes the initial of a piece, unless the piece is empty. Returns the position of the next
+    /// initial.
     fn write_piece<S: Sink>(
         &self,
         sink: &mut S,
@@ -71,7 +72,7 @@ impl Shortened<'_> {
         }
     }
 
-    /// Writes the initials of a word.
+    /// Writes the initials of a word. Returns the position of the next initial.
     fn write_word<S: Sink>(
         &self,
         sink: &mut S,
@@ -124,7 +125,7 @@ impl Shortened<'_> {
 }
 
 impl Before {
-    /// What precedes the first initial of the next word.
+    /// The position of the first initial of the next word.
     fn before_word(self) -> Before
         ensures { result ≡ before_word self }
     {
@@ -137,12 +138,12 @@ impl Before {
 
 impl Person {
     /// Writes the initials of the given name to a sink: the first grapheme of each piece between
-    /// white space or `-`, each followed by the text `delimiter`. Between the pieces of one word,
-    /// where hyphens are kept, that text loses its trailing white space and a `-` follows; so does
-    /// the last one lose it.
+    /// white space or `-`. The text `delimiter` follows each initial; at the end it loses its
+    /// trailing white space. If `with_hyphen`, the text between two initials of one word is
+    /// `delimiter` without its trailing white space, then a `-`.
     ///
     /// # Errors
-    /// [`fmt::Error`]: the sink refused a text; what it holds then is left open.
+    /// [`fmt::Error`]: the sink refused a text; the contents of the sink are then unspecified.
     pub fn initials_into<S: Sink>(
         &self,
         sink: &mut S,
@@ -171,7 +172,7 @@ impl Person {
     /// sink.
     ///
     /// # Errors
-    /// [`fmt::Error`]: the writer refused a text; what it holds then is left open.
+    /// [`fmt::Error`]: the writer refused a text; its contents are then unspecified.
     pub fn initials<W: fmt::Write>(
         &self,
         w: &mut W,
@@ -183,7 +184,7 @@ impl Person {
     {
         let mut sink = TrackingWriter::new(w);
         let result = self.initials_into(&mut sink, delimiter, with_hyphen);
-        // It does nothing: the proof reads what `w` holds from the reference that comes back.
+        // No effect: the proof gets the contents of `w` from the returned reference.
         sink.into_inner();
         result
     }

@@ -1,4 +1,4 @@
-//! The literature model: what a bibliography knows of a work, and the texts of its parts.
+//! The literature model: the entries of a bibliography, and the texts of their parts.
 #![tactic(auto)]
 
 mod chunks;

@@ -1,4 +1,4 @@
-//! Values that were understood, or their texts.
+//! Typed values, or texts in their place.
 
 ghost use Rattle.std.specs.Prelude.{◌≡◌, IfOk};
 ghost use Rattle.lit_model.specs.MaybeTyped.{maybe_view};
@@ -10,12 +10,12 @@ use crate::page::PageRanges;
 use csl_common::Memory;
 use std::alloc::Global;
 
-/// A value that was understood, or the text that stands for it.
+/// A typed value, or a text in its place.
 #[derive(PartialEq, Eq, Hash, Drop)]
 pub enum MaybeTyped<T> {
     /// The value.
     Typed(T),
-    /// The text, which is no such value.
+    /// A text in place of the value.
     String(String),
 }
 
@@ -23,7 +23,7 @@ impl MaybeTyped<Numeric> {
     /// A copy.
     ///
     /// # Errors
-    /// [`Memory`]: there was no memory left.
+    /// [`Memory`]: out of memory.
     pub fn clone(&self, alloc: Global) -> Result<MaybeTyped<Numeric>, Memory>
         ensures { IfOk result (λ copy. maybe_view numeric_view copy
             ≡ maybe_view numeric_view self.now) }
@@ -45,7 +45,7 @@ impl MaybeTyped<PageRanges> {
     /// A copy.
     ///
     /// # Errors
-    /// [`Memory`]: there was no memory left.
+    /// [`Memory`]: out of memory.
     pub fn clone(&self, alloc: Global) -> Result<MaybeTyped<PageRanges>, Memory>
         ensures { IfOk result (λ copy. maybe_view pages_view copy
             ≡ maybe_view pages_view self.now) }

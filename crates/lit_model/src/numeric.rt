@@ -1,4 +1,4 @@
-//! Numbers as a bibliography writes them, and the forms that a style asks for.
+//! Numbers as a bibliography writes them, and in the forms that a style requests.
 
 ghost use Rattle.std.specs.Prelude.{◌≡◌, Option, None, IfOk};
 ghost use Rattle.lit_model.specs.Numeric.{one, numeric_view, value_view, numbers, only_number, is_plural_number, is_bare};
@@ -14,19 +14,19 @@ use csl_common::Memory;
 pub use error::NumericError;
 use std::alloc::Global;
 
-/// A number, or several, with the texts around it, as `n4-6a` has.
+/// One or more numbers, with an optional prefix and suffix, such as `n4-6a`.
 #[derive(PartialEq, Eq, Hash, Drop)]
 pub struct Numeric {
     /// The number or numbers.
     pub value: NumericValue,
-    /// What stands before the first number.
+    /// The text before the first number.
     pub prefix: Option<String>,
-    /// What stands after the last number.
+    /// The text after the last number.
     pub suffix: Option<String>,
 }
 
 impl Numeric {
-    /// One number, with no text around it.
+    /// One number, without prefix and suffix.
     pub fn new(value: i32) -> Numeric
         ensures { numeric_view result ≡ record { value = one value; prefix = None; suffix = None } }
     {
@@ -37,7 +37,7 @@ impl Numeric {
         }
     }
 
-    /// The number, where there is just one.
+    /// The number, if there is exactly one.
     pub fn value(&self) -> Option<i32>
         ensures { result ≡ only_number (numbers (value_view self.now.value)) }
     {
@@ -50,8 +50,8 @@ impl Numeric {
         }
     }
 
-    /// Whether a term beside the number is in the plural: where there are several numbers, and
-    /// where the number counts things (`is_number_of`: pages or volumes) and is above 1.
+    /// Whether a term beside the number is in the plural: beside several numbers, or beside one
+    /// number above 1 that counts things (`is_number_of`: pages or volumes).
     pub fn is_plural(&self, is_number_of: bool) -> bool
         ensures { result ≡ is_plural_number is_number_of (numbers (value_view self.now.value)) }
     {
@@ -65,7 +65,7 @@ impl Numeric {
         }
     }
 
-    /// Whether a form may rewrite the number: where it has neither prefix nor suffix.
+    /// Whether a form may rewrite the number: it has neither prefix nor suffix.
     pub fn will_transform(&self) -> bool
         ensures { result ≡ is_bare (numeric_view self.now) }
     {
@@ -75,7 +75,7 @@ impl Numeric {
     /// A copy.
     ///
     /// # Errors
-    /// [`Memory`]: there was no memory left.
+    /// [`Memory`]: out of memory.
     pub fn clone(&self, alloc: Global) -> Result<Numeric, Memory>
         ensures { IfOk result (λ copy. numeric_view copy ≡ numeric_view self.now) }
     {
@@ -95,7 +95,7 @@ impl Numeric {
 pub enum NumericValue {
     /// One number.
     Number(i32),
-    /// Several numbers, each with what separates it from the next.
+    /// Several numbers, each with the delimiter after it.
     Set(Vec<(i32, Option<NumericDelimiter>)>),
 }
 
@@ -103,7 +103,7 @@ impl NumericValue {
     /// A copy.
     ///
     /// # Errors
-    /// [`Memory`]: there was no memory left.
+    /// [`Memory`]: out of memory.
     pub fn clone(&self, alloc: Global) -> Result<NumericValue, Memory>
         ensures { IfOk result (λ copy. value_view copy ≡ value_view self.now) }
     {
@@ -114,13 +114,13 @@ impl NumericValue {
     }
 }
 
-/// What separates two numbers of a list.
+/// The delimiter between two numbers of a list.
 #[derive(Clone, Copy, Debug, PartialEq, Eq, Hash)]
 pub enum NumericDelimiter {
     /// A `,`.
     Comma,
     /// A `&`.
     Ampersand,
-    /// A `-`, which makes a range.
+    /// A `-`, as in a range.
     Hyphen,
 }

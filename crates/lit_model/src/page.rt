@@ -32,7 +32,7 @@ impl PageRanges {
         None
     }
 
-    /// Whether a term beside the pages is in the plural: where there is a range, or more than one
+    /// Whether a term beside the pages is in the plural: beside a range, or beside more than one
     /// part.
     pub fn is_plural(&self) -> bool
         ensures { result ≡ plural_pages (pages_view self.now) }
@@ -47,7 +47,7 @@ impl PageRanges {
     /// A copy.
     ///
     /// # Errors
-    /// [`Memory`]: there was no memory left.
+    /// [`Memory`]: out of memory.
     pub fn clone(&self, alloc: Global) -> Result<PageRanges, Memory>
         ensures { IfOk result (λ copy. pages_view copy ≡ pages_view self.now) }
     {
@@ -61,7 +61,7 @@ impl PageRanges {
 }
 
 impl PageRangesPart {
-    /// The page that the item begins with; none for a separator.
+    /// The page that the item begins with; `None` for a separator.
     fn start(&self) -> Option<&Numeric>
         ensures { option_map (λ page. numeric_view page.now) result
             ≡ starting_page (part_view self.now) }
@@ -89,7 +89,7 @@ impl PageRangesPart {
     /// A copy.
     ///
     /// # Errors
-    /// [`Memory`]: there was no memory left.
+    /// [`Memory`]: out of memory.
     pub fn clone(&self, alloc: Global) -> Result<PageRangesPart, Memory>
         ensures { IfOk result (λ copy. part_view copy ≡ part_view self.now) }
     {
@@ -121,7 +121,7 @@ pub enum PageRangesPart {
     Ampersand,
     /// A `,` between two items.
     Comma,
-    /// A range that is written in full whatever the style says.
+    /// A range that is written in full, regardless of the style.
     EscapedRange(Numeric, Numeric),
     /// One page.
     SinglePage(Numeric),

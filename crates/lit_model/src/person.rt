@@ -1,4 +1,4 @@
-//! Persons, and what they did for a work.
+//! Persons, and their roles in a work.
 
 ghost use Rattle.std.specs.Prelude.{◌≡◌, not, ◌||◌, ◌++◌, option_copied, string_bytes, chars, map, IfOk};
 ghost use Rattle.std.specs.List.{list_any, list_all};
@@ -19,17 +19,17 @@ pub struct Person {
     pub name: String,
     /// The given name.
     pub given_name: Option<String>,
-    /// What stands before the family name, as `von`.
+    /// The text before the family name, such as `von`.
     pub prefix: Option<String>,
-    /// What stands after the name, as `Jr.`.
+    /// The text after the name, such as `Jr.`.
     pub suffix: Option<String>,
     /// Another name.
     pub alias: Option<String>,
-    /// A comma stands before the suffix.
+    /// Whether a comma precedes the suffix.
     pub comma_suffix: bool,
 }
 
-/// What a person did for a work.
+/// The role of a person in a work.
 #[derive(PartialEq, Eq, Drop)]
 pub enum PersonRole {
     Translator,
@@ -52,7 +52,7 @@ pub enum PersonRole {
     Director,
     Illustrator,
     Narrator,
-    /// Something else.
+    /// Any other role, by its text.
     Unknown(String),
 }
 
@@ -61,15 +61,15 @@ pub enum PersonRole {
 pub struct PersonsWithRoles {
     /// The persons, in order.
     pub names: Vec<Person>,
-    /// What they did.
+    /// Their role.
     pub role: PersonRole,
 }
 
 impl Person {
-    /// A person of a name and a given name, of whom nothing else is said.
+    /// A person with only a name and a given name.
     ///
     /// # Errors
-    /// [`Memory`]: there was no memory left.
+    /// [`Memory`]: out of memory.
     pub fn new(alloc: Global, name: &str, given_name: &str) -> Result<Person, Memory>
         ensures { IfOk result (λ person. person_view person ≡ person_of name.now given_name.now) }
     {
@@ -85,10 +85,10 @@ impl Person {
         })
     }
 
-    /// An institution, or a person who has one name.
+    /// An institution, or a person with only one name.
     ///
     /// # Errors
-    /// [`Memory`]: there was no memory left.
+    /// [`Memory`]: out of memory.
     pub fn institution(alloc: Global, name: &str) -> Result<Person, Memory>
         ensures { IfOk result (λ person. person_view person ≡ institution_of name.now) }
     {
@@ -102,16 +102,17 @@ impl Person {
         })
     }
 
-    /// An institution: no given name, no prefix and no suffix, not even an empty one.
+    /// Whether this is an institution: it has no given name, no prefix and no suffix, not even an
+    /// empty one.
     pub fn is_institutional(&self) -> bool
         ensures { result ≡ is_institutional (person_view self.now) }
     {
         self.given_name.is_none() && self.prefix.is_none() && self.suffix.is_none()
     }
 
-    /// A name in a Chinese, Japanese or Korean script: the name and the given name together have a
-    /// letter (Unicode Alphabetic), and each is of script Han, Hiragana, Katakana, Hangul or
-    /// Bopomofo.
+    /// Whether the name is in a Chinese, Japanese or Korean script: the name and the given name
+    /// together have a letter (Unicode Alphabetic), and each letter has the script Han, Hiragana,
+    /// Katakana, Hangul or Bopomofo.
     pub fn is_cjk(&self) -> bool
         ensures { result ≡ is_cjk (person_view self.now) }
     {
@@ -121,8 +122,9 @@ impl Person {
         }
     }
 
-    /// The particle of the name, as `van der`: its longest front of words, cut at each space, that
-    /// begin with a lowercase letter (general category Ll), but never its last word.
+    /// The particle of the name, such as `van der`, if it has one. The name is cut into words at
+    /// each space. The particle is the longest run of words at the front that each begin with a
+    /// lowercase letter (general category Ll). The last word is never part of it.
     pub fn name_particle(&self) -> Option<&str>
         ensures { option_copied result ≡ name_particle (string_bytes self.now.name) }
     {
@@ -135,8 +137,7 @@ impl Person {
         Some(&name[..front - 1])
     }
 
-    /// The name after its particle and the space behind that; the whole name where it has no
-    /// particle.
+    /// The name after its particle and one space; the whole name if it has no particle.
     pub fn name_without_particle(&self) -> &str
         ensures { result.now ≡ name_without_particle (string_bytes self.now.name) }
     {
@@ -150,8 +151,9 @@ impl Person {
         rest
     }
 
-    /// The name without an English article before it, `The`, `A` or `An` with a capital or not; the
-    /// whole name where nothing else would be left.
+    /// The name without an English article and a space at its front. The articles are `The`, `A`
+    /// and `An`, with or without a capital. It is the whole name if there is no article or nothing
+    /// follows it.
     pub fn name_without_article(&self) -> &str
         ensures { result.now ≡ name_without_article (string_bytes self.now.name) }
     {
@@ -164,7 +166,7 @@ impl Person {
     /// A copy.
     ///
     /// # Errors
-    /// [`Memory`]: there was no memory left.
+    /// [`Memory`]: out of memory.
     pub fn clone(&self, alloc: Global) -> Result<Person, Memory>
         ensures { IfOk result (λ p. person_view p ≡ person_view self.now) }
     {
@@ -188,7 +190,7 @@ impl PersonRole {
     /// A copy.
     ///
     /// # Errors
-    /// [`Memory`]: there was no memory left.
+    /// [`Memory`]: out of memory.
     pub fn clone(&self, alloc: Global) -> Result<PersonRole, Memory>
         ensures { IfOk result (λ r. role_of r ≡ role_of self.now) }
     {
@@ -225,7 +227,7 @@ impl PersonsWithRoles {
     /// A copy.
     ///
     /// # Errors
-    /// [`Memory`]: there was no memory left.
+    /// [`Memory`]: out of memory.
     pub fn clone(&self, alloc: Global) -> Result<PersonsWithRoles, Memory>
         ensures { IfOk result (λ g. role_group g ≡ role_group self.now) }
     {
@@ -292,7 +294,7 @@ fn is_cjk_text(text: &str) -> bool
     text.chars().all(|c| !is_alphabetic(c) || is_cjk_script(Script::for_char(c)))
 }
 
-/// The word begins with a lowercase letter.
+/// Whether the word begins with a lowercase letter.
 fn is_particle_word(word: &str) -> bool
     ensures { result ≡ is_particle_word word.now }
 {
@@ -305,7 +307,7 @@ fn is_particle_word(word: &str) -> bool
     }
 }
 
-/// The text behind the article that it begins with, where there is any.
+/// The text after `article`, if the text begins with it and more follows.
 fn strip_article<'a>(article: &str, text: &'a str) -> Option<&'a str>
     ensures { option_copied result ≡ strip_article article.now text.now }
 {
@@ -313,7 +315,7 @@ fn strip_article<'a>(article: &str, text: &'a str) -> Option<&'a str>
     if rest.is_empty() { None } else { Some(rest) }
 }
 
-/// The text after the first of the articles that it begins with, if more follows.
+/// The first result of `strip_article` over the articles, if there is one.
 fn strip_any_article<'a>(articles: &[&str], text: &'a str) -> Option<&'a str>
     ensures { option_copied result ≡ strip_any_article (map (λ a. a.now) articles.now) text.now }
 {

@@ -1,4 +1,4 @@
-//! Persons that show the same.
+//! Whether persons are the same.
 
 ghost use Rattle.std.specs.Prelude.{◌≡◌, ◌↔◌, map, IsTrue};
 ghost use Rattle.lit_model.specs.Person.{person_view};
@@ -7,8 +7,8 @@ ghost use Rattle.lit_model.specs.SamePerson.{same_person, same_people};
 use crate::person::Person;
 
 impl Person {
-    /// Whether the two show the same in every text: name, given name, prefix, suffix, other name
-    /// and the comma before the suffix.
+    /// Whether both persons have the same name, given name, prefix, suffix and alias, and both or
+    /// neither have a comma before the suffix.
     pub fn is_same_person(&self, other: &Person) -> bool
         ensures texts { IsTrue result ↔ (person_view self.now ≡ person_view other.now) }
         ensures test { result ≡ same_person (person_view self.now) (person_view other.now) }
@@ -17,7 +17,8 @@ impl Person {
     }
 }
 
-/// Whether the two lists are equally long and the persons at each place show the same.
+/// Whether both lists have the same length and the same person ([`Person::is_same_person`]) at each
+/// place.
 pub fn are_same_people(people: &[Person], others: &[Person]) -> bool
     ensures texts { IsTrue result ↔ (map person_view people.now ≡ map person_view others.now) }
     ensures test { result ≡ same_people (map person_view people.now) (map person_view others.now) }

@@ -1,4 +1,4 @@
-//! The front of a text: the readers that the grammars of numbers and pages share.
+//! Parsers of the front of a text, for the grammars of numbers and pages.
 
 ghost use Rattle.std.specs.Prelude.{◌≡◌, ◌<◌, Option, [], ◌∷◌, ◌++◌, None, MatchOption, IfSome, count_by, encode_utf8, length, chars, encode_utf8_all};
 ghost use Rattle.lit_model.specs.Numeric.{is_affix, is_delimiter};
@@ -8,7 +8,7 @@ ghost use Rattle.lit_model.specs.Scan.{passes, read_view};
 
 use crate::numeric::NumericDelimiter;
 
-/// The characters that a grammar tells apart.
+/// The classes of characters in the grammars.
 #[derive(Clone, Copy)]
 pub enum Class {
     /// White space (Unicode White_Space).
@@ -35,14 +35,14 @@ impl Class {
     }
 }
 
-/// Whether the character may stand in the prefix or the suffix of a number.
+/// Whether the character may be in the prefix or the suffix of a number.
 fn may_surround(c: char) -> bool
     ensures { result ≡ is_affix c }
 {
     !c.is_ascii_digit() && !c.is_whitespace() && delimiter_from(c).is_none()
 }
 
-/// The delimiter that a character is.
+/// The delimiter that a character is, if it is one.
 fn delimiter_from(c: char) -> Option<NumericDelimiter>
     ensures { result ≡ delimiter_of c }
 {
@@ -81,7 +81,8 @@ pub fn split_front(text: &str, class: Class) -> (&str, &str)
     text.split_at(text.len() - rest.len())
 }
 
-/// The integer of 32 bits that the digits at the front write, and what follows them.
+/// The integer that the digits at the front write, and the text after them. `None` if there are no
+/// digits or the integer does not fit an `i32`.
 pub fn integer(text: &str) -> Option<(i32, &str)>
     ensures { read_view result ≡ integer_at (chars text.now) }
 {
@@ -92,7 +93,7 @@ pub fn integer(text: &str) -> Option<(i32, &str)>
     }
 }
 
-/// The delimiter at the front, with the white space round it, and what follows.
+/// The delimiter at the front, and the text after it. White space around it is skipped.
 #[tactic(auto, unfolding(crate::specs::NumericReading::delimiter_at))]
 pub fn delimiter(text: &str) -> Option<(NumericDelimiter, &str)>
     ensures { read_view result ≡ delimiter_at (chars text.now) }
@@ -108,7 +109,7 @@ pub fn delimiter(text: &str) -> Option<(NumericDelimiter, &str)>
     Some((delimiter, rest))
 }
 
-/// Whether the text is white space alone, or empty.
+/// Whether the text is empty or only white space.
 pub fn is_blank(text: &str) -> bool
     ensures { result ≡ reading.is_blank (chars text.now) }
 {
@@ -119,7 +120,7 @@ pub fn is_blank(text: &str) -> bool
     }
 }
 
-/// How many delimiters stand in the text.
+/// The number of delimiter characters in the text.
 pub fn delimiters(text: &str) -> usize
     ensures { result ≡ count_by is_delimiter (chars text.now) }
 {

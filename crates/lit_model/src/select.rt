@@ -12,7 +12,7 @@ use crate::person::{Person, PersonRole};
 use csl_common::Memory;
 use std::alloc::Global;
 
-/// A field that a clause asks for.
+/// A field that a clause may require.
 #[derive(Clone, Copy, Debug, PartialEq, Eq, PartialOrd, Ord, Hash)]
 pub enum Field {
     Date,
@@ -21,28 +21,28 @@ pub enum Field {
     Volume,
 }
 
-/// What a clause selects.
+/// The selection of a clause.
 #[derive(Clone, Copy, Debug, PartialEq, Eq, PartialOrd, Ord, Hash)]
 pub enum Bind {
     /// Nothing: the clause is a test.
     Nothing,
     /// The entry.
     Child,
-    /// The first direct parent that fits.
+    /// The first direct parent of one of the clause's parent types.
     Parent,
 }
 
 /// A test of an entry and of its direct parents.
 #[derive(Clone, Copy, PartialEq, Eq)]
 pub struct Clause<'a> {
-    /// The types that the entry may have. None at all: every type.
+    /// The types that the entry may have. An empty list means every type.
     pub own: &'a [EntryType],
-    /// The fields that the entry itself must have, all of them.
+    /// The fields that the entry itself must have.
     pub fields: &'a [Field],
-    /// The types of which a direct parent must have one, where a parent is asked for. None at all:
-    /// every type.
+    /// The types that a direct parent may have; one parent must have one of them. An empty list
+    /// means every type. `None` means that no parent is needed.
     pub parent: Option<&'a [EntryType]>,
-    /// What the clause selects of an entry that fits it.
+    /// The selection for an entry that fits the clause.
     pub bind: Bind,
 }
 
@@ -89,8 +89,8 @@ static CONTAINER: [Clause<'static>; 5] = [
     },
 ];
 
-/// The work that holds an entry: the book of a chapter, the journal of an article, the site of
-/// anything.
+/// The clauses for the container of an entry: the book of a chapter, the journal of an article, the
+/// site of anything.
 fn container() -> &'static [Clause<'static>]
     ensures { map clause_view result.now ≡ container }
 {
@@ -115,7 +115,7 @@ static COLLECTION: [Clause<'static>; 1] = [Clause {
     bind: Bind::Parent,
 }];
 
-/// The collection of a work that stands in no other.
+/// The clauses for the collection of a work without a container.
 fn collection() -> &'static [Clause<'static>]
     ensures { map clause_view result.now ≡ collection }
 {
@@ -129,7 +129,7 @@ static ORIGINAL: [Clause<'static>; 1] = [Clause {
     bind: Bind::Parent,
 }];
 
-/// The work that was translated or printed again.
+/// The clauses for the work that an entry translates or reprints.
 fn original() -> &'static [Clause<'static>]
     ensures { map clause_view result.now ≡ original }
 {
@@ -147,8 +147,7 @@ static EVENT: [Clause<'static>; 1] = [Clause {
     bind: Bind::Parent,
 }];
 
-/// The event at which a work was shown: its first parent that is an exhibition, a conference or
-/// anything else.
+/// The clauses for the event of a work: its first parent of type Exhibition, Conference or Misc.
 pub fn event() -> &'static [Clause<'static>]
     ensures { map clause_view result.now ≡ event }
 {
@@ -182,8 +181,8 @@ static CHAPTER: [Clause<'static>; 4] = [
     },
 ];
 
-/// The work whose volume numbers a chapter: an entry of an anthology, a reference work, proceedings
-/// or a book.
+/// The clauses for an entry whose volume is a chapter number: a work of type Anthos in an
+/// anthology, an article in proceedings, or anything in a work of reference or a book.
 pub fn chapter() -> &'static [Clause<'static>]
     ensures { map clause_view result.now ≡ chapter }
 {
@@ -202,7 +201,8 @@ static PART: [Clause<'static>; 1] = [Clause {
     bind: Bind::Child,
 }];
 
-/// The work whose volume numbers a part: an entry of an article, a blog, a book or a law.
+/// The clauses for an entry whose volume is a part number: anything in an article, a blog, a book
+/// or a law.
 pub fn part() -> &'static [Clause<'static>]
     ensures { map clause_view result.now ≡ part }
 {
@@ -236,8 +236,8 @@ static VOLUME_TITLE: [Clause<'static>; 4] = [
     },
 ];
 
-/// The work whose title is the title of a volume: the parent of a work of type Anthos in an
-/// anthology, of an entry (type Entry) in anything, of anything in a work of reference, or of an
+/// The clauses for the work whose title is a volume title: the parent of a work of type Anthos in
+/// an anthology, of an entry (type Entry) in anything, of anything in a work of reference, or of an
 /// article in proceedings.
 pub fn volume_title() -> &'static [Clause<'static>]
     ensures { map clause_view result.now ≡ volume_title }
@@ -260,14 +260,15 @@ static AUDIO_VIDEO: [Clause<'static>; 2] = [
     },
 ];
 
-/// The recording: the first parent that is one, or else the entry itself where it is one.
+/// The clauses for the recording: the first parent of type Audio or Video, else the entry itself if
+/// it is of such a type.
 pub fn audio_video() -> &'static [Clause<'static>]
     ensures { map clause_view result.now ≡ audio_video }
 {
     &AUDIO_VIDEO
 }
 
-/// The type is among these, or there are none.
+/// Whether the type is in the list. An empty list means every type.
 fn is_among(entry_type: EntryType, types: &[EntryType]) -> bool
     ensures { result ≡ is_among entry_type types.now }
 {
@@ -292,7 +293,7 @@ impl Entry {
         fields.iter().all(|field| self.has_field(*field))
     }
 
-    /// The first direct parent of one of these types; of any type where there are none.
+    /// The first direct parent of one of these types. An empty list means every type.
     fn parent_among(&self, types: &[EntryType]) -> Option<&Entry>
         ensures { option_copied result ≡ parent_among types.now self.now }
     {
@@ -301,7 +302,8 @@ impl Entry {
 }
 
 impl Clause<'_> {
-    /// The entry has one of the types, all the fields, and a parent such as is asked for.
+    /// Whether the entry has one of the types, all the fields, and the parent that is needed, if
+    /// any.
     fn fits(&self, entry: &Entry) -> bool
         ensures { result ≡ fits entry.now (clause_view self.now) }
     {
@@ -319,7 +321,7 @@ impl Clause<'_> {
         }
     }
 
-    /// What the clause selects of an entry that fits it.
+    /// The selection for an entry that fits the clause.
     fn bound<'e>(&self, entry: &'e Entry) -> Option<&'e Entry>
         ensures { option_copied result
             ≡ bound_by self.now.bind (clause_view self.now).parent entry.now }
@@ -333,7 +335,7 @@ impl Clause<'_> {
 }
 
 impl Entry {
-    /// Some clause matches the entry.
+    /// Whether some clause fits the entry.
     pub fn matches(&self, clauses: &[Clause<'_>]) -> bool
         ensures { result ≡ matches (map clause_view clauses.now) self.now }
     {
@@ -345,8 +347,8 @@ impl Entry {
         false
     }
 
-    /// What the first clause that matches the entry selects: nothing, the entry, or its first
-    /// direct parent that fits.
+    /// The selection of the first clause that fits the entry: nothing, the entry, or its first
+    /// direct parent of one of the clause's parent types.
     pub fn bound_select(&self, clauses: &[Clause<'_>]) -> Option<&Entry>
         ensures { option_copied result ≡ bound_select (map clause_view clauses.now) self.now }
     {
@@ -367,8 +369,8 @@ impl Entry {
             && self.title.is_none()
     }
 
-    /// The work that the entry is a part of: from a chapter or a scene without a title up to its
-    /// first parent, and on, as long as there is one.
+    /// The whole that the entry is a part of. For a chapter or a scene without a title, it is the
+    /// whole of the first parent, if there is one. For any other entry, it is the entry itself.
     pub fn get_full(&self) -> &Entry
         ensures { result.now ≡ full_of self.now }
     {
@@ -384,15 +386,15 @@ impl Entry {
         }
     }
 
-    /// The work that holds the entry, as a journal holds an article.
+    /// The container of the entry, such as the journal of an article.
     pub fn get_container(&self) -> Option<&Entry>
         ensures { option_copied result ≡ container_of self.now }
     {
         self.bound_select(container())
     }
 
-    /// The collection that the entry stands in: where another work holds it, that work's first
-    /// parent.
+    /// The collection of the entry: the first parent of its container if it has a container, else
+    /// the parent that the clauses for a collection select.
     pub fn get_collection(&self) -> Option<&Entry>
         ensures { option_copied result ≡ collection_of self.now }
     {
@@ -402,17 +404,17 @@ impl Entry {
         }
     }
 
-    /// The work that the entry translates or prints again.
+    /// The work that the entry translates or reprints.
     pub fn get_original(&self) -> Option<&Entry>
         ensures { option_copied result ≡ bound_select original self.now }
     {
         self.bound_select(original())
     }
 
-    /// The entry's own further persons of a role, in order.
+    /// The entry's own further persons with a role, in order.
     ///
     /// # Errors
-    /// [`Memory`]: there was no memory left.
+    /// [`Memory`]: out of memory.
     pub fn affiliated_with_role(
         &self,
         alloc: Global,

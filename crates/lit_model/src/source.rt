@@ -1,4 +1,4 @@
-//! Where a work can be had: its publisher, its address and its numbers.
+//! The publisher, the web address, the serial numbers and the language of a work.
 
 ghost use Rattle.std.specs.Prelude.{◌≡◌, codes, option_copied, IfOk};
 ghost use Rattle.lit_model.specs.Source.{press_of, address_of, serials, serial, language_of};
@@ -10,7 +10,7 @@ use std::alloc::Global;
 use std::collections::BTreeMap;
 use url::Url;
 
-/// Who published a work, and where.
+/// The publisher of a work, and its place.
 #[derive(PartialEq, Eq, Drop)]
 pub struct Publisher {
     /// The name.
@@ -24,25 +24,25 @@ pub struct Publisher {
 pub struct QualifiedUrl {
     /// The address.
     pub value: Url,
-    /// When it was visited.
+    /// The date of the visit.
     pub visit_date: Option<Date>,
 }
 
-/// Numbers that name a work, each under the name of its scheme, as `doi`.
+/// The serial numbers of a work, each under the name of its scheme, such as `doi`.
 #[derive(PartialEq, Eq, Drop)]
 pub struct SerialNumber(pub BTreeMap<String, String>);
 
 /// A language, and a region where it is spoken (BCP 47).
 #[derive(PartialEq, Eq, Drop)]
 pub struct LanguageIdentifier {
-    /// The language, as `en`.
+    /// The language, such as `en`.
     pub language: String,
-    /// The region, as `US`.
+    /// The region, such as `US`.
     pub region: Option<String>,
 }
 
 impl SerialNumber {
-    /// The number under the name of a scheme.
+    /// The number under the name of a scheme, if there is one.
     pub fn get(&self, scheme: &str) -> Option<&str>
         ensures { option_copied result ≡ serial scheme.now self.now }
     {
@@ -92,7 +92,7 @@ impl Publisher {
     /// A copy.
     ///
     /// # Errors
-    /// [`Memory`]: there was no memory left.
+    /// [`Memory`]: out of memory.
     pub fn clone(&self, alloc: Global) -> Result<Publisher, Memory>
         ensures { IfOk result (λ p. press_of p ≡ press_of self.now) }
     {
@@ -106,7 +106,7 @@ impl QualifiedUrl {
     /// A copy.
     ///
     /// # Errors
-    /// [`Memory`]: there was no memory left.
+    /// [`Memory`]: out of memory.
     pub fn clone(&self, _alloc: Global) -> Result<QualifiedUrl, Memory>
         ensures { IfOk result (λ u. address_of u ≡ address_of self.now) }
     {
@@ -122,7 +122,7 @@ impl SerialNumber {
     /// A copy.
     ///
     /// # Errors
-    /// [`Memory`]: there was no memory left.
+    /// [`Memory`]: out of memory.
     pub fn clone(&self, _alloc: Global) -> Result<SerialNumber, Memory>
         ensures { IfOk result (λ s. serials s ≡ serials self.now) }
     {
@@ -135,7 +135,7 @@ impl LanguageIdentifier {
     /// A copy.
     ///
     /// # Errors
-    /// [`Memory`]: there was no memory left.
+    /// [`Memory`]: out of memory.
     pub fn clone(&self, alloc: Global) -> Result<LanguageIdentifier, Memory>
         ensures { IfOk result (λ l. language_of l ≡ language_of self.now) }
     {

@@ -6,7 +6,7 @@ ghost use Rattle.lit_model.specs.Text.{chunk_of, chunks, format_string_view, in_
 use csl_common::{LongShortForm, Memory};
 use std::alloc::Global;
 
-/// How a chunk of text may be changed.
+/// The kind of a chunk: whether a style may change its text.
 #[derive(Clone, Copy, Debug, Default, PartialEq, Eq, Hash)]
 pub enum ChunkKind {
     /// A style may change the text, for example its case.
@@ -14,7 +14,7 @@ pub enum ChunkKind {
     Normal,
     /// No style changes the text.
     Verbatim,
-    /// Mathematics, which no style changes.
+    /// Mathematics. No style changes it.
     Math,
 }
 
@@ -23,7 +23,7 @@ pub enum ChunkKind {
 pub struct StringChunk {
     /// The text.
     pub value: String,
-    /// How a style may change the text.
+    /// Whether a style may change the text.
     pub kind: ChunkKind,
 }
 
@@ -31,7 +31,7 @@ pub struct StringChunk {
 #[derive(PartialEq, Eq, Drop)]
 pub struct ChunkedString(pub Vec<StringChunk>);
 
-/// A text, with a short form where there is one.
+/// A text, with a short form if it has one.
 #[derive(PartialEq, Eq, Drop)]
 pub struct FormatString {
     /// The whole text.
@@ -44,7 +44,7 @@ impl ChunkedString {
     /// A text in one piece, which a style may change.
     ///
     /// # Errors
-    /// [`Memory`]: there was no memory left.
+    /// [`Memory`]: out of memory.
     pub fn plain(alloc: Global, text: &str) -> Result<ChunkedString, Memory>
         ensures { IfOk result (λ plain. chunks plain ≡ in_one_piece text.now) }
     {
@@ -60,7 +60,7 @@ impl FormatString {
     /// A text in one piece, which a style may change, without a short form.
     ///
     /// # Errors
-    /// [`Memory`]: there was no memory left.
+    /// [`Memory`]: out of memory.
     pub fn plain(alloc: Global, text: &str) -> Result<FormatString, Memory>
         ensures { IfOk result (λ plain. format_string_view plain ≡ plain_forms text.now) }
     {
@@ -70,8 +70,7 @@ impl FormatString {
         })
     }
 
-    /// The text in a form: the short form where it is asked for and there is one, else the whole
-    /// text.
+    /// The text in a form: the short form if it is requested and there is one, else the whole text.
     pub fn select(&self, form: LongShortForm) -> &ChunkedString
         ensures { result.now ≡ select form self.now }
     {
@@ -89,7 +88,7 @@ impl StringChunk {
     /// A copy.
     ///
     /// # Errors
-    /// [`Memory`]: there was no memory left.
+    /// [`Memory`]: out of memory.
     pub fn clone(&self, alloc: Global) -> Result<StringChunk, Memory>
         ensures { IfOk result (λ c. chunk_of c ≡ chunk_of self.now) }
     {
@@ -105,7 +104,7 @@ impl ChunkedString {
     /// A copy.
     ///
     /// # Errors
-    /// [`Memory`]: there was no memory left.
+    /// [`Memory`]: out of memory.
     pub fn clone(&self, alloc: Global) -> Result<ChunkedString, Memory>
         ensures { IfOk result (λ t. chunks t ≡ chunks self.now) }
     {
@@ -121,7 +120,7 @@ impl FormatString {
     /// A copy.
     ///
     /// # Errors
-    /// [`Memory`]: there was no memory left.
+    /// [`Memory`]: out of memory.
     pub fn clone(&self, alloc: Global) -> Result<FormatString, Memory>
         ensures { IfOk result (λ t. format_string_view t ≡ format_string_view self.now) }
     {
@@ -143,7 +142,7 @@ fn copy_short(short: &Option<ChunkedString>, alloc: Global) -> Result<Option<Chu
     }
 }
 
-/// A copy of a text, where there is one.
+/// A copy of a text, if there is one.
 pub(crate) fn copy_text(text: &Option<String>, alloc: Global) -> Result<Option<String>, Memory>
     ensures { IfOk result (λ t. option_map string_bytes t ≡ option_map string_bytes text.now) }
 {
@@ -156,7 +155,7 @@ pub(crate) fn copy_text(text: &Option<String>, alloc: Global) -> Result<Option<S
     }
 }
 
-/// A copy of a text with its forms, where there is one.
+/// A copy of a text with its forms, if there is one.
 pub(crate) fn copy_forms(
     text: &Option<FormatString>,
     alloc: Global,

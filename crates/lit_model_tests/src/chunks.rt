@@ -1,11 +1,11 @@
-//! The text of chunks: joined, empty, white space alone.
+//! The text of chunks: the joined text, and whether it is empty or white space.
 
 use crate::samples::{assert_text, assert_whether, chunk};
 use lit_model::{ChunkKind, ChunkedString, Memory};
 use std::alloc::Global;
 use std::process::Abort;
 
-/// A text in no chunk, or in three, of which the second is mathematics.
+/// A text without chunks if `count` is 0, else in three chunks. The second chunk is mathematics.
 fn text(alloc: Global, count: usize, values: [&str; 3]) -> Result<ChunkedString, Memory> {
     let mut chunks = Vec::new(alloc);
     if count > 0 {
@@ -17,7 +17,7 @@ fn text(alloc: Global, count: usize, values: [&str; 3]) -> Result<ChunkedString,
     Ok(ChunkedString(chunks))
 }
 
-/// How many chunks a text has, their texts, the whole, and whether it is empty and white space.
+/// The number of chunks, their texts, the joined text, and whether it is empty and white space.
 type Row = (usize, [&'static str; 3], &'static str, bool, bool);
 
 static TEXTS: [Row; 8] = [

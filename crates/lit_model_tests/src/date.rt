@@ -12,7 +12,7 @@ fn parts(date: &Date) -> Parts {
     (date.year(), month, day, season, date.approximate())
 }
 
-/// The parts, and whether they are a date's.
+/// The parts, and whether a date can have them.
 static DATES: [(Parts, bool); 4] = [
     ((2014, Some(11), Some(30), None, false), true),
     ((2014, Some(12), None, None, false), false),

@@ -1,4 +1,4 @@
-//! What is meant where nothing is said.
+//! Default values.
 
 use crate::asserted::assert_same;
 use lit_model::{ChunkKind, LongShortForm, NumberForm};

@@ -1,4 +1,4 @@
-//! When entries are equal.
+//! Equality of entries.
 
 ghost use Rattle.std.specs.Prelude.{◌≡◌, ◌↔◌, IsTrue};
 ghost use Rattle.lit_model.specs.Work.{spelled_works, works};
@@ -8,8 +8,8 @@ use lit_model::{Entry, EntryType, Memory};
 use std::alloc::Global;
 use std::process::Abort;
 
-/// Whether the two entries are equal: they are where they are spelled alike, of an address the
-/// text. So they are where they show the same.
+/// Whether the entries are equal: exactly if all fields of each entry and of its parents are equal,
+/// with addresses compared by text. Entries with equal views (`works`) are equal.
 fn same_entry(a: &Entry, b: &Entry) -> bool
     ensures spelled { IsTrue result ↔ (spelled_works a.now ≡ spelled_works b.now) }
     ensures shown { works a.now ≡ works b.now → IsTrue result }
@@ -17,7 +17,7 @@ fn same_entry(a: &Entry, b: &Entry) -> bool
     *a == *b
 }
 
-/// A book with this title, over which stand as many of those before it.
+/// A book with this title. Its parents are the last `parents` works before it.
 const fn book(title: &'static str, parents: usize) -> Work {
     ("key", EntryType::Book, Shown::Title(title), parents)
 }
@@ -30,7 +30,8 @@ fn are_same(entries: &[Entry]) -> Option<(bool, usize)> {
     }
 }
 
-/// Of two works, whether they are equal; of one, whether its copy is.
+/// Asserts whether two works are equal, or whether a single one is equal to its copy, and the
+/// number of the second one's parents.
 fn assert_same(
     rt: &impl Abort,
     alloc: Global,

@@ -1,25 +1,25 @@
-//! Given names as a name prints them.
+//! Given names as they are written in a name.
 
 use crate::samples::{assert_text, person};
 use std::alloc::Global;
 use std::process::Abort;
 use std::test::Fail;
 
-/// How given names are written.
+/// A form of given names.
 #[derive(Clone, Copy)]
 enum Form {
-    /// Words of one letter are marked.
+    /// A word of one capital letter gets the delimiter.
     Marked,
-    /// Each word is cut down to its initial.
+    /// Each word is shortened to its initial.
     Initials,
-    /// Each word is cut down to its initial, and hyphens are dropped.
+    /// Each word is shortened to its initial, and hyphens are dropped.
     WithoutHyphens,
 }
 
 /// Two graphemes of several characters each.
 const GRAPHEMES: &str = "e\u{301}\u{1f469}\u{200d}\u{1f467}";
 
-/// Given names, how they are written, the delimiter, and what is written.
+/// Given names, their form, the delimiter, and the written text.
 type Row = (&'static str, Form, &'static str, &'static str);
 
 static NAMES: [Row; 10] = [

@@ -1,4 +1,4 @@
-//! The tests of the literature model. What is expected stands here as written out by hand.
+//! The tests of the literature model. All expected values are written out by hand.
 #![tactic(auto)]
 
 #[cfg(test)]

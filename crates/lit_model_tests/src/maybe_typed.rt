@@ -1,4 +1,4 @@
-//! What is a number or else a text.
+//! Values that are a number or pages, or else a text.
 
 ghost use Rattle.std.specs.Prelude.{◌≡◌, ◌↔◌, IsTrue};
 ghost use Rattle.lit_model.specs.MaybeTyped.{maybe_view};
@@ -9,14 +9,14 @@ use crate::samples::assert_whether;
 use lit_model::{MaybeTyped, Memory, Numeric, NumericError, PageRanges};
 use std::alloc::Global;
 
-/// Whether the two are equal: they are where both are one number, or both are one text.
+/// Whether the values are equal: exactly if both are the same number or both are the same text.
 fn same_number(a: &MaybeTyped<Numeric>, b: &MaybeTyped<Numeric>) -> bool
     ensures { IsTrue result ↔ (maybe_view numeric_view a.now ≡ maybe_view numeric_view b.now) }
 {
     *a == *b
 }
 
-/// `==` of pages or texts is equality of their views.
+/// Whether the pages or texts are equal: exactly if their views are.
 fn same_pages(a: &MaybeTyped<PageRanges>, b: &MaybeTyped<PageRanges>) -> bool
     ensures { IsTrue result ↔ (maybe_view pages_view a.now ≡ maybe_view pages_view b.now) }
 {
@@ -45,7 +45,7 @@ fn is_number(alloc: Global, number: i32, other: Other) -> Result<bool, Memory> {
     Ok(same_number(&number, &other))
 }
 
-/// The pages that a text gives, or the text where it gives none.
+/// The pages that a text describes, or the text if it describes none.
 fn pages(alloc: Global, text: &str) -> Result<MaybeTyped<PageRanges>, NumericError> {
     Ok(match PageRanges::parse(alloc, text) {
         Ok(pages) => MaybeTyped::Typed(pages),

@@ -1,4 +1,4 @@
-//! Numbers: what is read, and how they are written.
+//! Numbers: parsing and writing.
 
 ghost use Rattle.std.specs.Prelude.{◌≡◌, ◌↔◌, IsTrue, Some, None, codes};
 ghost use Rattle.lit_model.specs.Numeric.{numeric_view, value_view};
@@ -49,7 +49,7 @@ impl Ordinals for Word {
     }
 }
 
-/// Equal numbers feed a hasher the same.
+/// Equal numbers have the same hash.
 fn hashed_alike(a: &Numeric, b: &Numeric)
     ensures { numeric_view a.now ≡ numeric_view b.now
         → hash_number.it a.now ≡ hash_number.it b.now }
@@ -57,15 +57,15 @@ fn hashed_alike(a: &Numeric, b: &Numeric)
     let _same = *a == *b;
 }
 
-/// Whether the two numbers are equal: they are where their values are.
+/// Whether the numbers are equal: exactly if their views are.
 fn same(a: &Numeric, b: &Numeric) -> bool
     ensures { IsTrue result ↔ (numeric_view a.now ≡ numeric_view b.now) }
 {
     *a == *b
 }
 
-/// Numbers without their texts are equal exactly if they are the same, and equal ones feed a hasher
-/// the same.
+/// Whether the numbers without their prefixes and suffixes are equal: exactly if their views are.
+/// Equal ones have the same hash.
 fn same_value(a: &NumericValue, b: &NumericValue) -> bool
     ensures equal { IsTrue result ↔ (value_view a.now ≡ value_view b.now) }
     ensures hashed { value_view a.now ≡ value_view b.now → hash_value.it a.now
@@ -81,7 +81,7 @@ fn text_of(text: &Option<String>) -> &str {
     }
 }
 
-/// What is read from a text: the number, its prefix and suffix, and whether a form may rewrite it.
+/// Asserts the number in a text, whether a form may rewrite it, and its prefix and suffix.
 fn assert_read(
     rt: &impl Abort,
     alloc: Global,
@@ -101,7 +101,7 @@ fn assert_read(
     Ok(())
 }
 
-/// Whether these numbers are read, and a term beside them is in the plural.
+/// Whether the text holds these numbers, and the term for them is in the plural.
 fn is_read_as_several(
     alloc: Global,
     text: &str,
@@ -112,14 +112,14 @@ fn is_read_as_several(
     Ok(read.value == wanted && read.is_plural(false))
 }
 
-/// Whether a copy is equal to what is read from a text.
+/// Whether the number in a text is equal to its copy.
 fn is_copied(alloc: Global, text: &str) -> Result<bool, NumericError> {
     let read = Numeric::parse(alloc, text)?;
     let copy = read.clone(alloc)?;
     Ok(same(&copy, &read))
 }
 
-/// Whether the numbers of two texts are equal, where a copy of those of the first is asked.
+/// Whether a copy of the numbers in the first text is equal to the numbers in the other.
 fn are_same_values(alloc: Global, text: &str, other: &str) -> Result<bool, NumericError> {
     let read = Numeric::parse(alloc, text)?;
     let other = Numeric::parse(alloc, other)?;
@@ -127,7 +127,7 @@ fn are_same_values(alloc: Global, text: &str, other: &str) -> Result<bool, Numer
     Ok(same_value(&copy, &other.value))
 }
 
-/// Two texts, and whether their numbers are equal: the texts around the numbers do not count.
+/// Two texts, and whether their numbers are equal. Prefixes and suffixes do not count.
 static VALUES: [(&str, &str, bool); 6] = [
     ("4", "4", true),
     ("n4", "4a", true),
@@ -164,7 +164,7 @@ fn reads_numbers(rt: HostRuntime) -> Result<(), NumericError> {
     Ok(())
 }
 
-/// Texts that are no numbers.
+/// Texts that are not numbers.
 static REFUSED: [&str; 8] = [
     "second",
     "2nd edition",
@@ -198,19 +198,19 @@ fn counts_are_plural_above_one(rt: HostRuntime) {
     }
 }
 
-/// A number to be written.
+/// A number to write.
 #[derive(Clone, Copy)]
 enum Number {
     Of(i32),
     Read(&'static str),
 }
 
-/// How a number is written.
+/// A form in which a number is written.
 #[derive(Clone, Copy, Debug)]
 enum Way {
     Shown,
     Value,
-    /// With four digits, as dates are compared.
+    /// The value for sorting, with each number padded to at least four places.
     Sorted,
     Form(NumberForm),
 }
@@ -237,7 +237,7 @@ fn written<O: Ordinals>(
     Ok(written)
 }
 
-/// A number, how it is written, and what is written of it.
+/// A number, its form, and the written text.
 type Row = (Number, Way, &'static str);
 
 static WRITTEN: [Row; 14] = [

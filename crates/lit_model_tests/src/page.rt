@@ -1,4 +1,4 @@
-//! Pages: what is read, and how they are written.
+//! Pages: parsing and writing.
 
 ghost use Rattle.std.specs.Prelude.{◌≡◌, ◌↔◌, IsTrue};
 ghost use Rattle.lit_model.specs.Page.{part_view, pages_view};
@@ -12,21 +12,21 @@ use std::alloc::Global;
 use std::process::Abort;
 use std::test::Fail;
 
-/// Equal pages feed a hasher the same.
+/// Equal pages have the same hash.
 fn hashed_alike(a: &PageRanges, b: &PageRanges)
     ensures { pages_view a.now ≡ pages_view b.now → hash_pages.it a.now ≡ hash_pages.it b.now }
 {
     let _same = *a == *b;
 }
 
-/// Whether the pages are equal: they are where their parts are.
+/// Whether the pages are equal: exactly if their views are.
 fn same(a: &PageRanges, b: &PageRanges) -> bool
     ensures { IsTrue result ↔ (pages_view a.now ≡ pages_view b.now) }
 {
     *a == *b
 }
 
-/// Parts of pages are equal exactly if they say the same, and equal ones feed a hasher the same.
+/// Whether the parts are equal: exactly if their views are. Equal parts have the same hash.
 fn same_part(a: &PageRangesPart, b: &PageRangesPart) -> bool
     ensures equal { IsTrue result ↔ (part_view a.now ≡ part_view b.now) }
     ensures hashed { part_view a.now ≡ part_view b.now → hash_part.it a.now ≡ hash_part.it b.now }
@@ -64,7 +64,7 @@ fn parts_are_equal_by_value(rt: HostRuntime) -> Result<(), NumericError> {
     Ok(())
 }
 
-/// Whether a range and a page are read as such.
+/// Whether the text `321-328, 7` is parsed as a range and a page.
 fn are_range_and_page_read(alloc: Global) -> Result<bool, NumericError> {
     let pages = PageRanges::parse(alloc, "321-328, 7")?;
     let expected = vec![in alloc;
@@ -109,7 +109,7 @@ fn refuses_what_is_no_page(rt: HostRuntime) {
     }
 }
 
-/// What a text gives, or a comma before page 9.
+/// The pages that a text describes. For `, 9` they are a comma and page 9, made by hand.
 fn pages(alloc: Global, text: &str) -> Result<PageRanges, NumericError> {
     if text != ", 9" {
         return PageRanges::parse(alloc, text);
@@ -121,7 +121,7 @@ fn pages(alloc: Global, text: &str) -> Result<PageRanges, NumericError> {
     Ok(PageRanges { ranges })
 }
 
-/// A text, its first page, whether a term beside it is in the plural, and how its pages are shown.
+/// A text, its first page, whether the term for its pages is in the plural, and the written pages.
 type Row = (&'static str, i32, bool, &'static str);
 
 static PAGES: [Row; 4] = [

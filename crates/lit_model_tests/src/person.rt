@@ -1,4 +1,4 @@
-//! Persons: the parts of their names, and when they are equal.
+//! Persons: the parts of their names, and equality.
 
 ghost use Rattle.std.specs.Prelude.{◌≡◌, ◌↔◌, IsTrue};
 ghost use Rattle.lit_model.specs.Person.{person_view, role_of, role_group};
@@ -10,35 +10,35 @@ use lit_model::{Memory, Person, PersonRole, PersonsWithRoles};
 use std::alloc::Global;
 use std::process::Abort;
 
-/// Whether the two persons are equal: they are where their texts are.
+/// Whether the persons are equal: exactly if their views are.
 fn same_person(a: &Person, b: &Person) -> bool
     ensures { IsTrue result ↔ (person_view a.now ≡ person_view b.now) }
 {
     *a == *b
 }
 
-/// Persons of the same texts feed a hasher the same.
+/// Equal persons have the same hash.
 fn hashed_alike(a: &Person, b: &Person)
     ensures { person_view a.now ≡ person_view b.now → hash_person.it a.now ≡ hash_person.it b.now }
 {
     let _same = *a == *b;
 }
 
-/// `==` of roles is equality of their views.
+/// Whether the roles are equal: exactly if their views are.
 fn same_role(a: &PersonRole, b: &PersonRole) -> bool
     ensures { IsTrue result ↔ (role_of a.now ≡ role_of b.now) }
 {
     *a == *b
 }
 
-/// `==` of persons with a role is equality of their views.
+/// Whether the persons with a role are equal: exactly if their views are.
 fn same_group(a: &PersonsWithRoles, b: &PersonsWithRoles) -> bool
     ensures { IsTrue result ↔ (role_group a.now ≡ role_group b.now) }
 {
     *a == *b
 }
 
-/// What is asked of a person's name; there is no particle where the answer is `none`.
+/// The queried part of a person's name. A missing particle is `none`.
 #[derive(Clone, Copy)]
 enum Asked {
     Particle,
@@ -121,7 +121,8 @@ fn particles_and_articles(rt: HostRuntime) -> Result<(), Memory> {
     Ok(())
 }
 
-/// Whether a person's name is Chinese, Japanese or Korean, and whether it is an institution's.
+/// Whether a person's name is Chinese, Japanese or Korean, and whether the person is an
+/// institution.
 fn is_cjk_or_institutional(
     alloc: Global,
     name: &str,
@@ -131,7 +132,8 @@ fn is_cjk_or_institutional(
     Ok((person.is_cjk(), person.is_institutional()))
 }
 
-/// Name and given name, whether Chinese, Japanese or Korean, and whether an institution's.
+/// A name and a given name, whether the name is Chinese, Japanese or Korean, and whether the person
+/// is an institution.
 type Row = (&'static str, Option<&'static str>, bool, bool);
 
 static SCRIPTS: [Row; 9] = [
@@ -184,8 +186,8 @@ fn group(alloc: Global) -> Result<PersonsWithRoles, Memory> {
     Ok(PersonsWithRoles { names, role })
 }
 
-/// Whether a copy is equal to the group, which then loses its names or does not, and whether the
-/// copy's role is that of a writer.
+/// Whether a group is equal to its copy, and whether the copy's role is that of a writer. With
+/// `loses_names`, the group has no names after the copy.
 fn is_group_its_copy(alloc: Global, loses_names: bool) -> Result<(bool, bool), Memory> {
     let mut group = group(alloc)?;
     let copy = group.clone(alloc)?;
@@ -195,7 +197,7 @@ fn is_group_its_copy(alloc: Global, loses_names: bool) -> Result<(bool, bool), M
     Ok((same_group(&copy, &group), copy.role == PersonRole::Writer))
 }
 
-/// Whether a person is equal to a copy, which then loses the given name or does not.
+/// Whether a person is equal to a copy. With `loses_given_name`, the copy has no given name.
 fn is_person_its_copy(alloc: Global, loses_given_name: bool) -> Result<bool, Memory> {
     let gogh = van_gogh(alloc)?;
     let mut copy = gogh.clone(alloc)?;
@@ -205,7 +207,7 @@ fn is_person_its_copy(alloc: Global, loses_given_name: bool) -> Result<bool, Mem
     Ok(same_person(&gogh, &copy))
 }
 
-/// Whether a muse is equal to a copy, and to a writer.
+/// Whether a muse is equal to its copy, and to a writer.
 fn is_muse_copy_or_writer(alloc: Global) -> Result<(bool, bool), Memory> {
     let role = muse(alloc)?;
     let copy = role.clone(alloc)?;

@@ -1,14 +1,14 @@
-//! Persons that show the same.
+//! Whether persons are the same.
 
 use crate::samples::{assert_whether, person, put};
 use lit_model::{Memory, Person, are_same_people};
 use std::alloc::Global;
 use std::process::Abort;
 
-/// Stands in a row for a text that is missing.
+/// The mark of a missing text in a row.
 const MISSING: &str = "-";
 
-/// The texts of a person: name, given name, prefix, suffix and other name.
+/// The texts of a person: name, given name, prefix, suffix and alias.
 const KWAN: [&str; 5] = ["Kwan", "Kevin", "van", "Jr.", "KK"];
 
 fn optional(alloc: Global, text: &str) -> Result<Option<String>, Memory> {
@@ -31,14 +31,15 @@ fn person_of(alloc: Global, texts: [&str; 5], comma_suffix: bool) -> Result<Pers
     })
 }
 
-/// Whether a person shows the same as Kwan.
+/// Whether a person is the same as Kwan.
 fn shows_kwan(alloc: Global, texts: [&str; 5], comma_suffix: bool) -> Result<bool, Memory> {
     let kwan = person_of(alloc, KWAN, true)?;
     let person = person_of(alloc, texts, comma_suffix)?;
     Ok(kwan.is_same_person(&person))
 }
 
-/// A person's texts, whether a comma stands before the suffix, and whether Kwan shows the same.
+/// A person's texts, whether a comma comes before the suffix, and whether the person is the same as
+/// Kwan.
 type Row = ([&'static str; 5], bool, bool);
 
 static PERSONS: [Row; 10] = [
@@ -74,7 +75,7 @@ fn each_text_of_a_person_counts(rt: HostRuntime) -> Result<(), Memory> {
     Ok(())
 }
 
-/// Persons with these names, which white space parts.
+/// Persons with these names, which white space separates.
 fn people(alloc: Global, names: &str) -> Result<Vec<Person>, Memory> {
     let mut people = Vec::new(alloc);
     for name in names.split_whitespace() {
@@ -83,7 +84,7 @@ fn people(alloc: Global, names: &str) -> Result<Vec<Person>, Memory> {
     Ok(people)
 }
 
-/// The names of some persons, those of others, and whether these show the same.
+/// The names of two lists of persons, and whether the persons are the same.
 static LISTS: [(&str, &str, bool); 6] = [
     ("Kwan Lee", "Kwan Lee", true),
     ("Kwan Lee", "Lee Kwan", false),

@@ -1,4 +1,4 @@
-//! What the tests are made of, and how an answer is compared.
+//! Samples for the tests, and assertions.
 
 use crate::asserted::assert_of;
 use lit_model::{
@@ -14,12 +14,12 @@ pub fn alone<T: Drop>(alloc: Global, item: T) -> Result<Vec<T>, Memory> {
     Ok(items)
 }
 
-/// Adds an item to a list.
+/// Appends an item to a list.
 pub fn put<T: Drop>(items: &mut Vec<T>, item: T) -> Result<(), Memory> {
     Ok(items.push(item)?)
 }
 
-/// A person with a name, and a given name where there is one.
+/// A person with a name, and a given name if there is one.
 pub fn person(alloc: Global, name: &str, given: Option<&str>) -> Result<Person, Memory> {
     let given_name = match given {
         Some(given) => Some(String::from_str(alloc, given)?),
@@ -35,7 +35,7 @@ pub fn person(alloc: Global, name: &str, given: Option<&str>) -> Result<Person, 
     })
 }
 
-/// A part of a text.
+/// A chunk of a text.
 pub fn chunk(alloc: Global, value: &str, kind: ChunkKind) -> Result<StringChunk, Memory> {
     Ok(StringChunk {
         value: String::from_str(alloc, value)?,
@@ -43,7 +43,7 @@ pub fn chunk(alloc: Global, value: &str, kind: ChunkKind) -> Result<StringChunk,
     })
 }
 
-/// A text in one chunk, or in none where it is empty.
+/// A text in one chunk, or without chunks if it is empty.
 pub fn text(alloc: Global, value: &str, kind: ChunkKind) -> Result<ChunkedString, Memory> {
     let mut chunks = Vec::new(alloc);
     if !value.is_empty() {
@@ -52,7 +52,7 @@ pub fn text(alloc: Global, value: &str, kind: ChunkKind) -> Result<ChunkedString
     Ok(ChunkedString(chunks))
 }
 
-/// What a work shows beside its key and its type.
+/// The field of a work that is set besides its key and type.
 #[derive(Clone, Copy, Debug)]
 pub enum Shown {
     Nothing,
@@ -60,7 +60,8 @@ pub enum Shown {
     Year(i32),
 }
 
-/// A work: its key, its type, what it shows, and how many of those before it are its parents.
+/// A work: its key, its type, the field that is set, and how many of the works before it are its
+/// parents.
 pub type Work = (&'static str, EntryType, Shown, usize);
 
 fn title_of(alloc: Global, shown: Shown) -> Result<Option<FormatString>, Memory> {
@@ -90,7 +91,7 @@ fn entry(
     Ok(entry)
 }
 
-/// The works that are no other's parents, each with its own above it.
+/// The works that are not parents of another, each with its parents.
 pub fn entries(alloc: Global, works: &[Work]) -> Result<Vec<Entry>, Memory> {
     let mut entries = Vec::new(alloc);
     for (key, kind, shown, parents) in works {
@@ -101,12 +102,12 @@ pub fn entries(alloc: Global, works: &[Work]) -> Result<Vec<Entry>, Memory> {
     Ok(entries)
 }
 
-/// Asserts that an answer is a text.
+/// Asserts that the answer is the wanted text.
 pub fn assert_text(rt: &impl Abort, answer: &str, wanted: &str, of: &str) {
     assert_eq!(rt; answer, wanted, "of {of}");
 }
 
-/// Asserts that an answer is a boolean.
+/// Asserts that the answer is the wanted boolean.
 pub fn assert_whether(rt: &impl Abort, answer: bool, wanted: bool, of: &str) {
     assert_of(rt, &answer, &wanted, &of);
 }

@@ -1,4 +1,4 @@
-//! What is selected of a work and its parents, and when two clauses are equal.
+//! Selections from a work and its parents, and equality of clauses.
 
 ghost use Rattle.std.specs.Prelude.{◌≡◌, ◌↔◌, IsTrue, option_copied};
 
@@ -9,7 +9,7 @@ use lit_model::{Bind, Clause, Entry, EntryType, Field, Memory, PersonRole, Perso
 use std::alloc::Global;
 use std::process::Abort;
 
-/// The selection that a row asks of a work.
+/// The selection of a row.
 #[derive(Clone, Copy, Debug)]
 enum Asked {
     Container,
@@ -21,11 +21,12 @@ enum Asked {
     Part,
     VolumeTitle,
     AudioVideo,
-    /// What a clause binds that asks a book for its date.
+    /// The selection by `DATED`: the first parent of a book with a date.
     Dated,
 }
 
-/// An article in a journal, which stands in a series, which stands in a reference work.
+/// An article in a journal and in a blog. The journal is in a series, and the series is in a
+/// reference work.
 const ARTICLE: &[Work] = &[
     ("reference", EntryType::Reference, Shown::Year(2001), 0),
     ("series", EntryType::Book, Shown::Nothing, 1),
@@ -34,7 +35,7 @@ const ARTICLE: &[Work] = &[
     ("article", EntryType::Article, Shown::Nothing, 2),
 ];
 
-/// A chapter without a title, in a scene without one, in a video.
+/// A chapter without a title, in a scene without a title, in a video.
 const CHAPTER: &[Work] = &[
     ("video", EntryType::Video, Shown::Nothing, 0),
     ("scene", EntryType::Scene, Shown::Nothing, 1),
@@ -51,7 +52,7 @@ const TITLED_CHAPTER: &[Work] = &[
 /// A chapter with no parent.
 const ALONE: &[Work] = &[("alone", EntryType::Chapter, Shown::Nothing, 0)];
 
-/// A book under a book and two originals.
+/// A book whose parents are a book and two originals.
 const TRANSLATION: &[Work] = &[
     ("book", EntryType::Book, Shown::Nothing, 0),
     ("original", EntryType::Original, Shown::Nothing, 0),
@@ -59,7 +60,7 @@ const TRANSLATION: &[Work] = &[
     ("work", EntryType::Book, Shown::Nothing, 3),
 ];
 
-/// A translation with a date, of a book and of two originals.
+/// A book with a date, whose parents are a book and two originals.
 const DATED_TRANSLATION: &[Work] = &[
     ("book", EntryType::Book, Shown::Nothing, 0),
     ("original", EntryType::Original, Shown::Nothing, 0),
@@ -74,8 +75,8 @@ static DATED: [Clause<'static>; 1] = [Clause {
     bind: Bind::Parent,
 }];
 
-/// Whether the two clauses are equal: they are where they ask for the same types and fields, in the
-/// same order, and bind the same.
+/// Whether the clauses are equal: exactly if they have the same types, fields and parent types, in
+/// the same order, and the same selection.
 fn same_clause(a: &Clause<'_>, b: &Clause<'_>) -> bool
     ensures { IsTrue result ↔ ((a.now.own.now ≡ b.now.own.now)
         × (a.now.fields.now ≡ b.now.fields.now)
@@ -85,7 +86,7 @@ fn same_clause(a: &Clause<'_>, b: &Clause<'_>) -> bool
     *a == *b
 }
 
-/// Clauses that differ in one part from the one before.
+/// Clauses. Each differs in one part from the one before it.
 static CLAUSES: [Clause<'static>; 5] = [
     Clause {
         own: &[EntryType::Book],
@@ -128,7 +129,7 @@ fn clauses_are_equal_by_value(rt: HostRuntime) {
     }
 }
 
-/// The clauses that say what is asked for, where clauses do.
+/// The clauses of a selection, if it is made by clauses.
 fn clauses_of(asked: Asked) -> Option<&'static [Clause<'static>]> {
     match asked {
         Asked::Container | Asked::Collection | Asked::Original | Asked::Full => None,
@@ -141,7 +142,8 @@ fn clauses_of(asked: Asked) -> Option<&'static [Clause<'static>]> {
     }
 }
 
-/// What the work answers, and whether it says that there is something.
+/// The selected work, and whether there is one. For clauses, the boolean is whether they match the
+/// work.
 fn answer(work: &Entry, asked: Asked) -> (Option<&Entry>, bool) {
     if let Some(clauses) = clauses_of(asked) {
         return (work.bound_select(clauses), work.matches(clauses));
@@ -162,7 +164,7 @@ fn key_of(entry: Option<&Entry>) -> &str {
     }
 }
 
-/// Works, what the first of them is asked for, and the key of what is found.
+/// Works, the selection from the first top-level work, and the key of the selected work.
 type Row = (&'static [Work], Asked, &'static str);
 
 static FAMILIES: [Row; 12] = [
@@ -180,7 +182,7 @@ static FAMILIES: [Row; 12] = [
     (DATED_TRANSLATION, Asked::Dated, "book"),
 ];
 
-/// The key of what is found; there is nothing where it is `none`.
+/// Asserts the key of the selected work. The key `none` means that nothing is selected.
 fn assert_found(
     rt: &impl Abort,
     alloc: Global,
@@ -205,10 +207,10 @@ fn selections_of_families(rt: HostRuntime) -> Result<(), Memory> {
     Ok(())
 }
 
-/// What is asked for, the types of a work and of its parent, and the key of what is found.
+/// The selection, the types of a work and of its parent, and the key of the selected work.
 type Bound = (Asked, EntryType, EntryType, &'static str);
 
-/// What is found of a work of the first type under one of the second.
+/// Asserts the selection from a work of the first type with a parent of the second type.
 fn assert_bound(
     rt: &impl Abort,
     alloc: Global,
@@ -221,7 +223,7 @@ fn assert_bound(
     assert_found(rt, alloc, &(&works, asked, wanted))
 }
 
-/// The types of a work and its parent, and the keys of the container and the collection.
+/// The types of a work and of its parent, and the keys of its container and its collection.
 type Contained = (EntryType, EntryType, &'static str, &'static str);
 
 static CONTAINERS: [Contained; 9] = [
@@ -254,7 +256,7 @@ fn containers(rt: HostRuntime) -> Result<(), Memory> {
     Ok(())
 }
 
-/// What the clauses of a selection bind.
+/// Selections by clauses.
 static BOUND: [Bound; 15] = [
     (
         Asked::Event,
@@ -337,7 +339,7 @@ fn what_clauses_bind(rt: HostRuntime) -> Result<(), Memory> {
     Ok(())
 }
 
-/// The year of `date_any`, whether `url_any` answers an address, and how many works there are.
+/// The year of `date_any`, whether `url_any` returns an address, and the number of top-level works.
 fn date_and_url(alloc: Global, works: &[Work]) -> Result<(Option<i32>, bool, usize), Memory> {
     let entries = entries(alloc, works)?;
     let first = entries.as_slice().first();
@@ -348,7 +350,7 @@ fn date_and_url(alloc: Global, works: &[Work]) -> Result<(Option<i32>, bool, usi
 
 #[test]
 fn the_first_date_of_a_family(rt: HostRuntime) -> Result<(), Memory> {
-    // The date of the parent's parent's parent comes before that of the second parent.
+    // The date of the reference work, three parents up, comes before that of the second parent.
     let answer = date_and_url(rt.alloc(), ARTICLE)?;
     assert_same(&rt, &answer, &(Some(2001), false, 1));
     Ok(())
@@ -380,7 +382,7 @@ fn film(alloc: Global) -> Result<Entry, Memory> {
     Ok(film)
 }
 
-/// The names of the two directors of a film.
+/// The names of the two directors of a film, or `none` if it does not have two.
 fn directors<'e>(alloc: Global, film: &'e Entry) -> Result<(&'e str, &'e str), Memory> {
     let directors = film.affiliated_with_role(alloc, &PersonRole::Director)?;
     match (directors.len(), directors.first(), directors.last()) {
@@ -389,7 +391,7 @@ fn directors<'e>(alloc: Global, film: &'e Entry) -> Result<(&'e str, &'e str), M
     }
 }
 
-/// The film's directors are Ann and Cid.
+/// Asserts that the film's directors are Ann and Cid.
 fn assert_directors_of(rt: &impl Abort, alloc: Global, film: &Entry) -> Result<(), Memory> {
     let (first, second) = directors(alloc, film)?;
     assert_text(rt, first, "Ann", "the first");

@@ -1,4 +1,4 @@
-//! Where a work is found: numbers, addresses, publishers and languages.
+//! Sources of a work: numbers, addresses, publishers and languages.
 
 ghost use Rattle.std.specs.Prelude.{◌≡◌, ◌↔◌, IsTrue, option_map};
 ghost use Rattle.lit_model.specs.Source.{press_of, address_of, serials, language_of};
@@ -18,16 +18,16 @@ use std::net::{IpAddr, Ipv4Addr};
 use std::process::Abort;
 use url::{Host, Url};
 
-/// Whether the two publishers are equal: they are where their texts are.
+/// Whether the publishers are equal: exactly if their texts are.
 fn same_publisher(a: &Publisher, b: &Publisher) -> bool
     ensures { IsTrue result ↔ (press_of a.now ≡ press_of b.now) }
 {
     *a == *b
 }
 
-/// Whether the two addresses are equal: they are where their texts and dates are. Where each is as
-/// the parser gives it, they are where their parts are: a setter can make two of one text whose
-/// hosts are of different kinds.
+/// Whether the addresses are equal: exactly if their texts and dates are. If both are as the parser
+/// returns them, they are equal exactly if their parts and dates are. After a setter, two addresses
+/// can have the same text and hosts of different kinds.
 fn same_url(a: &QualifiedUrl, b: &QualifiedUrl) -> bool
     ensures texts { IsTrue result
         ↔ (serialize a.now.value ≡ serialize b.now.value)
@@ -36,20 +36,21 @@ fn same_url(a: &QualifiedUrl, b: &QualifiedUrl) -> bool
         → IsCanonical b.now.value
         → (IsTrue result ↔ (address_of a.now ≡ address_of b.now)) }
 {
-    // That an address is valid is known once its text is read.
+    // Reading the text of an address gives the prover that the address is valid.
     let _text = a.value.as_str();
     let _other = b.value.as_str();
     *a == *b
 }
 
-/// Whether the two have the same numbers under the same schemes.
+/// Whether the serial numbers are equal: exactly if they are the same numbers under the same
+/// schemes.
 fn same_serials(a: &SerialNumber, b: &SerialNumber) -> bool
     ensures { IsTrue result ↔ (serials a.now ≡ serials b.now) }
 {
     *a == *b
 }
 
-/// Whether the two languages are equal: they are where their texts are.
+/// Whether the languages are equal: exactly if their texts are.
 fn same_language(a: &LanguageIdentifier, b: &LanguageIdentifier) -> bool
     ensures { IsTrue result ↔ (language_of a.now ≡ language_of b.now) }
 {
@@ -76,7 +77,7 @@ fn assert_numbers(rt: &impl Abort, alloc: Global) -> Result<(), Memory> {
     Ok(())
 }
 
-/// Whether numbers are equal to a copy, or else to none.
+/// Whether serial numbers are equal to a copy. With `loses_numbers`, the copy has no numbers.
 fn are_numbers_their_copy(alloc: Global, loses_numbers: bool) -> Result<bool, Memory> {
     let serial = doi(alloc)?;
     let mut copy = serial.clone(alloc)?;
@@ -90,7 +91,7 @@ fn address(alloc: Global, text: &str) -> Result<Url, Memory> {
     Url::parse(alloc, text).map_err(|_| Memory)
 }
 
-/// Whether an address is equal to a copy, which then loses its date or does not.
+/// Whether an address is equal to a copy. With `loses_date`, the copy has no date.
 fn is_address_its_copy(alloc: Global, loses_date: bool) -> Result<bool, Memory> {
     let url = QualifiedUrl {
         value: address(alloc, "https://aeon.co/essays")?,
@@ -103,7 +104,8 @@ fn is_address_its_copy(alloc: Global, loses_date: bool) -> Result<bool, Memory> 
     Ok(same_url(&copy, &url))
 }
 
-/// A publisher of this name, or else of none and at a place with an empty text.
+/// A publisher of this name. If the name is empty, a publisher without a name, at a place with an
+/// empty text.
 fn press(alloc: Global, name: &str) -> Result<Publisher, Memory> {
     let value = text(alloc, name, ChunkKind::Normal)?;
     let form = Some(FormatString { value, short: None });
@@ -115,7 +117,7 @@ fn press(alloc: Global, name: &str) -> Result<Publisher, Memory> {
     Ok(Publisher { name, location })
 }
 
-/// Whether a publisher is equal to a copy, which then loses its place or does not.
+/// Whether a publisher is equal to a copy. With `loses_place`, the copy has no place.
 fn is_publisher_its_copy(alloc: Global, name: &str, loses_place: bool) -> Result<bool, Memory> {
     let press = press(alloc, name)?;
     let mut copy = press.clone(alloc)?;
@@ -134,7 +136,7 @@ fn english(alloc: Global) -> Result<LanguageIdentifier, Memory> {
     })
 }
 
-/// Whether a language is equal to a copy, which then loses its region or does not.
+/// Whether a language is equal to a copy. With `loses_region`, the copy has no region.
 fn is_language_its_copy(alloc: Global, loses_region: bool) -> Result<bool, Memory> {
     let english = english(alloc)?;
     let mut copy = english.clone(alloc)?;
@@ -144,7 +146,7 @@ fn is_language_its_copy(alloc: Global, loses_region: bool) -> Result<bool, Memor
     Ok(same_language(&copy, &english))
 }
 
-/// An address as the parser gives it, whose host is a domain.
+/// An address as the parser returns it. Its host is a domain.
 fn with_domain(alloc: Global) -> Result<QualifiedUrl, Memory> {
     Ok(QualifiedUrl {
         value: address(alloc, "foo://1.2.3.4/")?,
@@ -152,7 +154,7 @@ fn with_domain(alloc: Global) -> Result<QualifiedUrl, Memory> {
     })
 }
 
-/// An address with the text of another one, whose host is an IP address.
+/// An address with the same text. Its host is an IP address.
 fn with_ip(alloc: Global) -> Result<QualifiedUrl, Memory> {
     let mut value = address(alloc, "foo://h/")?;
     let host = IpAddr::V4(Ipv4Addr::new(1, 2, 3, 4));

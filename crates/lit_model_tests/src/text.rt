@@ -1,4 +1,4 @@
-//! Texts that a style prints: their forms, and when they are equal.
+//! Texts with their forms, and equality.
 
 ghost use Rattle.std.specs.Prelude.{◌≡◌, ◌↔◌, IsTrue};
 ghost use Rattle.lit_model.specs.Text.{chunk_of, chunks, format_string_view};
@@ -7,28 +7,28 @@ use crate::samples::{assert_whether, chunk, text};
 use lit_model::{ChunkKind, ChunkedString, FormatString, LongShortForm, Memory, StringChunk};
 use std::alloc::Global;
 
-/// Whether the two chunks are equal: they are where their texts and kinds are.
+/// Whether the chunks are equal: exactly if their texts and kinds are.
 fn same_chunk(a: &StringChunk, b: &StringChunk) -> bool
     ensures { IsTrue result ↔ (chunk_of a.now ≡ chunk_of b.now) }
 {
     *a == *b
 }
 
-/// Whether the two texts are equal: they are where their chunks are.
+/// Whether the texts are equal: exactly if their chunks are.
 fn same_chunks(a: &ChunkedString, b: &ChunkedString) -> bool
     ensures { IsTrue result ↔ (chunks a.now ≡ chunks b.now) }
 {
     *a == *b
 }
 
-/// Whether the two texts with their short forms are equal: they are where both forms are.
+/// Whether the texts with their short forms are equal: exactly if both forms are.
 fn same_forms(a: &FormatString, b: &FormatString) -> bool
     ensures { IsTrue result ↔ (format_string_view a.now ≡ format_string_view b.now) }
 {
     *a == *b
 }
 
-/// A title, with a short form where there is one.
+/// A title, with a short form if there is one.
 fn nature(alloc: Global, short: Option<&str>) -> Result<FormatString, Memory> {
     let value = text(alloc, "Nature", ChunkKind::Verbatim)?;
     let short = match short {
@@ -57,7 +57,8 @@ fn the_short_form_counts_where_there_is_one(rt: HostRuntime) -> Result<(), Memor
     Ok(())
 }
 
-/// Whether a title is equal to a copy, when it then loses its short form or does not.
+/// Whether a title is equal to its copy. With `loses_short`, the title has no short form after the
+/// copy.
 fn is_title_its_copy(alloc: Global, loses_short: bool) -> Result<bool, Memory> {
     let mut title = nature(alloc, Some("Nat."))?;
     let copy = title.clone(alloc)?;
@@ -67,7 +68,7 @@ fn is_title_its_copy(alloc: Global, loses_short: bool) -> Result<bool, Memory> {
     Ok(same_forms(&copy, &title))
 }
 
-/// Whether a chunk is equal to a copy, which is then given this kind.
+/// Whether a chunk is equal to a copy of this kind.
 fn is_chunk_its_copy(alloc: Global, kind: ChunkKind) -> Result<bool, Memory> {
     let word = chunk(alloc, "pH", ChunkKind::Verbatim)?;
     let mut copy = word.clone(alloc)?;

@@ -5,7 +5,7 @@ use std::alloc::Global;
 use std::process::Abort;
 use std::test::Fail;
 
-/// A text, and whether it is an absolute address of the web.
+/// A text, and whether it is an absolute web address.
 static ROWS: [(&str, bool); 12] = [
     ("https://x.y/", true),
     ("http://x.y/?a=1&b=2#c", true),

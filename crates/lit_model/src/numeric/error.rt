@@ -1,4 +1,4 @@
-//! Why a text is no number.
+//! The error of parsing a number or pages.
 
 ghost use Rattle.std.specs.Prelude.{◌≡◌, Some};
 ghost use Rattle.lit_model.specs.NumericError.{error_text};
@@ -9,7 +9,7 @@ use std::alloc::{AllocError, AllocFailed};
 use std::error::Error;
 use std::fmt;
 
-/// Why a text was not read as a number or as pages.
+/// The reason why a text was not read as a number or as pages.
 #[derive(Clone, Copy, Debug, PartialEq, Eq, Hash)]
 pub enum NumericError {
     /// Out of memory.

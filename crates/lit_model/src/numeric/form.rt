@@ -1,4 +1,4 @@
-//! Numbers in the forms that a style asks for.
+//! Numbers in the forms that a style requests.
 
 ghost use Rattle.std.specs.Prelude.{◌≡◌, Option, true, OnOk, OnErr};
 ghost use Rattle.std.specs.Fmt.{WritesInCalls};
@@ -12,7 +12,7 @@ use super::{Numeric, NumericDelimiter, NumericValue};
 use csl_common::{GrammarGender, NumberForm, Ordinals, Sink, TrackingWriter, WriteTo};
 use std::fmt;
 
-/// Writes a number in roman numerals, where it has some.
+/// Writes a number as a roman numeral if it has one, else in decimal.
 fn write_in_roman<S: Sink>(sink: &mut S, number: i32) -> fmt::Result
     ensures ok { OnOk result (WritesInCalls S.write_str_gives sink.old
         (roman_text number) sink.new) }
@@ -44,7 +44,7 @@ fn write_ordinal<S: Sink, O: Ordinals>(
     Ok(())
 }
 
-/// Writes the long ordinal of a number, else its ordinal.
+/// Writes the long ordinal of a number if it has one, else its ordinal.
 fn write_long_ordinal<S: Sink, O: Ordinals>(
     sink: &mut S,
     number: i32,
@@ -66,7 +66,7 @@ fn write_long_ordinal<S: Sink, O: Ordinals>(
     write_ordinal(sink, number, gender, ordinals)
 }
 
-/// Writes a number in a form; plainly, where it has none.
+/// Writes one number in a form, or in the fallback of that form.
 fn write_in_form<S: Sink, O: Ordinals>(
     sink: &mut S,
     number: i32,
@@ -110,12 +110,13 @@ fn write_numbers_in_form<S: Sink, O: Ordinals>(
 }
 
 impl Numeric {
-    /// Writes the number in a form to a sink, or each number of several (CSL 1.0.2, Number). Where
-    /// there is no long ordinal, the ordinal is written; where another form has no text, the number
-    /// in decimal. A number with a prefix or a suffix is written as `Display` writes it.
+    /// Writes the number, or each number of several, in a form to a sink (CSL 1.0.2, Number). If a
+    /// number has no long ordinal, it writes the ordinal. If it has no ordinal suffix or no roman
+    /// numeral, it writes the number in decimal. A number with a prefix or a suffix is written as
+    /// `Display` writes it.
     ///
     /// # Errors
-    /// [`fmt::Error`]: the sink refused a text; what it holds then is left open.
+    /// [`fmt::Error`]: the sink refused a text; the contents of the sink are then unspecified.
     pub fn with_form_into<S: Sink, O: Ordinals>(
         &self,
         sink: &mut S,
@@ -143,7 +144,7 @@ impl Numeric {
     /// Writes the number in a form to any writer, as [`Numeric::with_form_into`] does to a sink.
     ///
     /// # Errors
-    /// [`fmt::Error`]: the writer refused a text; what it holds then is left open.
+    /// [`fmt::Error`]: the writer refused a text; its contents are then unspecified.
     pub fn with_form<W: fmt::Write, O: Ordinals>(
         &self,
         w: &mut W,
@@ -157,7 +158,7 @@ impl Numeric {
     {
         let mut sink = TrackingWriter::new(w);
         let result = self.with_form_into(&mut sink, form, gender, ordinals);
-        // It does nothing: the proof reads what `w` holds from the reference that comes back.
+        // No effect: the proof gets the contents of `w` from the returned reference.
         sink.into_inner();
         result
     }

@@ -1,4 +1,4 @@
-//! Reading of numbers.
+//! Parsing of numbers.
 
 ghost use Rattle.std.specs.Prelude.{◌≡◌, ◌↔◌, ◌<◌, Option, Some, None, IfOk, IsTrue, MatchOption, MatchResult, Err, option_map, chars, string_bytes};
 ghost use Rattle.lit_model.specs.Numeric.{numeric_view, NumericView, value_view, Spells, IsWritable};
@@ -13,18 +13,18 @@ use crate::scan;
 use crate::scan::Class;
 use std::alloc::{AllocError, Global};
 
-/// A numeric text taken apart. It is in the grammar, and nothing of it was copied yet.
+/// The parts of a text in the grammar, as slices of the text.
 #[derive(Clone, Copy)]
 struct Shape<'a> {
     prefix: &'a str,
     /// The text from the first number on.
     numbers: &'a str,
-    /// How many delimiters stand in the text, one fewer than there are numbers.
+    /// The number of delimiters in the text, one fewer than there are numbers.
     delimiters: usize,
     suffix: &'a str,
 }
 
-/// What follows the numbers, of which each but the last has a delimiter after it.
+/// The text after `delimiters + 1` numbers with a delimiter between each two.
 fn skip_integers(delimiters: usize, text: &str) -> Option<&str>
     ensures { option_map (λ rest. chars rest.now) result
         ≡ rest_of (integers_at delimiters (chars text.now)) }
@@ -45,7 +45,7 @@ fn skip_integers(delimiters: usize, text: &str) -> Option<&str>
     }
 }
 
-/// The numbers of a text, each with its delimiter.
+/// The first `delimiters + 1` numbers of a text, each with the delimiter after it.
 fn integers(
     alloc: Global,
     delimiters: usize,
@@ -72,7 +72,7 @@ fn integers(
     Ok(numbers)
 }
 
-/// A numeric text taken apart, or nothing where the text is not in the grammar.
+/// The parts of a text, or `None` if the text is not in the grammar.
 #[tactic(auto, unfolding(crate::specs::NumericReading::numeric_from))]
 fn shape_of(text: &str) -> Option<Shape<'_>>
     ensures { MatchOption result (numeric_from (chars text.now) ≡ None)
@@ -96,7 +96,7 @@ fn shape_of(text: &str) -> Option<Shape<'_>>
     })
 }
 
-/// The one number of a text without a delimiter, or all of its numbers.
+/// The value of a text: one number if it has no delimiter, else the list of its numbers.
 #[tactic(auto, unfolding(crate::specs::NumericReading::value_at))]
 fn value_of(alloc: Global, shape: &Shape<'_>) -> Result<NumericValue, NumericError>
     ensures { Gives value_view result
@@ -112,7 +112,7 @@ fn value_of(alloc: Global, shape: &Shape<'_>) -> Result<NumericValue, NumericErr
     Ok(NumericValue::Set(numbers))
 }
 
-/// A text that is there if it is not empty.
+/// A copy of the text, or `None` if it is empty.
 pub fn nonempty(alloc: Global, text: &str) -> Result<Option<String>, AllocError>
     ensures { IfOk result (λ o. option_map string_bytes o ≡ text_from text.now) }
 {
@@ -123,7 +123,7 @@ pub fn nonempty(alloc: Global, text: &str) -> Result<Option<String>, AllocError>
     Ok(Some(copy))
 }
 
-/// The number that a text stands for.
+/// The number that a text spells.
 pub fn number_in(alloc: Global, text: &str) -> Result<Numeric, NumericError>
     ensures exact { Gives numeric_view result (numeric_from (chars text.now)) }
     ensures none { numeric_from (chars text.now) ≡ None → result ≡ Err NumericError.NotNumeric }
@@ -142,36 +142,36 @@ pub fn number_in(alloc: Global, text: &str) -> Result<Numeric, NumericError>
 }
 
 impl Numeric {
-    /// The number that a text stands for (CSL 1.0.2, Number).
+    /// The number that a text spells (CSL 1.0.2, Number).
     ///
-    /// The text has white space or none, a prefix, one number or several, a suffix, and white
-    /// space or none. A number is a row of ASCII digits whose value is below 2^31, and stands after
-    /// another behind one of `,`, `&` and `-`, with white space round it or none. A prefix or a
-    /// suffix is any row of other characters, and may be missing.
+    /// The text is optional white space, a prefix, one or more numbers, a suffix, and optional
+    /// white space. A number is one or more ASCII digits with a value below 2^31. Two numbers have
+    /// a `,`, a `&` or a `-` between them, with or without white space around it. A prefix or a
+    /// suffix is any text without ASCII digits, white space and these three characters, and may be
+    /// empty.
     ///
     /// # Errors
-    /// [`NumericError::NotNumeric`]: the text is any other; no memory was taken.
-    /// [`NumericError::Memory`]: there was no memory left.
+    /// [`NumericError::NotNumeric`]: the text spells no number; nothing was allocated.
+    /// [`NumericError::Memory`]: out of memory.
     pub fn parse(alloc: Global, text: &str) -> Result<Numeric, NumericError>
         // The value that the characters spell, if there is one.
         ensures exact { Gives numeric_view result (numeric_from (chars text.now)) }
-        // What is read is spelled so.
+        // The text spells the value that is returned.
         ensures found { IfOk result (λ n. Spells (numeric_view n) (chars text.now)) }
-        // What is spelled so is read, unless memory ran out; so a text has one value at most.
+        // A value that the text spells is returned, unless memory runs out.
         ensures only { (v : NumericView) → Spells v (chars text.now)
             → MatchResult result (λ n. numeric_view n ≡ v) (λ e. e ≡ NumericError.Memory) }
-        // A text stands for one value at most.
+        // A text spells at most one value.
         ensures unique { (v w : NumericView) → Spells v (chars text.now)
             → Spells w (chars text.now) → v ≡ w }
-        // The reading of any text finds a value exactly where the grammar spells it, whatever
-        // memory there is.
+        // `numeric_from` finds a value exactly if the text spells it, whatever the memory.
         ensures grammar { (v : NumericView) → (numeric_from (chars text.now) ≡ Some v)
             ↔ Spells v (chars text.now) }
-        // What is spelled by no value is refused.
+        // A text that spells no value gives `NotNumeric`, whatever the memory.
         ensures refused { ((v : NumericView) → Spells v (chars text.now) → ⊥)
             → result ≡ Err NumericError.NotNumeric }
-        // The values that are read are those that can be written, and what `Display` writes of
-        // one is read as that value.
+        // Each value that is returned is writable. The text that `Display` writes for a writable
+        // value is read as that value, unless memory runs out.
         ensures writable { IfOk result (λ n. IsWritable (numeric_view n)) }
         ensures again { (v : NumericView) → IsWritable v → text.now ≡ numeric_text v
             → MatchResult result (λ n. numeric_view n ≡ v) (λ e. e ≡ NumericError.Memory) }
@@ -179,8 +179,8 @@ impl Numeric {
         number_in(alloc, text)
     }
 
-    /// Whether the text spells a number, as [`Numeric::parse`] reads it: where this is true,
-    /// `parse` fails only if memory runs out, and where it is false, with `NotNumeric`.
+    /// Whether the text spells a number. If so, [`Numeric::parse`] fails only if memory runs out;
+    /// if not, it returns `NotNumeric`.
     pub fn is_spelled_by(text: &str) -> bool
         ensures { IsTrue result ↔ IsSpelled (chars text.now) }
     {

@@ -8,7 +8,7 @@ ghost use Rattle.lit_model.specs.Roman.{hundreds, tens, units, roman};
 use csl_common::Sink;
 use std::fmt;
 
-/// The thousands, of which there are three at most.
+/// The digits for the thousands, at most three.
 fn thousands(digit: u32) -> &'static str
     requires { digit < 4 }
     ensures { result.now ≡ replicate digit letter_m }
@@ -21,7 +21,7 @@ fn thousands(digit: u32) -> &'static str
     }
 }
 
-/// The digit of the hundreds.
+/// The digits for the hundreds.
 fn hundreds(digit: u32) -> &'static str
     requires { digit < 10 }
     ensures { result.now ≡ hundreds digit }
@@ -40,7 +40,7 @@ fn hundreds(digit: u32) -> &'static str
     }
 }
 
-/// The digit of the tens.
+/// The digits for the tens.
 fn tens(digit: u32) -> &'static str
     requires { digit < 10 }
     ensures { result.now ≡ tens digit }
@@ -59,7 +59,7 @@ fn tens(digit: u32) -> &'static str
     }
 }
 
-/// The digit of the units.
+/// The digits for the units.
 fn units(digit: u32) -> &'static str
     requires { digit < 10 }
     ensures { result.now ≡ units digit }

@@ -11,7 +11,7 @@ use csl_common::{Sink, TrackingWriter, WriteTo, display_text};
 use itoa::Buffer;
 use std::fmt;
 
-/// Zeros to stand before a number of fewer digits.
+/// The given number of zeros, to pad a number.
 fn zeros(count: usize) -> &'static str
     requires { count < 5 }
     ensures { result.now ≡ replicate count zero_char }
@@ -25,7 +25,7 @@ fn zeros(count: usize) -> &'static str
     }
 }
 
-/// Writes a number, for sorting in four places at least.
+/// Writes a number; for sorting (`machine_readable`) padded with zeros to at least four places.
 #[tactic(auto, using(csl_common::proofs::Writes::two_writes, csl_common::proofs::Writes::three_writes))]
 pub fn write_integer<S: Sink>(sink: &mut S, number: i32, machine_readable: bool) -> fmt::Result
     ensures ok { OnOk result (WritesInCalls S.write_str_gives sink.old
@@ -49,7 +49,7 @@ pub fn write_integer<S: Sink>(sink: &mut S, number: i32, machine_readable: bool)
     Ok(())
 }
 
-/// What stands between two numbers.
+/// The text between two numbers.
 pub fn delimiter_str(delimiter: Option<NumericDelimiter>) -> &'static str
     ensures { result.now ≡ delimiter_text delimiter }
 {
@@ -61,7 +61,7 @@ pub fn delimiter_str(delimiter: Option<NumericDelimiter>) -> &'static str
     }
 }
 
-/// The text, or nothing.
+/// The text, or an empty one if there is none.
 fn text_or_empty(text: &Option<String>) -> &str
     ensures { result.now ≡ unwrap_or (option_map string_bytes text.now) [] }
 {
@@ -72,7 +72,7 @@ fn text_or_empty(text: &Option<String>) -> &str
 }
 
 impl NumericValue {
-    /// Writes the number or the numbers to a sink, for sorting or to be read.
+    /// Writes the number or the numbers to a sink, for sorting or for display.
     fn write_into<S: Sink>(&self, sink: &mut S, machine_readable: bool) -> fmt::Result
         ensures ok { OnOk result (WritesInCalls S.write_str_gives sink.old
             (value_text (integer_text machine_readable) (value_view self.now)) sink.new) }
@@ -105,11 +105,11 @@ fn write_numbers<S: Sink>(
 }
 
 impl Numeric {
-    /// Writes the number or the numbers to a sink, without prefix and suffix; for sorting
-    /// (`machine_readable`) each number in four places at least.
+    /// Writes the number or the numbers to a sink, without prefix and suffix. For sorting
+    /// (`machine_readable`), each number is padded with zeros to at least four places.
     ///
     /// # Errors
-    /// [`fmt::Error`]: the sink refused a text; what it holds then is left open.
+    /// [`fmt::Error`]: the sink refused a text; the contents of the sink are then unspecified.
     pub fn fmt_value_into<S: Sink>(&self, sink: &mut S, machine_readable: bool) -> fmt::Result
         ensures ok { OnOk result (WritesInCalls S.write_str_gives sink.old
             (value_text (integer_text machine_readable) (value_view self.now.value)) sink.new) }
@@ -123,20 +123,20 @@ impl Numeric {
     /// sink.
     ///
     /// # Errors
-    /// [`fmt::Error`]: the writer refused a text; what it holds then is left open.
+    /// [`fmt::Error`]: the writer refused a text; its contents are then unspecified.
     pub fn fmt_value<W: fmt::Write>(&self, w: &mut W, machine_readable: bool) -> fmt::Result
         ensures { OnOk result (WritesInCalls W.write_str_gives w.old
             (value_text (integer_text machine_readable) (value_view self.now.value)) w.new) }
     {
         let mut sink = TrackingWriter::new(w);
         let result = self.fmt_value_into(&mut sink, machine_readable);
-        // It does nothing: the proof reads what `w` holds from the reference that comes back.
+        // No effect: the proof gets the contents of `w` from the returned reference.
         sink.into_inner();
         result
     }
 }
 
-/// The number with its prefix and suffix.
+/// Writes the number with its prefix and suffix.
 impl WriteTo for Numeric {
     ghost text = { λ n. numeric_text (numeric_view n) };
 

@@ -1,4 +1,4 @@
-//! Reading of pages.
+//! Parsing of pages.
 
 ghost use Rattle.std.specs.Prelude.{◌≡◌, Option, List, Some, None, Err, IfOk, MatchOption, MatchResult, IsSome, option_map, count_by, chars};
 ghost use Rattle.lit_model.specs.Numeric.{numeric_view};
@@ -16,7 +16,7 @@ use crate::scan;
 use crate::scan::Class;
 use std::alloc::{AllocError, Global};
 
-/// A page that was read. Nothing of it was copied yet.
+/// A parsed page. Its texts are slices of the input.
 #[derive(Clone, Copy)]
 struct PageShape<'a> {
     prefix: &'a str,
@@ -24,14 +24,14 @@ struct PageShape<'a> {
     suffix: &'a str,
 }
 
-/// An item that was read.
+/// A parsed item: a page, or the first and the last page of a range.
 #[derive(Clone, Copy)]
 enum ItemShape<'a> {
     Single(PageShape<'a>),
     Pair(PageShape<'a>, PageShape<'a>),
 }
 
-/// The page at the front, and what follows it.
+/// The page at the front, and the text after it.
 #[tactic(auto, unfolding(crate::specs::PageReading::page_at))]
 fn page(text: &str) -> Option<(PageShape<'_>, &str)>
     ensures { option_map (λ x. (page_of x.0, chars x.1.now)) result ≡ page_at (chars text.now) }
@@ -49,7 +49,7 @@ fn page(text: &str) -> Option<(PageShape<'_>, &str)>
     Some((page, rest))
 }
 
-/// What follows the mark of a range, and the white space round it.
+/// The text after a range mark and the white space around it.
 #[tactic(auto, unfolding(crate::specs::PageReading::mark_at))]
 fn after_mark(text: &str) -> Option<&str>
     ensures { option_map (λ rest. chars rest.now) result ≡ mark_at (chars text.now) }
@@ -65,7 +65,7 @@ fn after_mark(text: &str) -> Option<&str>
     Some(rest)
 }
 
-/// The separator at the front, with the white space round it, and what follows.
+/// The separator at the front, and the text after it. White space around it is skipped.
 #[tactic(auto, unfolding(crate::specs::PageReading::separator_at))]
 fn separator(text: &str) -> Option<(PageRangesPart, &str)>
     ensures { option_map (λ x. (part_view x.0, chars x.1.now)) result
@@ -84,7 +84,7 @@ fn separator(text: &str) -> Option<(PageRangesPart, &str)>
     Some((separator, rest))
 }
 
-/// The page or the range at the front, and what follows it.
+/// The page or the range at the front, and the text after it.
 #[tactic(auto, unfolding(crate::specs::PageReading::item_at, crate::specs::PageReading::item_from))]
 fn item(text: &str) -> Option<(ItemShape<'_>, &str)>
     ensures { option_map (λ x. (item_of x.0, chars x.1.now)) result ≡ item_at (chars text.now) }
@@ -101,7 +101,7 @@ fn item(text: &str) -> Option<(ItemShape<'_>, &str)>
     Some((ItemShape::Pair(first, last), rest))
 }
 
-/// What follows the items, of which each but the last has a separator after it.
+/// The text after `separators + 1` items with a separator between each two.
 fn skip_parts(separators: usize, text: &str) -> Option<&str>
     ensures { option_map (λ rest. chars rest.now) result
         ≡ rest_of (parts_at separators (chars text.now)) }
@@ -122,7 +122,7 @@ fn skip_parts(separators: usize, text: &str) -> Option<&str>
     }
 }
 
-/// How many separators stand in the text.
+/// The number of separator characters in the text.
 fn separators(text: &str) -> usize
     ensures { result ≡ count_by is_separator (chars text.now) }
 {
@@ -159,7 +159,7 @@ fn made_item(alloc: Global, item: &ItemShape<'_>) -> Result<PageRangesPart, Allo
     }
 }
 
-/// The items of a text, and the separators between them.
+/// The first `separators + 1` items of a text, and the separators between them.
 fn parts(alloc: Global, separators: usize, text: &str) -> Result<Vec<PageRangesPart>, NumericError>
     ensures { Gives (λ v. parts_view v.items) result
         (read_of (parts_at separators (chars text.now))) }
@@ -187,8 +187,8 @@ fn parts(alloc: Global, separators: usize, text: &str) -> Result<Vec<PageRangesP
     Ok(parts)
 }
 
-/// The text from the first item on, and how many separators stand in it; or nothing where the text
-/// is not in the grammar.
+/// The number of separators and the text from the first item on; `None` if the text is not in the
+/// grammar.
 #[tactic(auto, unfolding(crate::specs::PageReading::pages_from))]
 fn items_of(text: &str) -> Option<(usize, &str)>
     ensures { MatchOption result (pages_from (chars text.now) ≡ None)
@@ -206,7 +206,7 @@ fn items_of(text: &str) -> Option<(usize, &str)>
     Some((separators, items))
 }
 
-/// The pages that a text stands for.
+/// The pages that a text spells.
 fn pages_in(alloc: Global, text: &str) -> Result<PageRanges, NumericError>
     ensures exact { Gives pages_view result (pages_from (chars text.now)) }
     ensures none { pages_from (chars text.now) ≡ None → result ≡ Err NumericError.NotNumeric }
@@ -219,30 +219,30 @@ fn pages_in(alloc: Global, text: &str) -> Result<PageRanges, NumericError>
 }
 
 impl PageRanges {
-    /// The pages that a text stands for.
+    /// The pages that a text spells.
     ///
-    /// The text has white space or none, items with a `,` or a `&` between two of them, and white
-    /// space or none. An item is a page, or two pages joined by a `-` or an en dash. White space
-    /// may stand round each separator and each mark. A page is one number with a prefix and a
-    /// suffix, as [`Numeric::parse`] reads them, that hold no en dash.
+    /// The text is optional white space, items with a `,` or a `&` between each two, and optional
+    /// white space. An item is a page, or two pages joined by a `-` or an en dash. Each separator
+    /// and each joining mark may have white space around it. A page is one number with an optional
+    /// prefix and suffix, as in [`Numeric::parse`], but without an en dash in them.
     ///
     /// # Errors
-    /// [`NumericError::NotNumeric`]: the text is any other; no memory was taken.
-    /// [`NumericError::Memory`]: there was no memory left.
+    /// [`NumericError::NotNumeric`]: the text spells no pages; nothing was allocated.
+    /// [`NumericError::Memory`]: out of memory.
     pub fn parse(alloc: Global, text: &str) -> Result<PageRanges, NumericError>
-        // What is read is spelled so.
+        // The text spells the value that is returned.
         ensures found { IfOk result (λ pages. SpellsPages (pages_view pages) (chars text.now)) }
-        // What is spelled so is read, unless memory ran out.
+        // A value that the text spells is returned, unless memory runs out.
         ensures only { (v : List PartView) → SpellsPages v (chars text.now)
             → MatchResult result (λ pages. pages_view pages ≡ v) (λ e. e ≡ NumericError.Memory) }
-        // A text stands for one value at most.
+        // A text spells at most one value.
         ensures unique { (v w : List PartView) → SpellsPages v (chars text.now)
             → SpellsPages w (chars text.now) → v ≡ w }
-        // What is spelled by no value is refused.
+        // A text that spells no value gives `NotNumeric`, whatever the memory.
         ensures refused { ((v : List PartView) → SpellsPages v (chars text.now) → ⊥)
             → result ≡ Err NumericError.NotNumeric }
-        // The values that are read are those that can be written, and what `Display` writes of
-        // one is read as that value.
+        // Each value that is returned is writable. The text that `Display` writes for a writable
+        // value is read as that value, unless memory runs out.
         ensures writable { IfOk result (λ pages. AreWritable (pages_view pages)) }
         ensures again { (v : List PartView) → AreWritable v → text.now ≡ pages_text v
             → MatchResult result (λ pages. pages_view pages ≡ v) (λ e. e ≡ NumericError.Memory) }

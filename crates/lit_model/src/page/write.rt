@@ -25,7 +25,7 @@ fn write_range<S: Sink>(sink: &mut S, first: &Numeric, last: &Numeric) -> fmt::R
     Ok(())
 }
 
-/// The part, as it stands among others.
+/// Writes the part, a separator with its spaces.
 impl WriteTo for PageRangesPart {
     ghost text = { λ part. part_text (part_view part) };
 
@@ -40,7 +40,7 @@ impl WriteTo for PageRangesPart {
     }
 }
 
-/// The parts in order.
+/// Writes the parts in order.
 impl WriteTo for PageRanges {
     ghost text = { λ pages. pages_text (pages_view pages) };
 

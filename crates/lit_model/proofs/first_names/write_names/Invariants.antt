@@ -8,7 +8,7 @@ use Rattle.lit_model.specs.Marked.{names_text}
 use Rattle.lit_model.specs.Initials.{given_words}
 use Rattle.lit_model.proofs.first_names.write_names.Given as goal
 
--- what the sink took so far, with the words that are left, is what it is to take
+-- the bytes that the sink took so far and the text of the remaining words are the whole text
 abbrev pub invariant-loop-word : goal.invariant-loop-word
 invariant-loop-word g l =
     shadow (Utf8 l.gap)

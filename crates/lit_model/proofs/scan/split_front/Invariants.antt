@@ -5,7 +5,8 @@ use Rattle.lit_model.specs.NumericReading.{longest_prefix, after_longest_prefix}
 use Rattle.lit_model.specs.Scan.{passes}
 use Rattle.lit_model.proofs.scan.split_front.Given as goal
 
--- what was passed is the front so far; what follows has the rest of the front, and the same end
+-- The bytes before the rest are the front so far. The longest front goes on in the rest, and the
+-- characters after it are unchanged.
 abbrev pub invariant-loop-c : goal.invariant-loop-c
 invariant-loop-c l = record {
   text : shadow (Utf8 l.rest);

@@ -6,7 +6,8 @@ use Rattle.lit_model.specs.Initials.{initials_of}
 use Rattle.lit_model.specs.Shortened.{word_text, before_piece}
 use Rattle.lit_model.proofs.initials.Shortened.write_word.Given as goal
 
--- what the sink took so far, with the initials of the rest, is what it is to take; the place and the refusals are as they should be
+-- The bytes that the sink took so far and the initials of the rest are the text of the whole word.
+-- The position fits, and no refusal is new.
 abbrev pub invariant-loop-piece : goal.invariant-loop-piece
 invariant-loop-piece g l =
     shadow (Utf8 l.rest)

@@ -7,7 +7,7 @@ use Rattle.lit_model.specs.declared.initials.Before.TheVariants.{Nothing}
 use Rattle.lit_model.specs.Shortened.{words_text}
 use Rattle.lit_model.proofs.initials.Shortened.write_words.Given as goal
 
--- what the sink took so far, with the initials of the words that are left, is what it is to take
+-- the bytes that the sink took so far and the initials of the remaining words are the whole text
 abbrev pub invariant-loop-word : goal.invariant-loop-word
 invariant-loop-word g l =
     IsUtf8 (split_whitespace_rest l.word-iterator)

@@ -4,7 +4,7 @@ use Rattle.lit_model.specs.NumericText.{numbers_text}
 use Rattle.lit_model.specs.NumericForm.{form_text}
 use Rattle.lit_model.proofs.numeric.form.write_numbers_in_form.Given as goal
 
--- so far the sink took the numbers before this one, and refused nothing
+-- so far the sink took the numbers before this one, and no refusal is new
 abbrev pub invariant-loop-number : goal.invariant-loop-number
 invariant-loop-number g l = record {
   taken : WritesInCalls g.S.Write.write_str_gives l.fn.sink (numbers_text (form_text (g.O.Ordinals.ordinals l.ordinals) (g.O.Ordinals.long_ordinals l.ordinals) l.form l.gender) (take l.number-index l.numbers)) l.sink;
