@@ -1,5 +1,5 @@
--- A derived comparison of two values of an enum, as `==` or `cmp`, gives the answer for one value
--- exactly where they are one.
+-- A derived comparison of two values of an enum, such as `==` or `cmp`, returns its result for
+-- equality exactly if the values are equal.
 use Rattle.std.proofs.Common.{◌≡◌, ◌↔◌, ℕ, zero, suc, List, [], ◌∷◌, inl, inr, refl, ap}
 use denote.Struct.Field.{Field}
 use denote.Struct.Values.{Values}
@@ -7,7 +7,7 @@ use denote.Enum.Declared.{Choice, Record, values_one, left_or, right_or}
 use denote.Enum.Compared.{Each, by}
 
 module _ {A : Type 0} (r before after : A) where
-  -- the comparison of each variant answers r exactly where two of its values are one
+  -- the comparison of each variant returns r exactly if its two values are equal
   abbrev pub EachTells : (Fss : List (List Field)) → Each A Fss → Type 0
   EachTells [] each = Unit {0}
   EachTells (Fs ∷ Fss) each = ((x y : Values Fs) → (each.0 x y ≡ r) ↔ (x ≡ y)) × EachTells Fss each.1
@@ -22,22 +22,22 @@ module _ {A : Type 0} (r before after : A) where
     choices_tell (Fs ∷ Fss) each h (inr x) (inr y) =
         let t = choices_tell Fss each.1 h.1 x y in (λ e. ap inr (t.0 e), λ e. t.1 (ap (right_or x) e))
 
-    -- so the comparison of the enum does
+    -- then so does the comparison of the enum
     pub values_tell : (N : Record) (each : Each A N.parts) → EachTells N.parts each → (a b : N.D) → (by before after N.parts each (N.as_values a) (N.as_values b) ≡ r) ↔ (a ≡ b)
     values_tell N each h a b =
         let t = choices_tell N.parts each h (N.as_values a) (N.as_values b) in
         (λ e. values_one N a b (t.0 e), λ e. t.1 (ap N.as_values e))
 
-  -- of a variant without a field
+  -- for a variant without a field
   pub bare : (x y : Unit {0}) → (r ≡ r) ↔ (x ≡ y)
   bare x y = (λ _. refl, λ _. refl)
 
-  -- of a variant with one field
+  -- for a variant with one field
   pub alone : {V : Type 0} (compare : V → V → A) → ((x y : V) → (compare x y ≡ r) ↔ (x ≡ y)) → (x y : V × Unit {0}) → (compare x.0 y.0 ≡ r) ↔ (x ≡ y)
   alone {V} compare t x y =
       let e = t x.0 y.0 in (λ h. ap (λ (v : V). let p : V × Unit {0} = (v, tt) in p) (e.0 h), λ h. e.1 (ap (λ (p : V × Unit {0}). p.0) h))
 
--- n times the same proof, as for n variants without a field
+-- the same proof n times, for n variants without a field
 abbrev pub Copies : Type 0 → ℕ → Type 0
 Copies U zero = Unit {0}
 Copies U (suc n) = U × Copies U n

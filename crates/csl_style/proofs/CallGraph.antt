@@ -1,4 +1,4 @@
--- What leads to what, by names and by places.
+-- Macros lead to each other by name exactly as their places do in the graph of calls.
 use Rattle.std.proofs.Common.{◌≡◌, ℕ, List, length, slice_index, Option, Some, None, option_map, true, refl, sym, ◌∙◌, subst, arith, Contains}
 use Rattle.std.proofs.lemmas.Bool.Decides.{nat_tests}
 use Rattle.csl_style.specs.GraphReach.{Graph, HasEdge, Reaches, along_edge, along_edges, HasRanks, ArePlaceRanks, IsFirstCyclicPlace}
@@ -17,7 +17,7 @@ module _ (ds : List Definition) (g : Graph) (is : IsCallGraph ds g) where
       let here = place-is a ds i p in
       subst (λ tos. Contains tos j) (sym (is.rows i here.within)) (all-into ds b j q (children_at ds i) (subst (BodyCalls b) here.holds c))
 
-  -- what calls something has a place
+  -- a name whose macro calls something has a place
   placed : (a b : List ℕ) (o : Option ℕ) → macro_index a ds ≡ o → BodyCalls b (macro_body a ds) → (i : ℕ) × (macro_index a ds ≡ Some i)
   placed a b None p c = absurd (subst (BodyCalls b) (body-none a ds p) c)
   placed a b (Some i) p c = (i, p)
@@ -49,7 +49,7 @@ module _ (ds : List Definition) (g : Graph) (is : IsCallGraph ds g) where
       let (e, on, r) = to-names l b q in
       (e, through (holds-call a b i p calls) on, r)
 
-  -- what is reached is the place of a name
+  -- a place that is reached is the place of a name
   ends : {i j : ℕ} → Reaches g i j → (b : List ℕ) × (macro_index b ds ≡ Some j)
   ends (along_edge {a = i} {b = j} h) = let (b, calls, q) = edge-back i j h in (b, q)
   ends (along_edges h l) = ends l

@@ -1,4 +1,4 @@
--- Names, their places, and what calls which.
+-- Names, their places, and the calls between macros.
 use Rattle.std.proofs.Common.{◌≡◌, ℕ, zero, suc, ◌<◌, ◌+◌, List, [], ◌∷◌, ◌++◌, length, get_or, Option, Some, None, option_map, Bool, true, false, if◌then◌else◌, nat_eq, refl, sym, ap, ◌∙◌, subst, arith, inl, inr, Vec, Global, Contains, string_bytes}
 use Rattle.std.specs.Option.{option_to_list}
 use Rattle.std.specs.Str.{bytes_eq}
@@ -13,7 +13,7 @@ use Rattle.csl_style.specs.MacroCalls.{Calls, OneCalls, BranchCalls, SubstituteC
 use Rattle.csl_style.specs.Calls.{calls_in, calls_in_all, calls_in_branches, calls_in_substitutes, name_at, children_at, IsCallGraph}
 use Rattle.csl_style.specs.declared.element.CslMacro.{CslMacro}
 
--- the place of a name has that name, and what the name stands for
+-- the macro at the place of a name has this name, and the nodes that the name stands for
 pub record IsPlace (name : List ℕ) (ds : List Definition) (i : ℕ) : Type 0 where
   pub within : i < length ds
   pub named : name_at ds i ≡ name
@@ -107,7 +107,7 @@ module _ (ds : List Definition) where
       substitutes-into (substitute ns ss) (inl c) = Contains-append_left (calls_in_all ds ns) (calls_in_substitutes ds ss) q (all-into ns c)
       substitutes-into (substitute ns ss) (inr c) = Contains-append_right (calls_in_all ds ns) (calls_in_substitutes ds ss) q (substitutes-into ss c)
 
--- where each name that is called is below r
+-- nodes are below r if each name that they call is
 module _ (rank : List ℕ → Option ℕ) (r : ℕ) where
   mutual
     calls-below-by : (n : Node) → ((name : List ℕ) → Calls name n → is_below (rank name) r ≡ true) → calls_below rank r n ≡ true

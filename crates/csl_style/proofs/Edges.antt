@@ -1,4 +1,4 @@
--- Edges of a graph, and the rows that they are read from.
+-- Edges of a graph, and the rows that hold them.
 use Rattle.std.proofs.Common.{◌≡◌, ℕ, zero, suc, ◌<◌, List, [], ◌∷◌, length, slice_index, get_or, Bool, true, sym, ap, ◌∙◌, subst, arith, Vec, Global, All, Contains}
 use Rattle.std.proofs.lemmas.List.Elements.{All-head, All-tail, All-contains, Contains-get_or}
 use Rattle.std.proofs.lemmas.Grind.{get_or_default_zero}

@@ -1,4 +1,4 @@
--- How many places are marked.
+-- The number of marked places.
 use Rattle.std.proofs.Common.{◌≡◌, ◌≢◌, ℕ, zero, suc, ◌<◌, ◌≤◌, ◌+◌, List, [], ◌∷◌, length, slice_index, set, replicate, Bool, true, false, nat_eq, refl, ap, arith, ◌⊎◌, inl, inr, get_or-set_same, get_or-set_other}
 use Rattle.std.proofs.lemmas.Bool.Decides.{nat_tests}
 use Rattle.csl_style.specs.GraphReach.{is_marked}
@@ -8,11 +8,11 @@ marks [] = 0
 marks (true ∷ bs) = suc (marks bs)
 marks (false ∷ bs) = marks bs
 
--- each place that the one marks is marked in the other
+-- each place that is marked in the first list is marked in the second
 abbrev pub Within : List Bool → List Bool → Type 0
 Within xs ys = (q : ℕ) → is_marked xs q ≡ true → is_marked ys q ≡ true
 
--- ---- none
+-- ---- no place is marked
 
 pub marks-none : (n : ℕ) → marks (replicate n false) ≡ 0
 marks-none zero = refl
@@ -27,7 +27,7 @@ pub none-length : (n : ℕ) → length (replicate n false) ≡ n
 none-length zero = refl
 none-length (suc n) = ap suc (none-length n)
 
--- ---- one more
+-- ---- one more place is marked
 
 pub marks-set : (ys : List Bool) (q : ℕ) → q < length ys → is_marked ys q ≡ false → marks (set ys q true) ≡ suc (marks ys)
 marks-set [] q less h = absurd (omega arith)
@@ -51,7 +51,7 @@ module _ (seen : List Bool) (q : ℕ) (inside : q < length seen) where
   pub still-marked : (p : ℕ) → is_marked seen p ≡ true → is_marked (set seen q true) p ≡ true
   still-marked p h = still-by p (nat_eq p q) refl h
 
--- ---- no more than there are places
+-- ---- no more marks than places
 
 pub marks-le : (ys : List Bool) → marks ys ≤ length ys
 marks-le [] = omega arith
@@ -65,7 +65,7 @@ marks-short (false ∷ ys) zero less h = let k = marks-le ys in omega arith
 marks-short (true ∷ ys) (suc q) less h = let k = marks-short ys q (omega arith) h in omega arith
 marks-short (false ∷ ys) (suc q) less h = let k = marks-short ys q (omega arith) h in omega arith
 
--- ---- of two, one within the other
+-- ---- two lists, one within the other
 
 pub marks-fewer : (xs ys : List Bool) → length xs ≡ length ys → Within xs ys → marks xs ≤ marks ys
 marks-fewer [] ys e h = omega arith

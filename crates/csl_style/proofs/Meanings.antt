@@ -1,4 +1,4 @@
--- A name means what the first macro of that name means, in an acyclic style.
+-- In an acyclic style, a name stands for the nodes of the first macro of that name.
 use Rattle.std.proofs.Common.{◌≡◌, ℕ, zero, suc, ◌≤◌, List, [], ◌∷◌, length, slice_index, Option, Some, None, option_map, Bool, true, false, if◌then◌else◌, refl, sym, ap, ap₂, ◌∙◌, ◌&&◌, arith}
 use Rattle.std.proofs.lemmas.Bool.Decides.{nat_tests}
 use Rattle.std.specs.Str.{bytes_eq}
@@ -7,7 +7,7 @@ use Rattle.csl_style.specs.Names.{NamesNode}
 use Rattle.csl_style.specs.View.{Definition}
 use Rattle.csl_style.specs.Expansion.{macro_index, macro_body, expansion_to_depth, macro_expansion, rank_of, is_below, calls_below, all_below, branches_below, substitutes_below, body_below, AreRanks, IsAcyclic}
 
--- two ways to read names that agree on the calls below a rank
+-- two expansions of names that agree on each name below r
 abbrev Agree : (List ℕ → Option ℕ) → ℕ → (e f : List ℕ → Option ExpandedNodes) → Type 0
 Agree rank r e f = (name : List ℕ) → is_below (rank name) r ≡ true → e name ≡ f name
 
@@ -61,7 +61,7 @@ split true o n m f h = grind arith
 split false None n m f h = f refl
 split false (Some k) n m f h = grind arith
 
--- a name with no macro stands for nothing
+-- a name without a macro stands for nothing
 pub body-none : (name : List ℕ) (ds : List Definition) → macro_index name ds ≡ None → macro_body name ds ≡ None
 body-none name [] h = refl
 body-none name (d ∷ ds) h = split (bytes_eq d.0 name) (macro_index name ds) (Some d.1) (macro_body name ds) (body-none name ds) h
@@ -76,7 +76,7 @@ module _ (ds : List Definition) (ranks : List ℕ) (ok : AreRanks ds ranks) wher
   followed-none zero name h = refl
   followed-none (suc n) name h = ap (option_map (expand_nodes (expansion_to_depth ds n))) (body-none name ds h)
 
-  -- names followed deeper than the rank give the same
+  -- a name whose rank is below a bound has the same expansion to every depth from the bound on
   deep-enough : (bound : ℕ) (n m : ℕ) (name : List ℕ) (o : Option ℕ) → macro_index name ds ≡ o → is_below (option_map (slice_index ranks) o) bound ≡ true
       → bound ≤ n → bound ≤ m → expansion_to_depth ds n name ≡ expansion_to_depth ds m name
   unfolding expansion_to_depth
@@ -94,7 +94,8 @@ unfolding macro_expansion expansion_to_depth
 meaning-unfolds ds name (ranks, ok) =
     deep-enough ds ranks ok (length ds) (length ds) (suc (length ds)) name (macro_index name ds) refl (ok.small name) (omega arith) (omega arith)
 
--- what is answered for the first macro of a name, in the terms of what it holds
+-- if o has the nodes of a name's first macro, then these nodes, expanded, are the expansion of the
+-- name
 pub meaning-of : {A : Type 0} (ds : List Definition) (name : List ℕ) (f : A → Nodes) (o : Option A) → IsAcyclic ds → option_map f o ≡ macro_body name ds
     → option_map (λ m. expand_nodes (macro_expansion ds) (f m)) o ≡ macro_expansion ds name
 meaning-of ds name f None ok e = ap (option_map (expand_nodes (macro_expansion ds))) e ∙ sym (meaning-unfolds ds name ok)

@@ -1,4 +1,4 @@
--- The children of a names node: none, where none of any sort is found.
+-- A names node counts as childless exactly if its list of children is empty.
 use Rattle.std.proofs.Common.{◌≡◌, Bool, true, false, ◌&&◌, nat_eq, List, [], ◌∷◌, map, length, suc, refl, sym, ◌∙◌, arith}
 use Rattle.std.proofs.lemmas.Bool.Decides.{nat_tests}
 use Rattle.csl_style.specs.declared.element.Names.{Names, out-Names}

@@ -1,4 +1,4 @@
--- What a set holds once something is inserted.
+-- The items of a set after an insertion.
 use Rattle.std.proofs.Common.{◌≡◌, Bool, true, false, refl, sym, ap, ◌∙◌, cond}
 use Rattle.std.specs.Prelude.{◌||◌, ◌&&◌, not}
 use Rattle.std.specs.BTreeSet.{BTreeSet, Updates, contains, IsEmpty}
@@ -40,7 +40,7 @@ and_false : (p : Bool) → (p && false) ≡ false
 and_false true = refl
 and_false false = refl
 
--- a variable that the citation answers is not noted
+-- a variable of the citation adds nothing
 not_noted_at : (v : Variable) → is_of_citation v ≡ true → (q : NamedItem) → the_variable v q ≡ false
 unfolding the_variable
 not_noted_at v e (a_variable u) = rw e (and_false _)

@@ -1,4 +1,4 @@
--- Options that are borrowed, seen as what they lend.
+-- A function applied to the result of `or` and of `unwrap_or`.
 use Rattle.std.proofs.Common.{◌≡◌, Option, Some, None, option_map, refl}
 use Rattle.std.specs.Option.{option_or, unwrap_or}
 

@@ -1,4 +1,4 @@
--- One formatting over another, and both over a third.
+-- One formatting over another, and the two of them over a third.
 use Rattle.std.proofs.Common.{◌≡◌, Option, Some, None, unwrap_or, refl}
 use Rattle.std.specs.Option.{option_or}
 use Rattle.csl_style.specs.declared.formatting.Formatting.{Formatting}

@@ -1,4 +1,4 @@
--- The places of macros by name, with one more macro.
+-- The map from names to the places of macros, one macro at a time.
 use Rattle.std.proofs.Common.{◌≡◌, ℕ, ◌+◌, ◌<◌, suc, List, [], ◌∷◌, length, drop, get_or, Bool, true, false, Option, Some, None, option_map, is_some, if◌then◌else◌, cond, String, Global, string_bytes, refl, sym, ap, ◌∙◌, arith}
 use Rattle.std.specs.Option.{option_or}
 use Rattle.std.specs.List.{find}
@@ -13,7 +13,7 @@ use Rattle.csl_style.specs.Expansion.{macro_index, macro_body}
 use Rattle.csl_style.proofs.Meanings.{body-none}
 use Rattle.csl_style.proofs.Called.{place-is, children-read, length-definitions}
 
--- the places so far, and then those of the rest
+-- the place of a name: from the map so far, else from the remaining macros
 abbrev pub found : {S : Type 0} → HashMap (String Global) ℕ S → ℕ → List CslMacro → List ℕ → Option ℕ
 found places i rest q = option_or (get_by_text places q) (option_map (λ k. i + k) (macro_index q (definitions rest)))
 
@@ -34,14 +34,14 @@ module _ (i : ℕ) where
   new_cases false None (Some k) h = ap Some (omega arith)
 
   module _ (ms : List CslMacro) (m : CslMacro) (within : i < length ms) (is : m ≡ get_or ms i m) {S : Type 0} (places : HashMap (String Global) ℕ S) (q : List ℕ) where
-    -- an earlier macro has the name of this one
+    -- if an earlier macro has the name of this one, the map stays the same
     pub with_seen_name : is_some (get_by_text places (string_bytes m.name)) ≡ true → found places (i + 1) (drop (i + 1) ms) q ≡ found places i (drop i ms) q
     with_seen_name h = seen_cases (bytes_eq (string_bytes m.name) q) (get_by_text places q) (macro_index q (definitions (drop (i + 1) ms)))
         (λ same none. let e = (bytes_eq-Decides (string_bytes m.name) q).0 same in let o : get_by_text places (string_bytes m.name) ≡ None = ap (get_by_text places) e ∙ none in grind arith)
         ∙ ap (λ x. option_or (get_by_text places q) (option_map (λ k. i + k) (macro_index q (definitions (x ∷ drop (i + 1) ms))))) is
         ∙ sym (at_drop_more (λ rest. found places i rest q) ms i m within)
 
-    -- this one is the first of its name, and its place is added
+    -- else this macro is the first of its name, and its place is added
     pub with_new_name : (new : HashMap (String Global) ℕ S) → get_by_text places (string_bytes m.name) ≡ None → get_by_text new q ≡ update bytes_eq (get_by_text places) (string_bytes m.name) (Some i) q
         → found new (i + 1) (drop (i + 1) ms) q ≡ found places i (drop i ms) q
     with_new_name new none put = ap (λ o. option_or o (option_map (λ k. (i + 1) + k) (macro_index q (definitions (drop (i + 1) ms))))) put
@@ -50,7 +50,7 @@ module _ (i : ℕ) where
         ∙ ap (λ x. option_or (get_by_text places q) (option_map (λ k. i + k) (macro_index q (definitions (x ∷ drop (i + 1) ms))))) is
         ∙ sym (at_drop_more (λ rest. found places i rest q) ms i m within)
 
--- what a name stands for, by the place of its first macro
+-- the nodes that a name stands for, by the place of its first macro
 pub unplaced : (ms : List CslMacro) (name : List ℕ) → macro_index name (definitions ms) ≡ None → macro_body name (definitions ms) ≡ None
 unplaced ms name h = body-none name (definitions ms) h
 
@@ -60,7 +60,7 @@ placed ms name i h = let here = place-is name (definitions ms) i h in let len = 
 pub read : (ms : List CslMacro) (name : List ℕ) (i : ℕ) (m : CslMacro) → macro_index name (definitions ms) ≡ Some i → m ≡ get_or ms i m → macro_body name (definitions ms) ≡ Some (view_nodes m.children.items)
 read ms name i m h is = (place-is name (definitions ms) i h).holds ∙ ap Some (children-read ms i m (placed ms name i h) is)
 
--- the first macro of a name is the one at the name's place
+-- the first macro of a name is the one at the place of the name
 find_cases : (x m : CslMacro) (ms : List CslMacro) (i : ℕ) (b : Bool) (o : Option ℕ) (f : Option CslMacro) → ((k : ℕ) → o ≡ Some k → m ≡ get_or ms k m → f ≡ Some m)
     → (if b then Some 0 else option_map suc o) ≡ Some i → m ≡ get_or (x ∷ ms) i m → cond b (Some x) f ≡ Some m
 find_cases x m ms i true o f rest h is = let z : 0 ≡ i = cc in ap Some (sym (is ∙ ap (λ j. get_or (x ∷ ms) j m) (sym z)))

@@ -1,4 +1,4 @@
--- Where no place leads to itself, the number of places that each leads to is its rank.
+-- If no place leads to itself, the number of places that a place leads to is its rank.
 use Rattle.std.proofs.Common.{◌≡◌, ℕ, zero, suc, ◌<◌, ◌≤◌, List, [], ◌∷◌, ◌++◌, length, slice_index, Bool, true, false, nat_eq, refl, sym, ap, ◌∙◌, arith, length-append}
 use Rattle.std.proofs.lemmas.Bool.Decides.{nat_tests}
 use Rattle.csl_style.specs.GraphReach.{Graph, InRange, HasEdge, Reaches, along_edge, along_edges, is_marked, IsReach, ArePlaceRanks, HasRanks}
@@ -6,7 +6,7 @@ use Rattle.csl_style.proofs.Marks.{marks, Within, marks-less, marks-short}
 use Rattle.csl_style.proofs.Edges.{edge-within, edge-from}
 use Rattle.csl_style.proofs.Searching.{before-push, last-push}
 
--- a search from the place did not come back to it
+-- a search from the place does not come back to it
 pub record ReachesNotItself (g : Graph) (k : ℕ) : Type 0 where
   pub seen : List Bool
   pub reach : IsReach g k seen
@@ -43,7 +43,7 @@ module _ (g : Graph) (range : InRange g (length g)) (all_not : (k : ℕ) → k <
       let to = all_not n (omega arith) in
       (ranks ++ marks to.seen ∷ [], count-more n ranks (marks to.seen) so (record { to = to; is = refl }))
 
-  -- what b leads to a leads to, and a leads to b, which b does not
+  -- a leads to each place that b leads to, and to b itself, which b does not lead to
   falls : (a b i j : ℕ) → Counts a i → Counts b j → HasEdge g a b → j < i
   falls a b i j x y edge =
       let from_a = x.to in
@@ -70,7 +70,7 @@ module _ (g : Graph) (range : InRange g (length g)) (all_not : (k : ℕ) → k <
         },
       )
 
--- and ranks fall along any way, so no place with ranks leads back to itself
+-- ranks fall along each path, so no place of a graph with ranks leads back to itself
 pub ranks-fall : {g : Graph} {ranks : List ℕ} → ArePlaceRanks g ranks → {a b : ℕ} → Reaches g a b → slice_index ranks b < slice_index ranks a
 ranks-fall ok (along_edge {a} {b} h) = ok.fall a b h
 ranks-fall ok (along_edges {a} {b} h l) =

@@ -1,4 +1,4 @@
--- Where the macros have ranks, none leads back to itself.
+-- If the macros have ranks, none leads back to itself.
 use Rattle.std.proofs.Common.{◌≡◌, ℕ, ◌<◌, List, Option, Some, None, option_map, slice_index, true, nat_lt, refl, sym, ap, ◌∙◌, subst, arith, inl, inr}
 use Rattle.std.proofs.lemmas.Bool.Decides.{nat_tests}
 use Rattle.csl_style.specs.Node.{Node, text, call, number, label, date, names, choose, group, Nodes, no_nodes, node, Branches, no_branches, otherwise, branch, Substitutes, no_substitutes, substitute}
@@ -41,7 +41,7 @@ module _ (rank : List ℕ → Option ℕ) (r : ℕ) (name : List ℕ) where
   called-below (Some ns) c h = one-below ns c h
 
 module _ (ds : List Definition) (ranks : List ℕ) (ok : AreRanks ds ranks) where
-  -- a macro that calls something has a rank, and what it calls is below it
+  -- a macro that calls something has a rank; each name that it calls is below that rank
   has-rank : (a b : List ℕ) (o : Option ℕ) → macro_index a ds ≡ o → BodyCalls b (macro_body a ds) → (r : ℕ) × (rank_of ranks ds a ≡ Some r)
   has-rank a b None p c = absurd (subst (BodyCalls b) (body-none a ds p) c)
   has-rank a b (Some i) p c = (slice_index ranks i, ap (option_map (slice_index ranks)) p)

@@ -1,5 +1,5 @@
--- The view of a node that holds nodes, by its fields. Callers name these lemmas where they make
--- such a node, in a struct literal or by struct update.
+-- The view of a node that holds nodes, by its fields. Callers name these lemmas where they build
+-- such a node, with a struct literal or by struct update.
 use Rattle.std.proofs.Common.{◌≡◌, Bool, false, ◌∷◌, map, refl, sym, ap, ◌∙◌, arith}
 use Rattle.std.proofs.lemmas.Grind.{common_steps}
 use Rattle.std.specs.Prelude.{Option, option_map, Vec, String}
@@ -30,7 +30,7 @@ use Rattle.csl_style.specs.NamesParts.{names_node, names_substitutes}
 use Rattle.csl_style.specs.Node.{Node, Nodes, choose, group, names}
 use Rattle.csl_style.specs.View.{NamesChildView, BranchView, branches_of, first_et_al, first_label, name_children, substitutes, view_node, view_branch, view_child, view_choose, view_group, view_names, view_nodes, element_step, child_step, choose_step, branch_step, group_step, names_step, substitute_step}
 
--- ---- by their fields
+-- ---- a node by its fields
 
 pub group_view : (x : Group) → view_group x ≡ group (text_if (out-Group x).delimiter) (dressing_of (out-Group x).formatting (out-Group x).affixes (out-Group x).display) (view_nodes (out-Group x).children.items)
 group_view x = rw (fold_out-Group Node NamesChildView Node BranchView Node Node Nodes element_step child_step choose_step branch_step group_step names_step substitute_step x) refl
@@ -41,7 +41,7 @@ names_view x = rw (fold_out-Names Node NamesChildView Node BranchView Node Node 
 pub choose_view : (x : Choose) → view_choose x ≡ choose (branches_of (view_branch (out-Choose x).if_ ∷ map view_branch (out-Choose x).else_if.items) (option_map (λ v. view_nodes v.items) (out-Choose x).otherwise))
 choose_view x = rw (fold_out-Choose Node NamesChildView Node BranchView Node Node Nodes element_step child_step choose_step branch_step group_step names_step substitute_step x) (grind (arith, common_steps))
 
--- ---- as a node that a layout may hold
+-- ---- a node as a rendering element
 
 pub in_group : (x : Group) → view_node (elements.Group x) ≡ view_group x
 in_group x = ap view_node (sym (elements.rolls-Group x)) ∙ fold-roll-LayoutRenderingElement Node NamesChildView Node BranchView Node Node Nodes element_step child_step choose_step branch_step group_step names_step substitute_step (level.Group x)
@@ -52,7 +52,7 @@ in_names x = ap view_node (sym (elements.rolls-Names x)) ∙ fold-roll-LayoutRen
 pub in_choose : (x : Choose) → view_node (elements.Choose x) ≡ view_choose x
 in_choose x = ap view_node (sym (elements.rolls-Choose x)) ∙ fold-roll-LayoutRenderingElement Node NamesChildView Node BranchView Node Node Nodes element_step child_step choose_step branch_step group_step names_step substitute_step (level.Choose x)
 
--- ---- made of their fields
+-- ---- a node built from its fields
 
 pub group_made : (children : Vec LayoutRenderingElement Global) (delimiter : Option (String Global)) (f : Formatting) (a : Affixes) (d : Option Display) → view_node (elements.Group (roll-Group record { children = children; delimiter = delimiter; formatting = f; affixes = a; display = d })) ≡ group (text_if delimiter) (dressing_of f a d) (view_nodes children.items)
 group_made children delimiter f a d =

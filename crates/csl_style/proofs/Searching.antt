@@ -1,12 +1,12 @@
--- A search under way, and what each of its steps keeps.
+-- The invariant of a search, and the steps that keep it.
 use Rattle.std.proofs.Common.{◌≡◌, ℕ, zero, suc, ◌<◌, ◌≤◌, ◌+◌, List, [], ◌∷◌, ◌++◌, length, slice_index, set, replicate, Bool, true, false, nat_eq, refl, sym, ap, ◌∙◌, subst, arith, ◌⊎◌, inl, inr, length-set, length-append}
 use Rattle.std.proofs.lemmas.Bool.Decides.{nat_tests}
 use Rattle.csl_style.specs.GraphReach.{Graph, HasEdge, Reaches, along_edge, along_edges, is_marked, IsReach}
 use Rattle.csl_style.proofs.Marks.{marks, marks-none, none-marked, none-length, marks-set, marked-before, still-marked}
 use Rattle.csl_style.proofs.Edges.{reaches-on}
 
--- The place itself and then each marked place is listed. The edges of the first `next` of the list
--- were followed.
+-- The list of found places begins with the place itself and has each marked place. The edges of its
+-- first `next` places have been followed.
 pub record IsSearch (g : Graph) (from : ℕ) (seen : List Bool) (found : List ℕ) (next : ℕ) : Type 0 where
   pub each : length seen ≡ length g
   pub counted : length found ≡ suc (marks seen)
@@ -57,7 +57,7 @@ start g from within =
     }
 
 module _ {g : Graph} {from : ℕ} {seen : List Bool} {found : List ℕ} {next : ℕ} (s : IsSearch g from seen found next) where
-  -- one more place
+  -- one more place is marked and listed
   module _ (q : ℕ) (unfinished : next < length found) (edge : HasEdge g (slice_index found next) q) (inside : q < length g) (fresh : is_marked seen q ≡ false) where
     reaches-there : Reaches g from q
     reaches-there = elim (s.led next unfinished) [
@@ -85,7 +85,7 @@ module _ {g : Graph} {from : ℕ} {seen : List Bool} {found : List ℕ} {next : 
           so_far = omega arith;
         }
 
-  -- all edges of one place were followed
+  -- all edges of one more place were followed
   pub followed : next < length found → ((q : ℕ) → HasEdge g (slice_index found next) q → is_marked seen q ≡ true) → IsSearch g from seen found (next + 1)
   followed unfinished all = record {
     each = s.each;
@@ -104,7 +104,7 @@ module _ {g : Graph} {from : ℕ} {seen : List Bool} {found : List ℕ} {next : 
         all q (subst (λ j. HasEdge g (slice_index found j) q) same h)
     closed-by k q false e less h = s.closed k (grind (arith, nat_tests)) q h
 
-  -- those of all listed places were
+  -- the edges of all listed places were followed
   module _ (finished : length found ≤ next) where
     reached : {a b : ℕ} → Reaches g a b → (k : ℕ) → k < length found → slice_index found k ≡ a → is_marked seen b ≡ true
     reached (along_edge {a} {b} h) k less is = s.closed k (omega arith) b (subst (λ x. HasEdge g x b) (sym is) h)

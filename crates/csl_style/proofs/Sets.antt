@@ -1,4 +1,4 @@
--- Sets of what is named, as functions.
+-- Sets of named items, as functions.
 use Rattle.std.proofs.Common.{◌≡◌, Bool, true, false, refl, ap, ◌∙◌}
 use Rattle.std.specs.Prelude.{◌||◌}
 use Rattle.csl_style.specs.Named.{NamedSet, empty_named_set, named_union}
@@ -51,7 +51,7 @@ pub join_twice : (a b : NamedSet) → named_union (named_union a b) b ≡ named_
 unfolding named_union
 join_twice a b = λ i q. or_twice (a q) (b q) i
 
--- what absorbs a set still does once something is added
+-- a set that includes another still does after a union with a third
 pub absorbs_more : (a b c : NamedSet) → named_union a c ≡ a → named_union (named_union a b) c ≡ named_union a b
 absorbs_more a b c h = join_turn a b c ∙ ap (λ x. named_union x b) h
 

@@ -1,4 +1,4 @@
--- `==` of terms tells which are one.
+-- `==` of terms is true exactly if they are equal.
 use Rattle.std.proofs.Common.{◌≡◌, ℕ, true, false, nat_eq, rules}
 use Rattle.std.proofs.lemmas.Bool.{false≢true}
 use Rattle.std.specs.Bool.{Decides}

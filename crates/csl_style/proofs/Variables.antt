@@ -1,4 +1,4 @@
--- `==` and the order of variables and kinds tell which are one.
+-- `==` of variables, and the order of variables and of kinds, decide whether two are equal.
 use Rattle.std.proofs.Common.{◌≡◌, ◌↔◌, true, false, rules}
 use Rattle.std.proofs.lemmas.Bool.{false≢true}
 use Rattle.std.specs.declared.cmp.Ordering.TheVariants.{Less, Equal, Greater}

@@ -1,4 +1,4 @@
--- What a walk over a style adds to what is named.
+-- The items that a walk over a style adds to its set.
 use Rattle.std.proofs.Common.{◌≡◌, ℕ, Bool, true, false, cond, List, ◌∷◌, map, Option, Some, None, option_map, Result, Ok, Err, OnOk, OnErr, refl, sym, ap, ap₂, ◌∙◌, arith, if◌then◌else◌}
 use Rattle.std.proofs.lemmas.Map.Text.{is_eq-slice_cmp}
 use Rattle.std.proofs.lemmas.Slice.Eq.{bytes_eq-Decides}
@@ -50,7 +50,7 @@ module _ (env : List ℕ → Option ExpandedNodes) where
   pub lacking_absorbed : (a : NamedSet) (o : Option ExpandedNodes) → o ≡ None → named_union a (named_in_macro o) ≡ a
   lacking_absorbed a o e = rw e (join_none a)
 
-  -- ---- the substitutes of a names node as they are written: a node without children names the same in a substitute and elsewhere
+  -- ---- substitutes as written: a node without children names the same in one and elsewhere
 
   abbrev pub of_substitutes : Substitutes → NamedSet
   of_substitutes no_substitutes = empty_named_set

@@ -1,4 +1,5 @@
--- A names node and a choose, one level out: what of a year suffix stands in them, and their sizes.
+-- A names node and a choose, one level at a time: whether a text of the year suffix is in them, and
+-- their sizes.
 use Rattle.std.proofs.Common.{◌≡◌, ℕ, ◌+◌, suc, Bool, true, false, ◌||◌, List, ◌∷◌, map, Option, option_map, refl, ap, ap₂, ◌∙◌, arith, if◌then◌else◌}
 use Rattle.csl_style.specs.Names.{NamesNode, shorthand_expansion}
 use Rattle.csl_style.specs.Node.{Node, names, choose, Nodes, no_nodes, node, Substitutes, no_substitutes, substitute, Branches, branch, ExpandedNode, ExpandedNodes, expanded_names, shorthand, expand, expand_nodes, expand_branches, expand_substitutes, expand_substitute_nodes, as_substitute_child, is_childless, size, sizes, expanded_branches_size, expanded_substitutes_size}
@@ -11,7 +12,8 @@ use Rattle.csl_style.specs.Expanded.{child_size}
 use Rattle.csl_style.proofs.Rolled.{choose_view}
 use Rattle.csl_style.specs.YearSuffix.{has_year_suffix, any_has_year_suffix, branches_have_year_suffix, substitutes_have_year_suffix, child_has_year_suffix}
 
--- as it is written: the substitutes of a names node
+-- the substitutes of a names node as written: whether a text of the year suffix is in one, and
+-- their size
 abbrev pub substitute_has_year_suffix : (List ℕ → Option ExpandedNodes) → Substitutes → Bool
 substitute_has_year_suffix env no_substitutes = false
 substitute_has_year_suffix env (substitute ns ss) = any_has_year_suffix (expand_nodes env ns) || substitute_has_year_suffix env ss
@@ -78,7 +80,7 @@ module _ (env : List ℕ → Option ExpandedNodes) where
 pub nodes_out : (b : ChooseBranch) → (view_branch b).nodes ≡ view_nodes (out-ChooseBranch b).children.items
 nodes_out b = rw (fold_out-ChooseBranch Node NamesChildView Node BranchView Node Node Nodes element_step child_step choose_step branch_step group_step names_step substitute_step b) refl
 
--- the branches behind the first, and what is printed where none is chosen
+-- the branches after the first, and the nodes of `cs:else` if there is one
 abbrev pub behind : Choose → Branches
 behind x = branches_of (map view_branch (out-Choose x).else_if.items) (option_map (λ v. view_nodes v.items) (out-Choose x).otherwise)
 

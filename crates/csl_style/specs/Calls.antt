@@ -1,7 +1,7 @@
--- The calls between the macros of a style, as a graph: the places of the macros, with an edge for
--- each call, as often as it occurs. Cycles are searched in this graph (CSL 1.0.2, Macro).
--- `calls_in`, `calls_in_all`, `calls_in_branches`, `calls_in_substitutes`, `name_at`, `children_at`
--- and `IsCallGraph` are the code's own: private contracts alone cite them.
+-- The calls between the macros of a style, as a graph (CSL 1.0.2, Macro). Its vertices are the
+-- places of the macros in the list. Each call of a macro that the style has is one edge. The code
+-- searches this graph for cycles. Only private contracts cite `calls_in`, `calls_in_all`,
+-- `calls_in_branches`, `calls_in_substitutes`, `name_at`, `children_at` and `IsCallGraph`.
 use Rattle.std.specs.Prelude.{◌≡◌, ℕ, zero, suc, ◌<◌, List, [], ◌∷◌, ◌++◌, length, String}
 use Rattle.std.specs.Option.{option_to_list}
 use Rattle.std.specs.HashMap.{HashMap, get_by_text}
@@ -45,11 +45,11 @@ children_at [] i = no_nodes
 children_at (d ∷ ds) zero = d.1
 children_at (d ∷ ds) (suc i) = children_at ds i
 
--- an edge for each call, between the places of macros
+-- the graph has a row for each macro, with an edge for each of its calls
 pub record IsCallGraph (ds : List Definition) (g : Graph) : Type 0 where
   pub each : length g ≡ length ds
   pub rows : (i : ℕ) → i < length ds → row_at g i ≡ calls_in_all ds (children_at ds i)
 
--- At each name the place of its first macro, and nothing at a name without one.
+-- The map has at each name the place of its first macro, and nothing at a name without a macro.
 abbrev pub ArePlacesByName : {S : Type 0} → HashMap (String Global) ℕ S → List Definition → Type 0
 ArePlacesByName places ds = (name : List ℕ) → get_by_text places name ≡ macro_index name ds

@@ -1,5 +1,5 @@
--- What the constructors of a style's nodes answer: a node that has what was handed in, and of which
--- nothing else is said.
+-- The results of the constructors of a style's nodes: nodes that have the given parts and set
+-- nothing else.
 use Rattle.std.specs.Prelude.{ℕ, List, Vec, Some, None, false}
 use Rattle.std.specs.declared.alloc.Global.{Global}
 use Rattle.csl_common.specs.declared.form.LongShortForm.TheVariants.{Long as LongForm}
@@ -31,7 +31,7 @@ use Rattle.csl_style.specs.NamesParts.{no_formatting}
 
 -- ---- attributes
 
--- nothing is before or behind
+-- neither a prefix nor a suffix
 abbrev pub no_affixes : Affixes
 no_affixes = record { prefix = None; suffix = None }
 
@@ -65,7 +65,7 @@ text_of_target t = record {
 abbrev pub text_of_variable : Variable → Text
 text_of_variable v = text_of_target (target.Variable v LongForm)
 
--- a term is in the singular
+-- the term is in the long form and the singular
 abbrev pub text_of_term : Term → Text
 text_of_term t = text_of_target (target.Term t Long false)
 
@@ -74,7 +74,7 @@ text_of_term t = text_of_target (target.Term t Long false)
 abbrev pub number_of : NumberOrPageVariable → Number
 number_of v = record { variable = v; form = Numeric; formatting = no_formatting; affixes = no_affixes; display = None }
 
--- a label of which nothing is said, whatever it labels
+-- a label that sets nothing, without its variable
 abbrev pub plain_label : VariablelessLabel
 plain_label = record { form = Long; plural = Contextual; formatting = no_formatting; affixes = no_affixes; strip_periods = false }
 
@@ -106,7 +106,7 @@ date_of v parts = record {
 abbrev pub plain_layout : Vec LayoutRenderingElement Global → Layout
 plain_layout elements = record { elements = elements; delimiter = None; formatting = no_formatting }
 
--- a branch that asks nothing
+-- the tests of a branch that sets none
 abbrev pub no_tests : Tests
 no_tests = record {
   disambiguate = None;

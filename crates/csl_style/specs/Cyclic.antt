@@ -5,8 +5,8 @@ use Rattle.csl_style.specs.View.{Definition}
 use Rattle.csl_style.specs.Expansion.{macro_index}
 use Rattle.csl_style.specs.MacroCalls.{LeadsTo}
 
--- The macro of the name leads back to itself, and no earlier one of the list does. Those that an
--- earlier one of their name hides have no place.
+-- The macro of the name leads back to itself, and no earlier macro of the list does. A hidden macro
+-- has no place here.
 pub record IsFirstCyclic (ds : List Definition) (name : List ℕ) : Type 0 where
   pub index : ℕ
   pub here : macro_index name ds ≡ Some index

@@ -1,6 +1,6 @@
 -- The attributes around the text of a node (CSL 1.0.2, Formatting, Affixes, Display, Quotes,
--- Strip-periods), as data. Attributes over others (`dressing_over`) take each field of the
--- formatting and the affixes that is set, else the other's. The display is their own.
+-- Strip-periods), as data. One dressing over another (`dressing_over`) has each field of the
+-- formatting and the affixes that it sets, else the other's. The display is always its own.
 use Rattle.std.specs.Prelude.{ℕ, Bool, List, Option, option_map, String, string_bytes}
 use Rattle.std.specs.Option.{option_or}
 use Rattle.std.specs.declared.alloc.Global.{Global}
@@ -33,8 +33,8 @@ pub record TextDressing : Type 0 where
   pub quotes : Bool
   pub strip_periods : Bool
 
--- attributes over a base: each field of the formatting and the affixes that is set, else that of
--- the base; the display is their own
+-- one dressing over a base: each field of the formatting and the affixes that it sets, else that of
+-- the base; the display is its own
 abbrev pub dressing_over : Dressing → Dressing → Dressing
 dressing_over d base = record {
   formatting = apply_partial d.formatting base.formatting;

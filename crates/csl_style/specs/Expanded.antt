@@ -1,4 +1,4 @@
--- A rendering element, a layout or a node, with each macro in the place of its name, and its size.
+-- Rendering elements, which are layouts or nodes, with all macros expanded, and their size.
 use Rattle.std.specs.Prelude.{ℕ, suc, List, Option}
 use Rattle.csl_style.specs.Node.{ExpandedNode, ExpandedNodes, ExpandedLayout, expand, expand_nodes, expand_layout, size, sizes}
 use Rattle.csl_style.specs.View.{ElementView, of_layout, of_node, NamesChildView, a_name, an_et_al, a_label, a_substitute, definitions}
@@ -22,13 +22,13 @@ abbrev pub element_size : ExpandedElement → ℕ
 element_size (of_expanded_layout l) = layout_size l
 element_size (of_expanded_node f) = size f
 
--- A child of names as it is written: a substitute has a size.
+-- The size of a child of names, with all macros expanded. Only a substitute has one.
 abbrev pub child_size : (List ℕ → Option ExpandedNodes) → NamesChildView → ℕ
 child_size env (a_name n) = 0
 child_size env (an_et_al e) = 0
 child_size env (a_label l) = 0
 child_size env (a_substitute ns) = suc (sizes (expand_nodes env ns))
 
--- what each macro's name stands for in the style
+-- the nodes that each macro's name stands for in the style
 abbrev pub macro_env : StyleParts → List ℕ → Option ExpandedNodes
 macro_env s = macro_expansion (definitions s.macros)

@@ -1,8 +1,7 @@
--- What a macro's name stands for (CSL 1.0.2, Macro). Of several macros of one name the first
--- counts; the others are never looked at. Macros have *ranks* if each has a number and calls only
--- macros of lower number, or names that the style lacks. An accepted style has ranks. Then a name
--- stands for the nodes of its macro, with each name in them replaced in the same way
--- (`macro_expansion`).
+-- The nodes that a macro's name stands for (CSL 1.0.2, Macro). Of several macros of one name only
+-- the first counts. Macros have *ranks* if each has a number and calls only macros of lower number,
+-- or names that the style lacks. An accepted style has ranks. Then a name stands for the nodes of
+-- its macro, with each name in them replaced in the same way (`macro_expansion`).
 use Rattle.std.specs.Prelude.{◌≡◌, ℕ, zero, suc, nat_lt, Bool, true, ◌&&◌, List, [], ◌∷◌, length, slice_index, Option, Some, None, option_map, if◌then◌else◌}
 use Rattle.std.specs.Str.{bytes_eq}
 use Rattle.csl_style.specs.Node.{Node, text, call, number, label, date, names, choose, group, Nodes, no_nodes, node, Branches, no_branches, otherwise, branch, Substitutes, no_substitutes, substitute, ExpandedNodes, expand_nodes}
@@ -18,16 +17,16 @@ abbrev pub macro_body : List ℕ → List Definition → Option Nodes
 macro_body name [] = None
 macro_body name (d ∷ ds) = if bytes_eq d.0 name then Some d.1 else macro_body name ds
 
--- each name's macro, with names followed n deep
+-- the nodes that a name stands for, with calls followed n deep
 unfoldable pub expansion_to_depth : List Definition → ℕ → List ℕ → Option ExpandedNodes
 expansion_to_depth ds zero name = None
 expansion_to_depth ds (suc n) name = option_map (expand_nodes (expansion_to_depth ds n)) (macro_body name ds)
 
--- In an acyclic style no name leads deeper than there are macros.
+-- In an acyclic style, no chain of calls goes deeper than the number of macros.
 unfoldable pub macro_expansion : List Definition → List ℕ → Option ExpandedNodes
 macro_expansion ds = expansion_to_depth ds (length ds)
 
--- ---- a style is acyclic by ranks
+-- ---- a style is acyclic if its macros have ranks
 
 abbrev pub rank_of : List ℕ → List Definition → List ℕ → Option ℕ
 rank_of ranks ds name = option_map (slice_index ranks) (macro_index name ds)
@@ -65,8 +64,8 @@ abbrev pub body_below : (List ℕ → Option ℕ) → ℕ → Option Nodes → B
 body_below rank r None = true
 body_below rank r (Some ns) = all_below rank r ns
 
--- Ranks: a number for each place of the list, below their count. The first macro of each name calls
--- only first macros of lower rank, or names that the style lacks.
+-- Ranks: a number for each place of the list, below the length of the list. The first macro of each
+-- name calls only first macros of lower rank, or names that the style lacks.
 pub record AreRanks (ds : List Definition) (ranks : List ℕ) : Type 0 where
   pub each : length ranks ≡ length ds
   pub small : (name : List ℕ) → is_below (rank_of ranks ds name) (length ds) ≡ true

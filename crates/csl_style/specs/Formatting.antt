@@ -1,8 +1,7 @@
 -- A node may set five attributes (CSL 1.0.2, Formatting): font style, font variant, font weight,
 -- text decoration and vertical alignment. One formatting over another takes each attribute that it
--- sets, and the other's for the rest. Two formattings over a third are the first over what the
--- second is over the third (`IsBoth`), and the same holds for each attribute over a base in which
--- all attributes are set.
+-- sets, and the other's for the rest. This is associative (`IsBoth`), also over a base in which all
+-- attributes are set.
 use Rattle.std.specs.Option.{option_or}
 use Rattle.csl_style.specs.declared.formatting.Formatting.{Formatting}
 use Rattle.std.specs.Prelude.{◌≡◌, unwrap_or}
@@ -21,7 +20,8 @@ apply_partial p base = record {
   vertical_align = option_or p.vertical_align base.vertical_align;
 }
 
--- Over any formatting, and over a value of each attribute, r is what p is over what q is.
+-- Over any base, r gives the same formatting as p over q over that base. The same holds for each
+-- attribute over a value.
 pub record IsBoth (p q r : Formatting) : Type 0 where
   pub over_any : (base : Formatting) → apply_partial r base ≡ apply_partial p (apply_partial q base)
   pub font_style : (v : FontStyle) → unwrap_or r.font_style v ≡ unwrap_or p.font_style (unwrap_or q.font_style v)

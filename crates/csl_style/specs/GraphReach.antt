@@ -1,5 +1,5 @@
--- Which places of a graph lead to which, by one edge or more. The places are the macros of a style,
--- and the edges are their calls (CSL 1.0.2, Macro).
+-- Which places of a graph lead to which places, by one edge or more. The places are those of the
+-- macros of a style, and the edges are their calls (CSL 1.0.2, Macro).
 use Rattle.std.specs.Prelude.{◌≡◌, ℕ, zero, suc, ◌<◌, List, [], ◌∷◌, length, slice_index, slice_index_or, Vec, Bool, true, false, All, Contains}
 use Rattle.std.specs.declared.alloc.Global.{Global}
 
@@ -11,7 +11,7 @@ Graph = List (Vec ℕ Global)
 abbrev pub InRange : Graph → ℕ → Type 0
 InRange g n = All (λ row. All (λ to. to < n) row.items) g
 
--- where the edges from a place lead
+-- the places that the edges from a place lead to
 abbrev pub row_at : Graph → ℕ → List ℕ
 row_at [] a = []
 row_at (row ∷ rows) zero = row.items

@@ -1,5 +1,5 @@
 -- The definitions that the contracts of `csl_style` cite: styles, locales and nodes as plain data,
--- and what follows from a style alone.
+-- and the properties that depend on a style alone.
 pub mod Date
 pub mod Formatting
 pub mod Dressing

@@ -1,13 +1,12 @@
 -- A macro *leads to* a name (CSL 1.0.2, Macro) if it calls it, in a text at any depth, or if it
--- calls a macro that leads to it. Any depth means in groups, in each branch of a choice and where
--- no branch is chosen, and in each substitute of names. Of several macros of one name only the
--- first counts.
+-- calls a macro that leads to it. Any depth means in groups, in each branch of a choice and in its
+-- `cs:else`, and in each substitute of names. Of several macros of one name only the first counts.
 use Rattle.std.specs.Prelude.{◌≡◌, ℕ, List, Option, Some, None, ◌⊎◌}
 use Rattle.csl_style.specs.Node.{Node, text, call, number, label, date, names, choose, group, Nodes, no_nodes, node, Branches, no_branches, otherwise, branch, Substitutes, no_substitutes, substitute}
 use Rattle.csl_style.specs.View.{Definition}
 use Rattle.csl_style.specs.Expansion.{macro_body}
 
--- the name is called somewhere in it
+-- the node calls the name, at any depth
 abbrev mutual
   pub Calls : List ℕ → Node → Type 0
   Calls name (text t d) = ⊥

@@ -1,8 +1,8 @@
--- The macro that a style calls and does not have (CSL 1.0.2, Macro): the first such name, as the
--- style is written. The layout of citations comes before that of the bibliography, and both before
--- the macros in their order, the unreached and the hidden ones included. In each node comes first
--- what is written first: of a choice each branch in order and then what is printed where none is
--- chosen, of a names node its substitutes. No name is followed.
+-- The first macro name that a style calls but does not define (CSL 1.0.2, Macro), in the order of
+-- the style as written. The layout of citations comes first, then that of the bibliography, then
+-- all macros in order, also unreached and hidden ones. In a choice, the branches come in order,
+-- then `cs:else`. In a names node, only the substitutes may call macros. The search does not follow
+-- calls.
 use Rattle.std.specs.Prelude.{ℕ, List, [], ◌∷◌, Option, Some, None}
 use Rattle.std.specs.Option.{option_or}
 use Rattle.csl_style.specs.Node.{Node, text, call, number, label, date, names, choose, group, Nodes, no_nodes, node, Branches, no_branches, otherwise, branch, Substitutes, no_substitutes, substitute}
@@ -15,7 +15,7 @@ abbrev unless_defined : Option Nodes → List ℕ → Option (List ℕ)
 unless_defined None name = Some name
 unless_defined (Some ns) name = None
 
--- the name, if there is no macro of it
+-- the name, if there is no macro of that name
 abbrev pub if_missing : List Definition → List ℕ → Option (List ℕ)
 if_missing ds name = unless_defined (macro_body name ds) name
 
@@ -43,19 +43,19 @@ abbrev mutual
   missing_in_substitutes ds no_substitutes = None
   missing_in_substitutes ds (substitute ns ss) = option_or (missing_in_all ds ns) (missing_in_substitutes ds ss)
 
--- in a child of names: in a substitute
+-- in a child of names: only a substitute may have one
 abbrev pub missing_in_child : List Definition → NamesChildView → Option (List ℕ)
 missing_in_child ds (a_name n) = None
 missing_in_child ds (an_et_al e) = None
 missing_in_child ds (a_label l) = None
 missing_in_child ds (a_substitute ns) = missing_in_all ds ns
 
--- in what macros stand for
+-- in the nodes of macros
 abbrev pub missing_in_macros : List Definition → List Definition → Option (List ℕ)
 missing_in_macros ds [] = None
 missing_in_macros ds (m ∷ ms) = option_or (missing_in_all ds m.1) (missing_in_macros ds ms)
 
--- in a layout, where there is one
+-- in a layout, if there is one
 abbrev pub missing_in_layout : List Definition → Option Layout → Option (List ℕ)
 missing_in_layout ds None = None
 missing_in_layout ds (Some l) = missing_in_all ds (view_layout l).elements

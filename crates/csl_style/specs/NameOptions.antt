@@ -1,15 +1,15 @@
 -- The options of names (CSL 1.0.2, Inheritable Name Options; Name, `et-al-min` and those after it).
 -- - One set of options over another takes each option that is set, else the other's
 --   (`apply_options`).
--- - Names are written by the options that are set, and else by defaults: `, ` for the delimiter and
---   the sort separator, the long form, initialize on, contextual for both delimiter behaviours, the
---   last name not kept, and nothing between two lists.
+-- - An option that is not set has its default: `, ` for the delimiter and the sort separator, the
+--   long form, initialize on, contextual for both delimiter behaviours, the last name not kept, and
+--   nothing between two lists. The other options have none.
 -- - A name at a place of a list is left out (`is_suppressed`) if et-al-min and et-al-use-first are
 --   set, the list has at least et-al-min names, the place is not below et-al-use-first, and it is
 --   not the last name that et-al-use-last keeps. That option keeps the last name of a list that has
 --   at least two names more than et-al-use-first.
 -- - For a later cite, et-al-subsequent-min and et-al-subsequent-use-first replace the two numbers,
---   each where it is set.
+--   each if it is set.
 use Rattle.std.specs.Prelude.{ℕ, ◌+◌, Bool, true, false, not, ◌&&◌, ◌==◌, nat_le, List, [], Option, Some, None, option_map, unwrap_or, string_bytes, codes, if◌then◌else◌}
 use Rattle.std.specs.Option.{option_or}
 use Rattle.csl_style.specs.declared.names.NameForm.{NameForm}
@@ -22,7 +22,7 @@ use Rattle.csl_style.specs.declared.names.options.InheritableNameOptions.{Inheri
 use Rattle.csl_style.specs.declared.names.options.InheritedNameOptions.{InheritedNameOptions}
 use Rattle.csl_style.specs.declared.names.options.NameOptions.{NameOptions}
 
--- options, each of which is set or not
+-- the options, each set or not
 pub record PartialOptions : Type 0 where
   pub and : Option NameAnd
   pub delimiter : Option (List ℕ)
@@ -158,15 +158,15 @@ with_defaults o = record {
 abbrev pub names_delimiter_of : PartialOptions → List ℕ
 names_delimiter_of o = unwrap_or o.names_delimiter []
 
--- the limit of a first cite, or that of a later one, where it is set
+-- the limit for a cite: for a later cite its own limit if it is set, else that of a first cite
 abbrev pub limit_of : Option ℕ → Option ℕ → Bool → Option ℕ
 limit_of own later subsequent = if subsequent then option_or later own else own
 
--- the name is the last of a list with at least two names more than are shown first
+-- the name is the last of a list with at least two names more than `first`
 abbrev pub is_kept_last : ℕ → ℕ → ℕ → Bool
 is_kept_last first idx len = nat_le (first + 2) len && (idx + 1 == len)
 
--- a list of min names or more loses those from first on, but not the last one where it is kept
+-- a list of `min` names or more loses those from `first` on, except a last one that is kept
 abbrev pub is_cut : Option ℕ → Option ℕ → Bool → ℕ → ℕ → Bool
 is_cut None first use_last idx len = false
 is_cut (Some min) None use_last idx len = false

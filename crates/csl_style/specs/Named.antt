@@ -1,13 +1,13 @@
--- A layout *names* a variable or a kind of entry that is written in it or in a macro that it
--- reaches, each macro in the place of its name (CSL 1.0.2, Rendering Elements; Choose; Substitute):
+-- A layout *names* these variables and kinds of entries in itself and in the macros that it reaches
+-- (CSL 1.0.2, Rendering Elements; Choose; Substitute):
 -- - the variable of a text, a number, a label and a date, and the variables of names;
--- - what the tests of a branch ask of the entry: variables by `is-numeric`, `is-uncertain-date` and
---   `variable`, kinds by `type`.
+-- - those in the tests of a branch: variables in `is-numeric`, `is-uncertain-date` and `variable`,
+--   and kinds in `type`.
 -- Every branch counts, chosen or not, and so does every substitute. A names node without children
--- in a substitute names its own variables and those of the node that is rendered in its place. A
--- macro that the style lacks names nothing. The four variables of the citation (`OfCitation`) are
--- not named. A set is a function from variables and kinds to a boolean (`NamedSet`).
--- `named_in_child` and `named_in_branch` are the code's own: private contracts alone cite them.
+-- in a substitute names its variables as written and as rendered. A macro that the style lacks
+-- names nothing. The four variables of the citation (`OfCitation`) are not named. A set is a
+-- function from variables and kinds to a boolean (`NamedSet`). Only private contracts cite
+-- `named_in_child` and `named_in_branch`.
 use Rattle.std.specs.Prelude.{ℕ, Bool, false, not, ◌&&◌, ◌||◌, List, [], ◌∷◌, Option, Some, None}
 use Rattle.std.specs.BTreeMap.{is_at}
 use Rattle.csl_style.specs.declared.taxonomy.Variable.{Variable}
@@ -24,7 +24,7 @@ use Rattle.csl_style.specs.OfCitation.{is_of_citation}
 use Rattle.csl_style.specs.View.{NamesChildView, a_name, an_et_al, a_label, a_substitute, BranchView}
 use Rattle.csl_style.specs.Node.{Target, of_variable, of_term, of_value, Tests, ExpandedNode, expanded_text, expanded_macro, unknown_macro, expanded_number, expanded_label, expanded_date, expanded_names, shorthand, expanded_choose, expanded_group, ExpandedNodes, no_expanded_nodes, expanded_node, ExpandedBranches, no_expanded_branches, expanded_otherwise, expanded_branch, ExpandedSubstitutes, no_expanded_substitutes, expanded_substitute, expand_nodes}
 
--- what a style may ask an entry for
+-- an item that a style may name: a variable or a kind
 pub data NamedItem : Type 0 where
   a_variable : Variable → NamedItem
   a_kind : Kind → NamedItem
@@ -68,7 +68,7 @@ abbrev pub each_if : {A : Type 0} → (A → NamedSet) → Option (List A) → N
 each_if f None = empty_named_set
 each_if f (Some xs) = each_of f xs
 
--- ---- nodes, with each macro in the place of its name
+-- ---- nodes, with all macros expanded
 
 abbrev pub named_in_target : Target → NamedSet
 named_in_target (of_variable v form) = the_variable v
@@ -79,7 +79,8 @@ abbrev pub date_if : Option DateVariable → NamedSet
 date_if None = empty_named_set
 date_if (Some v) = the_date v
 
--- what the tests of a branch ask the entry; the others ask the citation
+-- the variables and kinds in the tests of a branch that ask the entry; the other tests ask the
+-- citation
 abbrev pub named_in_tests : Tests → NamedSet
 named_in_tests t = named_union (each_if the_variable t.is_numeric) (named_union (each_if the_date t.is_uncertain_date) (named_union (each_if the_kind t.type_) (each_if the_variable t.variable)))
 
@@ -109,19 +110,19 @@ abbrev mutual
   named_in_branches (expanded_otherwise fs) = named_in_nodes fs
   named_in_branches (expanded_branch ts fs cs) = named_union (named_in_tests ts) (named_union (named_in_nodes fs) (named_in_branches cs))
 
-  -- every substitute, also those that never count
+  -- every substitute, also those that are never rendered
   pub named_in_substitutes : ExpandedSubstitutes → NamedSet
   named_in_substitutes no_expanded_substitutes = empty_named_set
   named_in_substitutes (expanded_substitute fs is) = named_union (named_in_nodes fs) (named_in_substitutes is)
 
--- the set that the nodes of a macro's name name
+-- the set of the nodes that a macro's name stands for, if any
 abbrev pub named_in_macro : Option ExpandedNodes → NamedSet
 named_in_macro None = empty_named_set
 named_in_macro (Some fs) = named_in_nodes fs
 
--- ---- as it is written
+-- ---- as written
 
--- a child of a names node, beside the node's variables
+-- a child of a names node, without the variables of the node
 abbrev pub named_in_child : (List ℕ → Option ExpandedNodes) → NamesChildView → NamedSet
 named_in_child env (a_name n) = empty_named_set
 named_in_child env (an_et_al e) = empty_named_set

@@ -1,5 +1,5 @@
--- `named_set` reads the six sets of a `Named` as one set (`NamedSet`): five of variables, by sort,
--- and one of kinds. A walk over a style adds to it.
+-- `named_set` reads the six sets of a `Named` as one set (`NamedSet`): one for each type of
+-- variable, and one of kinds. A walk over a style adds to it.
 use Rattle.std.specs.Prelude.{◌≡◌, ℕ, true, List, Option}
 use Rattle.std.specs.BTreeSet.{BTreeSet, contains}
 use Rattle.std.specs.Cmp.Lexicographic.{slice_cmp}
@@ -26,12 +26,12 @@ named_set n (a_variable (variable.Name v)) = contains cmp_name.it n.names v
 named_set n (a_variable (variable.Date v)) = contains cmp_date.it n.dates v
 named_set n (a_kind k) = contains cmp_kind.it n.kinds k
 
--- a walk over a style, with what it has named so far
+-- a walk over a style, with the variables and kinds named so far
 pub record WalkView : Type 0 where
   pub style : StyleParts
   pub named : Named
 
--- a walk keeps its style and names these beside what it named before
+-- the walk keeps its style, and adds these items to those named before
 pub record Adds (ns : NamedSet) (old new : WalkView) : Type 0 where
   pub style : new.style ≡ old.style
   pub named : named_set new.named ≡ named_union (named_set old.named) ns
@@ -39,6 +39,6 @@ pub record Adds (ns : NamedSet) (old new : WalkView) : Type 0 where
 abbrev pub text_cmp : Bor (List ℕ) → Bor (List ℕ) → Ordering
 text_cmp a b = slice_cmp nat_cmp a.now b.now
 
--- all that the macros seen name is named
+-- the set includes all that the seen macros name
 abbrev pub Covers : NamedSet → (List ℕ → Option ExpandedNodes) → BTreeSet (Bor (List ℕ)) → Type 0
 Covers ns env seen = (name : Bor (List ℕ)) → contains text_cmp seen name ≡ true → named_union ns (named_in_macro (env name.now)) ≡ ns

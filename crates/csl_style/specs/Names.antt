@@ -39,7 +39,7 @@ pub record EtAlNode : Type 0 where
 abbrev pub view_et_al : EtAl → EtAlNode
 view_et_al e = record { term = e.term; formatting = e.formatting }
 
--- a label, without what it labels
+-- a label, without its variable
 pub record LabelNode : Type 0 where
   pub form : TermForm
   pub plural : LabelPluralize
@@ -61,7 +61,7 @@ pub record NamesLabel : Type 0 where
   pub label : LabelNode
   pub is_after : Bool
 
--- A names node but its substitutes. It may hold several name children: the first one writes the
+-- A names node except its substitutes. It may hold several name children. The first one writes the
 -- names.
 pub record NamesNode : Type 0 where
   pub variables : List NameVariable
@@ -79,9 +79,9 @@ first_of (x ∷ xs) = Some x
 abbrev pub first_name : NamesNode → Option NameNode
 first_name n = first_of n.name_children
 
--- A names node without children in a substitute, in the place of the node around it. It has that
--- node's name, et al. and label, and its own variables and display. All else is its own where it is
--- set, field by field, and that node's elsewhere.
+-- A names node without children in a substitute, as it is rendered. It has the name, et al. and
+-- label of the node around it, and its own variables and display. Everything else is its own if it
+-- is set, field by field, else that node's.
 abbrev pub shorthand_expansion : NamesNode → NamesNode → NamesNode
 shorthand_expansion original own = record {
   variables = own.variables;

@@ -1,10 +1,10 @@
 -- The parts of a names node (CSL 1.0.2, Names, Name, Et-al, Label, Substitute) are the first name,
--- et-al, label and substitute among its children, each or none. A label is after the names if a
+-- et-al, label and substitute among its children, if there are any. A label is after the names if a
 -- name child comes before it. A names node without children in a substitute has its own variables
 -- and display, and the name, et-al and label of the node around the substitute. Everything else is
--- its own where it is set, field by field, and that node's elsewhere (`shorthand_expansion`). A
--- node without a name, et-al or label has the standard's, which set nothing. Of the parts of a
--- name, the first for the given name and the first for the family name count.
+-- its own if it is set, field by field, else that node's (`shorthand_expansion`). The default name
+-- and the default et-al set nothing. They serve nodes without such a child. Of the parts of a name,
+-- the first for the given name and the first for the family name count.
 use Rattle.std.specs.Prelude.{ℕ, Bool, false, List, [], map, Option, Some, None, option_map, find}
 use denote.Bor.{Bor}
 use denote.Enum.Bare.{sameb}
@@ -22,7 +22,7 @@ use Rattle.csl_style.specs.Node.{Nodes, Substitutes, no_substitutes, substitute}
 use Rattle.csl_style.specs.Style.{no_options}
 use Rattle.csl_style.specs.View.{NamesChildView, view_child, name_children, first_et_al, first_label, substitutes}
 
--- ---- of a node as it is written
+-- ---- of a node as written
 
 abbrev pub children_of : Names → List NamesChildView
 children_of n = map view_child (out-Names n).children.items
@@ -46,7 +46,7 @@ abbrev pub first_substitute : Substitutes → Option Nodes
 first_substitute no_substitutes = None
 first_substitute (substitute ns ss) = Some ns
 
--- ---- borrowed
+-- ---- of borrowed parts
 
 abbrev text_at : Option (Bor (List ℕ)) → Option (List ℕ)
 text_at o = option_map (λ t. t.now) o
@@ -69,7 +69,7 @@ parts_node p = record {
 abbrev pub placed_label : PlacedLabel → NamesLabel
 placed_label l = record { label = view_label l.label.now; is_after = l.is_after }
 
--- ---- where nothing is said
+-- ---- defaults, which set nothing
 
 abbrev pub no_formatting : Formatting
 no_formatting = record { font_style = None; font_variant = None; font_weight = None; text_decoration = None; vertical_align = None }
@@ -80,7 +80,7 @@ default_name = record { options = no_options; formatting = no_formatting; parts 
 abbrev pub default_et_al : EtAlNode
 default_et_al = record { term = EtAl; formatting = no_formatting }
 
--- ---- the parts of a name: of each the first one counts
+-- ---- the parts of a name: the first of each counts
 
 abbrev pub is_part : NamePartName → NamePartNode → Bool
 is_part name p = sameb the_type p.name name

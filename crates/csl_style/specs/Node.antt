@@ -1,10 +1,10 @@
 -- The nodes of a style (CSL 1.0.2, Rendering Elements) as plain data, in two forms. As written
--- (`Node`), a text of a macro holds a name. With no name left (`ExpandedNode`), it holds the
--- macro's nodes, expanded too, or is `unknown_macro` if the style has no such macro. A names node
--- without children that is directly in a substitute is kept twice, as written and as rendered
--- (`shorthand`). As rendered, it has the name, et-al and label of the names around it, and its own
--- display. Its options, delimiter, affixes and formatting are its own where they are set, field by
--- field, and those of the names around it elsewhere.
+-- (`Node`), a text of a macro holds a name. Expanded (`ExpandedNode`), it holds the macro's nodes,
+-- expanded too, or is `unknown_macro` if the style has no such macro. A names node without children
+-- that is directly in a substitute is kept twice, as written and as rendered (`shorthand`). As
+-- rendered, it has the name, et-al and label of the names around it, and its own variables and
+-- display. Its options, delimiter, affixes and formatting are its own if they are set, field by
+-- field, else those of the names around it.
 use Rattle.std.specs.Prelude.{ℕ, ◌+◌, suc, Bool, true, false, ◌&&◌, is_none, List, [], ◌∷◌, Option, Some, None, if◌then◌else◌}
 use Rattle.csl_common.specs.declared.form.LongShortForm.{LongShortForm}
 use Rattle.csl_common.specs.declared.form.NumberForm.{NumberForm}
@@ -25,7 +25,7 @@ use Rattle.csl_style.specs.declared.element.TestPosition.{TestPosition}
 use Rattle.csl_style.specs.Dressing.{AffixTexts, Dressing, TextDressing}
 use Rattle.csl_style.specs.Names.{LabelNode, NamesNode, NameNode, shorthand_expansion}
 
--- what a text prints that calls no macro
+-- the target of a text that calls no macro
 pub data Target : Type 0 where
   of_variable : Variable → LongShortForm → Target
   of_term : Term → TermForm → Bool → Target
@@ -62,7 +62,7 @@ pub record Tests : Type 0 where
   pub variable : Option (List Variable)
   pub match_ : ChooseMatch
 
--- ---- as it is written
+-- ---- nodes as written
 
 mutual
   pub data Node : Type 0 where
@@ -79,13 +79,13 @@ mutual
     no_nodes : Nodes
     node : Node → Nodes → Nodes
 
-  -- the branches in order, and after them the nodes for when none is chosen
+  -- the branches in order, and after them the nodes of `cs:else`, if there is one
   pub data Branches : Type 0 where
     no_branches : Branches
     otherwise : Nodes → Branches
     branch : Tests → Nodes → Branches → Branches
 
-  -- the substitutes of a names node, of which the first one counts
+  -- the substitutes of a names node; the first one counts
   pub data Substitutes : Type 0 where
     no_substitutes : Substitutes
     substitute : Nodes → Substitutes → Substitutes
@@ -95,19 +95,19 @@ pub record LayoutNode : Type 0 where
   pub formatting : Formatting
   pub elements : Nodes
 
--- ---- with no name left
+-- ---- expanded nodes
 
 mutual
   pub data ExpandedNode : Type 0 where
     expanded_text : Target → TextDressing → ExpandedNode
-    -- a text of a macro, and of one that the style lacks
+    -- a text of a macro, and a text of a macro that the style lacks
     expanded_macro : ExpandedNodes → TextDressing → ExpandedNode
     unknown_macro : ExpandedNode
     expanded_number : NumberNode → ExpandedNode
     expanded_label : NumberOrPageVariable → LabelNode → ExpandedNode
     expanded_date : DateNode → ExpandedNode
     expanded_names : NamesNode → ExpandedSubstitutes → ExpandedNode
-    -- a names node in a substitute, as it is written and as it is rendered
+    -- a names node without children in a substitute, as written and as rendered
     shorthand : NamesNode → NamesNode → ExpandedNode
     expanded_choose : ExpandedBranches → ExpandedNode
     expanded_group : Option (List ℕ) → Dressing → ExpandedNodes → ExpandedNode
@@ -130,7 +130,7 @@ pub record ExpandedLayout : Type 0 where
   pub formatting : Formatting
   pub elements : ExpandedNodes
 
--- ---- from the one to the other
+-- ---- from the first form to the second
 
 abbrev pub expand_call : TextDressing → Option ExpandedNodes → ExpandedNode
 expand_call d None = unknown_macro
@@ -144,11 +144,11 @@ abbrev has_no_substitutes : Substitutes → Bool
 has_no_substitutes no_substitutes = true
 has_no_substitutes (substitute ns ss) = false
 
--- a names node has no children
+-- whether a names node has no children
 abbrev pub is_childless : NamesNode → Substitutes → Bool
 is_childless n ss = is_empty n.name_children && is_none n.et_al && is_none n.label && has_no_substitutes ss
 
--- a child of a substitute, beside what it is elsewhere
+-- a child of a substitute; f is its expansion in any other place
 abbrev pub as_substitute_child : NamesNode → Node → ExpandedNode → ExpandedNode
 as_substitute_child original (text t d) f = f
 as_substitute_child original (call name d) f = f
@@ -159,7 +159,7 @@ as_substitute_child original (names n ss) f = if is_childless n ss then shorthan
 as_substitute_child original (choose bs) f = f
 as_substitute_child original (group delimiter d ns) f = f
 
--- A node with what each name stands for in the place of the name.
+-- A node with each macro name replaced by the nodes that it stands for.
 abbrev mutual
   pub expand : (List ℕ → Option ExpandedNodes) → Node → ExpandedNode
   expand env (text t d) = expanded_text t d
@@ -192,8 +192,8 @@ abbrev mutual
 abbrev pub expand_layout : (List ℕ → Option ExpandedNodes) → LayoutNode → ExpandedLayout
 expand_layout env l = record { delimiter = l.delimiter; formatting = l.formatting; elements = expand_nodes env l.elements }
 
--- A count of the nodes inside, by which a recursion falls. A names node without children counts the
--- same in a substitute and elsewhere.
+-- A count of the nodes inside, which falls in each recursive call. A names node without children
+-- counts the same in a substitute and elsewhere.
 abbrev mutual
   pub size : ExpandedNode → ℕ
   size (expanded_text t d) = 0

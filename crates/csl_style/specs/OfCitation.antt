@@ -1,4 +1,4 @@
--- The citation, and not the entry, provides four variables (CSL 1.0.2, Appendix IV): the citation
+-- The citation, and not the entry, answers four variables (CSL 1.0.2, Appendix IV): the citation
 -- number, the number of the first note, the locator and the year suffix.
 use Rattle.std.specs.Prelude.{Bool, true, false}
 use Rattle.csl_style.specs.declared.taxonomy.Variable.{Variable}

@@ -70,7 +70,7 @@ ordinal_for ordinals n gender =
     (option_or (first_of (is_between 0 9 n) ordinals gender)
     (first_of (is_in Default) ordinals gender))
 
--- the suffix that makes an ordinal of a number, whatever its sign
+-- the ordinal suffix of a number, whatever its sign
 abbrev pub ordinals : List (List OrdinalView) → OrdinalTexts
 ordinals locales n gender = option_map (λ o. o.text) (ordinal_for (first_ordinals locales) (unsigned_abs n) gender)
 

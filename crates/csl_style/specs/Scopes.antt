@@ -20,13 +20,13 @@ scope_names Bibliography s = s.bibliography_names
 abbrev pub base_options : Scope → StyleSettings → PartialOptions
 base_options scope s = apply_options (partial_options (scope_names scope s)) (partial_options s.names)
 
--- whether a comma or period after a closing quote goes before it, by the first locale; false
+-- whether a comma or period after a closing quote goes before it: the first locale decides; false
 -- without a locale
 abbrev pub is_punctuation_in_quote : List Locale → Bool
 is_punctuation_in_quote [] = false
 is_punctuation_in_quote (l ∷ ls) = l.punctuation_in_quote
 
--- whether only the first day of a month is written as an ordinal, by the first locale; false
+-- whether only the first day of a month is written as an ordinal: the first locale decides; false
 -- without a locale
 abbrev pub are_day_ordinals_limited : List Locale → Bool
 are_day_ordinals_limited [] = false

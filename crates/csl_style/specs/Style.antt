@@ -1,7 +1,7 @@
 -- A style (CSL 1.0.2, Style Structure) has settings, macros, a layout for citations, perhaps one
 -- for the bibliography, and locales. It is refused for the first macro of its list that leads back
 -- to itself. If there is none, it is refused for a Chicago page format (`IsRefusal`). A `Memory`
--- error may come before either is found.
+-- error may come instead of either.
 use Rattle.std.specs.Prelude.{◌≡◌, ℕ, ◌++◌, Bool, true, false, List, Option, Some, None, ⊤, string_bytes, codes}
 use Rattle.csl_style.specs.declared.element.CslMacro.{CslMacro}
 use Rattle.csl_style.specs.declared.element.Layout.{Layout}
@@ -39,7 +39,7 @@ abbrev pub layout_of : StyleParts → Scope → Option Layout
 layout_of style Citation = Some style.citation
 layout_of style Bibliography = style.bibliography
 
--- the page formats that no style here may have
+-- the page formats that are not supported
 abbrev is_chicago_format : PageRangeFormat → Bool
 is_chicago_format Expanded = false
 is_chicago_format Minimal = false
@@ -51,15 +51,14 @@ abbrev pub is_chicago : Option PageRangeFormat → Bool
 is_chicago None = false
 is_chicago (Some format) = is_chicago_format format
 
--- Why a style is refused: for the first macro that leads back to itself; where there is none, for a
--- Chicago page format.
--- Memory may lack before either is seen.
+-- A style is refused for the first macro that leads back to itself. If there is none, it is refused
+-- for a Chicago page format. A `Memory` error may come instead of either.
 abbrev pub IsRefusal : Option PageRangeFormat → List Definition → StyleError → Type 0
 IsRefusal format ds Memory = ⊤
 IsRefusal format ds (CyclicMacro name) = IsFirstCyclic ds (string_bytes name)
 IsRefusal format ds ChicagoPageFormat = HasNoCycle ds × (is_chicago format ≡ true)
 
--- what a refusal prints
+-- the message of a refusal
 abbrev pub refusal_text : StyleError → List ℕ
 refusal_text Memory = codes "out of memory"
 refusal_text (CyclicMacro name) = codes "the macro '" ++ (string_bytes name ++ codes "' leads back to itself")

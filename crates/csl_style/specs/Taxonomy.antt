@@ -11,12 +11,12 @@ use Rattle.csl_style.specs.declared.taxonomy.NumberOrPageVariable.TheVariants as
 use Rattle.csl_style.specs.declared.term.Term.{Term}
 use Rattle.csl_style.specs.declared.term.Term.TheVariants as terms
 
--- the variable that a number or pages are among the five sorts
+-- a number variable or a page variable as one of the five types
 abbrev pub variable_of : NumberOrPageVariable → Variable
 variable_of (either.Number number) = variables.Number number
 variable_of (either.Page page) = variables.Page page
 
--- what a number or pages are called
+-- the term for a number variable or a page variable
 abbrev pub term_of : NumberOrPageVariable → Term
 term_of (either.Number number) = terms.Number number
 term_of (either.Page page) = terms.Page page

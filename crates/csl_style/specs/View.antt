@@ -31,7 +31,7 @@ abbrev pub nodes_of : List Node → Nodes
 nodes_of [] = no_nodes
 nodes_of (n ∷ ns) = node n (nodes_of ns)
 
--- ---- what holds no nodes
+-- ---- nodes that hold no nodes
 
 abbrev text_node : TextTarget → TextDressing → Node
 text_node (target.Variable v form) d = text (of_variable v form) d
@@ -113,7 +113,7 @@ substitutes (an_et_al e ∷ cs) = substitutes cs
 substitutes (a_label l ∷ cs) = substitutes cs
 substitutes (a_substitute ns ∷ cs) = substitute ns (substitutes cs)
 
--- ---- one level of each, with what is inside already seen
+-- ---- one level of each node, from the views of its children
 
 abbrev pub element_step : LayoutRenderingElement-F Node NamesChildView Node BranchView Node Node Nodes → Node
 element_step (level.Text t) = view_text t
@@ -206,7 +206,7 @@ abbrev pub view_rendering : RenderingElement → ElementView
 view_rendering (rendering.Layout l) = of_layout (view_layout l)
 view_rendering (rendering.Other e) = of_node (view_node e)
 
--- A macro is a name and what it stands for.
+-- A macro is a name and the nodes that it stands for.
 abbrev pub Definition : Type 0
 Definition = List ℕ × Nodes
 

@@ -1,8 +1,7 @@
--- A layout *reaches* a text of the year suffix if one is in it, once each macro is in the place of
--- its name (CSL 1.0.2, Macro; Disambiguation). It may be in any group, in any branch of a choice,
--- also one that is never chosen, and in any substitute, also one that is never taken. A scope whose
--- layout reaches none, and a scope without a layout, render the suffix implicitly, after the first
--- year.
+-- A layout *reaches* a text of the year suffix if one is in it with all macros expanded (CSL 1.0.2,
+-- Macro; Disambiguation). The text may be in any group, in any branch of a choice, also one that is
+-- never chosen, and in any substitute, also one that is never rendered. A scope whose layout
+-- reaches none, and a scope without a layout, render the suffix implicitly, after the first year.
 use Rattle.std.specs.Prelude.{ℕ, Bool, true, false, not, ◌||◌, List, Option, Some, None, option_map}
 use Rattle.csl_style.specs.declared.taxonomy.Variable.{Variable}
 use Rattle.csl_style.specs.declared.taxonomy.Variable.TheVariants as variable
@@ -13,7 +12,7 @@ use Rattle.csl_style.specs.View.{view_layout, NamesChildView, a_name, an_et_al, 
 use Rattle.csl_style.specs.Node.{Target, of_variable, of_term, of_value, ExpandedNode, expanded_text, expanded_macro, unknown_macro, expanded_number, expanded_label, expanded_date, expanded_names, shorthand, expanded_choose, expanded_group, ExpandedNodes, no_expanded_nodes, expanded_node, ExpandedBranches, no_expanded_branches, expanded_otherwise, expanded_branch, ExpandedSubstitutes, no_expanded_substitutes, expanded_substitute, ExpandedLayout, expand_nodes, expand_layout}
 use Rattle.csl_style.specs.Expanded.{macro_env}
 
--- the layout of a scope, with each macro in the place of its name
+-- the layout of a scope, with all macros expanded
 abbrev pub reached_layout : Scope → StyleParts → Option ExpandedLayout
 reached_layout scope s = option_map (λ l. expand_layout (macro_env s) (view_layout l)) (layout_of s scope)
 
@@ -26,8 +25,8 @@ prints_year_suffix (of_variable v form) = is_year_suffix v
 prints_year_suffix (of_term t form plural) = false
 prints_year_suffix (of_value bs) = false
 
--- Whether a text of the year suffix is in it, also in a branch that is never chosen and in a
--- substitute that is never taken.
+-- Whether a text of the year suffix is in a node, also in a branch that is never chosen and in a
+-- substitute that is never rendered.
 abbrev mutual
   pub has_year_suffix : ExpandedNode → Bool
   has_year_suffix (expanded_text t d) = prints_year_suffix t
@@ -54,7 +53,8 @@ abbrev mutual
   substitutes_have_year_suffix no_expanded_substitutes = false
   substitutes_have_year_suffix (expanded_substitute fs is) = any_has_year_suffix fs || substitutes_have_year_suffix is
 
--- a text of the year suffix is in a child of names as written, which is a substitute
+-- whether a text of the year suffix is in a child of names as written; only a substitute may have
+-- one
 abbrev pub child_has_year_suffix : (List ℕ → Option ExpandedNodes) → NamesChildView → Bool
 child_has_year_suffix env (a_name n) = false
 child_has_year_suffix env (an_et_al e) = false

@@ -7,7 +7,7 @@ ghost use Rattle.csl_style.specs.Constructors.{text_before, text_behind, texts_a
 use csl_common::Memory;
 use std::alloc::Global;
 
-/// What stands before and behind what a node prints. Both stand inside the node's own formatting.
+/// The texts before and after a node's content. Both are inside the node's own formatting.
 #[derive(Default, Drop)]
 pub struct Affixes {
     pub prefix: Option<String>,
@@ -15,10 +15,10 @@ pub struct Affixes {
 }
 
 impl Affixes {
-    /// A text before what the node prints.
+    /// A prefix without a suffix.
     ///
     /// # Errors
-    /// [`Memory`]: there was no memory left.
+    /// [`Memory`]: out of memory.
     pub fn before(alloc: Global, prefix: &str) -> Result<Affixes, Memory>
         ensures { IfOk result (λ affixes. affix_texts affixes ≡ text_before prefix.now) }
     {
@@ -28,10 +28,10 @@ impl Affixes {
         })
     }
 
-    /// A text behind what the node prints.
+    /// A suffix without a prefix.
     ///
     /// # Errors
-    /// [`Memory`]: there was no memory left.
+    /// [`Memory`]: out of memory.
     pub fn behind(alloc: Global, suffix: &str) -> Result<Affixes, Memory>
         ensures { IfOk result (λ affixes. affix_texts affixes ≡ text_behind suffix.now) }
     {
@@ -41,10 +41,10 @@ impl Affixes {
         })
     }
 
-    /// A text before what the node prints, and one behind it.
+    /// A prefix and a suffix.
     ///
     /// # Errors
-    /// [`Memory`]: there was no memory left.
+    /// [`Memory`]: out of memory.
     pub fn around(alloc: Global, prefix: &str, suffix: &str) -> Result<Affixes, Memory>
         ensures { IfOk result (λ affixes. affix_texts affixes ≡ texts_around prefix.now suffix.now) }
     {

@@ -1,4 +1,4 @@
-//! Which macros of a style call which, by their places in its list.
+//! The call graph of a style's macros. The place of a macro is its index in the style's list.
 
 ghost use Rattle.std.specs.Prelude.{◌≡◌, ◌<◌, [], ◌∷◌, ◌++◌, length, IfOk, OnOk, IfSome};
 ghost use Rattle.std.specs.Option.{option_to_list};
@@ -25,7 +25,7 @@ fn macro_index(name: &str, macros: &[CslMacro]) -> Option<usize>
     None
 }
 
-/// Adds the place of the first macro of a name, where there is one.
+/// Adds the place of the first macro of a name, if there is one.
 fn add_place(name: &str, macros: &[CslMacro], places: &mut Vec<usize>) -> Result<(), AllocError>
     ensures { OnOk result (places.new.items ≡ places.old.items
         ++ option_to_list (macro_index name.now (definitions macros.now))) }
@@ -67,7 +67,7 @@ fn add_calls(
     }
 }
 
-/// Adds the places that elements call.
+/// Adds the places that a list of elements calls.
 #[cycle(calls)]
 fn add_all_calls(
     elements: &Vec<LayoutRenderingElement>,
@@ -83,7 +83,7 @@ fn add_all_calls(
     Ok(())
 }
 
-/// Adds the places that the branches of a choose call, and then those of its otherwise.
+/// Adds the places that the branches of a choose call, then those that its `otherwise` nodes call.
 #[cycle(calls)]
 fn add_choose_calls(
     choose: &Choose,
@@ -103,7 +103,7 @@ fn add_choose_calls(
     }
 }
 
-/// Adds the places that a child of names calls: those of a substitute.
+/// Adds the places that a child of names calls. Only a substitute calls any.
 #[cycle(calls)]
 fn add_child_calls(
     child: &NamesChild,
@@ -122,7 +122,7 @@ fn add_child_calls(
     }
 }
 
-/// What each macro calls: row i lists the places that the macro at place i calls.
+/// The calls of each macro: row i lists the places that the macro at place i calls.
 pub(crate) fn call_graph(alloc: Global, macros: &[CslMacro]) -> Result<Vec<Vec<usize>>, AllocError>
     ensures calls { IfOk result (λ graph. IsCallGraph (definitions macros.now) graph.items) }
     ensures range { IfOk result (λ graph. InRange graph.items (length graph.items)) }

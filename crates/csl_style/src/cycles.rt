@@ -1,11 +1,12 @@
-//! Which places of a graph lead back to themselves: the search for macros that call themselves.
+//! The search for places of a graph that lead back to themselves. It finds macros that call
+//! themselves.
 
 ghost use Rattle.std.specs.Prelude.{◌≡◌, ◌<◌, length, IfOk, IfSome, None};
 ghost use Rattle.csl_style.specs.GraphReach.{InRange, IsReach, IsFirstCyclicPlace, HasRanks};
 
 use std::alloc::{AllocError, Global};
 
-/// Which places the place leads to, by one edge or more.
+/// Returns for each place whether `from` leads to it, by one edge or more.
 fn reach(alloc: Global, graph: &[Vec<usize>], from: usize) -> Result<Vec<bool>, AllocError>
     requires graph { InRange graph.now (length graph.now) }
     requires from { from < length graph.now }
@@ -27,8 +28,8 @@ fn reach(alloc: Global, graph: &[Vec<usize>], from: usize) -> Result<Vec<bool>, 
     Ok(seen)
 }
 
-/// The first place that leads back to itself, or `None` where there is none. Row i of the graph
-/// lists the places that an edge from place i leads to.
+/// The first place that leads back to itself, if there is one. Row i of the graph lists the places
+/// that the edges from place i lead to.
 pub(crate) fn first_cyclic(alloc: Global, graph: &[Vec<usize>]) -> Result<Option<usize>, AllocError>
     requires { InRange graph.now (length graph.now) }
     ensures cyclic { IfOk result (λ found. IfSome found (IsFirstCyclicPlace graph.now)) }

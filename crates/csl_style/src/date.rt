@@ -31,8 +31,8 @@ pub enum DatePartName {
     Year,
 }
 
-/// How a part of a date is written (CSL 1.0.2, Date-part: form). Each part knows some of these: a
-/// day `Numeric`, `NumericLeadingZeros` and `Ordinal`, a month all but `Ordinal`, a year `Long`
+/// How a part of a date is written (CSL 1.0.2, Date-part: form). Each part has some of these forms:
+/// a day `Numeric`, `NumericLeadingZeros` and `Ordinal`, a month all but `Ordinal`, a year `Long`
 /// and `Short`.
 #[derive(Clone, Copy, Debug, PartialEq, Eq, PartialOrd, Ord, Hash)]
 pub enum DateAnyForm {
@@ -47,8 +47,8 @@ pub enum DateAnyForm {
 #[derive(Drop)]
 pub struct DatePart {
     pub name: DatePartName,
-    /// How it is written. Where it is not set, or the part does not know it: a day `Numeric`, a
-    /// month or a year `Long`.
+    /// How the part is written. If the form is not set, or is not one of the part's, a day is
+    /// written as `Numeric`, and a month or a year as `Long`.
     pub form: Option<DateAnyForm>,
     pub formatting: Formatting,
     pub affixes: Affixes,
@@ -61,13 +61,13 @@ pub struct DatePart {
 pub struct Date {
     /// The variable. A date of a locale has none.
     pub variable: Option<DateVariable>,
-    /// Where it is set, the locale's date of this form is written.
+    /// If it is set, the locale's date of this form is written.
     pub form: Option<DateForm>,
     /// Which parts of the date are written.
     pub parts: Option<DateParts>,
     /// The parts in order.
     pub date_part: Vec<DatePart>,
-    /// What stands between two parts that print something.
+    /// The text between two parts that print something.
     pub delimiter: Option<String>,
     pub formatting: Formatting,
     pub affixes: Affixes,
@@ -75,7 +75,7 @@ pub struct Date {
 }
 
 impl DatePart {
-    /// A part of which nothing but its name is said.
+    /// A part that sets only its name.
     pub fn new(name: DatePartName) -> DatePart
         ensures { result ≡ date_part_of name }
     {
@@ -90,7 +90,7 @@ impl DatePart {
 }
 
 impl Date {
-    /// The date of a variable, written by these parts.
+    /// A date that sets only its variable and its parts.
     pub fn new(variable: DateVariable, parts: Vec<DatePart>) -> Date
         ensures { result ≡ date_of variable parts }
     {

@@ -32,7 +32,7 @@ pub enum LayoutRenderingElement {
     Group(Group),
 }
 
-/// How the tests of a branch are taken together (CSL 1.0.2, Choose: match).
+/// How the tests of a branch are combined (CSL 1.0.2, Choose: match).
 #[derive(Clone, Copy, Debug, Default, PartialEq, Eq, PartialOrd, Ord, Hash)]
 pub enum ChooseMatch {
     #[default]
@@ -41,7 +41,7 @@ pub enum ChooseMatch {
     None,
 }
 
-/// Where a cite stands among those of the same entry (CSL 1.0.2, Choose: position).
+/// The position of a cite among the cites of the same entry (CSL 1.0.2, Choose: position).
 #[derive(Clone, Copy, Debug, PartialEq, Eq, PartialOrd, Ord, Hash)]
 pub enum TestPosition {
     First,
@@ -57,7 +57,7 @@ pub enum TestPosition {
 pub struct Choose {
     pub if_: ChooseBranch,
     pub else_if: Vec<ChooseBranch>,
-    /// What is printed where no branch is chosen.
+    /// The nodes that are rendered if no branch is chosen.
     pub otherwise: Option<Vec<LayoutRenderingElement>>,
 }
 
@@ -85,7 +85,7 @@ pub struct ChooseBranch {
     pub type_: Option<Vec<Kind>>,
     pub variable: Option<Vec<Variable>>,
     pub match_: ChooseMatch,
-    /// What is printed where the branch is chosen.
+    /// The nodes that are rendered if the branch is chosen.
     pub children: Vec<LayoutRenderingElement>,
 }
 
@@ -95,11 +95,12 @@ pub struct ChooseBranch {
 pub struct Names {
     /// The variables whose persons are written.
     pub variable: Vec<NameVariable>,
-    /// How they are written. Of each sort the first counts. In a substitute, a `Names` without
-    /// children takes those of the names around it.
+    /// How the persons are written. Rendering uses the first child of each variant. Directly in a
+    /// substitute, a `Names` without children takes the name, et al. and label of the names around
+    /// it.
     pub children: Vec<NamesChild>,
     pub options: InheritableNameOptions,
-    /// What stands between the lists of two variables.
+    /// The text between the lists of two variables.
     pub delimiter: Option<String>,
     pub formatting: Formatting,
     pub affixes: Affixes,
@@ -117,7 +118,7 @@ pub enum NamesChild {
     Substitute(Substitute),
 }
 
-/// A `cs:substitute`: what is printed where there are no persons.
+/// A `cs:substitute`: the nodes that replace names without persons.
 #[cycle(element)]
 #[derive(Drop)]
 pub struct Substitute {
@@ -129,18 +130,18 @@ pub struct Substitute {
 #[derive(Drop)]
 pub struct Group {
     pub children: Vec<LayoutRenderingElement>,
-    /// What stands between two children that print something.
+    /// The text between two children that print something.
     pub delimiter: Option<String>,
     pub formatting: Formatting,
     pub affixes: Affixes,
     pub display: Option<Display>,
 }
 
-/// A `cs:layout`. Its affixes are written by who lists several entries.
+/// A `cs:layout`, without its affixes. A caller that lists several entries writes them.
 #[derive(Drop)]
 pub struct Layout {
     pub elements: Vec<LayoutRenderingElement>,
-    /// What stands between two elements that print something.
+    /// The text between two elements that print something.
     pub delimiter: Option<String>,
     pub formatting: Formatting,
 }
@@ -152,7 +153,7 @@ pub enum RenderingElement {
     Other(LayoutRenderingElement),
 }
 
-/// A `cs:macro`: nodes that a text may print by their name.
+/// A `cs:macro`: nodes with a name, by which a text may print them.
 #[derive(Drop)]
 pub struct CslMacro {
     pub name: String,

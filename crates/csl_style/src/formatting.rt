@@ -37,7 +37,7 @@ pub enum TextDecoration {
     Underline,
 }
 
-/// Where a text stands against the baseline.
+/// The position of a text relative to the baseline.
 #[derive(Clone, Copy, Debug, Default, PartialEq, Eq, Hash)]
 pub enum VerticalAlign {
     #[default]
@@ -47,20 +47,20 @@ pub enum VerticalAlign {
     Sub,
 }
 
-/// Where an element stands on the page (CSL 1.0.2, Display).
+/// The place of an element on the page (CSL 1.0.2, Display).
 #[derive(Clone, Copy, Debug, PartialEq, Eq, Hash)]
 pub enum Display {
     /// On lines of its own.
     Block,
     /// At the left margin.
     LeftMargin,
-    /// To the right of what stands at the left margin.
+    /// To the right of an element at the left margin.
     RightInline,
     /// On lines of its own, moved to the right.
     Indent,
 }
 
-/// The formatting attributes of a style's node. One that is not set leaves what is around the node.
+/// The formatting attributes of a node. A node inherits each attribute that it does not set.
 #[derive(Clone, Copy, Debug, Default, PartialEq, Eq, Hash)]
 pub struct Formatting {
     pub font_style: Option<FontStyle>,
@@ -81,8 +81,9 @@ impl Formatting {
         }
     }
 
-    /// This formatting over another: each attribute that is set here, else that of `base`. The
-    /// result over a third one, full or not, is this over `base` over that one.
+    /// Returns this formatting over another: each attribute that is set here, else that of `base`.
+    /// Over a third formatting, partial or complete, the result equals this one over `base` over
+    /// the third.
     #[tactic(auto, using(crate::proofs::Overlays::over_both))]
     pub fn apply(self, base: Formatting) -> Formatting
         ensures value { result ≡ apply_partial self base }

@@ -1,4 +1,4 @@
-//! What a style says (CSL 1.0.2): its nodes, its macros, its options and its locales.
+//! CSL styles as data (CSL 1.0.2): their nodes, macros, options and locales.
 #![tactic(auto)]
 
 pub mod affixes;

@@ -19,19 +19,19 @@ pub use ordinals::LocaleOrdinals;
 pub struct TermEntry {
     pub term: Term,
     pub form: TermForm,
-    /// The text for one.
+    /// The singular text.
     pub single: String,
-    /// The text for several, where it is another.
+    /// The plural text, if it differs from the singular.
     pub multiple: Option<String>,
-    /// The gender of what the term names.
+    /// The grammatical gender of the term.
     pub gender: Option<GrammarGender>,
 }
 
 impl TermEntry {
-    /// A term that has one text.
+    /// A term with one text for the singular and the plural.
     ///
     /// # Errors
-    /// [`Memory`]: there was no memory left.
+    /// [`Memory`]: out of memory.
     pub fn new(alloc: Global, term: Term, form: TermForm, text: &str) -> Result<TermEntry, Memory>
         ensures { IfOk result (λ made. term_view made ≡ record {
           term = term;
@@ -50,10 +50,10 @@ impl TermEntry {
         })
     }
 
-    /// A term that has a text for one and one for several.
+    /// A term with a singular and a plural text.
     ///
     /// # Errors
-    /// [`Memory`]: there was no memory left.
+    /// [`Memory`]: out of memory.
     pub fn counted(
         alloc: Global,
         term: Term,
@@ -80,7 +80,7 @@ impl TermEntry {
         })
     }
 
-    /// The text for several where several are meant and there is one, else the text for one.
+    /// The plural text if `plural` is true and there is one, else the singular text.
     pub fn text(&self, plural: bool) -> &str
         ensures { result.now ≡ entry_text plural (term_view self.now) }
     {
@@ -91,18 +91,18 @@ impl TermEntry {
     }
 }
 
-/// Which numbers an ordinal is for (CSL 1.0.2, Ordinals).
+/// The numbers that an ordinal is for (CSL 1.0.2, Ordinals).
 #[derive(Clone, Copy, Debug, PartialEq, Eq, PartialOrd, Ord, Hash)]
 pub enum OrdinalSlot {
-    /// The numbers that no other slot is for.
+    /// The numbers that no other slot fits.
     Default,
-    /// A number from 0 to 99: one digit or two.
+    /// The numbers whose compared digits ([`OrdinalMatch`]) are this number, from 0 to 99.
     Two(u8),
-    /// A number from 1 to 10, whose ordinal is a word.
+    /// This number from 1 to 10. Its ordinal is a word.
     Long(u8),
 }
 
-/// Which digits of a number are compared with a slot (CSL 1.0.2, Ordinals: match).
+/// The digits of a number that are compared with a slot (CSL 1.0.2, Ordinals: match).
 #[derive(Clone, Copy, Debug, PartialEq, Eq, PartialOrd, Ord, Hash)]
 pub enum OrdinalMatch {
     LastDigit,
@@ -110,32 +110,32 @@ pub enum OrdinalMatch {
     WholeNumber,
 }
 
-/// An ordinal: what stands behind a number, or the word for it.
+/// An ordinal: the suffix of a number, or the word for it.
 #[derive(Drop)]
 pub struct OrdinalTerm {
     pub slot: OrdinalSlot,
-    /// Where it is not set: the last digit for the slots 0 to 9, the last two for 10 to 99.
+    /// If it is not set: the last digit for the slots 0 to 9, the last two for 10 to 99.
     pub matching: Option<OrdinalMatch>,
-    /// The gender it is for, or none for a neutral one.
+    /// The gender that the ordinal is for. A neutral ordinal has none.
     pub gender: Option<GrammarGender>,
     pub text: String,
 }
 
-/// What a language writes (CSL 1.0.2, Locale).
+/// The terms, ordinals and dates of a language (CSL 1.0.2, Locale).
 #[derive(Drop)]
 pub struct Locale {
     pub terms: Vec<TermEntry>,
     pub ordinals: Vec<OrdinalTerm>,
     /// The localized dates.
     pub dates: Vec<Date>,
-    /// Whether a comma or period behind a closing quote goes before it.
+    /// Whether a comma or period after a closing quote goes before it.
     pub punctuation_in_quote: bool,
     /// Whether only the first day of a month is written as an ordinal.
     pub limit_day_ordinals_to_day_1: bool,
 }
 
 impl Locale {
-    /// A locale without words.
+    /// A locale without terms, ordinals and dates. Both of its options are false.
     pub fn new(alloc: Global) -> Locale
         ensures terms { terms_of result ≡ [] }
         ensures ordinals { ordinals_of result ≡ [] }

@@ -1,4 +1,4 @@
-//! Which macro a style calls and does not have (CSL 1.0.2, Macro).
+//! The search for a macro that a style calls but does not have (CSL 1.0.2, Macro).
 
 ghost use Rattle.std.specs.Prelude.{◌≡◌, option_map};
 ghost use Rattle.csl_style.specs.Missing.{if_missing, missing_in, missing_in_all, missing_in_child, missing_in_macros, missing_macro};
@@ -8,7 +8,7 @@ use crate::element::{Choose, CslMacro, LayoutRenderingElement, NamesChild};
 use crate::style::Style;
 use crate::text::TextTarget;
 
-/// The name, if the style has no macro of it.
+/// Returns the name if the style has no macro of that name.
 fn if_missing<'s>(style: &Style, name: &'s str) -> Option<&'s str>
     ensures { option_map (λ missing. missing.now) result
         ≡ if_missing (definitions style.now.macros) name.now }
@@ -62,7 +62,7 @@ fn missing_in_all<'s>(style: &Style, elements: &'s [LayoutRenderingElement]) -> 
     None
 }
 
-/// The first missing name in a child of names: in a substitute.
+/// The first missing name in a child of names. Only a substitute may have one.
 #[cycle(missing)]
 fn missing_in_child<'s>(style: &Style, child: &'s NamesChild) -> Option<&'s str>
     ensures { option_map (λ name. name.now) result
@@ -74,8 +74,7 @@ fn missing_in_child<'s>(style: &Style, child: &'s NamesChild) -> Option<&'s str>
     }
 }
 
-/// The first missing name in the branches of a choose, and then in what is printed where none of
-/// them is chosen.
+/// The first missing name in the branches of a choose, then in its `otherwise` nodes.
 #[cycle(missing)]
 fn missing_in_choose<'s>(style: &Style, choose: &'s Choose) -> Option<&'s str>
     ensures { option_map (λ name. name.now) result
@@ -95,7 +94,7 @@ fn missing_in_choose<'s>(style: &Style, choose: &'s Choose) -> Option<&'s str>
     }
 }
 
-/// The first missing name in what macros stand for.
+/// The first missing name in the nodes of macros.
 fn missing_in_macros<'s>(style: &Style, macros: &'s [CslMacro]) -> Option<&'s str>
     ensures { option_map (λ name. name.now) result
         ≡ missing_in_macros (definitions style.now.macros) (definitions macros.now) }
@@ -109,11 +108,11 @@ fn missing_in_macros<'s>(style: &Style, macros: &'s [CslMacro]) -> Option<&'s st
 }
 
 impl Style {
-    /// The first name that the style calls and has no macro of, as it is written: in the layout of
-    /// citations, that of the bibliography, and then the macros in order, those that no layout
-    /// reaches included. Such a call prints nothing, so ask this of a style that you wrote.
+    /// The first macro name that the style calls but does not define. The search goes through the
+    /// layout of citations, that of the bibliography, and then all macros in order, also those that
+    /// no layout reaches. Such a call prints nothing, so check a style that you wrote.
     ///
-    /// The call takes no memory. It looks each called name up once.
+    /// The search allocates nothing, and looks up the name of each call at most once.
     pub fn missing_macro(&self) -> Option<&str>
         ensures { option_map (λ name. name.now) result ≡ missing_macro self.now }
     {

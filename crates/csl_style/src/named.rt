@@ -1,5 +1,5 @@
-//! What a layout names: the variables and kinds that are written in it and in the macros that it
-//! reaches (CSL 1.0.2, Rendering Elements; Macro; Choose; Substitute).
+//! The variables and kinds that a layout names, in itself and in the macros that it reaches (CSL
+//! 1.0.2, Rendering Elements; Macro; Choose; Substitute).
 
 ghost use Rattle.std.specs.Prelude.{◌≡◌, None, Some, IfSome, IfOk, OnOk, OnErr, IsTrue, option_map};
 ghost use Rattle.csl_style.specs.Node.{expand, expand_nodes, expand_layout};
@@ -22,7 +22,7 @@ use std::alloc::Global;
 use std::collections::BTreeSet;
 use std::marker::Model;
 
-/// Variables and kinds that are named, by sort.
+/// Named variables, by their type, and named kinds.
 #[derive(Drop)]
 pub struct Named {
     pub numbers: BTreeSet<NumberVariable>,
@@ -33,7 +33,7 @@ pub struct Named {
     pub kinds: BTreeSet<Kind>,
 }
 
-/// A set of nothing: six empty sets.
+/// Returns six empty sets.
 #[tactic(auto, using(crate::proofs::Noted::has_nothing))]
 fn empty_named(alloc: Global) -> Named
     ensures { named_set result ≡ empty_named_set }
@@ -89,8 +89,8 @@ fn note_kind(named: &mut Named, kind: Kind) -> Result<(), Memory>
     Ok(())
 }
 
-/// What a walk over a style has named so far. All that the macros name that were seen is among
-/// it, so none is walked twice.
+/// A walk over a style, with the variables and kinds named so far. These include all that the seen
+/// macros name, so no macro is walked twice.
 #[derive(Drop)]
 struct Walk<'s> {
     style: &'s Style,
@@ -115,7 +115,7 @@ impl<'s> Model for Walk<'s> {
 }
 
 impl<'s> Walk<'s> {
-    /// A walk over a style that has named nothing yet.
+    /// A walk over a style, with nothing named yet.
     fn new(alloc: Global, style: &'s Style) -> Walk<'s>
         ensures style { result ≡ record { style = style.now; named = result.named } }
         ensures none { named_set result.named ≡ empty_named_set }
@@ -127,14 +127,14 @@ impl<'s> Walk<'s> {
         }
     }
 
-    /// The style that is walked.
+    /// The style of the walk.
     fn style(&self) -> &'s Style
         ensures { result.now ≡ self.now.style }
     {
         self.style
     }
 
-    /// Ends the walk, with what was named.
+    /// Ends the walk and returns the named variables and kinds.
     fn into_named(self) -> Named
         ensures { result ≡ self.entry.named }
     {
@@ -165,7 +165,7 @@ impl<'s> Walk<'s> {
         self.seen.contains(name)
     }
 
-    /// Keeps in mind that a macro was seen: all that it names is named.
+    /// Marks a macro as seen. All that it names is added already.
     fn mark_seen(&mut self, name: &'s str) -> Result<(), Memory>
         requires { named_union (named_set self.old.named)
             (named_in_macro (macro_env self.old.style name.now))
@@ -177,7 +177,7 @@ impl<'s> Walk<'s> {
     }
 }
 
-/// Adds nothing to what a walk named.
+/// Adds nothing to the named variables and kinds.
 #[tactic(auto, using(crate::proofs::Walks::adds_nothing))]
 fn add_nothing<'s>(walk: &mut Walk<'s>) -> Result<(), Memory>
     ensures { OnOk result (Adds empty_named_set walk.old walk.new) }
@@ -202,7 +202,7 @@ fn note_variables<'s>(walk: &mut Walk<'s>, tested: &Option<Vec<Variable>>) -> Re
     }
 }
 
-/// Adds the dates of a test.
+/// Adds the date variables of a test.
 fn note_dates<'s>(walk: &mut Walk<'s>, tested: &Option<Vec<DateVariable>>) -> Result<(), Memory>
     ensures { OnOk result (Adds
         (each_if the_date (option_map (λ vs. vs.items) tested.now)) walk.old walk.new) }
@@ -257,7 +257,7 @@ fn note_names<'s>(walk: &mut Walk<'s>, names: &[NameVariable]) -> Result<(), Mem
     Ok(())
 }
 
-/// Adds what the tests of a branch ask the entry.
+/// Adds the variables and kinds that a branch tests.
 fn note_tests<'s>(walk: &mut Walk<'s>, branch: &'s ChooseBranch) -> Result<(), Memory>
     ensures { OnOk result (Adds (named_in_tests (view_branch branch.now).tests) walk.old walk.new) }
 {
@@ -283,7 +283,7 @@ fn unseen_macro<'s>(walk: &Walk<'s>, name: &str) -> Option<&'s CslMacro>
     walk.style().get_macro(name)
 }
 
-/// Adds what an element names.
+/// Adds the variables and kinds that an element names.
 #[cycle(named)]
 fn visit_element<'s>(walk: &mut Walk<'s>, element: &'s LayoutRenderingElement) -> Result<(), Memory>
     ensures { OnOk result (Adds
@@ -314,7 +314,7 @@ fn visit_element<'s>(walk: &mut Walk<'s>, element: &'s LayoutRenderingElement) -
     }
 }
 
-/// Adds what any of the elements names.
+/// Adds the variables and kinds that any of the elements names.
 #[cycle(named)]
 fn visit_all<'s>(walk: &mut Walk<'s>, elements: &'s [LayoutRenderingElement]) -> Result<(), Memory>
     ensures { OnOk result (Adds
@@ -327,7 +327,7 @@ fn visit_all<'s>(walk: &mut Walk<'s>, elements: &'s [LayoutRenderingElement]) ->
     Ok(())
 }
 
-/// Adds what names and their substitutes name.
+/// Adds the variables and kinds that a names node and its substitutes name.
 #[cycle(named)]
 fn visit_names<'s>(walk: &mut Walk<'s>, names: &'s Names) -> Result<(), Memory>
     ensures { OnOk result (Adds
@@ -341,7 +341,7 @@ fn visit_names<'s>(walk: &mut Walk<'s>, names: &'s Names) -> Result<(), Memory>
     Ok(())
 }
 
-/// Adds what a child of names names: a substitute.
+/// Adds the variables and kinds that a child of names names. Only a substitute names any.
 #[cycle(named)]
 fn visit_child<'s>(walk: &mut Walk<'s>, child: &'s NamesChild) -> Result<(), Memory>
     ensures { OnOk result (Adds
@@ -353,7 +353,7 @@ fn visit_child<'s>(walk: &mut Walk<'s>, child: &'s NamesChild) -> Result<(), Mem
     }
 }
 
-/// Adds what a branch names, with its tests.
+/// Adds the variables and kinds that a branch and its tests name.
 #[cycle(named)]
 fn visit_branch<'s>(walk: &mut Walk<'s>, branch: &'s ChooseBranch) -> Result<(), Memory>
     ensures { OnOk result (Adds
@@ -364,7 +364,7 @@ fn visit_branch<'s>(walk: &mut Walk<'s>, branch: &'s ChooseBranch) -> Result<(),
     Ok(())
 }
 
-/// Adds what the branches of a choice name, and what is printed where none is chosen.
+/// Adds the variables and kinds that the branches of a choice and its `otherwise` nodes name.
 #[cycle(named)]
 fn visit_choose<'s>(walk: &mut Walk<'s>, choose: &'s Choose) -> Result<(), Memory>
     ensures { OnOk result (Adds
@@ -381,12 +381,12 @@ fn visit_choose<'s>(walk: &mut Walk<'s>, choose: &'s Choose) -> Result<(), Memor
     }
 }
 
-/// What a layout names of an entry: the variables and kinds that are written in it and in the
-/// macros of the style that it reaches, every branch with its tests and every substitute included.
-/// The four variables that the citation answers ([`Variable::is_of_citation`]) are not named.
+/// Returns the variables and kinds that a layout names, in itself and in the macros of the style
+/// that it reaches. Every branch with its tests and every substitute is included. The four
+/// variables that the citation answers ([`Variable::is_of_citation`]) are left out.
 ///
 /// # Errors
-/// [`Memory`]: there was no memory left.
+/// [`Memory`]: out of memory.
 pub fn named_by(alloc: Global, style: &Style, layout: &Layout) -> Result<Named, Memory>
     ensures { IfOk result (λ named. named_set named
         ≡ named_in_nodes (expand_layout (macro_env style.now) (view_layout layout.now)).elements) }

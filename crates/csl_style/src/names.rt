@@ -20,7 +20,7 @@ pub enum NameForm {
     Count,
 }
 
-/// What stands before the last name (CSL 1.0.2, Name: and).
+/// The word or sign before the last name (CSL 1.0.2, Name: and).
 #[derive(Clone, Copy, Debug, PartialEq, Eq, PartialOrd, Ord, Hash)]
 pub enum NameAnd {
     /// The term `and`.
@@ -36,14 +36,14 @@ pub enum NameAsSortOrder {
     All,
 }
 
-/// When a delimiter stands before `et al.` or before the `and` (CSL 1.0.2, Name:
-/// delimiter-precedes-et-al and delimiter-precedes-last).
+/// When a delimiter precedes `et al.` or the `and` (CSL 1.0.2, Name: delimiter-precedes-et-al and
+/// delimiter-precedes-last).
 #[derive(Clone, Copy, Debug, Default, PartialEq, Eq, PartialOrd, Ord, Hash)]
 pub enum DelimiterBehavior {
-    /// After two names or more.
+    /// After two or more names.
     #[default]
     Contextual,
-    /// Behind a name that begins with the family name.
+    /// After a name that begins with the family name.
     AfterInvertedName,
     Always,
     Never,
@@ -69,14 +69,14 @@ pub struct NamePart {
 pub struct Name {
     pub options: InheritableNameOptions,
     pub formatting: Formatting,
-    /// How each part is written. The first of a name counts.
+    /// How each part is written. Of several for one part, the first counts.
     pub parts: Vec<NamePart>,
 }
 
 /// A `cs:et-al`.
 #[derive(Drop)]
 pub struct EtAl {
-    /// The term that stands for the names that are left out.
+    /// The term that replaces the names that are left out.
     pub term: OtherTerm,
     pub formatting: Formatting,
 }

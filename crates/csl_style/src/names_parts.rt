@@ -1,5 +1,5 @@
-//! The parts of a names node (CSL 1.0.2, Names): its own, or those of the node that it stands in
-//! for.
+//! The parts of a names node (CSL 1.0.2, Names): its own, or in a substitute also those of the
+//! names around it.
 
 ghost use Rattle.std.specs.Prelude.{◌≡◌, false, map, option_map};
 ghost use Rattle.csl_style.specs.Names.{first_of, first_name, shorthand_expansion, view_name, view_et_al, view_part};
@@ -18,8 +18,8 @@ use crate::taxonomy::NameVariable;
 use crate::term::{OtherTerm, TermForm};
 use std::alloc::Global;
 
-/// The parts of a names node but its substitutes, borrowed from the style. Those of a names node
-/// without children in a substitute come from two nodes.
+/// The parts of a names node except its substitutes, borrowed from the style. If the node is in a
+/// substitute and has no children, the parts come from two nodes.
 #[derive(Clone, Copy)]
 pub struct NamesParts<'s> {
     pub variables: &'s [NameVariable],
@@ -29,11 +29,11 @@ pub struct NamesParts<'s> {
     pub prefix: Option<&'s str>,
     pub suffix: Option<&'s str>,
     pub display: Option<Display>,
-    /// The children whose name, et al. and label count.
+    /// The children. Their first name, et al. and label are used.
     pub children: &'s [NamesChild],
 }
 
-/// The label of names, and whether it stands behind them.
+/// The label of names, and whether it is after them.
 #[derive(Clone, Copy)]
 pub struct PlacedLabel<'s> {
     pub label: &'s VariablelessLabel,
@@ -41,7 +41,7 @@ pub struct PlacedLabel<'s> {
 }
 
 impl Names {
-    /// The parts of the names node.
+    /// The parts of the names node itself.
     pub fn parts(&self) -> NamesParts<'_>
         ensures value { parts_node result ≡ names_node self.now }
         ensures view { view_names self.now ≡ names (names_node self.now)
@@ -59,7 +59,8 @@ impl Names {
         }
     }
 
-    /// Whether it has no children: then it stands in a substitute for the names around it.
+    /// Whether the node has no children. Directly in a substitute, such a node takes its name, et
+    /// al. and label from the names around it.
     #[tactic(auto, using(crate::proofs::NamesChildren::childless))]
     pub fn is_childless(&self) -> bool
         ensures { result ≡ is_childless (names_node self.now) (names_substitutes self.now) }
@@ -67,9 +68,9 @@ impl Names {
         self.children.is_empty()
     }
 
-    /// The parts of the node where it stands in for another node: that node's children, its own
-    /// variables and place on the page, and all else from itself where it is set, else from that
-    /// node.
+    /// The parts of the node in the place of another: the children of `original`, and its own
+    /// variables and display. Everything else is its own if it is set, field by field, else that of
+    /// `original`.
     pub fn parts_in_place_of<'s>(&'s self, original: NamesParts<'s>) -> NamesParts<'s>
         ensures { parts_node result ≡ shorthand_expansion (parts_node original.entry)
             (names_node self.now) }
@@ -86,7 +87,7 @@ impl Names {
         }
     }
 
-    /// What is printed where there are no persons: the first of its substitutes.
+    /// The first substitute, which replaces names without persons.
     pub fn substitute(&self) -> Option<&Substitute>
         ensures { option_map (λ s. view_substitute s.now) result
             ≡ first_substitute (names_substitutes self.now) }
@@ -103,14 +104,14 @@ impl<'s> NamesParts<'s> {
         name_among(self.children)
     }
 
-    /// How the names that are left out are written, where it is said.
+    /// The first et al. child, if there is one.
     pub fn et_al(self) -> Option<&'s EtAl>
         ensures { option_map (λ e. view_et_al e.now) result ≡ (parts_node self.entry).et_al }
     {
         et_al_among(self.children)
     }
 
-    /// The label, where there is one.
+    /// The first label child, if there is one.
     pub fn label(self) -> Option<PlacedLabel<'s>>
         ensures { option_map placed_label result ≡ (parts_node self.entry).label }
     {
@@ -132,7 +133,7 @@ fn name_among(children: &[NamesChild]) -> Option<&Name>
     None
 }
 
-/// The first et al. among them.
+/// The first et al. among children of names.
 fn et_al_among(children: &[NamesChild]) -> Option<&EtAl>
     ensures { option_map (λ e. view_et_al e.now) result
         ≡ first_et_al (map view_child children.now) }
@@ -146,7 +147,7 @@ fn et_al_among(children: &[NamesChild]) -> Option<&EtAl>
     None
 }
 
-/// The first label among them: behind the names where a name comes before it.
+/// The first label among children of names. It is after the names if a name child comes before it.
 fn label_among(children: &[NamesChild]) -> Option<PlacedLabel<'_>>
     ensures { option_map placed_label result ≡ first_label false (map view_child children.now) }
 {
@@ -161,7 +162,7 @@ fn label_among(children: &[NamesChild]) -> Option<PlacedLabel<'_>>
     None
 }
 
-/// The first substitute among them.
+/// The first substitute among children of names.
 fn substitute_among(children: &[NamesChild]) -> Option<&Substitute>
     ensures { option_map (λ s. view_substitute s.now) result
         ≡ first_substitute (substitutes (map view_child children.now)) }
@@ -176,7 +177,7 @@ fn substitute_among(children: &[NamesChild]) -> Option<&Substitute>
 }
 
 impl Name {
-    /// A name of which nothing is said.
+    /// A name that sets nothing.
     pub fn new(alloc: Global) -> Name
         ensures { view_name result ≡ default_name }
     {
@@ -187,7 +188,7 @@ impl Name {
         }
     }
 
-    /// How a part of the name is written, where it is said: the first of that part.
+    /// The first `cs:name-part` for this part of the name, if there is one.
     pub fn part(&self, name: NamePartName) -> Option<&NamePart>
         ensures { option_map (λ p. view_part p.now) result
             ≡ first_part name (view_name self.now) }

@@ -29,7 +29,7 @@ pub enum LabelPluralize {
     Never,
 }
 
-/// How a label is written, whatever it stands beside.
+/// How a label is written, without its variable.
 #[derive(Drop)]
 pub struct VariablelessLabel {
     pub form: TermForm,
@@ -48,7 +48,7 @@ pub struct Label {
 }
 
 impl Number {
-    /// A number of which nothing but its variable is said.
+    /// A number that sets only its variable.
     pub fn new(variable: NumberOrPageVariable) -> Number
         ensures { result ≡ number_of variable }
     {
@@ -63,7 +63,7 @@ impl Number {
 }
 
 impl Label {
-    /// A label of which nothing but its variable is said: the long form of the variable's term.
+    /// A label that sets only its variable. It prints the long form of the variable's term.
     pub fn new(variable: NumberOrPageVariable) -> Label
         ensures { result ≡ label_of variable }
     {
@@ -73,7 +73,7 @@ impl Label {
         }
     }
 
-    /// A label that prints the short form of the variable's term, as `vol.` or `pp.`.
+    /// A label that prints the short form of the variable's term, such as `vol.` or `pp.`.
     pub fn short(variable: NumberOrPageVariable) -> Label
         ensures { result ≡ short_label_of variable }
     {

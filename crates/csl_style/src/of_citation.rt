@@ -6,9 +6,8 @@ ghost use Rattle.csl_style.specs.OfCitation.{is_of_citation};
 use crate::taxonomy::{NumberVariable, StandardVariable, Variable};
 
 impl Variable {
-    /// Whether the citation answers the variable, and not the entry: the number of the entry in
-    /// the list, the note that cites it first, the place that is cited, and what tells entries of
-    /// a year apart.
+    /// Whether the citation answers the variable, and not the entry. It answers four: the citation
+    /// number, the number of the first note, the locator and the year suffix.
     pub fn is_of_citation(self) -> bool
         ensures { result ≡ is_of_citation self }
     {

@@ -1,4 +1,4 @@
-//! What a style sets for a scope, and by its first locale.
+//! The settings of a scope, and the options of a style's first locale.
 
 ghost use Rattle.std.specs.Prelude.{◌≡◌};
 ghost use Rattle.csl_style.specs.NameOptions.{inherited_options};
@@ -21,8 +21,8 @@ impl Style {
         own.apply(settings.names.as_inherited())
     }
 
-    /// Whether a comma or period behind a closing quote goes before it, by the first locale. It
-    /// does not where there is no locale.
+    /// Whether a comma or period after a closing quote goes before it. The first locale decides.
+    /// Without a locale it does not.
     pub fn is_punctuation_in_quote(&self) -> bool
         ensures { result ≡ is_punctuation_in_quote self.now.locales }
     {
@@ -32,8 +32,8 @@ impl Style {
         }
     }
 
-    /// Whether only the first day of a month is written as an ordinal, by the first locale. Each
-    /// day is where there is no locale.
+    /// Whether only the first day of a month is written as an ordinal. The first locale decides.
+    /// Without a locale there is no such limit.
     pub fn are_day_ordinals_limited(&self) -> bool
         ensures { result ≡ are_day_ordinals_limited self.now.locales }
     {

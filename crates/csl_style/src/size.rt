@@ -1,4 +1,4 @@
-//! How large a layout is with each macro expanded in the place of its name (CSL 1.0.2, Macro).
+//! The size of a layout with all macros expanded (CSL 1.0.2, Macro).
 
 ghost use Rattle.std.specs.Prelude.{◌≡◌, ◌+◌, ◌<◌, ◌≤◌, IfSome, IfNone};
 ghost use Rattle.csl_style.specs.Node.{expand, expand_nodes, size, sizes, expand_layout};
@@ -9,7 +9,7 @@ use crate::element::{Choose, Layout, LayoutRenderingElement, Names, NamesChild};
 use crate::style::Style;
 use crate::text::TextTarget;
 
-/// The room that is left after an element, or `None` where the element is larger than the room.
+/// The room that is left after an element, or `None` if the element is larger than the room.
 #[cycle(size)]
 fn room_after(style: &Style, element: &LayoutRenderingElement, room: u64) -> Option<u64>
     ensures some { IfSome result (λ left. left + size
@@ -39,7 +39,7 @@ fn room_after(style: &Style, element: &LayoutRenderingElement, room: u64) -> Opt
     }
 }
 
-/// The room that is left after a list of elements, each of which counts one more.
+/// The room that is left after a list of elements. Each counts one more than its own size.
 #[cycle(size)]
 fn room_after_all(style: &Style, elements: &[LayoutRenderingElement], room: u64) -> Option<u64>
     ensures some { IfSome result (λ left. left
@@ -54,7 +54,7 @@ fn room_after_all(style: &Style, elements: &[LayoutRenderingElement], room: u64)
     Some(left)
 }
 
-/// The room that is left after a names node: only its substitutes add to its size.
+/// The room that is left after a names node, which counts one. Only its substitutes add to that.
 #[cycle(size)]
 fn room_after_names(style: &Style, names: &Names, room: u64) -> Option<u64>
     ensures some { IfSome result (λ left. left
@@ -85,7 +85,8 @@ fn room_after_child(style: &Style, child: &NamesChild, room: u64) -> Option<u64>
     }
 }
 
-/// The room that is left after a choose, which counts one, and one more for each branch.
+/// The room that is left after a choose, which counts one, and one more for each branch and for its
+/// `otherwise` nodes.
 #[cycle(size)]
 fn room_after_choose(style: &Style, choose: &Choose, room: u64) -> Option<u64>
     ensures some { IfSome result (λ left. left
@@ -104,15 +105,17 @@ fn room_after_choose(style: &Style, choose: &Choose, room: u64) -> Option<u64>
 }
 
 impl Style {
-    /// The size of a layout with each macro expanded in the place of its name (CSL 1.0.2, Macro),
-    /// or `None` where the size is above `most`.
+    /// The size of a layout with all macros expanded (CSL 1.0.2, Macro), or `None` if the size is
+    /// above `most`.
     ///
-    /// The layout counts one, and so does each node of a list. A call of a macro, a group, a
-    /// names node and a choose count one more, and so do each branch and each substitute.
+    /// The layout counts one, and so does each node of a list. A group, a names node, a choose and
+    /// a call of a macro that the style has count one more. So does each branch, `cs:else`
+    /// included, and each substitute.
     ///
-    /// Ask this before you render a style from a stranger: rendering costs time and stack by this
-    /// size, and forty macros that each call the next twice have a size above 2^40. The call takes
-    /// no memory, and a number of steps that grows with the smaller of the size and `most`.
+    /// Check this before you render with a style from a stranger. The time and stack of a rendering
+    /// grow with this size. Forty macros that each call the next twice have a size above 2^40. The
+    /// function allocates nothing. Its number of steps grows with the smaller of the size and
+    /// `most`.
     pub fn expanded_size(&self, layout: &Layout, most: u64) -> Option<u64>
         ensures some { IfSome result (λ size. (size
             ≡ layout_size (expand_layout (macro_env self.now) (view_layout layout.now))) ×

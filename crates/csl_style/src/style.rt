@@ -1,5 +1,5 @@
-//! A style: its settings, macros, layouts and locales. No macro of it leads back to itself (CSL
-//! 1.0.2, Style Structure; Macro).
+//! A style: its settings, macros, layouts and locales (CSL 1.0.2, Style Structure; Macro). No macro
+//! of a style leads back to itself, directly or through other macros.
 
 ghost use Rattle.std.specs.Prelude.{◌≡◌, false, IfOk, OnOk, IfErr, map, find, option_map, option_copied};
 ghost use Rattle.csl_style.specs.Node.{expand_nodes};
@@ -38,7 +38,7 @@ pub struct Style {
     citation: Layout,
     bibliography: Option<Layout>,
     locales: Vec<Locale>,
-    /// The place in the list of the first macro of each name.
+    /// The index in `macros` of the first macro of each name.
     places: HashMap<String, usize>,
 }
 
@@ -71,7 +71,7 @@ impl Model for Style {
         × ArePlacesByName s.places (definitions s.macros.items) };
 }
 
-/// Whether the page format is one of the two that no style may have.
+/// Whether the page format is one of the two Chicago formats, which are not supported.
 fn is_chicago(format: Option<PageRangeFormat>) -> bool
     ensures { result ≡ is_chicago format }
 {
@@ -81,7 +81,8 @@ fn is_chicago(format: Option<PageRangeFormat>) -> bool
     )
 }
 
-/// The place of the first macro of each name, or why a style of these parts is refused.
+/// Checks the macros and the page format of a style. Returns the index of the first macro of each
+/// name.
 fn checked_places(
     alloc: Global,
     format: Option<PageRangeFormat>,
@@ -103,7 +104,7 @@ fn checked_places(
     Ok(places)
 }
 
-/// The first macro of a name, found by its place.
+/// Returns the first macro of a name, found by its index.
 fn first_macro<'s>(
     macros: &'s [CslMacro],
     places: &HashMap<String, usize>,
@@ -119,14 +120,15 @@ fn first_macro<'s>(
 }
 
 impl Style {
-    /// A style of these parts. The first macro of a name counts, and the others of that name are
-    /// never looked at. Where the style is refused, what was handed in is dropped.
+    /// Returns a style of these parts. If several macros have one name, calls use the first. On an
+    /// error, the parts are dropped.
     ///
     /// # Errors
-    /// [`StyleError::Memory`]: there was no memory left, before either of the others is seen.
-    /// [`StyleError::CyclicMacro`]: a macro leads back to itself. The first of the list that does
-    /// is named.
-    /// [`StyleError::ChicagoPageFormat`]: no macro does, and the page format is a Chicago one.
+    /// [`StyleError::Memory`]: out of memory. It may come instead of either of the others.
+    /// [`StyleError::CyclicMacro`]: a macro leads back to itself. The error names the first such
+    /// macro.
+    /// [`StyleError::ChicagoPageFormat`]: the page format is a Chicago one, and no macro leads back
+    /// to itself.
     pub fn new(
         alloc: Global,
         settings: StyleSettings,
@@ -154,8 +156,8 @@ impl Style {
         })
     }
 
-    /// No macro leads back to itself: the macros have ranks that fall along each call. A caller
-    /// that follows names learns it here.
+    /// Does nothing. Its contract states that no macro leads back to itself: the macros have ranks,
+    /// and each call leads to a lower rank. It serves callers that follow macro names.
     pub fn acyclic(&self)
         ensures ranks { IsAcyclic (definitions self.now.macros) }
         ensures returns { HasNoCycle (definitions self.now.macros) }
@@ -163,7 +165,7 @@ impl Style {
         let _macros = &self.macros;
     }
 
-    /// What it sets for all of its nodes. The page format is none of the Chicago ones.
+    /// The settings for all nodes of the style. The page format is none of the Chicago ones.
     pub fn settings(&self) -> &StyleSettings
         ensures value { result.now ≡ self.now.settings }
         ensures format { is_chicago result.now.page_range_format ≡ false }
@@ -171,7 +173,7 @@ impl Style {
         &self.settings
     }
 
-    /// The macros, those that an earlier one of their name hides included.
+    /// All macros, also those that an earlier one of the same name hides.
     pub fn macros(&self) -> &[CslMacro]
         ensures { result.now ≡ self.now.macros }
     {
@@ -185,14 +187,14 @@ impl Style {
         &self.citation
     }
 
-    /// The layout of an entry of the bibliography. A style may have none.
+    /// The layout of an entry in the bibliography, if the style has one.
     pub fn bibliography(&self) -> Option<&Layout>
         ensures { option_copied result ≡ self.now.bibliography }
     {
         self.bibliography.as_ref()
     }
 
-    /// The layout of a scope. A style may have none of the bibliography.
+    /// The layout of a scope. A style may have none for the bibliography.
     pub fn layout(&self, scope: Scope) -> Option<&Layout>
         ensures { option_copied result ≡ layout_of self.now scope }
     {
@@ -202,7 +204,7 @@ impl Style {
         }
     }
 
-    /// The locales, those that are asked first before the others.
+    /// The locales, in the order in which lookups search them.
     pub fn locales(&self) -> &[Locale]
         ensures { result.now ≡ self.now.locales }
     {
@@ -222,8 +224,8 @@ impl Style {
         first_macro(&self.macros, &self.places, name)
     }
 
-    /// The text of a term, in the form that is asked for or one that stands in for it (CSL 1.0.2,
-    /// Terms).
+    /// The text of a term in this form, else in the first of its fallback forms that a locale has
+    /// (CSL 1.0.2, Terms).
     pub fn term(&self, term: Term, form: TermForm, plural: bool) -> Option<&str>
         ensures { option_map (λ text. text.now) result
             ≡ term_text (map terms_of self.now.locales) term form plural }
@@ -231,14 +233,14 @@ impl Style {
         lookup::term(&self.locales, term, form, plural)
     }
 
-    /// The gender of what a term names (CSL 1.0.2, Gender-specific Ordinals).
+    /// The grammatical gender of a term (CSL 1.0.2, Gender-specific Ordinals).
     pub fn gender(&self, term: Term) -> Option<GrammarGender>
         ensures { result ≡ term_gender (map terms_of self.now.locales) term }
     {
         lookup::gender(&self.locales, term)
     }
 
-    /// What stands behind a number to make it an ordinal (CSL 1.0.2, Ordinals).
+    /// The ordinal suffix of a number (CSL 1.0.2, Ordinals).
     pub fn ordinal(&self, number: i32, gender: Option<GrammarGender>) -> Option<&str>
         ensures { option_map (λ text. text.now) result
             ≡ ordinals (map ordinals_of self.now.locales) number gender }

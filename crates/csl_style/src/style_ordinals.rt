@@ -1,4 +1,4 @@
-//! The ordinals of a style as a value that may be handed on (CSL 1.0.2, Ordinals).
+//! The ordinals of a style as a value of their own (CSL 1.0.2, Ordinals).
 
 ghost use Rattle.std.specs.Prelude.{◌≡◌, map, option_map};
 ghost use Rattle.csl_style.specs.Locale.{ordinals_of};
@@ -20,7 +20,7 @@ impl Style {
 }
 
 impl<'s> LocaleOrdinals<'s> {
-    /// What stands behind a number to make it an ordinal. It lives as long as the style.
+    /// The ordinal suffix of a number. It lives as long as the style.
     pub fn suffix(self, number: i32, gender: Option<GrammarGender>) -> Option<&'s str>
         ensures { option_map (λ text. text.now) result
             ≡ ordinals (map ordinals_of self.entry.locales.now) number gender }

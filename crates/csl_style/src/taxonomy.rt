@@ -1,4 +1,4 @@
-//! What a style may ask of an entry, and the kinds of entries (CSL 1.0.2, Appendix III: Types;
+//! The variables that a style may use, and the kinds of entries (CSL 1.0.2, Appendix III: Types;
 //! Appendix IV: Variables).
 
 ghost use Rattle.std.specs.Prelude.{◌≡◌, ◌↔◌, Some};
@@ -129,7 +129,7 @@ pub enum DateVariable {
     Submitted,
 }
 
-/// A variable of any of the five sorts.
+/// A variable of any of the five types.
 #[derive(Clone, Copy, Debug, PartialEq, Eq, PartialOrd, Ord, Hash)]
 pub enum Variable {
     Standard(StandardVariable),
@@ -139,7 +139,7 @@ pub enum Variable {
     Name(NameVariable),
 }
 
-/// A variable that a number may write and a label may name.
+/// A variable that a `cs:number` or a `cs:label` may have.
 #[derive(Clone, Copy, Debug, PartialEq, Eq, PartialOrd, Ord, Hash)]
 pub enum NumberOrPageVariable {
     Number(NumberVariable),
@@ -213,7 +213,7 @@ impl From<PageVariable> for NumberOrPageVariable {
     }
 }
 
-/// What a locator counts (CSL 1.0.2, Locators).
+/// The kind of a locator (CSL 1.0.2, Locators).
 #[derive(Clone, Copy, Debug, PartialEq, Eq, PartialOrd, Ord, Hash)]
 pub enum Locator {
     Act,
@@ -243,7 +243,7 @@ pub enum Locator {
     Verse,
     Version,
     Volume,
-    /// What the locator says itself: no style has a term for it.
+    /// A kind that only the locator's own text gives. A label prints no term for it.
     Custom,
 }
 
@@ -298,7 +298,7 @@ pub enum Kind {
 }
 
 impl Kind {
-    /// The kind of this name, as `article-journal`, if there is one.
+    /// The kind of this name, such as `article-journal`, if there is one.
     pub fn from_name(name: &str) -> Option<Kind>
         ensures { (kind : Kind) → (result ≡ Some kind) ↔ (name.now ≡ name_of kind) }
     {

@@ -10,13 +10,13 @@ use csl_common::Season;
 /// A term.
 #[derive(Clone, Copy, Debug, PartialEq, Eq, PartialOrd, Ord, Hash)]
 pub enum Term {
-    /// What persons are called, as `editor`.
+    /// The term for a name variable, such as `editor`.
     Name(NameVariable),
-    /// What a number is called, as `volume`.
+    /// The term for a number variable, such as `volume`.
     Number(NumberVariable),
-    /// What pages are called.
+    /// The term for a page variable.
     Page(PageVariable),
-    /// What a locator is called, as `paragraph`.
+    /// The term for a kind of locator, such as `paragraph`.
     Locator(Locator),
     /// Any other term.
     Other(OtherTerm),
@@ -70,16 +70,17 @@ impl From<OtherTerm> for Term {
 pub enum OtherTerm {
     And,
     EtAl,
-    /// What stands behind the years 1 to 999.
+    /// The era after the years 1 to 999.
     Ad,
-    /// What stands behind the years before year 1.
+    /// The era after the years before year 1.
     Bc,
     PageRangeDelimiter,
     OpenQuote,
     CloseQuote,
     OpenInnerQuote,
     CloseInnerQuote,
-    /// The month of this number, from 0 for January to 11. No month has a number above 11.
+    /// The month of this number, from 0 for January to 11 for December. No month has a higher
+    /// number.
     Month(u8),
     Season(Season),
     Accessed,

@@ -13,7 +13,7 @@ use crate::term::{Term, TermForm};
 use csl_common::{LongShortForm, Memory};
 use std::alloc::Global;
 
-/// What a text prints.
+/// The source of a text's content.
 #[derive(Drop)]
 pub enum TextTarget {
     /// A variable of the entry.
@@ -44,14 +44,14 @@ pub struct Text {
     pub formatting: Formatting,
     pub affixes: Affixes,
     pub display: Option<Display>,
-    /// Whether quotes stand around what is printed (CSL 1.0.2, Quotes).
+    /// Whether the content is in quotes (CSL 1.0.2, Quotes).
     pub quotes: bool,
-    /// Whether what is printed loses its periods (CSL 1.0.2, Strip-periods).
+    /// Whether the content loses its periods (CSL 1.0.2, Strip-periods).
     pub strip_periods: bool,
 }
 
 impl Text {
-    /// A text of which nothing but its target is said.
+    /// A text that sets only its target.
     pub fn new(target: TextTarget) -> Text
         ensures { result ≡ text_of_target target }
     {
@@ -89,7 +89,7 @@ impl Text {
     /// A text that prints these words.
     ///
     /// # Errors
-    /// [`Memory`]: there was no memory left.
+    /// [`Memory`]: out of memory.
     pub fn value(alloc: Global, value: &str) -> Result<Text, Memory>
         ensures view { IfOk result (λ text. view_text text
             ≡ node.text (of_value value.now) (text_dressing text)) }
@@ -100,11 +100,11 @@ impl Text {
         }))
     }
 
-    /// A text that prints the macro of this name. Where the style has none, it prints nothing
+    /// A text that prints the macro of this name. If the style has none, it prints nothing
     /// ([`Style::missing_macro`](crate::style::Style::missing_macro)).
     ///
     /// # Errors
-    /// [`Memory`]: there was no memory left.
+    /// [`Memory`]: out of memory.
     pub fn macro_call(alloc: Global, name: &str) -> Result<Text, Memory>
         ensures view { IfOk result (λ text. view_text text
             ≡ node.call name.now (text_dressing text)) }

@@ -1,5 +1,5 @@
-//! Whether a layout reaches a text of the year suffix (CSL 1.0.2, Disambiguation: the suffix
-//! stands where such a text does, and else behind the first year).
+//! Whether a layout reaches a text of the year suffix (CSL 1.0.2, Disambiguation). If it does, that
+//! text renders the suffix. Otherwise the suffix comes after the first year.
 
 ghost use Rattle.std.specs.Prelude.{◌≡◌};
 ghost use Rattle.csl_style.specs.Node.{expand, expand_nodes};
@@ -19,7 +19,7 @@ fn is_year_suffix(variable: Variable) -> bool
     matches!(variable, Variable::Standard(StandardVariable::YearSuffix))
 }
 
-/// Whether a text of the year suffix stands in an element.
+/// Whether a text of the year suffix is in an element or in a macro that it reaches.
 #[cycle(reach)]
 fn has_year_suffix(style: &Style, element: &LayoutRenderingElement) -> bool
     ensures { result ≡ has_year_suffix (expand (macro_env style.now) (view_node element.now)) }
@@ -69,7 +69,7 @@ fn names_have_year_suffix(style: &Style, names: &Names) -> bool
     false
 }
 
-/// Whether a text of the year suffix is in a child of names, which is a substitute.
+/// Whether a text of the year suffix is in a child of names. Only a substitute may have one.
 #[cycle(reach)]
 fn child_has_year_suffix(style: &Style, child: &NamesChild) -> bool
     ensures { result ≡ child_has_year_suffix (macro_env style.now) (view_child child.now) }
@@ -80,8 +80,8 @@ fn child_has_year_suffix(style: &Style, child: &NamesChild) -> bool
     }
 }
 
-/// Whether a text of the year suffix is in a branch of the choice, chosen or not, or where none is
-/// chosen.
+/// Whether a text of the year suffix is in a branch of the choice, chosen or not, or in its
+/// `otherwise` nodes.
 #[cycle(reach)]
 fn choose_has_year_suffix(style: &Style, choose: &Choose) -> bool
     ensures { result ≡ has_year_suffix (expand (macro_env style.now) (view_choose choose.now)) }
@@ -101,9 +101,9 @@ fn choose_has_year_suffix(style: &Style, choose: &Choose) -> bool
 }
 
 impl Style {
-    /// Whether the year suffix stands behind the first year that is printed: where the layout of
-    /// the scope reaches no text of that variable, through macros, substitutes and all branches,
-    /// and where the scope has no layout.
+    /// Whether the year suffix comes after the first year that is printed. It does if the scope has
+    /// no layout, or if the layout reaches no text of that variable through macros, substitutes and
+    /// all branches.
     pub fn renders_year_suffix_implicitly(&self, scope: Scope) -> bool
         ensures { result ≡ is_year_suffix_implicit (reached_layout scope self.now) }
     {

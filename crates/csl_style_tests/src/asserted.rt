@@ -1,19 +1,19 @@
-//! Assertions that show what was answered.
+//! Assertions that report both values.
 
 use std::fmt::Debug;
 use std::process::Abort;
 
-/// What was answered of something is what is wanted.
+/// Asserts that the answer is the wanted value, and reports the input `of` if it is not.
 pub(crate) fn assert_of<T: Debug + PartialEq>(rt: &impl Abort, answer: &T, wanted: &T, of: &str) {
     assert_eq!(rt; answer, wanted, "of {of:?}");
 }
 
-/// What was answered is what is wanted.
+/// Asserts that the answer is the wanted value.
 pub(crate) fn assert_same<T: Debug + PartialEq>(rt: &impl Abort, answer: &T, wanted: &T) {
     assert_of(rt, answer, wanted, "one value");
 }
 
-/// The text that was answered, if any, is the one that is wanted.
+/// Asserts that the answer is the wanted text, or that both are missing.
 pub(crate) fn assert_text(rt: &impl Abort, answer: Option<&str>, wanted: Option<&str>) {
     assert_same(rt, &answer, &wanted);
 }

@@ -1,5 +1,5 @@
-//! Nodes by their constructors and struct update, as a caller makes them. A clause here is what a
-//! caller knows of such a node with at most one lemma named.
+//! Nodes by constructors and struct update, as a caller writes them. Each clause here is a fact
+//! that a caller can prove about such a node with at most one named lemma.
 
 ghost use Rattle.std.specs.Prelude.{◌≡◌, IfOk, None, Some, [], ◌∷◌, codes, false, map, true};
 ghost use Rattle.csl_common.specs.declared.form.LongShortForm.TheVariants.{Long};
@@ -32,7 +32,7 @@ const SLANTED: Formatting = Formatting {
     vertical_align: None,
 };
 
-/// A text of a variable, in a formatting.
+/// A text of a variable, with a formatting.
 fn variable_in(variable: Variable, formatting: Formatting) -> LayoutRenderingElement
     ensures { view_node result ≡ node.text (of_variable variable Long) (record {
       dressing = record no_dressing { formatting = formatting };
@@ -71,7 +71,7 @@ fn short_label(variable: NumberOrPageVariable) -> LayoutRenderingElement
     Label::short(variable).into()
 }
 
-/// A date by its parts, with blanks between them.
+/// A date with these parts, and with spaces between them.
 fn spaced_date(
     alloc: Global,
     variable: DateVariable,
@@ -106,7 +106,7 @@ fn in_parentheses(
     .into())
 }
 
-/// The names of variables, by these children.
+/// The names of variables, with these children.
 #[tactic(auto, using(csl_style::proofs::Rolled::names_made))]
 fn names_by(
     alloc: Global,
@@ -144,7 +144,7 @@ fn of_kinds(kinds: Vec<Kind>, children: Vec<LayoutRenderingElement>) -> ChooseBr
     }
 }
 
-/// A choice of one branch, and what is printed where it is not chosen.
+/// A choice of one branch, and a `cs:else` with these nodes.
 #[tactic(auto, using(csl_style::proofs::Rolled::choose_made))]
 fn either(
     alloc: Global,
@@ -161,7 +161,7 @@ fn either(
     .into()
 }
 
-/// A prefix and a suffix, each or none.
+/// Affixes with a prefix, a suffix, both or neither.
 fn affixes(alloc: Global, prefix: Option<&str>, suffix: Option<&str>) -> Result<Affixes, Memory> {
     match (prefix, suffix) {
         (None, None) => Ok(Affixes::default()),
@@ -186,7 +186,7 @@ fn affixes_stand_on_their_sides(rt: HostRuntime) -> Result<(), Memory> {
     Ok(())
 }
 
-/// The words that a text prints, or the name of the macro that it calls.
+/// The words of a text, or the name of the macro that it calls.
 fn words_of(element: &LayoutRenderingElement) -> Option<&str> {
     let LayoutRenderingElement::Text(text) = element else {
         return None;
@@ -260,7 +260,7 @@ fn numbers_and_labels_have_their_forms(rt: HostRuntime) {
     );
 }
 
-/// The year of a publication.
+/// A date node with the year of publication.
 fn issued(alloc: Global) -> Result<LayoutRenderingElement, Memory> {
     let parts = one(alloc, DatePart::new(DatePartName::Year))?;
     spaced_date(alloc, DateVariable::Issued, parts)
@@ -298,7 +298,7 @@ fn a_group_may_hold_a_date(rt: HostRuntime) -> Result<(), Memory> {
     Ok(())
 }
 
-/// Authors by a name, et al., a short label and a substitute.
+/// Authors with a name, et al., a short label and a substitute.
 fn authors(alloc: Global) -> Result<LayoutRenderingElement, Memory> {
     let mut children: Vec<NamesChild> = one(alloc, Name::new(alloc).into())?;
     put(&mut children, EtAl::default().into())?;
@@ -334,7 +334,7 @@ fn names_have_their_children(rt: HostRuntime) -> Result<(), Memory> {
     Ok(())
 }
 
-/// A group for books, and else two words.
+/// A group for books, and two words for other entries.
 fn books(alloc: Global) -> Result<LayoutRenderingElement, Memory> {
     let kinds = vec![in alloc; Kind::Book]?;
     let inner: LayoutRenderingElement = Group::new(Vec::new(alloc)).into();
@@ -344,7 +344,7 @@ fn books(alloc: Global) -> Result<LayoutRenderingElement, Memory> {
     Ok(either(alloc, branch, otherwise))
 }
 
-/// How many elements stand in the branch of a choice, and how many where it is not chosen.
+/// The number of elements in the branch of a choice, and in its `cs:else`.
 fn counts(choose: &Choose) -> (usize, usize) {
     let otherwise = match &choose.otherwise {
         Some(elements) => elements.len(),

@@ -1,4 +1,4 @@
-//! The values that stand where a style says nothing.
+//! The default values of options that a style does not set.
 
 use crate::asserted::assert_same;
 use csl_style::{

@@ -1,4 +1,4 @@
-//! The nodes that hold nodes.
+//! Nodes that hold nodes.
 
 use crate::asserted::assert_same;
 use crate::made::{branch, put};
@@ -7,7 +7,7 @@ use std::alloc::{AllocError, Global};
 use std::process::Abort;
 use std::test::Fail;
 
-/// A choose of branches that match so.
+/// A choose whose branches have these matches.
 fn new_choose(
     alloc: Global,
     first: ChooseMatch,
@@ -24,7 +24,7 @@ fn new_choose(
     })
 }
 
-/// How the branches of a choose match, in the order in which it answers them.
+/// The matches of the branches of a choose, in the order of [`Choose::branches`].
 fn matches_in_order(alloc: Global, choose: &Choose) -> Result<Vec<ChooseMatch>, AllocError> {
     let mut matches = Vec::new(alloc);
     for branch in choose.branches() {
@@ -44,7 +44,7 @@ fn assert_matches(
     Ok(())
 }
 
-/// The branches of a choose of branches that match so come in this order.
+/// Asserts the order of the branches of a choose with these matches.
 fn assert_in_order(
     rt: &impl Abort,
     alloc: Global,

@@ -1,5 +1,5 @@
-//! The tests of `csl_style`: its public calls, asked with inputs and answers that are written out
-//! by hand. A module here tests the module of its name there.
+//! The tests of `csl_style`: its public calls, with inputs and expected results that are written
+//! out by hand. Each module tests the module of the same name in `csl_style`.
 #![tactic(auto)]
 
 #[cfg(test)]

@@ -1,4 +1,4 @@
-//! What a style's locales answer, taken in order.
+//! Lookups in the locales of a style, in order.
 
 ghost use Rattle.std.specs.Prelude.{◌≡◌, ◌↔◌, IsTrue};
 
@@ -23,14 +23,14 @@ const FEMININE: Option<GrammarGender> = Some(GrammarGender::Feminine);
 
 const MASCULINE: Option<GrammarGender> = Some(GrammarGender::Masculine);
 
-/// Whether the two slots are equal: they are where they are one.
+/// Whether the slots are equal: exactly if they are the same slot.
 fn same_slot(a: &OrdinalSlot, b: &OrdinalSlot) -> bool
     ensures { IsTrue result ↔ (a.now ≡ b.now) }
 {
     *a == *b
 }
 
-/// Two slots, and whether they are one.
+/// Two slots, and whether they are the same.
 static SLOTS: [(OrdinalSlot, OrdinalSlot, bool); 4] = [
     (OrdinalSlot::Two(3), OrdinalSlot::Two(3), true),
     (OrdinalSlot::Two(3), OrdinalSlot::Two(4), false),
@@ -50,7 +50,7 @@ fn slots_are_equal_where_they_are_one(rt: HostRuntime) {
     }
 }
 
-/// The locales of one language whose ordinals are those of English. The first has none.
+/// The locales of one language with the ordinals of English. The first locale has none.
 const ENGLISH: [LocaleRows<'static>; 2] = [
     SILENT,
     LocaleRows {
@@ -67,7 +67,7 @@ const ENGLISH: [LocaleRows<'static>; 2] = [
     },
 ];
 
-/// What a number is written as in a form.
+/// Asserts the text of a number in a form.
 fn assert_written(
     rt: &impl Abort,
     alloc: Global,
@@ -81,7 +81,7 @@ fn assert_written(
     Ok(())
 }
 
-/// A number, and what it is written as in English.
+/// A number, and its English ordinal.
 static IN_ENGLISH: [(i32, &str); 7] = [
     (21, "21st"),
     (112, "112th"),
@@ -122,7 +122,8 @@ const WHOLE: Option<OrdinalMatch> = Some(OrdinalMatch::WholeNumber);
 
 const LAST_TWO: Option<OrdinalMatch> = Some(OrdinalMatch::LastTwoDigits);
 
-/// The locales of one language whose ordinals go by gender and by digits. The second has none.
+/// The locales of one language whose ordinals depend on gender and digits. The second locale has
+/// none.
 const BY_GENDER_AND_DIGITS: [LocaleRows<'static>; 2] = [
     LocaleRows {
         ordinals: &[
@@ -140,7 +141,7 @@ const BY_GENDER_AND_DIGITS: [LocaleRows<'static>; 2] = [
     SILENT,
 ];
 
-/// Whether a word is asked for, the number, the gender, and the suffix or the word.
+/// Whether the query is for the word, the number, the gender, and the suffix or the word.
 type OrdinalRow = (bool, i32, Option<GrammarGender>, Option<&'static str>);
 
 static ORDINALS: [OrdinalRow; 10] = [
@@ -156,7 +157,7 @@ static ORDINALS: [OrdinalRow; 10] = [
     (true, 3, None, None),
 ];
 
-/// The suffix of a number, or its word.
+/// Asserts the suffix of a number, or its word.
 fn assert_ordinal(
     rt: &impl Abort,
     ordinals: &LocaleOrdinals<'_>,
@@ -215,7 +216,7 @@ const TERMS: StyleRows<'static> = StyleRows {
     ..EMPTY
 };
 
-/// A term, its form, whether there are several, and the text.
+/// A term, its form, whether it is in the plural, and the text.
 type TextRow = (Term, TermForm, bool, Option<&'static str>);
 
 static TEXTS: [TextRow; 8] = [
@@ -270,7 +271,7 @@ const GENDERS_AND_DATES: StyleRows<'static> = StyleRows {
     ..EMPTY
 };
 
-/// A style, a term and a form of dates, and the gender and the parts.
+/// A style, a term, a form of dates, the gender of the term, and the parts of the date.
 type GenderRow = (
     &'static StyleRows<'static>,
     Term,
@@ -304,7 +305,8 @@ fn parts_of(date: Option<&Date>) -> Option<DateParts> {
     }
 }
 
-/// The gender of the long form of a term, and the parts of the first localized date of a form.
+/// Asserts the gender of the long form of a term, and the parts of the first localized date of a
+/// form.
 fn assert_gender_and_date(
     rt: &impl Abort,
     style: &Style,

@@ -1,4 +1,4 @@
-//! Styles and locales from plain words.
+//! Styles and locales from a short notation.
 
 use csl_style::{
     Affixes, Choose, ChooseBranch, ChooseMatch, CslMacro, Date, DateForm, DateParts, DateVariable,
@@ -9,7 +9,7 @@ use csl_style::{
 use lit_model::{GrammarGender, LongShortForm};
 use std::alloc::{AllocError, Global};
 
-/// A term: its name, its form, the text for one, that for several, and its gender.
+/// A term: its name, its form, the text in the singular, the text in the plural, and its gender.
 pub(crate) type TermRow<'s> = (
     Term,
     TermForm,
@@ -18,7 +18,7 @@ pub(crate) type TermRow<'s> = (
     Option<GrammarGender>,
 );
 
-/// An ordinal: its slot, which digits are compared, its gender and its text.
+/// An ordinal: its slot, the digits that are compared, its gender and its text.
 pub(crate) type OrdinalRow<'s> = (
     OrdinalSlot,
     Option<OrdinalMatch>,
@@ -36,7 +36,7 @@ pub(crate) struct LocaleRows<'s> {
     pub(crate) limit_day_ordinals_to_day_1: bool,
 }
 
-/// A locale without terms and ordinals.
+/// A locale without terms, ordinals and dates, with both options off.
 pub(crate) const SILENT: LocaleRows<'static> = LocaleRows {
     terms: &[],
     ordinals: &[],
@@ -154,7 +154,8 @@ pub(crate) fn locales(alloc: Global, rows: &[LocaleRows<'_>]) -> Result<Vec<Loca
     Ok(locales)
 }
 
-/// What may stand around nodes. A branch of a choose may ask whether the cite is to be told apart.
+/// A node around other nodes. A branch of a choose may test whether the cite has to be
+/// disambiguated.
 #[derive(Clone, Copy)]
 enum Around {
     /// The `if` branch of a choose.
@@ -168,7 +169,7 @@ enum Around {
     Substitute,
 }
 
-/// What a word says stands around, if it does.
+/// The node around others that a word names, if it names one.
 fn read_around(word: &str) -> Option<Around> {
     match word {
         "if" => Some(Around::If(None)),
@@ -183,7 +184,7 @@ fn read_around(word: &str) -> Option<Around> {
     }
 }
 
-/// A branch that asks this alone.
+/// A branch with this match that sets no test but `disambiguate`.
 pub(crate) fn branch(
     match_: ChooseMatch,
     disambiguate: Option<bool>,
@@ -196,7 +197,7 @@ pub(crate) fn branch(
     }
 }
 
-/// Names of authors, and what stands in their place.
+/// Names of authors, with these nodes as a substitute.
 pub(crate) fn names_or(
     alloc: Global,
     children: Vec<LayoutRenderingElement>,
@@ -256,8 +257,8 @@ fn node_around(
     }
 }
 
-/// What a text of a word prints: the word behind a `'`, the variable of `@title` or
-/// `@year-suffix`, or else what the macro of the word does.
+/// The target of a text that a word names: the word after a `'`, the variable of `@title` or
+/// `@year-suffix`, or else the macro of this name.
 fn target(alloc: Global, word: &str) -> Result<TextTarget, AllocError> {
     let variable = match word {
         "@title" => StandardVariable::Title,
@@ -279,12 +280,12 @@ fn target(alloc: Global, word: &str) -> Result<TextTarget, AllocError> {
     })
 }
 
-/// A text node of a target.
+/// A text node with a target.
 pub(crate) fn text(target: TextTarget) -> LayoutRenderingElement {
     Text::new(target).into()
 }
 
-/// The text nodes of words.
+/// The text nodes of those words that do not name a node around others.
 fn texts(alloc: Global, words: &[&str]) -> Result<Vec<LayoutRenderingElement>, AllocError> {
     let mut texts = Vec::new(alloc);
     for word in words {
@@ -295,7 +296,7 @@ fn texts(alloc: Global, words: &[&str]) -> Result<Vec<LayoutRenderingElement>, A
     Ok(texts)
 }
 
-/// The nodes within all that the words say to stand around them.
+/// The nodes inside all the nodes that the words put around them.
 fn nodes_around(
     alloc: Global,
     words: &[&str],
@@ -310,7 +311,8 @@ fn nodes_around(
     Ok(nodes)
 }
 
-/// The nodes that the words name: what stands around, from the outside in, and then the texts.
+/// The nodes that words describe: first the words for nodes around others, from the outside in, and
+/// then the texts.
 fn nodes(alloc: Global, words: &str) -> Result<Vec<LayoutRenderingElement>, AllocError> {
     let words: Vec<&str> = words.split_whitespace().collect(alloc)?;
     nodes_around(alloc, &words, texts(alloc, &words)?)
@@ -333,7 +335,7 @@ fn macros(alloc: Global, lines: &[&str]) -> Result<Vec<CslMacro>, AllocError> {
     Ok(macros)
 }
 
-/// A layout of a line: rows of words with `; ` between them.
+/// The layout of a line. The line has groups of words with `; ` between them.
 fn layout(alloc: Global, line: &str) -> Result<Layout, AllocError> {
     let mut elements = Vec::new(alloc);
     for words in line.split("; ") {
@@ -348,7 +350,8 @@ pub(crate) fn layout_of(elements: Vec<LayoutRenderingElement>) -> Layout {
     Layout::new(elements)
 }
 
-/// What a style says: its page format, a line for each macro and each layout, its locales.
+/// A description of a style: its page format, a line for each macro and each layout, and its
+/// locales.
 #[derive(Clone, Copy)]
 pub(crate) struct StyleRows<'s> {
     pub(crate) format: Option<PageRangeFormat>,

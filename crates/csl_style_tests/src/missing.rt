@@ -1,4 +1,4 @@
-//! Which macro a style calls and does not have.
+//! The first macro that a style calls but does not have.
 
 use crate::asserted::assert_text;
 use crate::made::{EMPTY, StyleRows, style};
@@ -16,7 +16,7 @@ type Row = (
 );
 
 static ROWS: [Row; 23] = [
-    // None is missing.
+    // No macro is missing.
     (&[], "", None, None),
     (&[], "'a @title; group", Some("'b"), None),
     (
@@ -25,14 +25,14 @@ static ROWS: [Row; 23] = [
         Some("substitute a"),
         None,
     ),
-    // A name is called in a layout, in a macro that one calls, and in one that none calls.
+    // The call is in a layout, in a macro that a layout calls, or in a macro that no layout calls.
     (&["a"], "a; b", None, Some("b")),
     (&["a"], "a", Some("a; b"), Some("b")),
     (&["a b"], "a", None, Some("b")),
     (&["a", "c b"], "a", None, Some("b")),
-    // So it is in a macro that an earlier one of its name hides.
+    // The call is in a macro that an earlier macro of the same name hides.
     (&["a", "a b"], "a", None, Some("b")),
-    // It stands in what holds nodes, at each place.
+    // The call is inside a node that holds nodes, at each place.
     (&[], "group 'a b", None, Some("b")),
     (&[], "substitute b", None, Some("b")),
     (&[], "if b", None, Some("b")),
@@ -40,12 +40,12 @@ static ROWS: [Row; 23] = [
     (&[], "else b", None, Some("b")),
     (&["a"], "a; group if substitute else b", None, Some("b")),
     (&["a substitute else-if b"], "a", None, Some("b")),
-    // What is written first is answered: in the citation, the bibliography, then the macros.
+    // The first call counts: in the citation, then in the bibliography, then in the macros.
     (&["a b"], "a c; d", Some("e"), Some("c")),
     (&["a b"], "a", Some("a; e c"), Some("e")),
     (&["a", "d c", "e b"], "a", Some("d"), Some("c")),
     (&["a"], "group a; substitute c; b", None, Some("c")),
-    // A name is found by all of its letters, with their case.
+    // A name has to match in all letters and their case.
     (&["a"], "A", None, Some("A")),
     (&["author"], "authr", None, Some("authr")),
     (&["author"], "author-short", None, Some("author-short")),

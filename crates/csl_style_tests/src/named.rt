@@ -1,4 +1,4 @@
-//! What layouts name.
+//! The variables and kinds that layouts name.
 
 use crate::asserted::assert_text;
 use crate::made::{EMPTY, StyleRows, branch, group, layout_of, names, names_or, one, put, style};
@@ -11,7 +11,7 @@ use std::alloc::{AllocError, Global};
 use std::process::Abort;
 use std::test::Fail;
 
-/// The content of the six sets, in words.
+/// The six sets as text.
 fn said(alloc: Global, named: &Named) -> Result<String, Fail> {
     Ok(format!(in alloc;
         "numbers {:?} pages {:?} standards {:?} names {:?} dates {:?} kinds {:?}",
@@ -19,7 +19,7 @@ fn said(alloc: Global, named: &Named) -> Result<String, Fail> {
     )?)
 }
 
-/// What a layout of a style names.
+/// The variables and kinds that a layout of a style names, as text.
 fn named_in(alloc: Global, style: &Style, layout: &Layout) -> Result<String, Fail> {
     let named = named_by(alloc, style, layout)?;
     let said = said(alloc, &named);
@@ -39,7 +39,7 @@ fn assert_said(
     Ok(())
 }
 
-/// Two macros, of which the first calls the other twice, and one that the style lacks.
+/// Two macros. The first calls the second twice, and a macro that the style does not have.
 const MACROS: &[&str] = &[
     "outer inner inner lacking",
     "inner substitute @title @year-suffix",
@@ -52,7 +52,7 @@ const TITLE: &str = "numbers {} pages {} standards {Title} names {} dates {} kin
 const AUTHOR_AND_TITLE: &str =
     "numbers {} pages {} standards {Title} names {Author} dates {} kinds {}";
 
-/// A line of the layout, and what it names.
+/// A line of the layout, and the variables that it names.
 static ROWS: [(&str, &str); 12] = [
     ("'title", NOTHING),
     ("@title", TITLE),
@@ -147,7 +147,7 @@ fn author_or_editor(alloc: Global) -> Result<LayoutRenderingElement, AllocError>
     names_or(alloc, one(alloc, editor)?)
 }
 
-/// The author, and the year of issue.
+/// A layout of the author and the date of issue.
 pub(crate) fn author_date(alloc: Global) -> Result<Layout, AllocError> {
     let author = names(alloc, NameVariable::Author, Vec::new(alloc))?;
     let mut parts = one(alloc, author)?;
@@ -169,7 +169,7 @@ static OF_PAGES: [Leaf; 2] = [
 
 static OF_DOI: [Leaf; 1] = [Leaf::Text(Variable::Standard(StandardVariable::DOI))];
 
-/// Appends title, container, volume, pages, date of issue.
+/// Appends the title, container, volume, pages and date of issue.
 fn push_parts(alloc: Global, parts: &mut Vec<LayoutRenderingElement>) -> Result<(), AllocError> {
     push_leaves(alloc, parts, &TITLES)?;
     push_group(alloc, parts, &OF_VOLUME)?;
@@ -177,21 +177,21 @@ fn push_parts(alloc: Global, parts: &mut Vec<LayoutRenderingElement>) -> Result<
     push_leaves(alloc, parts, &[Leaf::Issued])
 }
 
-/// Authors or else editors, title, container, volume, pages, date of issue.
+/// Authors or else editors, and the title, container, volume, pages and date of issue.
 fn parts_of_reference(alloc: Global) -> Result<Vec<LayoutRenderingElement>, AllocError> {
     let mut parts = one(alloc, author_or_editor(alloc)?)?;
     push_parts(alloc, &mut parts)?;
     Ok(parts)
 }
 
-/// The parts of a reference, and the DOI.
+/// A layout of the parts of a reference and the DOI.
 pub(crate) fn reference(alloc: Global) -> Result<Layout, AllocError> {
     let mut elements = one(alloc, group(parts_of_reference(alloc)?))?;
     push_group(alloc, &mut elements, &OF_DOI)?;
     Ok(layout_of(elements))
 }
 
-/// Where the entry is a book with a numeric edition.
+/// A branch for books with a numeric edition.
 fn numeric_book(alloc: Global) -> Result<ChooseBranch, AllocError> {
     let numbers = vec![in alloc; Variable::Number(NumberVariable::Edition)]?;
     let kinds = vec![in alloc; Kind::Book]?;
@@ -201,7 +201,7 @@ fn numeric_book(alloc: Global) -> Result<ChooseBranch, AllocError> {
     Ok(if_)
 }
 
-/// Where the date of issue is uncertain, or there are pages or a locator.
+/// A branch for an uncertain date of issue, or for pages or a locator.
 fn uncertain_or_placed(alloc: Global) -> Result<ChooseBranch, AllocError> {
     let dates = vec![in alloc; DateVariable::Issued]?;
     let variables = vec![in alloc;
@@ -220,7 +220,7 @@ fn choice(alloc: Global, if_: ChooseBranch) -> Result<Layout, AllocError> {
     Ok(layout_of(one(alloc, choose.into())?))
 }
 
-/// Numbers that the citation answers, one of the entry, and its pages as a number.
+/// Three numbers that the citation answers, one that the entry answers, and its pages as a number.
 static NUMBERS: [Leaf; 5] = [
     Leaf::Number(NumberOrPageVariable::Number(NumberVariable::CitationNumber)),
     Leaf::Number(NumberOrPageVariable::Number(NumberVariable::FirstReferenceNoteNumber)),

@@ -31,7 +31,7 @@ fn options_that_are_not_set_have_their_defaults(rt: HostRuntime) {
     assert_text(&rt, Some(options.sort_separator), Some(", "));
 }
 
-/// Options that a node inherits: two delimiters and a limit.
+/// The options that a node inherits: two delimiters and a limit.
 fn around(alloc: Global) -> Result<InheritableNameOptions, AllocError> {
     let delimiter = copy_text(alloc, Some("; "))?;
     let names_delimiter = copy_text(alloc, Some(" | "))?;
@@ -50,7 +50,7 @@ fn own(alloc: Global) -> InheritableNameOptions {
     own
 }
 
-/// What counts where a node's own options stand over those around it.
+/// Asserts the options of a node: its own options replace those that it inherits.
 fn assert_own_options_count(
     rt: &impl Abort,
     own: InheritableNameOptions,
@@ -74,7 +74,7 @@ fn own_options_stand_over_inherited_ones(rt: HostRuntime) -> Result<(), Fail> {
     Ok(())
 }
 
-/// The options of a style with these limits.
+/// Name options with these limits.
 fn limits(min: u32, first: u32, use_last: bool) -> NameOptions<'static> {
     let options = InheritedNameOptions {
         et_al_min: Some(min),
@@ -85,8 +85,8 @@ fn limits(min: u32, first: u32, use_last: bool) -> NameOptions<'static> {
     options.name_options()
 }
 
-/// The limits and whether the last name is kept, the name's index and the count of names, whether
-/// the cite is a later one, and whether the name is left out.
+/// `et-al-min`, `et-al-use-first` and `et-al-use-last`, the index of a name, the number of names,
+/// whether the cite is a later one, and whether the name is left out.
 type Row = (u32, u32, bool, usize, usize, bool, bool);
 
 static NAMES: [Row; 10] = [
@@ -96,7 +96,7 @@ static NAMES: [Row; 10] = [
     (3, 1, false, 1, 2, false, false),
     (3, 1, false, usize::MAX, usize::MAX, true, true),
     (0, 0, false, 0, 0, false, true),
-    // The last name is kept where another is left out.
+    // The last name is kept only if another name is left out.
     (3, 1, true, 1, 3, false, true),
     (3, 1, true, 2, 3, false, false),
     (3, 2, true, 2, 3, false, true),
@@ -108,8 +108,8 @@ fn assert_suppressed(rt: &impl Abort, &(min, first, use_last, idx, len, subseque
     assert_same(rt, &answer, &wanted);
 }
 
-/// The least count of names in later cites, the count, whether the cite is a later one, and whether
-/// the second name is left out.
+/// `et-al-subsequent-min`, the number of names, whether the cite is a later one, and whether the
+/// second name is left out.
 static SECOND_NAMES: [(Option<u32>, usize, bool, bool); 4] = [
     (None, 3, false, false),
     (None, 3, true, true),

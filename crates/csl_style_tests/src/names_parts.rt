@@ -1,4 +1,4 @@
-//! The parts of names: those of a node, and of one that stands in for another.
+//! The parts of names: those of a node, and those of a node in the place of another.
 
 use crate::asserted::{assert_same, assert_text};
 use crate::made::{copy_text, put};
@@ -11,7 +11,7 @@ use std::alloc::{AllocError, Global};
 use std::process::Abort;
 use std::test::Fail;
 
-/// A child of names, told from others of its sort by one of its options.
+/// A child of names, distinguished from others of its sort by one of its options.
 enum Child {
     Name(NameForm),
     EtAl(OtherTerm),
@@ -19,8 +19,8 @@ enum Child {
     Substitute,
 }
 
-/// What is found of a names node: the form of its name, its et al. term, its label with its side,
-/// whether there is a substitute, and whether there are no children.
+/// The parts of a names node: the form of its name, its et al. term, its label with its side,
+/// whether it has a substitute, and whether it has no children.
 type Found = (
     Option<NameForm>,
     Option<OtherTerm>,
@@ -29,7 +29,7 @@ type Found = (
     bool,
 );
 
-/// What a names node sets beside its children.
+/// The settings of a names node besides its children.
 struct Own {
     variable: NameVariable,
     form: Option<NameForm>,
@@ -116,7 +116,7 @@ fn names(alloc: Global, own: &Own, rows: &[Child]) -> Result<Names, AllocError> 
     })
 }
 
-/// The form of the name that counts.
+/// The form of the name, if there is a name that sets one.
 fn form_of_name(parts: &NamesParts<'_>) -> Option<NameForm> {
     match parts.name() {
         Some(name) => name.options.form,
@@ -124,7 +124,7 @@ fn form_of_name(parts: &NamesParts<'_>) -> Option<NameForm> {
     }
 }
 
-/// The form of the label that counts, and whether it stands behind the names.
+/// The form of the label, and whether it comes after the names, if there is a label.
 fn placed_label(parts: &NamesParts<'_>) -> Option<(TermForm, bool)> {
     match parts.label() {
         Some(placed) => Some((placed.label.form, placed.is_after)),
@@ -161,7 +161,7 @@ const VERB: Child = Child::Label(TermForm::Verb);
 
 const LONG: Option<NameForm> = Some(NameForm::Long);
 
-/// Children of names, and what is found of them.
+/// Children of names, and the parts of the node.
 static CHILDREN: [(&[Child], Found); 6] = [
     (&[], (None, None, None, false, true)),
     (
@@ -215,7 +215,7 @@ fn of_each_sort_the_first_child_counts(rt: HostRuntime) -> Result<(), Fail> {
     Ok(())
 }
 
-/// What parts of editors say of themselves: forms, texts, and how they are shown.
+/// The settings in the parts of editors: forms, texts, formatting and display.
 struct Told {
     form: Option<NameForm>,
     form_of_name: Option<NameForm>,
@@ -237,7 +237,7 @@ fn assert_told(rt: &impl Abort, parts: &NamesParts<'_>, wanted: &Told) {
     assert_same(rt, &parts.display, &wanted.display);
 }
 
-/// What editors say that stand in for others.
+/// Asserts the parts of editors in the place of other names.
 fn assert_in_place(
     rt: &impl Abort,
     alloc: Global,
@@ -275,7 +275,8 @@ const EDITORS: Own = Own {
     display: Some(Display::Indent),
 };
 
-/// What editors set, and what they say that stand in for authors with the name of a count.
+/// The settings of editors, and their parts in the place of authors with a name of the form
+/// `count`.
 static SHORTHANDS: [(Own, Told); 2] = [
     (
         SILENT_EDITORS,
@@ -356,7 +357,7 @@ const GIVEN: Part = (NamePartName::Given, FontStyle::Normal);
 
 const LATER: Part = (NamePartName::Given, FontStyle::Italic);
 
-/// The parts of a name, one that is asked for, and its slant.
+/// The parts of a name, the queried part, and its slant.
 type PartRow = (&'static [Part], NamePartName, Option<FontStyle>);
 
 static PARTS: [PartRow; 4] = [

@@ -12,7 +12,7 @@ use csl_style::{
 };
 use lit_model::NumberForm;
 
-/// A number as a node. Its data names the same variable.
+/// A number node. Its view has the same variable and form.
 fn number_node(
     variable: NumberOrPageVariable,
     form: NumberForm,
@@ -34,7 +34,7 @@ fn number_node(
     })
 }
 
-/// The variable of a number that was made a node.
+/// The variable in a number node of this variable.
 fn variable_in_node(variable: NumberOrPageVariable) -> Option<NumberOrPageVariable> {
     let formatting = Formatting::default();
     let node = number_node(

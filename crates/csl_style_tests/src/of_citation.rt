@@ -1,4 +1,4 @@
-//! The variables that the citation answers, and one formatting over two others.
+//! The variables that the citation answers, and two formattings applied over a third.
 
 use crate::asserted::assert_same;
 use csl_style::{
@@ -35,7 +35,7 @@ fn the_citation_answers_four_variables(rt: HostRuntime) {
     }
 }
 
-/// A formatting that sets these alone.
+/// A formatting that sets only these attributes.
 fn formatting(font_style: Option<FontStyle>, font_weight: Option<FontWeight>) -> Formatting {
     Formatting {
         font_style,

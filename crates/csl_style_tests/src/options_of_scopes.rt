@@ -1,4 +1,4 @@
-//! What a style sets for a scope, and by its first locale.
+//! The name options of a scope, and the options of the first locale.
 
 use crate::asserted::{assert_same, assert_text};
 use crate::made::{EMPTY, LocaleRows, SILENT, StyleRows, copy_text, layout_of, style};
@@ -33,7 +33,7 @@ const FORM_ALONE: Level = Level {
     delimiter: None,
 };
 
-/// What is set for all of a style, for its citation and for its bibliography.
+/// The levels of a style: all of it, its citation, and its bibliography.
 type Levels = (Level, Level, Level);
 
 /// Sets the options of one level.
@@ -62,7 +62,7 @@ fn settings(alloc: Global, levels: &Levels) -> Result<StyleSettings, AllocError>
     set_all(alloc, &mut settings, levels).and(Ok(settings))
 }
 
-/// A style in which these are set.
+/// A style with these levels.
 fn style_of(alloc: Global, levels: &Levels) -> Result<Style, StyleError> {
     let settings = settings(alloc, levels)?;
     Style::new(
@@ -86,7 +86,7 @@ const OF_OWN: Inherited = (Some(NameForm::Count), Some(""));
 
 const OF_BOTH: Inherited = (Some(NameForm::Long), Some("; "));
 
-/// A scope, what is set, and what names of the scope inherit.
+/// A scope, the levels of a style, and the options that names of the scope inherit.
 type ScopeRow = (Scope, Levels, Inherited);
 
 static SCOPES: [ScopeRow; 8] = [
@@ -126,13 +126,13 @@ fn a_scope_comes_before_the_style(rt: HostRuntime) -> Result<(), Fail> {
     Ok(())
 }
 
-/// A locale that says yes on punctuation in quotes.
+/// A locale that sets `punctuation-in-quote`.
 const QUOTES: LocaleRows<'static> = LocaleRows {
     punctuation_in_quote: true,
     ..SILENT
 };
 
-/// A locale that says yes on days.
+/// A locale that sets `limit-day-ordinals-to-day-1`.
 const DAYS: LocaleRows<'static> = LocaleRows {
     limit_day_ordinals_to_day_1: true,
     ..SILENT

@@ -1,4 +1,4 @@
-//! Which layouts reach a text of the year suffix.
+//! Layouts that reach a text of the year suffix.
 
 use crate::asserted::assert_of;
 use crate::made::{EMPTY, StyleRows, style};
@@ -7,7 +7,8 @@ use std::alloc::Global;
 use std::process::Abort;
 use std::test::Fail;
 
-/// Two macros that reach the suffix, and one that does not: the second of its name does.
+/// Two macros that reach the suffix, and two macros of one name. The first of these does not reach
+/// the suffix, and the second does.
 const MACROS: &[&str] = &[
     "suffix @title @year-suffix",
     "outer @title suffix",
@@ -19,7 +20,7 @@ const TITLE: &str = "@title; @title";
 
 const SUFFIX: &str = "@title; @year-suffix";
 
-/// A scope, the lines of the layouts, and what is answered for that scope of the style.
+/// A scope, the lines of both layouts, and whether the suffix is implicit in that scope.
 type Row = (Scope, &'static str, Option<&'static str>, bool);
 
 static ROWS: [Row; 19] = [
@@ -70,7 +71,7 @@ static ROWS: [Row; 19] = [
     (Scope::Bibliography, SUFFIX, None, true),
 ];
 
-/// Whether the suffix is printed implicitly in that scope of a style of these layouts.
+/// Whether the year suffix is rendered implicitly in a scope of a style with these layouts.
 fn is_implicit<'s>(
     alloc: Global,
     scope: Scope,

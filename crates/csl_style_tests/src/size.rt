@@ -1,4 +1,4 @@
-//! How large layouts are with their macros expanded.
+//! The size of layouts with their macros expanded.
 
 use crate::asserted::assert_of;
 use crate::made::{EMPTY, StyleRows, layout_of, names, one, put, style};
@@ -10,7 +10,7 @@ use std::alloc::{AllocError, Global};
 use std::process::Abort;
 use std::test::Fail;
 
-/// The elements of `inner` have size 5 and those of `outer` 15. The first macro `word` has 1.
+/// The elements of `inner` have size 5, those of `outer` 15, and those of the first macro `word` 1.
 const MACROS: &[&str] = &[
     "outer inner inner lacking",
     "inner substitute @title @year-suffix",
@@ -18,8 +18,9 @@ const MACROS: &[&str] = &[
     "word 'word 'word",
 ];
 
-/// A line of the layout, and its size: one for the layout, one for each node of a list, and one
-/// more for each macro that the style has, group, names node, choose, branch and substitute.
+/// A line of the layout, and its size. The layout counts one, and so does each node of a list. Each
+/// group, names node, choose, branch and substitute adds one, and so does each call of a macro that
+/// the style has.
 static ROWS: [(&str, u64); 18] = [
     ("", 1),
     ("'word", 2),
@@ -42,7 +43,8 @@ static ROWS: [(&str, u64); 18] = [
     ("group told-if substitute outer; lacking; 'word", 28),
 ];
 
-/// The layout has this size within that limit and the largest, and none within the limit below.
+/// Asserts that the layout has this size within a limit of this size and within the largest limit,
+/// and that it is above the limit below its size.
 fn assert_size(rt: &impl Abort, style: &Style, layout: &Layout, size: u64, of: &str) {
     assert_of(rt, &style.expanded_size(layout, size), &Some(size), of);
     assert_of(rt, &style.expanded_size(layout, u64::MAX), &Some(size), of);
@@ -110,7 +112,7 @@ fn only_the_substitutes_of_names_count(rt: HostRuntime) -> Result<(), Fail> {
     let alloc = rt.alloc();
     assert_layout(&rt, alloc, editor(alloc)?, 4, "editor")?;
     assert_layout(&rt, alloc, author_date(alloc)?, 6, "author and date")?;
-    // The childless names node in the substitute has size 1, as elsewhere.
+    // The childless names node in the substitute counts one as a node and adds one, as elsewhere.
     assert_layout(&rt, alloc, reference(alloc)?, 22, "reference")?;
     Ok(())
 }
@@ -159,8 +161,8 @@ const DOUBLING: &[&str] = &[
     "39 @title",
 ];
 
-/// A layout that calls the macro, a limit, and the size within it: five times two to the power of
-/// the number of macros after it, minus one.
+/// A layout that calls a macro, a limit, and the size within the limit. The size is five times two
+/// to the power of the number of macros after the called one, minus one.
 static DOUBLED: [(&str, u64, Option<u64>); 6] = [
     ("39", 16_384, Some(4)),
     ("38", 16_384, Some(9)),

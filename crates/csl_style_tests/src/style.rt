@@ -1,4 +1,4 @@
-//! Styles: which are refused, and what they hand out.
+//! Styles: which are rejected, and the parts that they return.
 
 use crate::asserted::{assert_same, assert_text};
 use crate::made::{EMPTY, LocaleRows, SILENT, StyleRows, style};
@@ -11,7 +11,8 @@ use std::alloc::Global;
 use std::process::Abort;
 use std::test::Fail;
 
-/// The text of the refusal of a style, if it is refused. Running out of memory is no refusal.
+/// The error of a style as text, if the style is rejected. Running out of memory is not a
+/// rejection.
 fn refusal(
     alloc: Global,
     format: Option<PageRangeFormat>,
@@ -39,7 +40,7 @@ const TWO_RETURNS: Option<&str> = Some("the macro '2' leads back to itself");
 
 const CHICAGO: Option<&str> = Some("Chicago page formats are not supported");
 
-/// A page format, the lines of the macros, and the refusal.
+/// A page format, the lines of the macros, and the error.
 type Refusal = (
     Option<PageRangeFormat>,
     &'static [&'static str],
@@ -47,13 +48,13 @@ type Refusal = (
 );
 
 static REFUSALS: [Refusal; 11] = [
-    // A macro that calls itself is named.
+    // The error names a macro that calls itself.
     (None, &["v 'word", "u absent", "s v s"], S_RETURNS),
-    // A macro that only leads to a cycle is not named.
+    // The error does not name a macro that only leads to a cycle.
     (None, &["x a", "a b", "b a"], A_RETURNS),
     (None, &["0 1", "1 2", "2 1"], ONE_RETURNS),
     (None, &["0", "1", "2 0 2"], TWO_RETURNS),
-    // A hidden macro makes no cycle, and two ways to a macro are none.
+    // A hidden macro makes no cycle, and neither do two ways to the same macro.
     (None, &["a b", "b 'word", "b a"], None),
     (None, &["0 1 2", "1 2", "2"], None),
     // Calls are found in groups, in each branch and in a substitute.
@@ -63,7 +64,7 @@ static REFUSALS: [Refusal; 11] = [
         &["a if substitute a"],
         A_RETURNS,
     ),
-    // The formats of pages count after that.
+    // Page formats are checked after cycles.
     (Some(PageRangeFormat::Chicago15), &[], CHICAGO),
     (Some(PageRangeFormat::Chicago16), &[], CHICAGO),
     (Some(PageRangeFormat::Minimal), &[], None),
@@ -79,7 +80,7 @@ fn cycles_of_macros_and_chicago_pages_are_refused(rt: HostRuntime) -> Result<(),
     Ok(())
 }
 
-/// A style whose parts can be told from one another.
+/// A style whose parts can be distinguished.
 const PARTS: StyleRows<'static> = StyleRows {
     format: Some(PageRangeFormat::MinimalTwo),
     macros: &["a 'first", "a 'second", "b 'other", "b 'hidden"],
@@ -91,7 +92,7 @@ const PARTS: StyleRows<'static> = StyleRows {
     }],
 };
 
-/// The text of a value.
+/// The text of a value, if the target is one.
 fn value(target: &TextTarget) -> Option<&str> {
     match target {
         TextTarget::Value { val } => Some(val.as_str()),
@@ -99,7 +100,7 @@ fn value(target: &TextTarget) -> Option<&str> {
     }
 }
 
-/// The text of a value that stands alone.
+/// The text of the first element, if that is a value.
 fn only_value(elements: &[LayoutRenderingElement]) -> Option<&str> {
     match elements.first() {
         Some(LayoutRenderingElement::Text(text)) => value(&text.target),
@@ -130,7 +131,7 @@ enum Part<'s> {
     Macro(&'s str),
 }
 
-/// The text in a part of the style.
+/// The text in a part of a style.
 fn text_in_part<'s>(style: &'s Style, part: Part<'_>) -> Option<&'s str> {
     match part {
         Part::Citation => value_in_layout(Some(style.citation())),
@@ -140,13 +141,13 @@ fn text_in_part<'s>(style: &'s Style, part: Part<'_>) -> Option<&'s str> {
     }
 }
 
-/// The texts in the parts of the style of parts.
+/// A part of the style `PARTS`, and its text.
 static TEXTS: [(Part<'static>, Option<&str>); 8] = [
     (Part::Citation, Some("cite")),
     (Part::Bibliography, Some("entry")),
     (Part::Layout(Scope::Citation), Some("cite")),
     (Part::Layout(Scope::Bibliography), Some("entry")),
-    // The first macro of a name.
+    // The first macro of a name counts.
     (Part::Macro("a"), Some("first")),
     (Part::Macro("b"), Some("other")),
     (Part::Macro("c"), None),
@@ -159,7 +160,7 @@ fn assert_texts(rt: &impl Abort, style: &Style, rows: &[(Part<'static>, Option<&
     }
 }
 
-/// The style of parts hands out what it was made of.
+/// Asserts that the style `PARTS` returns the parts that it was built from.
 fn assert_parts(rt: &impl Abort, style: &Style) {
     assert_texts(rt, style, &TEXTS);
     style.acyclic();

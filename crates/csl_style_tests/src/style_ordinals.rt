@@ -7,7 +7,7 @@ use std::alloc::Global;
 use std::process::Abort;
 use std::test::Fail;
 
-/// A style whose third number has a suffix and a word.
+/// A style with a suffix and a word for 3, and with a default suffix.
 const ROWS: StyleRows<'static> = StyleRows {
     locales: &[LocaleRows {
         ordinals: &[

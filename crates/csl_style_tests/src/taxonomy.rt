@@ -11,35 +11,35 @@ use csl_style::{
 use std::cmp::Ordering;
 use std::process::Abort;
 
-/// Whether the two variables are equal: they are where they are one.
+/// Whether the variables are equal: exactly if they are the same variable.
 fn same_variable(a: &Variable, b: &Variable) -> bool
     ensures { IsTrue result ↔ (a.now ≡ b.now) }
 {
     *a == *b
 }
 
-/// `==` of kinds is equality.
+/// Whether the kinds are equal: exactly if they are the same kind.
 fn same_kind(a: &Kind, b: &Kind) -> bool
     ensures { IsTrue result ↔ (a.now ≡ b.now) }
 {
     *a == *b
 }
 
-/// How the two variables stand in order: as equals where they are one.
+/// The order of the variables: `Equal` exactly if they are the same variable.
 fn order(a: &Variable, b: &Variable) -> Ordering
     ensures { (result ≡ Equal) ↔ (a.now ≡ b.now) }
 {
     a.cmp(b)
 }
 
-/// How the two kinds stand in order: as equals where they are one.
+/// The order of the kinds: `Equal` exactly if they are the same kind.
 fn order_of_kinds(a: &Kind, b: &Kind) -> Ordering
     ensures { (result ≡ Equal) ↔ (a.now ≡ b.now) }
 {
     a.cmp(b)
 }
 
-/// A name, and the kind of that name.
+/// A name, and the kind of this name.
 static KINDS: [(&str, Option<Kind>); 51] = [
     ("article", Some(Kind::Article)),
     ("article-journal", Some(Kind::ArticleJournal)),
@@ -86,7 +86,7 @@ static KINDS: [(&str, Option<Kind>); 51] = [
     ("thesis", Some(Kind::Thesis)),
     ("treaty", Some(Kind::Treaty)),
     ("webpage", Some(Kind::Webpage)),
-    // Other names are no kinds.
+    // Other names are not kinds.
     ("comic", None),
     ("", None),
     ("Article", None),

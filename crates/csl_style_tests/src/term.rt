@@ -13,21 +13,21 @@ const MAY: OtherTerm = OtherTerm::Month(4);
 
 const ISSUE: Term = Term::Number(NumberVariable::Issue);
 
-/// Whether the two terms are equal: they are where they are one.
+/// Whether the terms are equal: exactly if they are the same term.
 fn same_term(a: &Term, b: &Term) -> bool
     ensures { IsTrue result ↔ (a.now ≡ b.now) }
 {
     *a == *b
 }
 
-/// `==` of terms that name no variable is equality.
+/// Whether the terms that name no variable are equal: exactly if they are the same term.
 fn same_other_term(a: &OtherTerm, b: &OtherTerm) -> bool
     ensures { IsTrue result ↔ (a.now ≡ b.now) }
 {
     *a == *b
 }
 
-/// Two terms that name no variable, and whether they are one.
+/// Two terms that name no variable, and whether they are the same.
 static OTHER_TERMS: [(OtherTerm, OtherTerm, bool); 4] = [
     (SPRING, SPRING, true),
     (SPRING, OtherTerm::Season(Season::Summer), false),
@@ -39,7 +39,7 @@ fn assert_same_other_term(rt: &impl Abort, (a, b, wanted): &(OtherTerm, OtherTer
     assert_same(rt, &same_other_term(a, b), wanted);
 }
 
-/// Two terms, and whether they are one.
+/// Two terms, and whether they are the same.
 static TERMS: [(Term, Term, bool); 3] = [
     (ISSUE, ISSUE, true),
     (ISSUE, Term::Locator(Locator::Issue), false),

@@ -1,4 +1,4 @@
-//! Choices and branches of which nothing is said but what they hold.
+//! Constructors of choices and branches. Every attribute that is not given has its default.
 
 ghost use Rattle.std.specs.Prelude.{◌≡◌, None, [], ◌∷◌};
 ghost use Rattle.csl_style.specs.Constructors.{no_tests};
@@ -11,7 +11,7 @@ use crate::element::{Choose, ChooseBranch, ChooseMatch, LayoutRenderingElement};
 use std::alloc::Global;
 
 impl ChooseBranch {
-    /// A branch that asks nothing. Set its tests by struct update.
+    /// A branch without tests. Set its tests by struct update.
     #[tactic(auto, using(crate::proofs::Rolled::branch_made))]
     pub fn new(children: Vec<LayoutRenderingElement>) -> ChooseBranch
         ensures view { view_branch result
@@ -41,7 +41,7 @@ impl ChooseBranch {
 }
 
 impl Choose {
-    /// A choice of one branch: where it is not chosen, nothing is printed.
+    /// A choice of one branch. If the branch is not chosen, nothing is printed.
     #[tactic(auto, using(crate::proofs::Rolled::choose_view))]
     pub fn new(alloc: Global, branch: ChooseBranch) -> Choose
         ensures view { view_choose result ≡ choose (branches_of (view_branch branch ∷ []) None) }

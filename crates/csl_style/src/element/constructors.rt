@@ -1,4 +1,5 @@
-//! Groups, names, layouts and macros of which nothing is said but what they hold.
+//! Constructors of groups, names, layouts and macros. Every attribute that is not given has its
+//! default.
 
 ghost use Rattle.std.specs.Prelude.{◌≡◌, IfOk, None, Some, []};
 ghost use Rattle.csl_style.specs.Constructors.{no_affixes, plain_layout, no_dressing};
@@ -18,7 +19,7 @@ use csl_common::Memory;
 use std::alloc::Global;
 
 impl Group {
-    /// A group of which nothing but its children is said.
+    /// A group that sets only its children.
     #[tactic(auto, using(crate::proofs::Rolled::group_view))]
     pub fn new(children: Vec<LayoutRenderingElement>) -> Group
         ensures view { view_group result ≡ group None no_dressing (view_nodes children.items) }
@@ -37,10 +38,10 @@ impl Group {
         }
     }
 
-    /// A group with a text between its children.
+    /// A group that sets only its delimiter and its children.
     ///
     /// # Errors
-    /// [`Memory`]: there was no memory left.
+    /// [`Memory`]: out of memory.
     #[tactic(auto, using(crate::proofs::Rolled::group_view))]
     pub fn delimited(
         alloc: Global,
@@ -64,7 +65,7 @@ impl Group {
 }
 
 impl Layout {
-    /// A layout of which nothing but its elements is said.
+    /// A layout that sets only its elements.
     pub fn new(elements: Vec<LayoutRenderingElement>) -> Layout
         ensures { result ≡ plain_layout elements }
     {
@@ -77,10 +78,10 @@ impl Layout {
 }
 
 impl CslMacro {
-    /// A macro of this name.
+    /// A macro with this name and these children.
     ///
     /// # Errors
-    /// [`Memory`]: there was no memory left.
+    /// [`Memory`]: out of memory.
     pub fn new(
         alloc: Global,
         name: &str,
@@ -94,7 +95,7 @@ impl CslMacro {
 }
 
 impl Names {
-    /// The names of these variables, of which nothing else is said.
+    /// A names node that sets only its variables.
     #[tactic(auto, using(crate::proofs::Rolled::names_view))]
     pub fn new(alloc: Global, variables: Vec<NameVariable>) -> Names
         ensures view { view_names result ≡ names (record {

@@ -1,4 +1,5 @@
-//! Each node as a node that a layout may hold, and each child as one of names.
+//! Conversions of each node to a [`LayoutRenderingElement`], and of each child of names to a
+//! [`NamesChild`].
 
 ghost use Rattle.std.specs.Prelude.{◌≡◌};
 ghost use Rattle.csl_style.specs.declared.element.LayoutRenderingElement.TheVariants as elements;

@@ -1,4 +1,4 @@
-//! What a style's locales say, taken in order (CSL 1.0.2, Locale).
+//! Lookups of terms and dates in the locales of a style, in order (CSL 1.0.2, Locale).
 
 ghost use Rattle.std.specs.Prelude.{◌≡◌, map, find, option_map, option_copied};
 ghost use Rattle.csl_common.specs.Lists.{first_some};
@@ -21,7 +21,7 @@ static VERB_SHORT: [TermForm; 3] = [TermForm::VerbShort, TermForm::Verb, TermFor
 
 static SYMBOL: [TermForm; 3] = [TermForm::Symbol, TermForm::Short, TermForm::Long];
 
-/// The forms in which a term is looked for: a form that a locale lacks gives way to the next.
+/// The forms in which a term is looked up, in order. If no locale has a form, the next is tried.
 fn forms_for(form: TermForm) -> &'static [TermForm]
     ensures { result.now ≡ forms_for form }
 {
@@ -48,7 +48,7 @@ impl Locale {
         None
     }
 
-    /// The first gender that a term has in the long form.
+    /// The gender of the first long entry of a term that has one.
     fn gender(&self, term: Term) -> Option<GrammarGender>
         ensures { result ≡ first_some (long_gender term) (terms_of self.now) }
     {
@@ -86,7 +86,7 @@ fn in_form(locales: &[Locale], term: Term, form: TermForm) -> Option<&TermEntry>
     None
 }
 
-/// The first entry of a term in a form, else in one that stands in for it.
+/// The first entry of a term in a form, else in the first of its fallback forms that a locale has.
 fn found_term(locales: &[Locale], term: Term, form: TermForm) -> Option<&TermEntry>
     ensures { option_map (λ entry. term_view entry.now) result
         ≡ found_term (map terms_of locales.now) term form }
@@ -99,9 +99,9 @@ fn found_term(locales: &[Locale], term: Term, form: TermForm) -> Option<&TermEnt
     None
 }
 
-/// The text of a term (CSL 1.0.2, Terms). It is looked for in each locale in the form that is
-/// asked for, then in the form that stands in for it, and so on to the long form. Where several
-/// are meant, the text for several counts, if the entry has one.
+/// The text of a term (CSL 1.0.2, Terms). The lookup searches all locales for the requested form,
+/// then for its first fallback form, and so on to the long form. If `plural` is true, it returns
+/// the plural text if the entry has one.
 pub(crate) fn term(locales: &[Locale], term: Term, form: TermForm, plural: bool) -> Option<&str>
     ensures { option_map (λ text. text.now) result
         ≡ term_text (map terms_of locales.now) term form plural }
@@ -109,8 +109,8 @@ pub(crate) fn term(locales: &[Locale], term: Term, form: TermForm, plural: bool)
     found_term(locales, term, form).map(|entry| entry.text(plural))
 }
 
-/// The gender of what a term names (CSL 1.0.2, Gender-specific Ordinals): that of the first entry
-/// in the long form that has one.
+/// The grammatical gender of a term (CSL 1.0.2, Gender-specific Ordinals): that of its first long
+/// entry that has one.
 pub(crate) fn gender(locales: &[Locale], term: Term) -> Option<GrammarGender>
     ensures { result ≡ term_gender (map terms_of locales.now) term }
 {

@@ -47,7 +47,7 @@ impl OrdinalTerm {
     }
 }
 
-/// The first ordinal of a group that is for a gender, or, with no gender, the first neutral one.
+/// The first ordinal of a group for a gender. Without a gender, the first neutral one.
 fn first_for_gender(
     ordinals: &[OrdinalTerm],
     group: OrdinalGroup,
@@ -64,7 +64,7 @@ fn first_for_gender(
     None
 }
 
-/// The first ordinal of a group: one for the gender, else a neutral one.
+/// The first ordinal of a group for the gender, else the first neutral one.
 fn first_of(
     ordinals: &[OrdinalTerm],
     group: OrdinalGroup,
@@ -119,8 +119,8 @@ fn ordinal_for(
     first_of(ordinals, OrdinalGroup::Slot(OrdinalSlot::Default), gender)
 }
 
-/// The suffix that makes an ordinal of a number, whatever its sign: that for its last two digits,
-/// else that for its last one, else the default. One for the gender comes before a neutral one.
+/// The ordinal suffix of a number, whatever its sign: by a slot from 10 to 99, else by one from 0
+/// to 9, else the default. In each group, one for the gender comes before a neutral one.
 pub(crate) fn ordinal(
     locales: &[Locale],
     number: i32,
@@ -151,7 +151,7 @@ pub(crate) fn long_ordinal(
     found.map(|ordinal| ordinal.text.as_str())
 }
 
-/// The ordinals of a style's locales, as numbers ask for them.
+/// The ordinals of a style's locales, for lookups through [`Ordinals`].
 #[derive(Clone, Copy)]
 pub struct LocaleOrdinals<'s> {
     pub locales: &'s [Locale],

@@ -1,12 +1,12 @@
-//! The options of names, which a node may set and else inherits (CSL 1.0.2, Inheritable Name
-//! Options).
+//! The options of names. A node inherits each option that it does not set (CSL 1.0.2, Inheritable
+//! Name Options).
 
 ghost use Rattle.std.specs.Prelude.{◌≡◌};
 ghost use Rattle.csl_style.specs.NameOptions.{partial_options, inherited_options, apply_options, complete_options, with_defaults, names_delimiter_of, limit_of, is_suppressed};
 
 use crate::names::{DelimiterBehavior, NameAnd, NameAsSortOrder, NameForm};
 
-/// The options that a node or a style sets. What is not set is inherited.
+/// The options that a node or a style sets. The others are inherited.
 #[derive(Default, Drop)]
 pub struct InheritableNameOptions {
     pub and: Option<NameAnd>,
@@ -23,12 +23,12 @@ pub struct InheritableNameOptions {
     pub initialize_with: Option<String>,
     pub name_as_sort_order: Option<NameAsSortOrder>,
     pub sort_separator: Option<String>,
-    /// What stands between the lists of two variables.
+    /// The text between the lists of two variables.
     pub names_delimiter: Option<String>,
 }
 
 impl InheritableNameOptions {
-    /// The options that are set here.
+    /// Returns the options that are set here, borrowed.
     pub fn as_inherited(&self) -> InheritedNameOptions<'_>
         ensures { inherited_options result ≡ partial_options self.now }
     {
@@ -51,7 +51,7 @@ impl InheritableNameOptions {
         }
     }
 
-    /// The options over others: each one that is set here, else that of `base`.
+    /// Returns the options over others: each one that is set here, else that of `base`.
     pub fn apply<'s>(&'s self, base: InheritedNameOptions<'s>) -> InheritedNameOptions<'s>
         ensures { inherited_options result
             ≡ apply_options (partial_options self.now) (inherited_options base.entry) }
@@ -60,7 +60,7 @@ impl InheritableNameOptions {
     }
 }
 
-/// The options that are set somewhere around a node. The texts are borrowed from the style.
+/// The options that a node inherits, each set or not. The texts are borrowed from the style.
 #[derive(Clone, Copy, Default)]
 pub struct InheritedNameOptions<'s> {
     pub and: Option<NameAnd>,
@@ -81,7 +81,7 @@ pub struct InheritedNameOptions<'s> {
 }
 
 impl<'s> InheritedNameOptions<'s> {
-    /// The options over others: each one that is set here, else that of `base`.
+    /// Returns the options over others: each one that is set here, else that of `base`.
     pub fn or(self, base: InheritedNameOptions<'s>) -> InheritedNameOptions<'s>
         ensures { inherited_options result
             ≡ apply_options (inherited_options self.entry) (inherited_options base.entry) }
@@ -111,7 +111,7 @@ impl<'s> InheritedNameOptions<'s> {
         }
     }
 
-    /// The options by which names are written: each one that is set, else its default.
+    /// Returns the options by which names are written: each one that is set, else its default.
     pub fn name_options(self) -> NameOptions<'s>
         ensures { complete_options result ≡ with_defaults (inherited_options self.entry) }
     {
@@ -137,7 +137,7 @@ impl<'s> InheritedNameOptions<'s> {
         }
     }
 
-    /// What stands between the lists of two variables: by default nothing.
+    /// The text between the lists of two variables. It is empty by default.
     pub fn names_delimiter(self) -> &'s str
         ensures { result.now ≡ names_delimiter_of (inherited_options self.entry) }
     {
@@ -145,11 +145,11 @@ impl<'s> InheritedNameOptions<'s> {
     }
 }
 
-/// The options by which names are written: each one that is set somewhere, else its default.
+/// The options by which names are written. An option that is set nowhere has its default.
 #[derive(Clone, Copy)]
 pub struct NameOptions<'s> {
     pub and: Option<NameAnd>,
-    /// What stands between two names: by default `, `.
+    /// The text between two names: by default `, `.
     pub delimiter: &'s str,
     pub delimiter_precedes_et_al: DelimiterBehavior,
     pub delimiter_precedes_last: DelimiterBehavior,
@@ -162,14 +162,15 @@ pub struct NameOptions<'s> {
     pub initialize: bool,
     pub initialize_with: Option<&'s str>,
     pub name_as_sort_order: Option<NameAsSortOrder>,
-    /// What stands behind a family name that comes first: by default `, `.
+    /// The text after a family name that comes first: by default `, `.
     pub sort_separator: &'s str,
 }
 
 impl NameOptions<'_> {
-    /// Whether the name at the place `idx` in a list of `len` names is left out (CSL 1.0.2, Name:
-    /// et-al-min, et-al-use-first and et-al-use-last). For a later cite each of the two limits
-    /// gives way to its subsequent one, where that is set.
+    /// Whether the name at index `idx` in a list of `len` names is left out (CSL 1.0.2, Name:
+    /// et-al-min, et-al-use-first and et-al-use-last). If `subsequent` is true,
+    /// et-al-subsequent-min and et-al-subsequent-use-first replace the first two, each if it is
+    /// set.
     pub fn is_suppressed(self, idx: usize, len: usize, subsequent: bool) -> bool
         ensures { result ≡ is_suppressed (complete_options self.entry) idx len subsequent }
     {
@@ -191,7 +192,7 @@ impl NameOptions<'_> {
     }
 }
 
-/// The limit that counts for a cite.
+/// The limit for a cite: `later` for a subsequent one if it is set, else `own`.
 fn limit(own: Option<u32>, later: Option<u32>, subsequent: bool) -> Option<u32>
     ensures { result ≡ limit_of own later subsequent }
 {

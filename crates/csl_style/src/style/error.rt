@@ -1,4 +1,4 @@
-//! Why a style is refused.
+//! The reasons to refuse a style.
 
 ghost use Rattle.std.specs.Prelude.{◌≡◌, Some};
 ghost use Rattle.csl_style.specs.Style.{refusal_text};
@@ -8,12 +8,12 @@ use std::alloc::AllocError;
 use std::error::Error;
 use std::fmt;
 
-/// Why a style is refused.
+/// The reasons to refuse a style.
 #[derive(Debug, Drop)]
 pub enum StyleError {
     /// Out of memory.
     Memory,
-    /// The macro of this name leads back to itself. It is the first of the list that does.
+    /// The macro of this name leads back to itself. It is the first such macro in the style's list.
     CyclicMacro(String),
     /// No macro leads back to itself, but the page format is one of the two Chicago formats, which
     /// are not supported.

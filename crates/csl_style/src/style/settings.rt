@@ -1,4 +1,4 @@
-//! What a style sets for all of its nodes (CSL 1.0.2, Global Options, Inheritable Name Options).
+//! The settings for all nodes of a style (CSL 1.0.2, Global Options, Inheritable Name Options).
 
 ghost use Rattle.csl_style.specs.Style.{AreDefaults};
 
@@ -17,11 +17,11 @@ pub enum PageRangeFormat {
     Chicago16,
 }
 
-/// When a particle that stays with the family name goes behind the given name (CSL 1.0.2, Global
+/// When a non-dropping particle is demoted, that is, comes after the given name (CSL 1.0.2, Global
 /// Options: demote-non-dropping-particle).
 #[derive(Clone, Copy, Debug, Default, PartialEq, Eq, PartialOrd, Ord, Hash)]
 pub enum DemoteNonDroppingParticle {
-    /// Where a name begins with the family name, and in sorting.
+    /// In inverted names, which begin with the family name, and in sorting.
     #[default]
     DisplayAndSort,
     /// Only in sorting.
@@ -29,19 +29,19 @@ pub enum DemoteNonDroppingParticle {
     Never,
 }
 
-/// The layout of a style that is meant.
+/// The citation or the bibliography of a style.
 #[derive(Clone, Copy, Debug, PartialEq, Eq, PartialOrd, Ord, Hash)]
 pub enum Scope {
     Citation,
     Bibliography,
 }
 
-/// What a style sets for all of its nodes.
+/// The settings for all nodes of a style.
 #[derive(Drop)]
 pub struct StyleSettings {
     pub page_range_format: Option<PageRangeFormat>,
     pub demote_non_dropping_particle: DemoteNonDroppingParticle,
-    /// Whether the initials of a given name with a hyphen keep it: by default they do.
+    /// Whether initials keep the hyphen of a given name. They do by default.
     pub initialize_with_hyphen: bool,
     /// The options of names in the whole style.
     pub names: InheritableNameOptions,

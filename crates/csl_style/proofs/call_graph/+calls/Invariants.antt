@@ -4,7 +4,7 @@ use Rattle.csl_style.specs.Calls.{calls_in, calls_in_all, calls_in_substitutes, 
 use Rattle.csl_style.specs.declared.element.Choose.{out-Choose}
 use Rattle.csl_style.proofs.call_graph.+calls.Given as goal
 
--- those so far, with what the rest calls, are all
+-- the calls so far and those of the remaining elements are all the calls
 abbrev pub invariant-add_all_calls-loop-element : goal.invariant-add_all_calls-loop-element
 invariant-add_all_calls-loop-element l =
     let ds = definitions l.macros in
@@ -15,7 +15,7 @@ invariant-add_calls-loop-child l =
     let ds = definitions l.macros in
     l.places.items ++ calls_in_substitutes ds (substitutes (map view_child (drop l.child-index l.child-items))) ≡ l.fn.places.items ++ calls_in_substitutes ds (substitutes (map view_child l.child-items))
 
--- the branches from this one on, and what is printed where none is chosen
+-- the calls so far, those of the remaining branches and those of `cs:else` are all the calls
 abbrev pub invariant-add_choose_calls-loop-branch : goal.invariant-add_choose_calls-loop-branch
 invariant-add_choose_calls-loop-branch l =
     let ds = definitions l.macros in

@@ -9,7 +9,7 @@ invariant-loop-next l = IsSearch l.graph l.from l.seen.items l.found.items l.nex
 abbrev pub decreases-loop-next : goal.decreases-loop-next
 decreases-loop-next l = suc (length l.graph) - l.next
 
--- those of the row so far are marked
+-- the search goes on, with the places of the row before this one marked
 abbrev pub invariant-loop-to : goal.invariant-loop-to
 invariant-loop-to l = record {
   search : IsSearch l.graph l.from l.seen.items l.found.items l.next;

@@ -4,7 +4,7 @@ use Rattle.csl_style.specs.Missing.{missing_in, missing_in_all, missing_in_branc
 use Rattle.csl_style.specs.declared.element.Choose.{out-Choose}
 use Rattle.csl_style.proofs.missing.+missing.Given as goal
 
--- the first in the rest is the first in all
+-- the first missing name in the remaining elements is the first in all
 abbrev pub invariant-missing_in_all-loop-element : goal.invariant-missing_in_all-loop-element
 invariant-missing_in_all-loop-element l =
     let ds = definitions l.style.macros in
@@ -15,7 +15,7 @@ invariant-missing_in-loop-child l =
     let ds = definitions l.style.macros in
     missing_in_substitutes ds (substitutes (map view_child (drop l.child-index l.child-items))) ≡ missing_in_substitutes ds (substitutes (map view_child l.child-items))
 
--- the branches from this one on, and what is printed where none is chosen
+-- the first missing name in the remaining branches and `cs:else` is the first in the choose
 abbrev pub invariant-missing_in_choose-loop-branch : goal.invariant-missing_in_choose-loop-branch
 invariant-missing_in_choose-loop-branch l =
     let ds = definitions l.style.macros in

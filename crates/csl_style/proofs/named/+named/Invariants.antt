@@ -27,7 +27,7 @@ decreases-visit_branch l = 2 * sizes (expand_nodes (macro_env l.walk.now.style) 
 abbrev pub decreases-visit_choose : goal.decreases-visit_choose
 decreases-visit_choose l = 2 * size (expand (macro_env l.walk.now.style) (view_choose l.choose.now))
 
--- what is named so far, with what the rest names, is what all name
+-- the items named so far and those of the remaining elements are all the items
 abbrev pub invariant-visit_all-loop-element : goal.invariant-visit_all-loop-element
 invariant-visit_all-loop-element l =
     let rest = expand_nodes (macro_env l.fn.walk.style) (view_nodes (drop l.element-index l.elements)) in

@@ -21,7 +21,7 @@ decreases-room_after_child l = 2 * child_size (macro_env l.style.now) (view_chil
 abbrev pub decreases-room_after_choose : goal.decreases-room_after_choose
 decreases-room_after_choose l = 2 * size (expand (macro_env l.style.now) (view_choose l.choose.now))
 
--- what those so far took, and the rest has not
+-- the room left is the given room without the sizes of the elements before this one
 abbrev pub invariant-room_after_all-loop-element : goal.invariant-room_after_all-loop-element
 invariant-room_after_all-loop-element l =
     let rest = sizes (expand_nodes (macro_env l.style) (view_nodes (drop l.element-index l.elements))) in

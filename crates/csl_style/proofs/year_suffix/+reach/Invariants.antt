@@ -22,7 +22,7 @@ decreases-child_has_year_suffix l = 2 * child_size (macro_env l.style.now) (view
 abbrev pub decreases-choose_has_year_suffix : goal.decreases-choose_has_year_suffix
 decreases-choose_has_year_suffix l = 2 * size (expand (macro_env l.style.now) (view_choose l.choose.now))
 
--- one stands in the rest where it stands in all: in none that was asked before
+-- a text of the year suffix is in the remaining elements exactly if it is in all elements
 abbrev pub invariant-any_has_year_suffix-loop-element : goal.invariant-any_has_year_suffix-loop-element
 invariant-any_has_year_suffix-loop-element l =
     let rest = expand_nodes (macro_env l.style) (view_nodes (drop l.element-index l.elements)) in

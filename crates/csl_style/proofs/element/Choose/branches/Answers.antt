@@ -6,7 +6,7 @@ use Rattle.std.proofs.lemmas.Iterator.{YieldsList, YieldsList-from_slice}
 use Rattle.std.proofs.lemmas.Iterator.Consumers.{YieldsList-from_chain}
 use Rattle.csl_style.proofs.element.Choose.branches.Goals as goal
 
--- `once` of a reference gives what it refers to
+-- `once` of a reference yields the value that it refers to
 once_given : {A : Type 0} (s : Once (Bor A)) (x : Bor A) → once_item s ≡ Some x → YieldsList once_steps (λ y. y.now) s (x.now ∷ [])
 once_given {A} s x is = record { runs = ((λ j h. let e = h.0 in cc), λ y j h. ((let e : Some y ≡ Some x = h.0 ∙ is in let f : y ≡ x = cc in ap (λ (z : Bor A). z.now) f), λ z k g. let e = h.1 in let f = g.0 in cc)) }
 

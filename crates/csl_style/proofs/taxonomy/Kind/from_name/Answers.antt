@@ -1,4 +1,4 @@
--- Where no name fitted, each kind's name is another.
+-- If no arm matched, no kind has the given name.
 use Rattle.std.proofs.Common.{◌≡◌, None, Some}
 use Rattle.csl_style.specs.declared.taxonomy.Kind.TheVariants as kinds
 use Rattle.csl_style.specs.Taxonomy.{name_of}
