@@ -1,4 +1,4 @@
--- What six sets tell together of two answers.
+-- Whether two entries answer alike on six sets: one of each sort of variable, and one of kinds.
 use Rattle.std.proofs.Common.{◌≡◌, ◌↔◌, Bool, true, false, List, [], ◌∷◌, refl, sym, subst, ◌∙◌}
 use Rattle.std.specs.Prelude.{◌||◌, ◌&&◌}
 use Rattle.std.specs.BTreeMap.{is_at}
@@ -24,12 +24,12 @@ use Rattle.csl_style.specs.contracts.taxonomy.KindOrd.TheImpl.{cmp-value as cmp_
 use Rattle.csl_entry.specs.Alike.{SameNamedAnswers, Each}
 use Rattle.csl_entry.specs.Answers.{Answers}
 
--- ---- one look
+-- ---- one answer
 
 pub decides_at : {V : Type 0} (r : Bool) (x y u v : V) → Decides r (x ≡ y) → x ≡ u → y ≡ v → Decides r (u ≡ v)
 decides_at r x y u v d h k = (λ t. sym h ∙ d.0 t ∙ k, λ p. d.1 (h ∙ p ∙ sym k))
 
--- ---- one set: of each key, or of each that the set contains
+-- ---- one set: P holds for each key exactly if it holds for each item in the set
 
 is_equal : (r : Ordering) → is_eq r ≡ true → r ≡ Equal
 is_equal Less h = cc
@@ -52,7 +52,7 @@ module _ {K : Type 0} (cmp : K → K → Ordering) (ordered : (a b : K) → (cmp
   contained_each [] h = tt
   contained_each (k ∷ ks) h = (h k (or_left _ _ (own_place k)), contained_each ks (λ v e. h v (or_right _ _ e)))
 
--- ---- all six
+-- ---- all six sets
 
 module _ (n : Named) (a b : Answers) where
   abbrev EachNumber : Type 0

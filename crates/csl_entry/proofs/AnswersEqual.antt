@@ -40,7 +40,7 @@ numbers_decide x y = option_view _ (maybe_view (cow_view numeric_view)) number_o
 pub pages_decide : (x y : Option (MaybeTyped PageRanges)) → Decides (option_eq (eq_maybe pages_row pages_ghosts no_dict).it x y) (option_map (maybe_view pages_view) x ≡ option_map (maybe_view pages_view) y)
 pages_decide x y = option_view _ (maybe_view pages_view) pages_or_text x y
 
--- a date that was found, wherever it lies
+-- equal dates have the same parts, whether they are borrowed or owned
 copied_parts : (x : Option (Bor Date)) (u : Option (Cow Date)) → option_copied x ≡ option_map cow_value u → option_map (λ d. date_view d.now) x ≡ option_map (cow_view date_view) u
 copied_parts None None h = refl
 copied_parts None (Some d) h = cc

@@ -1,4 +1,4 @@
--- The order of which of two properties shows more is total.
+-- The order that decides which of two properties shows more is total.
 use Rattle.std.proofs.Common.{◌≡◌, refl, ◌∙◌, ap, true, false, IsTrue, Option, None, Some, rules}
 use Rattle.std.specs.Ordering.{ordering_reverse, is_le, is_gt}
 use Rattle.std.specs.Cmp.{IsTotalOrder, nat_cmp_total, on_total, then_total, tied_itself}
@@ -11,7 +11,7 @@ use Rattle.csl_entry.specs.contracts.forms.name_form.DisambiguatedNameFormOrd.Th
 use Rattle.csl_entry.specs.NameForm.{form_place, form_cmp}
 use Rattle.csl_entry.specs.NameProperties.{NameProperties, all_forms, shown_count, properties_cmp}
 
--- the derived order of forms
+-- the derived order of forms is `form_cmp`
 form_cmp_is : (a b : DisambiguatedNameForm) → cmp_form.it a b ≡ form_cmp a b
 form_cmp_is a b = search rules
 

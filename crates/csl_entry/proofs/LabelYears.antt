@@ -1,4 +1,4 @@
--- The two digits of a year.
+-- The digits of a year in a label.
 use Rattle.std.proofs.Common.{◌≡◌, ℕ, ℤ, pos, negsuc, zero, suc, ◌+◌, ◌-◌, ◌/◌, ◌%◌, ◌<◌, ◌≤◌, Bool, true, false, List, [], ◌∷◌, ◌++◌, length, replicate, nat_lt, if◌then◌else◌, refl, sym, ap, subst, ◌∙◌, arith, append-nil}
 use Rattle.std.specs.Fmt.{decimal, padded_integral, format_spec, styled_decimal, char_count}
 use Rattle.std.proofs.lemmas.Fmt.{decimal_digit, decimal_step, decimal_nonempty}
@@ -6,7 +6,7 @@ use Rattle.std.proofs.lemmas.List.{length-append}
 use Rattle.std.proofs.lemmas.Bool.Decides.{nat_tests}
 use Rattle.csl_entry.specs.CitationLabel.{year_number, two_digits}
 
--- what the hole `{:02}` writes: the digits, behind so many zeros as are missing
+-- the placeholder `{:02}` writes the digits, with zeros before them up to two digits
 zeros_before : (numeral : List ℕ) → padded_integral (format_spec 32 0 4 2 (18446744073709551615)) false [] numeral ≡ replicate (2 - length numeral) 48 ++ numeral
 unfolding padded_integral char_count
 zeros_before numeral =
@@ -32,7 +32,7 @@ small (pos zero) = omega arith
 small (pos (suc n)) = omega arith
 small (negsuc n) = omega arith
 
--- the hole `{:02}` writes the two digits of a year's number
+-- the placeholder `{:02}` writes the number of a year in two digits or more
 pub year_shown : (y : ℤ) (n : ℕ) → n ≡ year_number y → styled_decimal (format_spec 32 0 4 2 (18446744073709551615)) n ≡ two_digits (year_number y)
 year_shown y n e =
     let low : n ≤ 100 = subst (λ m. m ≤ 100) (sym e) (small y) in

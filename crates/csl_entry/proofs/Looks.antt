@@ -1,5 +1,5 @@
--- On what a look depends: on the citation, and on that one answer where the variable is not the
--- citation's.
+-- A lookup depends only on the citation state and, unless the variable is the citation's, on the
+-- entry's answer to it.
 use Rattle.std.proofs.Common.{◌≡◌, refl, ap}
 use Rattle.std.specs.Prelude.{option_map}
 use Rattle.csl_common.specs.declared.form.LongShortForm.{LongShortForm}

@@ -1,4 +1,4 @@
--- Persons by what they show.
+-- Persons by the data that they show.
 use Rattle.std.proofs.Common.{◌≡◌, true, false, List, [], ◌∷◌, map, length, ap, ◌∙◌, sym, refl, arith, Bor}
 use Rattle.std.specs.Prelude.{Bool, ◌&&◌}
 use Rattle.std.specs.Bool.{Decides}
@@ -44,7 +44,7 @@ and_false : (b : Bool) → (b && false) ≡ false
 and_false true = refl
 and_false false = refl
 
--- lists of two lengths do not show the same
+-- lists of different lengths do not show the same
 pub people_apart : (xs ys : List PersonView) → (length xs ≡ length ys → ⊥) → same_people xs ys ≡ false
 people_apart [] [] h = absurd (h refl)
 people_apart [] (y ∷ ys) h = refl

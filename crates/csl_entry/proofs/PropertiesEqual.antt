@@ -1,4 +1,4 @@
--- `==` of the forms of names compares their parts.
+-- `==` of the forms that a citation keeps compares their parts.
 use Rattle.std.proofs.Common.{◌≡◌, refl, ap, rules, List, Option, Vec, Global, map}
 use Rattle.std.specs.Bool.{Decides}
 use Rattle.std.specs.Option.{option_eq}
@@ -14,7 +14,7 @@ use Rattle.csl_style.specs.contracts.taxonomy.NameVariablePartialEq.TheImpl.{eq-
 use Rattle.lit_model.proofs.PageEqual.{pointwise_view}
 use Rattle.lit_model.proofs.ByValue.{both, through, option_same}
 
--- a list of names by the form of each
+-- the form of each name of a list
 abbrev Forms : Type 0
 Forms = Vec (Option DisambiguatedNameForm) Global
 

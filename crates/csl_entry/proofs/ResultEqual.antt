@@ -1,4 +1,4 @@
--- `==` of what cites answer to number variables compares what they hold.
+-- `==` of answers to number variables and page variables compares their values.
 use Rattle.std.proofs.Common.{◌≡◌, rules}
 use Rattle.std.specs.Cow.{cow_value}
 use Rattle.std.specs.declared.borrow.Cow.{Cow}

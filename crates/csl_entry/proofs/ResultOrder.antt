@@ -1,5 +1,4 @@
--- The order of what cites answer to number variables is total, and does not see what separates
--- numbers.
+-- The order of answers to number variables is total. It ignores the separators of numbers.
 use Rattle.std.proofs.Common.{◌≡◌, refl, sym, ◌∙◌, ap, subst, false, ◌⊎◌, inl, inr}
 use Rattle.std.specs.Prelude.{ℕ, ℤ, List, [], ◌∷◌, Option, Some, None, IsTrue, ◌↔◌}
 use Rattle.std.specs.Ordering.{nat_cmp, int_cmp, ordering_then, ordering_reverse, is_le, is_gt, is_eq}
@@ -12,8 +11,7 @@ use Rattle.lit_model.specs.MaybeTyped.{MaybeView, typed, text}
 use Rattle.lit_model.specs.Numeric.{NumericView, numbers}
 use Rattle.csl_entry.specs.NumberResult.{ResultView, regular, transparent, text_order, numeric_order, regular_order, csl_order, IsOrder, SameButSeparators}
 
--- two kinds of values: the first kind stands before the second, and each goes by an order of its
--- own
+-- values of two kinds: the first kind comes before the second, and each kind has its own order
 module _ {A B : Type 0} (R : A → A → Ordering) (S : B → B → Ordering) where
   abbrev kinds_cmp : A ⊎ B → A ⊎ B → Ordering
   kinds_cmp (inl a) (inl b) = R a b

@@ -127,11 +127,11 @@ module _ (a b : Entry) (h : works a ≡ works b) where
   bound_of None = refl
   bound_of (Some r) = bound_by_same r.bind r.parent
 
-  -- what clauses select shows the same
+  -- the entries that clauses select show the same
   pub bound_same : (rules : List ClauseView) → option_map works (bound_select rules a) ≡ option_map works (bound_select rules b)
   bound_same rules = ap (λ o. option_map works (option_and_then (λ r. bound_by r.bind r.parent a) o)) (λ i. find (λ r. fits_same r i) rules) ∙ bound_of (find (fits b) rules)
 
--- ---- the whole that an entry is a part of
+-- ---- the whole of an entry
 
 untitled_same : (a b : Entry) → works a ≡ works b → is_untitled_part a ≡ is_untitled_part b
 untitled_same a b h =
@@ -254,7 +254,7 @@ module _ (a b : Entry) (h : works a ≡ works b) where
       persons_or_same (out-Entry a).authors (out-Entry b).authors (persons_or (out-Entry a).editors (makers a)) (persons_or (out-Entry b).editors (makers b)) (ap (λ (o : Own). o.authors) own)
       (persons_or_same (out-Entry a).editors (out-Entry b).editors (makers a) (makers b) (ap (λ (o : Own). o.editors) own) makers_same)
 
--- ---- the date and what stands in for creators
+-- ---- the date, and the stand-in for creators
 
 first_date : (xs : List Entry) → first_some date_in xs ≡ first_some (λ (w : Work). w.own.date) (map work_of xs)
 first_date [] = refl

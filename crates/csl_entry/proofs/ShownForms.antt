@@ -1,4 +1,4 @@
--- Where the i-th of all forms stands.
+-- The place of the i-th of all forms.
 use Rattle.std.proofs.Common.{◌≡◌, refl, sym, ◌∙◌, ap, ℕ, zero, suc, ◌+◌, ◌-◌, ◌<◌, ◌≤◌, List, [], ◌∷◌, ◌++◌, length, Bool, true, false, nat_lt, Option, Some, None, is_some, slice_index_or, slice_set, slice_get, arith, if◌then◌else◌, option_and_then, map, subst}
 use Rattle.std.specs.Option.{option_map}
 use Rattle.std.specs.Vec.{with_item}
@@ -8,7 +8,7 @@ use Rattle.csl_entry.specs.declared.forms.name_form.DisambiguatedNameForm.{Disam
 use Rattle.csl_entry.specs.LentForm.{FormList}
 use Rattle.csl_entry.specs.NameProperties.{NameForms, all_forms, with_form_at, shown_from}
 
--- an item of the first list, or of the rest
+-- the i-th item of two lists is in the first list, or else in the second
 get_first : {X : Type 0} (xs ys : List X) (i : ℕ) → i < length xs → slice_get (xs ++ ys) i ≡ slice_get xs i
 get_first [] ys i h = absurd (omega (arith, h))
 get_first (x ∷ xs) ys zero h = refl
@@ -30,7 +30,7 @@ below i n h = grind (arith, nat_tests)
 not_below : (i n : ℕ) → nat_lt i n ≡ false → n ≤ i
 not_below i n h = grind (arith, nat_tests)
 
--- the i-th of all forms stands at this place, with lists counted from n on
+-- the i-th of all forms is at this place and is present; lists are counted from n on
 pub record IsShownAt (n i : ℕ) (lists : List NameForms) (at : ℕ × ℕ) : Type 0 where
   pub list : ℕ
   pub counted : at.0 ≡ n + list
@@ -78,7 +78,7 @@ pub shown_at_place : (n i : ℕ) (lists : List NameForms) (at : ℕ × ℕ) → 
 shown_at_place n i [] at h = cc
 shown_at_place n i (forms ∷ lists) at h = either_shown_at n i forms lists at (nat_lt i (length forms)) refl h (λ k. shown_at_place (n + 1) (i - length forms) lists at k)
 
--- ---- where none is shown
+-- ---- if no form is shown
 
 mapped_none : (a : ℕ × ℕ) (form : Option DisambiguatedNameForm) → option_map (λ f. a) form ≡ None → form ≡ None
 mapped_none a None h = refl
@@ -97,15 +97,15 @@ pub hidden_at : (n i : ℕ) (lists : List NameForms) → shown_from n i lists �
 hidden_at n i [] h = refl
 hidden_at n i (forms ∷ lists) h = either_hidden_at n i forms lists (nat_lt i (length forms)) refl h (λ k. hidden_at (n + 1) (i - length forms) lists k)
 
--- ---- in memory
+-- ---- lists as the code stores them
 
--- the list in which the form stands is in range
+-- the list that has the form is in range
 pub list_inside : (xs : List FormList) (i : ℕ) (at : ℕ × ℕ) → Some at ≡ shown_from 0 i (map (λ v. v.items) xs) → at.0 < length xs
 list_inside xs i at found =
     let s = shown_at_place 0 i (map (λ v. v.items) xs) at (sym found) in
     omega (arith, s.counted, s.inside, length-map xs (λ v. v.items))
 
--- what is known of that list as it stands in memory
+-- the properties of that list as the code stores it
 pub record IsLent (xs : List FormList) (i : ℕ) (at : ℕ × ℕ) (v : FormList) : Type 0 where
   pub form : slice_get (all_forms (map (λ u. u.items) xs)) i ≡ slice_get v.items at.1
   pub shown : is_some (option_and_then (λ f. f) (slice_get v.items at.1)) ≡ true

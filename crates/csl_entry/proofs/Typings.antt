@@ -1,4 +1,4 @@
--- What tells the kinds of an entry, from what the entry and its direct parents show.
+-- The typing of an entry, from the data that the entry and its direct parents show.
 use Rattle.std.proofs.Common.{◌≡◌, ℕ, List, [], ◌∷◌, Bool, true, false, Option, Some, None, map, length, option_map, if◌then◌else◌, refl, sym, ap}
 use Rattle.std.specs.Prelude.{is_some, ◌||◌, ◌==◌}
 use Rattle.std.specs.List.{find, list_any}
@@ -17,7 +17,7 @@ module _ {A B : Type 0} (q : B → Bool) (f : A → B) where
   found_step true x xs h = refl
   found_step false x xs h = h
 
-  -- one of the list is found where one of what they show passes
+  -- an item is found exactly if the image under f of some item passes
   found_any : (xs : List A) → is_some (find (λ x. q (f x)) xs) ≡ list_any q (map f xs)
   found_any [] = refl
   found_any (x ∷ xs) = found_step (q (f x)) x xs (found_any xs)
@@ -35,7 +35,7 @@ pub is_some-shown : {A B : Type 0} (f : A → B) (o : Option A) → is_some o �
 is_some-shown f None = refl
 is_some-shown f (Some x) = refl
 
--- an entry's own fields, and those of its direct parents, tell its kinds
+-- the own fields of an entry and those of its direct parents determine its typing
 pub typing_shown : (e : Entry) → typing_of e ≡ typing_from (own_of e) (map own_of (parents_of e))
 typing_shown e = λ i. record {
   own = type_of e;

@@ -5,7 +5,7 @@ use Rattle.std.proofs.lemmas.Grind.{reverse_onto}
 use Rattle.std.proofs.lemmas.Bool.Decides.{nat_tests}
 use Rattle.csl_entry.specs.Letters.{AreLetters, IsWord, IsEarlier, StandsBefore, word_value, word_index, next_reversed, reversed_word, letters}
 
--- the value of the word of so many a
+-- the value of the word of n letters `a`
 abbrev pub ones : ℕ → ℕ
 ones zero = 0
 ones (suc n) = 26 ^ n + ones n
@@ -27,7 +27,7 @@ pub value_high : (w : List ℕ) → AreLetters w → word_value w < ones (suc (l
 value_high [] h = omega arith
 value_high (c ∷ cs) h = omega (arith, next_power (length cs), product_high (c - 96) 26 (26 ^ length cs) (omega (arith, h.1)), value_high cs h.2)
 
--- more a have a greater value
+-- more letters `a` have no lower value
 pub ones_more : (m n : ℕ) → m ≤ n → ones m ≤ ones n
 ones_more zero n h = omega arith
 ones_more (suc m) zero h = omega (arith, h)
@@ -39,7 +39,7 @@ value_shorter v w hv hw h = omega (arith, value_high v hv, ones_more (suc (lengt
 one_more : (a p : ℕ) → suc a * p ≡ a * p + p
 one_more a p = grind arith
 
--- a step of the first letter outweighs all that stand behind it
+-- a later first letter outweighs all letters after it
 first_letter : (a b p q m n : ℕ) → a < b → m < p + q → q ≤ n → a * p + m < b * p + n
 first_letter a b p q m n h hm hn = omega (arith, product_high (suc a) b p (omega (arith, h)), one_more a p, hm, hn)
 
@@ -66,7 +66,7 @@ pub value_before : (v w : List ℕ) → AreLetters v → AreLetters w → Stands
 value_before v w hv hw (inl h) = value_shorter v w hv hw h
 value_before v w hv hw (inr h) = value_earlier v w hv hw h.0 h.1
 
--- two words of one length are one, or one of them is the earlier one
+-- two words of one length are equal, or one of them is earlier
 pub which_earlier : (v w : List ℕ) → length v ≡ length w → (v ≡ w) ⊎ (IsEarlier v w ⊎ IsEarlier w v)
 which_earlier [] [] e = inl refl
 which_earlier [] (d ∷ ds) e = absurd (omega (arith, e))
@@ -90,7 +90,7 @@ which_before v w = by_length (cases_order (length v) (length w)) where
     at_length (inr (inl h)) = inr (inl (inr (e, h)))
     at_length (inr (inr h)) = inr (inr (inr (sym e, h)))
 
--- the value of a word from its last letter on
+-- the value of a word, last letter first
 abbrev pub value_back : List ℕ → ℕ
 value_back [] = 0
 value_back (c ∷ cs) = (c - 96) + 26 * value_back cs
@@ -119,7 +119,7 @@ pub letters-reverse : (w : List ℕ) → AreLetters w → AreLetters (reverse w)
 letters-reverse [] h = tt
 letters-reverse (c ∷ w) h = subst AreLetters (sym (reverse_onto w c [])) (letters-snoc (reverse w) c (letters-reverse w h.2) h.0 h.1)
 
--- counting on keeps letters, and adds 1 to the value
+-- the next word has only letters, and its value is one higher
 pub next_reversed-letters : (w : List ℕ) → AreLetters w → AreLetters (next_reversed w)
 next_reversed-letters [] h = (lit≤ tt, lit≤ tt, tt)
 next_reversed-letters (c ∷ w) h = by_last (next_reversed-letters w h.2) (c == 122) refl where
@@ -142,7 +142,7 @@ pub reversed_word-value : (n : ℕ) → value_back (reversed_word n) ≡ suc n
 reversed_word-value zero = refl
 reversed_word-value (suc n) = next_reversed-value (reversed_word n) (reversed_word-letters n) ∙ omega (arith, reversed_word-value n)
 
--- the word at a place
+-- word number n has the value n + 1
 pub letters-value : (n : ℕ) → word_value (letters n) ≡ suc n
 letters-value n = value-reverse (reversed_word n) ∙ reversed_word-value n
 
@@ -153,7 +153,7 @@ pub has_value : (w : List ℕ) → IsWord w → 0 < word_value w
 has_value [] h = h.0
 has_value (c ∷ cs) h = omega (arith, h.1.0, product_low (c - 96) (26 ^ length cs) (omega (arith, h.1.0)), one-le-pow (length cs) 26 (lit< tt))
 
--- letters of one value are one word
+-- words of the same value are equal
 pub one_value : (v w : List ℕ) → AreLetters v → AreLetters w → word_value v ≡ word_value w → v ≡ w
 one_value v w hv hw e = by_order (which_before v w) where
   by_order : (v ≡ w) ⊎ (StandsBefore v w ⊎ StandsBefore w v) → v ≡ w
@@ -161,7 +161,7 @@ one_value v w hv hw e = by_order (which_before v w) where
   by_order (inr (inl h)) = absurd (omega (arith, e, value_before v w hv hw h))
   by_order (inr (inr h)) = absurd (omega (arith, e, value_before w v hw hv h))
 
--- the word at a place is the one that is counted there
+-- the word at place n is word number n
 pub at_place : (w : List ℕ) (n : ℕ) → IsWord w → word_index w ≡ n → w ≡ letters n
 at_place w n h e = one_value w (letters n) h.1 (letters-letters n) (omega (arith, has_value w h, e, letters-value n))
 
@@ -187,8 +187,8 @@ in_front q r p m = omega (arith, ap (λ k. k * p) letter) where
   letter : 97 + r - 96 ≡ r + 1
   letter = omega arith
 
--- by 26, the remainder of a place gives the last letter of its word, and the quotient less 1 the
--- place of the word before that letter
+-- In the division of a place by 26, the remainder gives the last letter of its word. The quotient
+-- less 1 is the place of the word before that letter.
 pub value_front : (rest n : ℕ) (w : List ℕ) → 26 ≤ rest → (rest + 1) * 26 ^ length w + word_value w ≡ n + 1 → (rest / 26 - 1 + 1) * 26 ^ suc (length w) + word_value ((97 + rest % 26) ∷ w) ≡ n + 1
 value_front rest n w h e = ap (λ k. k + word_value ((97 + rest % 26) ∷ w)) before ∙ (sym split ∙ e) where
   whole : rest ≡ 26 * (rest / 26) + rest % 26

@@ -3,6 +3,6 @@ use Rattle.std.specs.Prelude.{ℕ, List, [], ◌∷◌}
 use Rattle.lit_model.specs.declared.text.ChunkKind.{ChunkKind}
 use Rattle.lit_model.specs.Text.{Chunk}
 
--- the text of these bytes as one piece
+-- the text of these bytes as one chunk
 abbrev pub one_chunk : ChunkKind → List ℕ → List Chunk
 one_chunk kind bytes = record { value = bytes; kind = kind } ∷ []

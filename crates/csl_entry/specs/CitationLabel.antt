@@ -1,15 +1,15 @@
--- The label of an entry, such as `Kwa14`, is that of the whole that it is a part of: letters of its
--- creators, then its year (CSL 1.0.2, Appendix IV, `citation-label`). A letter is an extended
+-- The label of an entry, such as `Kwa14`, is the label of its whole (`full_of`): letters of the
+-- creators, then the year (CSL 1.0.2, Appendix IV, `citation-label`). A letter is an extended
 -- grapheme cluster (UAX #29).
 -- - One creator gives the first n letters of the name, two or three give the first letter of each
---   name, and more give the first n letters of the first name and `+`. Without creators these are
---   the first n letters of the organization, else of the title, else of the alphabetic characters
---   of the key. By default n is 3.
+--   name, and more give the first n letters of the first name and `+`. Without creators, the label
+--   has the first n letters of the organization, else of the title, else of the alphabetic
+--   characters of the key. By default n is 3.
 -- - The year is that of the first date along the work and its parents, else that of the visit to
---   the first address along them: its last two digits without the sign, one more if the year is 0
---   or less, in at least two digits. Without a date there is none.
--- So a label depends on the creators, their stand-in and a date (`LabelParts`), and entries that
--- show the same have the same label (`LabelIsShown`).
+--   the first address along them. The label has its last two digits without the sign, plus one if
+--   the year is 0 or less, in at least two digits. Without a date there is no year.
+-- So a label depends only on the creators, their stand-in and a date (`LabelParts`). Entries with
+-- the same `works` have the same label (`LabelIsShown`).
 use Rattle.std.specs.Prelude.{◌≡◌, ℕ, true, zero, suc, pos, negsuc, ℤ, ◌+◌, ◌%◌, List, [], ◌∷◌, ◌++◌, Option, Some, None, option_map, take, filter, chars, encode_utf8_all, codes, string_bytes, nat_lt, if◌then◌else◌}
 use Rattle.std.specs.Fmt.{decimal}
 use Rattle.std.specs.List.{concat}
@@ -28,7 +28,7 @@ use Rattle.lit_model.specs.Work.{works}
 use Rattle.csl_entry.specs.Creators.{creators_of}
 use Rattle.csl_entry.specs.EntryDate.{issue_date, visit_date}
 
--- the first n letters of a text; all of them where it has fewer
+-- the first n letters of a text; all of them if it has fewer
 abbrev pub first_letters : ℕ → List ℕ → List ℕ
 first_letters n text = concat (take n (graphemes true text))
 
@@ -41,12 +41,12 @@ creators_part n other (p ∷ q ∷ []) = first_letters 1 p.name ++ first_letters
 creators_part n other (p ∷ q ∷ r ∷ []) = first_letters 1 p.name ++ first_letters 1 q.name ++ first_letters 1 r.name
 creators_part n other (p ∷ q ∷ r ∷ s ∷ more) = first_letters n p.name ++ codes "+"
 
--- the letters among the characters of a key (Unicode Alphabetic)
+-- the alphabetic characters of a key (Unicode Alphabetic)
 abbrev pub alphabetic_part : List ℕ → List ℕ
 alphabetic_part key = encode_utf8_all (filter is_alphabetic (chars key))
 
--- the stand-in for creators: the organization, else the title, both in full; else the letters of
--- the key
+-- the stand-in for creators: the organization, else the title, both in full; else the alphabetic
+-- characters of the key
 abbrev pub stand_in_of : Option FormatString → Option FormatString → List ℕ → List ℕ
 stand_in_of (Some organization) title key = chunks_text (chunks organization.value)
 stand_in_of None (Some title) key = chunks_text (chunks title.value)
@@ -55,11 +55,11 @@ stand_in_of None None key = alphabetic_part key
 abbrev pub stand_in : Entry → List ℕ
 stand_in e = stand_in_of (out-Entry e).organization (out-Entry e).title (string_bytes (out-Entry e).key)
 
--- the date of a label: the one as issued, else when the first address was visited
+-- the date of a label: the issue date, else the visit date of the first address
 abbrev pub label_date : Entry → Option Date
 label_date e = option_or (issue_date e) (visit_date e)
 
--- the last two digits of a year, without its sign; one more where the year is 0 or less
+-- the last two digits of a year, without its sign; one more if the year is 0 or less
 abbrev pub year_number : ℤ → ℕ
 year_number (pos zero) = 1
 year_number (pos (suc n)) = suc n % 100
@@ -74,7 +74,7 @@ abbrev pub year_part : Option DateView → List ℕ
 year_part None = []
 year_part (Some date) = two_digits (year_number date.year)
 
--- what the label of a work depends on: its creators, their stand-in, and its date
+-- the parts on which the label of a work depends: its creators, their stand-in, and its date
 pub record LabelParts : Type 0 where
   pub creators : List PersonView
   pub stand_in : List ℕ
@@ -87,10 +87,10 @@ label_parts e = record { creators = creators_of e; stand_in = stand_in e; date =
 abbrev pub label_from : ℕ → LabelParts → List ℕ
 label_from n parts = creators_part n parts.stand_in parts.creators ++ year_part parts.date
 
--- the label of an entry is that of the work that it is a part of
+-- the label of an entry is the label of its whole
 abbrev pub label : ℕ → Entry → List ℕ
 label n e = label_from n (label_parts (full_of e))
 
--- entries that show the same have the same label
+-- entries with the same `works` have the same label
 abbrev pub LabelIsShown : ℕ → Entry → Type 0
 LabelIsShown n e = (other : Entry) → works e ≡ works other → label n e ≡ label n other

@@ -1,11 +1,11 @@
 -- The citation state of a cite (CSL 1.0.2, Choose, `position`; Locators; Appendix IV, Number
 -- Variables; Disambiguation). Some properties never change: the number of the first note, if any,
 -- whether the cite is the first of its entry, whether a near note cites it, and its index. Others
--- are known as far as it was rendered (`speculation`): its locator, its citation number, its
--- disambiguation, and how it relates to the cite before it.
--- A *first cite* (`first_cite`) is the first of its entry: no note has it, none is near, its index
--- and its citation number are 0, it has no locator, and the cite before it is of another entry. Its
--- disambiguation is given.
+-- may change when the other cites are rendered (`speculation`): its locator, its citation number,
+-- its disambiguation, and how it relates to the cite before it.
+-- A *first cite* (`first_cite`) is the first of its entry: no note cites the entry, none is near,
+-- its index and its citation number are 0, it has no locator, and the cite before it is of another
+-- entry. Its disambiguation is given.
 use Rattle.std.specs.Prelude.{ℕ, Bool, List, None, Option, false, option_map, true}
 use Rattle.csl_style.specs.declared.taxonomy.Locator.{Locator}
 use Rattle.csl_entry.specs.declared.citation.cite.LocatorPayload.{LocatorPayload}
@@ -20,19 +20,19 @@ use Rattle.csl_entry.specs.declared.citation.cite.SpeculativeCiteProperties.{Spe
 use Rattle.csl_entry.specs.Numbers.{citation_number, note_number}
 use Rattle.csl_entry.specs.NameProperties.{NameProperties, name_properties}
 
--- what a locator prints: the bytes of its text, or what the caller writes at its place
+-- the text of a locator as bytes, or a place for a text that the caller writes
 pub data Payload : Type 0 where
   payload_text : List ℕ → Payload
   payload_transparent : Payload
 
--- what tells the cite from those that look like it
+-- how a cite is disambiguated
 pub data Disambiguation : Type 0 where
   no_disambiguation : Disambiguation
   by_names : NameProperties → Disambiguation
   by_choose : Disambiguation
   by_year_suffix : ℕ → Disambiguation
 
--- where in its work a cite points
+-- the place in its work that a cite points to
 pub record LocatorView : Type 0 where
   pub kind : Locator
   pub payload : Payload
@@ -73,7 +73,7 @@ disambiguation_of (of_state.NameDisambiguation p) = by_names (name_properties p)
 disambiguation_of of_state.Choose = by_choose
 disambiguation_of (of_state.YearSuffix n) = by_year_suffix n
 
--- the properties of a cite that are known as far as it was rendered
+-- the properties of a cite that may change when the other cites are rendered
 pub record Speculation : Type 0 where
   pub locator : Option LocatorView
   pub citation_number : ℕ

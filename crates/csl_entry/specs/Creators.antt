@@ -22,29 +22,30 @@ use Rattle.lit_model.specs.Select.{ClauseView, same_type, bound_select}
 abbrev pub in_role : PersonRole → Entry → List Person
 in_role role e = with_role (λ r. same_role r role) (role_groups e)
 
--- the first list; the second where the first is empty
+-- the first list, or the second one if the first is empty
 abbrev pub or_else : List Person → List Person → List Person
 or_else [] others = others
 or_else (p ∷ ps) others = p ∷ ps
 
--- an episode, which has an issue and a volume: the first parent that is a video
+-- selects the series of an episode: of a video with an issue and a volume, the first parent that is
+-- a video
 abbrev pub series : List ClauseView
 series = record { own = Video ∷ []; fields = Issue ∷ Volume ∷ []; parent = Some (Video ∷ []); bind = Parent } ∷ []
 
--- of an episode of a series: directors and then writers, or else the series' executive producers;
--- of another video: directors, or else executive producers
+-- the makers of an episode of a series are its directors and then its writers, or else the series'
+-- executive producers; those of another video are its directors, or else its executive producers
 abbrev pub video_makers : Entry → Option Entry → List Person
 video_makers e (Some s) = or_else (in_role Director e ++ in_role Writer e) (in_role ExecutiveProducer s)
 video_makers e None = or_else (in_role Director e) (in_role ExecutiveProducer e)
 
--- the persons who made a work without lists of authors and editors
+-- the makers of a work, by its type
 abbrev pub makers : Entry → List Person
 makers e =
     if same_type (out-Entry e).entry_type Video
     then video_makers e (bound_select series e)
     else or_else (in_role Compiler e) (in_role Translator e)
 
--- the listed persons, or the others where there is no list; an empty list counts as one
+-- the listed persons, or the others if there is no list; an empty list counts as one
 abbrev pub persons_or : Option (Vec Person Global) → List Person → List Person
 persons_or (Some persons) others = persons.items
 persons_or None others = others

@@ -1,5 +1,5 @@
--- The answers of the built-in entry (CSL 1.0.2, Appendix III, Types; Appendix IV, Variables), each
--- defined in the file of its sort of variable.
+-- The answers of the built-in entry (CSL 1.0.2, Appendix III, Types; Appendix IV, Variables). Each
+-- is defined in the file for its sort of variable.
 use Rattle.std.specs.Prelude.{ℕ, List, string_bytes}
 use Rattle.lit_model.specs.declared.entry.Entry.{Entry, out-Entry}
 use Rattle.csl_entry.specs.Answers.{Answers}
@@ -20,6 +20,6 @@ answers_of e = record {
   kinds = λ kind. is_kind kind (typing_of e);
 }
 
--- the key that cites it
+-- the key by which the entry is cited
 abbrev pub key_of : Entry → List ℕ
 key_of e = string_bytes (out-Entry e).key

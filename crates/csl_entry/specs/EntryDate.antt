@@ -21,7 +21,7 @@ date_in e = (out-Entry e).date
 abbrev pub issue_date : Entry → Option Date
 issue_date e = first_some date_in (preorder e)
 
--- when the first address along the work and its parents was visited
+-- the visit date of the first address along the work and its parents
 abbrev pub visit_date : Entry → Option Date
 visit_date e = option_and_then (λ url. url.visit_date) (first_some (λ x. (out-Entry x).url) (preorder e))
 

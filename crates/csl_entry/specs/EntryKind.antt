@@ -1,6 +1,6 @@
 -- The kinds of the built-in entry (CSL 1.0.2, Appendix III, Types). They depend only on its own
 -- type, the types of its direct parents, and whether it has a publisher and an address (`Typing`).
--- So entries that show the same are of the same kinds. An entry may be of several kinds, or of
+-- So entries with the same `works` are of the same kinds. An entry may be of several kinds, or of
 -- none. The rule of each kind is at `is_kind`.
 use Rattle.std.specs.Prelude.{◌≡◌, Bool, false, not, ◌&&◌, ◌||◌, ◌==◌, List, [], ◌∷◌, length, map, filter, is_some}
 use Rattle.std.specs.List.{list_any}
@@ -14,8 +14,8 @@ use Rattle.lit_model.specs.Work.{Own, works}
 use Rattle.csl_style.specs.declared.taxonomy.Kind.{Kind}
 use Rattle.csl_style.specs.declared.taxonomy.Kind.TheVariants as kind
 
--- what tells the kinds of an entry: its own type, the types of the works that it is directly a part
--- of, and whether it has a publisher and an address
+-- the typing of an entry, which decides its kinds: its own type, the types of its direct parents,
+-- and whether it has a publisher and an address
 pub record Typing : Type 0 where
   pub own : EntryType
   pub parents : List EntryType
@@ -39,23 +39,23 @@ typing_from own parents = record {
   has_address = is_some own.url;
 }
 
--- entries that show the same are of the same kinds
+-- entries with the same `works` have the same typing
 abbrev pub TypingIsShown : Entry → Type 0
 TypingIsShown e = (other : Entry) → works e ≡ works other → typing_of e ≡ typing_of other
 
--- the entry itself is of that type
+-- whether the entry itself is of that type
 abbrev pub is_a : EntryType → Typing → Bool
 is_a t y = same_type y.own t
 
--- a work that it is directly a part of is of one of these types
+-- whether a direct parent is of one of these types
 abbrev pub stands_in : List EntryType → Typing → Bool
 stands_in types y = list_any (λ t. is_among t types) y.parents
 
--- the entry has no parents
+-- whether the entry has no parents
 abbrev pub stands_alone : Typing → Bool
 stands_alone y = length y.parents == 0
 
--- none of these tests holds
+-- whether none of these tests holds
 abbrev pub none_of : List (Typing → Bool) → Typing → Bool
 none_of tests y = not (list_any (λ test. test y) tests)
 
@@ -76,7 +76,7 @@ is_report y = is_a Report y || stands_in (Report ∷ []) y
 abbrev pub is_thesis : Typing → Bool
 is_thesis y = is_a Thesis y || stands_in (Thesis ∷ []) y
 
--- an issue of a periodical that is a book; the periodical itself is none
+-- a book in a periodical; the periodical itself is not of this kind
 abbrev pub is_periodical : Typing → Bool
 is_periodical y = is_a Book y && stands_in (Periodical ∷ []) y
 
@@ -87,7 +87,7 @@ is_encyclopedia_entry y = stands_in (Reference ∷ []) y
 abbrev pub is_recording : Typing → Bool
 is_recording y = is_a Audio y || is_a Video y
 
--- a recording that comes with something to read
+-- an audio with a direct parent that can be read
 abbrev pub is_musical_score : Typing → Bool
 is_musical_score y = is_a Audio y && stands_in (Book ∷ Periodical ∷ Reference ∷ Misc ∷ Blog ∷ Web ∷ []) y
 
@@ -105,8 +105,8 @@ is_blog_post y = stands_in (Blog ∷ []) y
 abbrev pub is_post : Typing → Bool
 is_post y = is_a Post y || stands_in (Thread ∷ []) y
 
--- a site, a blog or a thread, anything in a site or a blog, and what is of no type of its own but
--- has an address
+-- a site, a blog or a thread, anything in a site or a blog, and a miscellany (type Misc) with an
+-- address
 abbrev pub is_online : Typing → Bool
 is_online y =
     (is_a Misc y && y.has_address)
@@ -119,9 +119,9 @@ is_figure y = is_a Artwork y && stands_in (Article ∷ []) y
 -- - An article in a periodical, a newspaper or proceedings is a journal article, a newspaper
 --   article or a conference paper. An article that is none of these, no report and no thesis, and
 --   in no blog, is an article.
--- - A report or a thesis, or anything in one, is one. A manuscript, a patent, an exhibition
---   (event), a case, a repository (software), a miscellany (document) and an anthology (collection)
---   have one kind each.
+-- - A report or a thesis, or anything in one, is of that kind. Each of these types has a kind of
+--   its own: manuscript, patent, exhibition (event), case (legal case), repository (software),
+--   miscellany (document), anthology (collection).
 -- - A book in a periodical is a periodical; any other book, and proceedings, are a book. A work in
 --   an anthology (type Anthos), or a chapter in a book, an anthology or proceedings, is a chapter.
 --   Anything in a work of reference is an encyclopedia entry; an entry that is in none is an entry.
@@ -185,7 +185,7 @@ is_kind kind.Thesis y = is_thesis y
 is_kind kind.Treaty y = false
 is_kind kind.Webpage y = is_online y && none_of (is_blog_post ∷ is_post ∷ []) y
 
--- the kinds of these that the entry is of
+-- the given kinds that the entry is of
 abbrev pub kinds_among : List Kind → Typing → List Kind
 kinds_among kinds y = filter (λ k. is_kind k y) kinds
 

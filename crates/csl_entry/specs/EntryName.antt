@@ -4,15 +4,14 @@
 -- - Translator, compiler, composer, illustrator, narrator, organizer, producer, executive producer:
 --   the persons of that role. Contributor, performer, script writer: collaborators, cast members,
 --   writers.
--- - Editor-translator: the own editors of whom a translator shows the same, in every text and the
---   comma.
+-- - Editor-translator: the own editors who equal a translator, in every text and the comma.
 -- - Collection editor: the collection's editors. Container author, original author: the
 --   container's, the original's authors. Chair: the directors of the first parent that is
 --   proceedings or a conference. Curator: the organizers of the first parent that is an exhibition.
 -- - Director, series creator: the directors, the founders of the recording (the first parent that
 --   is one, else the entry itself if it is one).
--- - Editorial director, guest, host, interviewer, recipient, reviewed author: nobody. Nobody also
---   where no work is found.
+-- - Editorial director, guest, host, interviewer, recipient, reviewed author: nobody. A variable of
+--   another work also has nobody if the entry has no such work.
 use Rattle.std.specs.Prelude.{Bool, List, [], ◌∷◌, map, Option, Some, None}
 use Rattle.std.specs.List.{list_any, filter}
 use Rattle.csl_style.specs.declared.taxonomy.NameVariable.{NameVariable}
@@ -33,7 +32,7 @@ conference_clauses = parent_of [] (Proceedings ∷ Conference ∷ []) ∷ []
 abbrev pub exhibition : List ClauseView
 exhibition = parent_of [] (Exhibition ∷ []) ∷ []
 
--- the persons of the work that was found, if any
+-- the persons of a work, or nobody if there is no work
 abbrev pub persons_of_bound : (Entry → List Person) → Option Entry → List Person
 persons_of_bound persons None = []
 persons_of_bound persons (Some e) = persons e
@@ -44,11 +43,11 @@ own_authors e = persons_or (out-Entry e).authors []
 abbrev pub own_editors : Entry → List Person
 own_editors e = persons_or (out-Entry e).editors []
 
--- one of the persons shows the same as this one
+-- whether one of the persons is equal to this one
 abbrev pub is_one_of : List Person → Person → Bool
 is_one_of persons p = list_any (λ q. same_person (person_view q) (person_view p)) persons
 
--- the persons, by variable
+-- the persons of each name variable
 abbrev pub persons_of : Entry → NameVariable → List Person
 persons_of e Author = own_authors e
 persons_of e Chair = persons_of_bound (in_role role.Director) (bound_select conference_clauses e)

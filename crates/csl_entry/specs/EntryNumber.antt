@@ -34,7 +34,7 @@ use Rattle.csl_entry.specs.NumericText.{numeric_or_text}
 abbrev pub number_answer : Option (MaybeTyped Numeric) → Option (MaybeView NumericView)
 number_answer o = option_map (maybe_view numeric_view) o
 
--- how many volumes or pages
+-- a number of volumes or pages
 abbrev pub numeric_answer : Option Numeric → Option (MaybeView NumericView)
 numeric_answer o = option_map (λ n. typed (numeric_view n)) o
 
@@ -45,7 +45,7 @@ serial_answer o = option_map numeric_or_text o
 abbrev volume_in : Entry → Option (MaybeTyped Numeric)
 volume_in e = (out-Entry e).volume
 
--- the own chapter, or else the volume of the work where that numbers a chapter
+-- the own chapter, or else the own volume if that numbers a chapter
 abbrev pub chapter_number : Entry → Option (MaybeTyped Numeric)
 chapter_number e = option_or (out-Entry e).chapter (option_and_then volume_in (bound_select chapter e))
 
@@ -53,7 +53,7 @@ chapter_number e = option_or (out-Entry e).chapter (option_and_then volume_in (b
 abbrev pub collection_number : Entry → Option (MaybeTyped Numeric)
 collection_number e = option_and_then volume_in (collection_of e)
 
--- the own serial number, or else a chapter's own chapter
+-- the own serial number named `serial`, or else a chapter's own chapter
 abbrev pub own_number : Entry → Option (MaybeView NumericView)
 own_number e = option_or (serial_answer (own_serial (codes "serial") e)) (if same_type (out-Entry e).entry_type Chapter then number_answer (out-Entry e).chapter else None)
 
@@ -61,15 +61,15 @@ abbrev first_of : MaybeTyped PageRanges → Option NumericView
 first_of (Typed pages) = first_page (pages_view pages)
 first_of (String text) = None
 
--- the first of the own pages, where they are known as pages
+-- the first of the own pages, if they were parsed
 abbrev pub first_page_of : Entry → Option NumericView
 first_page_of e = option_and_then first_of (out-Entry e).page_range
 
--- the volume of the work where that numbers a part
+-- the own volume, if it numbers a part
 abbrev pub part_number : Entry → Option (MaybeTyped Numeric)
 part_number e = option_and_then volume_in (bound_select part e)
 
--- the printing, in the first serial number along the work and its parents
+-- the number named `printing` in the first set of serial numbers along the work and its parents
 abbrev pub printing_number : Entry → Option (List ℕ)
 printing_number e = option_and_then (serial (codes "printing")) (first_some (λ x. (out-Entry x).serial_number) (preorder e))
 
@@ -77,7 +77,7 @@ printing_number e = option_and_then (serial (codes "printing")) (first_some (λ 
 abbrev pub version_number : Entry → Option (List ℕ)
 version_number e = if same_type (out-Entry e).entry_type Repository then own_serial (codes "version") e else None
 
--- the volume of the work that holds this one, or else the own volume
+-- the volume of the container, or else the own volume
 abbrev pub volume_number : Entry → Option (MaybeTyped Numeric)
 volume_number e = option_or (option_and_then volume_in (container_of e)) (volume_in e)
 

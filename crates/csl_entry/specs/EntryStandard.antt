@@ -5,10 +5,10 @@
 -- - The first along the entry and its parents: abstract, note (annote), archive, genre, publisher
 --   with its place, language, address.
 -- - Own fields of other works: titles of container and collection; title and place of the event;
---   title, publisher and its place of the original; the title of the volume; the title of the
---   repository that the entry is directly in (source).
--- - A text is in the requested form. Title-short and container-title-short are in the short form in
---   either case, which is the whole text if there is no short form.
+--   title, publisher and its place of the original; the title of the volume; the title of the first
+--   direct parent that is a repository (source).
+-- - A text is in the requested form. Title-short and container-title-short are always in the short
+--   form, which is the whole text if there is no short form.
 -- - One verbatim chunk: the key, DOI, ISBN, ISSN, PMCID and PMID (own serial numbers), the address.
 --   One normal chunk: the label of three letters; the language, then `-` and the region, if any.
 -- - None: archive-collection, archive-place, division, jurisdiction, keyword, license, medium,
@@ -38,11 +38,11 @@ use Rattle.csl_entry.specs.Language.{language_text}
 abbrev pub in_form : LongShortForm → Option FormatString → Option (List Chunk)
 in_form form text = option_map (λ t. chunks (select form t)) text
 
--- a text as one piece that no style changes
+-- a text as one chunk that no style changes
 abbrev pub verbatim_chunk : Option (List ℕ) → Option (List Chunk)
 verbatim_chunk text = option_map (one_chunk Verbatim) text
 
--- a language as one piece
+-- a language as one chunk
 abbrev pub language_answer : Option LanguageIdentifier → Option (List Chunk)
 language_answer language = option_map (λ l. one_chunk Normal (language_text (language_of l))) language
 
@@ -58,7 +58,7 @@ press_name press = option_and_then (λ p. p.name) press
 abbrev pub press_place : Option Publisher → Option FormatString
 press_place press = option_and_then (λ p. p.location) press
 
--- what the first of the entry and its parents has, in preorder
+-- the first value along the entry and its parents, in preorder
 abbrev pub from_self_or_parents : {X : Type 0} → (Entry → Option X) → Entry → Option X
 from_self_or_parents own e = first_some own (preorder e)
 

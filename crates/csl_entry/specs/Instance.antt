@@ -1,14 +1,16 @@
--- An instance is a cite with its entry: the entry's answers, the citation state, the part of a sort
--- key that is made if the cite is sorted, and the special form if not all of it is shown. *Look* is
--- what an instance returns for a variable, one function for each sort of variable (CSL 1.0.2,
--- Appendix IV, Variables; Locators; Disambiguation, `disambiguate-add-year-suffix`).
--- The citation has four variables, and the entry has all others:
--- - the citation number, one higher than it is held, and the first reference note number;
--- - the locator: a number if its text spells one, else the text, or the place of the cite's index
---   if the caller writes it;
+-- An instance is a cite with its entry: the entry's answers, the citation state, the source of its
+-- sort key if the cite is sorted, and the special form if not all of it is rendered. A *lookup*
+-- returns the answer of an instance to a variable, by one function for each sort of variable (CSL
+-- 1.0.2, Appendix IV, Variables; Locators; Disambiguation, `disambiguate-add-year-suffix`).
+-- The citation answers four variables, and the entry answers all others:
+-- - the citation number, one higher than in the citation state, and the first reference note
+--   number;
+-- - the locator: a number if its text spells one, else the text, or the cite's index if the caller
+--   writes it;
 -- - the year suffix: one normal chunk of its letters, if the cite has one.
--- A look depends on the citation state and on that one answer of the entry. For the citation's
--- variables it reads no answer (`SameNumber`, `SameStandard`, `SameNumberOrPage`).
+-- A lookup depends only on the citation state and on the entry's answer to that variable. For the
+-- citation's variables it reads no answer of the entry (`SameNumber`, `SameStandard`,
+-- `SameNumberOrPage`).
 use Rattle.std.specs.Prelude.{◌≡◌, ℕ, false, ◌+◌, List, Option, Some, None, option_map, pos}
 use Rattle.csl_style.specs.declared.taxonomy.NumberVariable.{NumberVariable}
 use Rattle.csl_style.specs.declared.taxonomy.NumberVariable.TheVariants.{CitationNumber, FirstReferenceNoteNumber, Locator}
@@ -39,14 +41,14 @@ use Rattle.csl_entry.specs.Letters.{letters}
 use Rattle.csl_entry.specs.NumberResult.{ResultView, regular, transparent, NumberOrPageView, number, page}
 use Rattle.csl_entry.specs.NumericText.{numeric_or_text}
 
--- a cite with its entry, without where they lie in memory
+-- a cite with its entry, as plain data
 pub record Instance : Type 0 where
   pub answers : Answers
   pub cite : CiteState
   pub sorting : Option Sorting
   pub special : Option SpecialForm
 
--- a cite whose entry has the answers of this function
+-- the instance of a cite whose entry has the answers that this function gives
 abbrev pub instance_of : {T : Type 0} → (T → Answers) → InstanceContext T → Instance
 instance_of answers cite = record {
   answers = answers cite.entry.now;
@@ -55,24 +57,24 @@ instance_of answers cite = record {
   special = cite.kind;
 }
 
--- a number with no text around it
+-- a number without prefix and suffix
 abbrev pub plain_number : ℕ → ResultView
 plain_number n = regular (typed (record { value = one (pos n); prefix = None; suffix = None }))
 
--- the answer of a locator: a number if its text spells one, else the text; or what the caller
--- writes, with the index of the cite
+-- the answer of a locator: a number if its text spells one, else the text; or the index of the
+-- cite, if the caller writes the locator
 abbrev pub locator_answer : ℕ → Payload → ResultView
 locator_answer index (payload_text bytes) = regular (numeric_or_text bytes)
 locator_answer index payload_transparent = transparent index
 
--- the letters of a year suffix, where the cite has one
+-- the letters of a year suffix, if the cite has one
 abbrev pub year_suffix : Disambiguation → Option (List Chunk)
 year_suffix no_disambiguation = None
 year_suffix (by_names forms) = None
 year_suffix by_choose = None
 year_suffix (by_year_suffix n) = Some (one_chunk Normal (letters n))
 
--- ---- Look: what the cite answers to a variable
+-- ---- lookups: the cite's answer to a variable
 
 -- a citation number counts from 0 and is printed one higher
 abbrev pub resolve_number : Instance → NumberVariable → Option ResultView
@@ -98,8 +100,8 @@ resolve_names i v = i.answers.names v
 abbrev pub resolve_date : Instance → DateVariable → Option DateView
 resolve_date i v = i.answers.dates v
 
--- ---- on what a look depends: on the citation, and on that one answer where the variable is not
--- the citation's
+-- ---- A lookup depends on the citation state and, unless the variable is the citation's, on the
+-- entry's answer to it.
 
 abbrev pub SameNumber : Instance → Instance → NumberVariable → Type 0
 SameNumber i j v = is_of_citation (variable.Number v) ≡ false → i.answers.numbers v ≡ j.answers.numbers v

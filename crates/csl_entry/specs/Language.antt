@@ -10,14 +10,14 @@ abbrev pub region_text : Option (List ℕ) → List ℕ
 region_text None = []
 region_text (Some region) = codes "-" ++ region
 
--- the language, then `-` and the region where there is one
+-- the language, then `-` and the region if there is one
 abbrev pub language_text : Language → List ℕ
 language_text l = l.language ++ region_text l.region
 
--- whatever the region, the language is `en`
+-- whether the language is `en`, whatever the region
 abbrev pub is_english_language : Language → Bool
 is_english_language l = bytes_eq l.language (codes "en")
 
--- whether the entry's own language is English, where it is known
+-- whether the entry's own language is English, if it is known
 abbrev pub english_of : Entry → Option Bool
 english_of e = option_map (λ l. is_english_language (language_of l)) (out-Entry e).language

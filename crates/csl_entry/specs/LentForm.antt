@@ -1,7 +1,7 @@
--- A form of a name as a mutable reference. A value written there replaces the form that was read
+-- A mutable reference to a form of a name. A value written there replaces the form that was read
 -- (`with_form` of `NameProperties`), and nothing else changes.
--- `FormList`, `list_row`, `lends_list` and `lends_shown` are the code's own: private contracts
--- alone cite them.
+-- `FormList`, `list_row`, `lends_list` and `lends_shown` are the code's own: only private contracts
+-- cite them.
 use Rattle.std.specs.Prelude.{◌≡◌, ℕ, Option, Some, OnSome}
 use Rattle.std.specs.Vec.{with_item}
 use Rattle.std.specs.Borrow.{Fml, MutBor, Lends, LendsSo}
@@ -18,22 +18,22 @@ use Rattle.csl_entry.specs.contracts.forms.name_form.DisambiguatedNameForm as fo
 use Rattle.csl_entry.specs.contracts.forms.name_properties.NameDisambiguationProperties as properties
 use Rattle.csl_entry.specs.NameProperties.{name_properties, with_form}
 
--- a list of forms as it stands in memory
+-- a list of forms as the code stores it
 abbrev pub FormList : Type 0
 FormList = Vec (Option DisambiguatedNameForm) Global
 
 abbrev pub list_row : RattleType
 list_row = vec.the_row (option.the_row form.the_row) global.the_row ghosts
 
--- the list at this place ends as what was left behind r
+-- the list at place i ends as the last value behind r; nothing else changes
 abbrev pub lends_list : MutBor NameDisambiguationProperties → ℕ → MutBor FormList → Fml
 lends_list s i r = Lends properties.the_row list_row s r (λ v. record s.now { name_forms = with_item s.now.name_forms i v })
 
--- the form at this place of a list ends as what was left behind r, and is not absent
+-- the form at place i of a list ends as the last value behind r, and is present
 abbrev pub lends_shown : MutBor FormList → ℕ → MutBor DisambiguatedNameForm → Fml
 lends_shown s i r = Lends list_row form.the_row s r (λ w. with_item s.now i (Some w))
 
--- the properties end with the last form behind r in the place that was lent, and nothing else
+-- the properties end with the last value behind r at the place to which r refers, and nothing else
 -- changes
 abbrev pub lends_form : MutBor NameDisambiguationProperties → ℕ → Option (MutBor DisambiguatedNameForm) → Fml
 lends_form s i r = LendsSo properties.the_row form.the_row s r (λ n w. OnSome r (name_properties n ≡ with_form i (name_properties s.now) w)) (λ n. name_properties n ≡ name_properties s.now)

@@ -1,10 +1,10 @@
 -- The forms of a name (CSL 1.0.2, Disambiguation, `disambiguate-add-givenname`), from the least
 -- shown to the most: counted only; short with initials; short in full; long with initials; long in
--- full. The last two show the given name. Short with initials gives way to long with initials.
--- Short in full and long with initials give way to long in full, if full names may be shown. No
--- other form gives way.
--- To tell a name further apart, an absent form becomes the default form, and any other becomes the
--- form that it gives way to, with full names allowed, if there is one (`further_form`).
+-- full. The last two show the given name. The fuller form of short with initials is long with
+-- initials. The fuller form of short in full and of long with initials is long in full, if full
+-- names may be shown. No other form has a fuller form (`fuller_form`).
+-- To disambiguate a name further, an absent form becomes the default form, and any other becomes
+-- its fuller form with full names allowed, if there is one (`further_form`).
 use Rattle.std.specs.Prelude.{Bool, true, false, Option, Some, None, ℕ, zero, suc, if◌then◌else◌}
 use Rattle.std.specs.Option.{option_or}
 use Rattle.std.specs.Ordering.{nat_cmp}
@@ -28,8 +28,7 @@ shows_given_name ShortFull = false
 shows_given_name LongInitialized = true
 shows_given_name LongFull = true
 
--- the form that shows more of the name, where there is one; a full given name is shown only where
--- it may be
+-- the form that shows more of the name, if there is one; `full` allows full given names
 abbrev pub fuller_form : Bool → DisambiguatedNameForm → Option DisambiguatedNameForm
 fuller_form full Count = None
 fuller_form full ShortInitialized = Some LongInitialized
@@ -41,8 +40,8 @@ fuller_form full LongFull = None
 abbrev pub form_cmp : DisambiguatedNameForm → DisambiguatedNameForm → Ordering
 form_cmp a b = nat_cmp (form_place a) (form_place b)
 
--- the form that tells a name further apart from others, where there is one: an absent name is shown
--- in the default form
+-- the form that disambiguates a name further, if there is one; an absent form becomes the default
+-- form
 abbrev pub further_form : DisambiguatedNameForm → Option DisambiguatedNameForm → Option DisambiguatedNameForm
 further_form default None = Some default
 further_form default (Some form) = fuller_form true form

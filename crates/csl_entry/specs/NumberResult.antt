@@ -1,9 +1,9 @@
 -- The answer of a cite to a number variable (CSL 1.0.2, Appendix IV, Number Variables) as plain
--- data, and the order of such answers (Sorting). A number comes before a text, and both before what
--- the caller writes, which is ordered by index. Texts are ordered by their bytes. Numbers are
--- ordered by their list of signed numbers, a shorter list before a longer one that it begins, then
--- by prefix and by suffix, as bytes, absent before present. What separates the numbers of a list
--- does not count.
+-- data, and the order of such answers (Sorting). A number comes before a text, and both come before
+-- a text that the caller writes, which is ordered by index. Texts are ordered by their bytes.
+-- Numbers are ordered by their list of signed numbers, a shorter list before a longer one that it
+-- begins, then by prefix and by suffix, as bytes, absent before present. The separators of a list
+-- do not count.
 -- `IsOrder`: swapping two values reverses their order, and the order is transitive.
 use Rattle.std.specs.Prelude.{◌≡◌, ℕ, List, Bool, true, false, IsTrue}
 use Rattle.std.specs.Cmp.Lexicographic.{slice_cmp}
@@ -22,7 +22,7 @@ use Rattle.csl_entry.specs.declared.number_result.NumberOrPageVariableResult.{Nu
 use Rattle.csl_entry.specs.declared.number_result.NumberOrPageVariableResult.TheVariants.{Number, Page}
 use Rattle.csl_entry.specs.Answers.{cow_view}
 
--- a number or a text, or the place of a cite that the caller writes
+-- a number or a text, or the index of a cite for which the caller writes the text
 pub data ResultView : Type 0 where
   regular : MaybeView NumericView → ResultView
   transparent : ℕ → ResultView
@@ -54,7 +54,7 @@ abbrev pub text_order : List ℕ → List ℕ → Ordering
 text_order s t = slice_cmp nat_cmp s t
 
 -- the order of numbers: by their list, then by prefix, then by suffix; an absent text comes before
--- one that is present, and what separates the numbers does not count
+-- one that is present, and separators do not count
 abbrev pub numeric_order : NumericView → NumericView → Ordering
 numeric_order v w = ordering_then (slice_cmp int_cmp (numbers v.value) (numbers w.value))
     (ordering_then (option_cmp text_order v.prefix w.prefix) (option_cmp text_order v.suffix w.suffix))
@@ -66,7 +66,7 @@ regular_order (typed v) (text t) = Less
 regular_order (text s) (typed w) = Greater
 regular_order (text s) (text t) = text_order s t
 
--- the order of all answers: a number or a text comes before what the caller writes, which is
+-- the order of all answers: a number or a text comes before a text that the caller writes, which is
 -- ordered by the index of its cite
 abbrev pub csl_order : ResultView → ResultView → Ordering
 csl_order (regular x) (regular y) = regular_order x y
@@ -81,7 +81,7 @@ pub record IsOrder {X : Type 0} (order : X → X → Ordering) : Type 0 where
   pub transitive : (a b c : X) → IsTrue (is_le (order a b)) → IsTrue (is_le (order b c)) → IsTrue (is_le (order a c))
   pub strictly_transitive : (a b c : X) → order a b ≡ Less → order b c ≡ Less → order a c ≡ Less
 
--- the two numbers are the same, but for what separates the numbers of a list
+-- the two numbers are the same apart from the separators of their lists
 pub record SameButSeparators (v w : NumericView) : Type 0 where
   pub same_numbers : numbers v.value ≡ numbers w.value
   pub same_prefix : v.prefix ≡ w.prefix

@@ -10,7 +10,7 @@ IsCitationNumber n = n ≤ 2147483646
 abbrev pub IsNoteNumber : ℕ → Type 0
 IsNoteNumber n = n ≤ 2147483647
 
--- the number that is held
+-- the number itself, which counts from 0
 abbrev pub citation_number : CitationNumber → ℕ
 citation_number c = c.number
 

@@ -1,4 +1,4 @@
-//! A cite: what the citation says, and what it answers with its entry.
+//! A cite: its properties in the citation, and its answers together with its entry.
 
 pub(crate) mod cite;
 pub(crate) mod instance;

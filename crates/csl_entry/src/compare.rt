@@ -1,4 +1,4 @@
-//! When entries and their answers are alike.
+//! Comparison of entries and of their answers.
 
 pub(crate) mod alike;
 pub(crate) mod same;

@@ -1,4 +1,4 @@
-//! Forms of names that tell cites apart.
+//! Forms of names that disambiguate cites.
 
 pub(crate) mod form_list;
 pub(crate) mod name_form;

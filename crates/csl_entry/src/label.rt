@@ -1,4 +1,4 @@
-//! Labels of entries: the citation label and who made a work.
+//! Labels of entries: the citation label, and the creators that it is made from.
 
 pub(crate) mod citation_label;
 pub(crate) mod creators;

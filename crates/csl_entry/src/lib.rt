@@ -1,5 +1,5 @@
-//! What an entry answers to a style: the trait for entries of any type, the answers of the
-//! built-in entry, and what a cite answers in its citation.
+//! The answers of entries and cites to a style: the trait for entries of any type, the answers of
+//! the built-in entry, and the answers of a cite in its citation.
 #![tactic(auto)]
 
 mod citation;

@@ -1,4 +1,4 @@
-//! What a cite answers to a number variable, and the order of such answers.
+//! The answers of a cite to number variables, and the order of such answers.
 
 ghost use Rattle.std.specs.Prelude.{◌≡◌, ◌↔◌, map, IfOk};
 ghost use Rattle.std.specs.Cmp.Lexicographic.{slice_cmp};
@@ -13,19 +13,19 @@ use std::alloc::Global;
 use std::borrow::Cow;
 use std::cmp::Ordering;
 
-/// What a cite answers to a number variable (CSL 1.0.2, Number Variables).
+/// The answer of a cite to a number variable (CSL 1.0.2, Number Variables).
 #[derive(PartialEq, Eq, Drop)]
 pub enum NumberVariableResult<'a> {
-    /// A number, or a text that is none.
+    /// A number, or a text that is not a number.
     Regular(MaybeTyped<Cow<'a, Numeric>>),
-    /// What the caller writes for the cite of that index.
+    /// A place for the text that the caller writes for the cite with this index.
     Transparent(usize),
 }
 
-/// What an entry answers to the page variable: pages, or a text that is none.
+/// The answer of an entry to the page variable: pages, or a text that is not pages.
 pub type PageVariableResult = MaybeTyped<PageRanges>;
 
-/// What a cite answers to a variable that holds a number or pages.
+/// The answer of a cite to a variable that holds a number or pages.
 #[derive(PartialEq, Eq, Drop)]
 pub enum NumberOrPageVariableResult<'a> {
     /// The answer to a number variable.
@@ -35,25 +35,26 @@ pub enum NumberOrPageVariableResult<'a> {
 }
 
 impl<'a> NumberVariableResult<'a> {
-    /// The answer of that number or text.
+    /// Returns the answer with this number or text.
     pub fn from_regular(number: MaybeTyped<Cow<'a, Numeric>>) -> NumberVariableResult<'a>
         ensures { result_view result ≡ regular (maybe_view (cow_view numeric_view) number.entry) }
     {
         NumberVariableResult::Regular(number)
     }
 
-    /// How the two answers stand in order (CSL 1.0.2, Sorting). A number stands before a text,
-    /// and both before what the caller writes. Numbers go by the list of them, so that `10` stands
-    /// after `9`, then by prefix and then by suffix, where an absent one comes first; what
-    /// separates the numbers does not count. Texts go by bytes, what the caller writes by index.
+    /// Compares two answers for sorting (CSL 1.0.2, Sorting). A number comes before a text, and
+    /// both come before a text that the caller writes. Numbers are ordered by their list of
+    /// numbers, so `10` comes after `9`, then by prefix and then by suffix, where an absent one
+    /// comes first. Separators do not count. Texts are ordered by bytes, and the caller's texts by
+    /// index.
     #[tactic(auto, using(crate::proofs::ResultOrder::csl_is_order, crate::proofs::ResultOrder::separators_aside))]
     pub fn csl_cmp(&self, other: &NumberVariableResult<'a>) -> Ordering
         ensures value { result ≡ csl_order (result_view self.now) (result_view other.now) }
 
-        // Swapping two answers reverses their order, and it carries over from one pair to the next.
+        // Swapping two answers reverses their order, and the order is transitive.
         ensures order { IsOrder csl_order }
 
-        // Two numbers stand at one place exactly where they differ in what separates them alone.
+        // Two numbers are equal in this order exactly if they are the same apart from separators.
         ensures separators { (v w : NumericView) → SameButSeparators v w
             ↔ (csl_order (regular (typed v)) (regular (typed w)) ≡ Ordering.Equal) }
     {
@@ -73,10 +74,10 @@ impl<'a> NumberVariableResult<'a> {
         }
     }
 
-    /// An equal value, which borrows the number where this one does.
+    /// Returns an equal value, which borrows its number exactly if this one does.
     ///
     /// # Errors
-    /// [`Memory`]: there was no memory left.
+    /// [`Memory`]: out of memory.
     pub fn clone(&self, alloc: Global) -> Result<NumberVariableResult<'a>, Memory>
         ensures value { IfOk result (λ copy. result_view copy ≡ result_view self.now) }
         ensures borrows { IfOk result (λ copy. is_borrowed copy ≡ is_borrowed self.now) }
@@ -101,10 +102,10 @@ impl<'a> NumberVariableResult<'a> {
 }
 
 impl<'a> NumberOrPageVariableResult<'a> {
-    /// An equal value.
+    /// Returns an equal value.
     ///
     /// # Errors
-    /// [`Memory`]: there was no memory left.
+    /// [`Memory`]: out of memory.
     pub fn clone(&self, alloc: Global) -> Result<NumberOrPageVariableResult<'a>, Memory>
         ensures { IfOk result (λ copy. number_or_page_view copy ≡ number_or_page_view self.now) }
     {
@@ -121,7 +122,7 @@ impl<'a> NumberOrPageVariableResult<'a> {
     }
 }
 
-/// How two numbers or texts stand in order.
+/// Compares two numbers or texts. A number comes before a text.
 fn compare_regular(a: &MaybeTyped<Cow<'_, Numeric>>, b: &MaybeTyped<Cow<'_, Numeric>>) -> Ordering
     ensures { result ≡ regular_order (maybe_view (cow_view numeric_view) a.now)
         (maybe_view (cow_view numeric_view) b.now) }
@@ -134,7 +135,7 @@ fn compare_regular(a: &MaybeTyped<Cow<'_, Numeric>>, b: &MaybeTyped<Cow<'_, Nume
     }
 }
 
-/// How two numbers stand in order: by their values, their prefixes and their suffixes.
+/// Compares two numbers by their values, then by prefix and then by suffix.
 fn compare_numerics(a: &Numeric, b: &Numeric) -> Ordering
     ensures { result ≡ numeric_order (numeric_view a.now) (numeric_view b.now) }
 {
@@ -143,7 +144,7 @@ fn compare_numerics(a: &Numeric, b: &Numeric) -> Ordering
         .then_with(|| a.suffix.cmp(&b.suffix))
 }
 
-/// How two values stand in order: by the lists of their numbers.
+/// Compares two values by the lists of their numbers.
 fn compare_values(a: &NumericValue, b: &NumericValue) -> Ordering
     ensures { result ≡ slice_cmp int_cmp (numbers (value_view a.now)) (numbers (value_view b.now)) }
 {
@@ -155,8 +156,8 @@ fn compare_values(a: &NumericValue, b: &NumericValue) -> Ordering
     }
 }
 
-/// How two lists stand in order by their numbers: the first that differ decide, and a list that
-/// ends comes first.
+/// Compares two lists by their numbers: the first two that differ decide. A list comes before a
+/// longer one that it begins.
 fn compare_lists(
     a: &[(i32, Option<NumericDelimiter>)],
     b: &[(i32, Option<NumericDelimiter>)],

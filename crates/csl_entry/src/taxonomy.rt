@@ -1,4 +1,5 @@
-//! What a style may ask of an entry (CSL 1.0.2, Appendix III: Types; Appendix IV: Variables).
+//! The trait for entries: their answers to a style (CSL 1.0.2, Appendix III: Types; Appendix IV:
+//! Variables).
 
 use csl_style::{DateVariable, Kind, NameVariable, NumberVariable, PageVariable, StandardVariable};
 use lit_model::{
@@ -7,9 +8,9 @@ use lit_model::{
 use std::alloc::Global;
 use std::borrow::{Cow, CowStr};
 
-/// Anything that a style can be rendered for. Each answer is a function of the value, given by
-/// the ghost member `answers`; the key and the language stand apart, and nothing that is printed
-/// depends on them.
+/// An entry that a style can be rendered for. Each answer is a function of the value, which the
+/// ghost member `answers` defines. The key and the language are not among the answers, and no
+/// rendering asks for them.
 pub trait EntryLike {
     ghost use Rattle.std.specs.Prelude.{◌≡◌, ℕ, Bool, List, Option, IfOk, map, option_map};
     ghost use Rattle.std.specs.Cow.{cow_str_bytes};
@@ -27,10 +28,10 @@ pub trait EntryLike {
 
     ghost english: { Self → Option Bool };
 
-    /// The number, or its text where it is no number (CSL 1.0.2, Number Variables).
+    /// Returns the number, or the text if it is not a number (CSL 1.0.2, Number Variables).
     ///
     /// # Errors
-    /// [`Memory`]: there was no memory left.
+    /// [`Memory`]: out of memory.
     fn resolve_number_variable(
         &self,
         alloc: Global,
@@ -39,10 +40,10 @@ pub trait EntryLike {
         ensures { IfOk result (λ found. option_map (maybe_view (cow_view numeric_view)) found
             ≡ (answers self.now).numbers variable) };
 
-    /// The pages, or their text where they are none.
+    /// Returns the pages, or the text if it is not pages.
     ///
     /// # Errors
-    /// [`Memory`]: there was no memory left.
+    /// [`Memory`]: out of memory.
     fn resolve_page_variable(
         &self,
         alloc: Global,
@@ -51,10 +52,10 @@ pub trait EntryLike {
         ensures { IfOk result (λ found. option_map (maybe_view pages_view) found
             ≡ (answers self.now).pages variable) };
 
-    /// The text, in a form where it has several (CSL 1.0.2, Standard Variables).
+    /// Returns the text in the requested form (CSL 1.0.2, Standard Variables).
     ///
     /// # Errors
-    /// [`Memory`]: there was no memory left.
+    /// [`Memory`]: out of memory.
     fn resolve_standard_variable(
         &self,
         alloc: Global,
@@ -64,10 +65,11 @@ pub trait EntryLike {
         ensures { IfOk result (λ found. option_map (cow_view chunks) found
             ≡ (answers self.now).standards form variable) };
 
-    /// The persons, in order; none where there are none (CSL 1.0.2, Name Variables).
+    /// Returns the persons in order, or an empty list if there are none (CSL 1.0.2, Name
+    /// Variables).
     ///
     /// # Errors
-    /// [`Memory`]: there was no memory left.
+    /// [`Memory`]: out of memory.
     fn resolve_name_variable(
         &self,
         alloc: Global,
@@ -76,10 +78,10 @@ pub trait EntryLike {
         ensures { IfOk result (λ found. map (cow_view person_view) found.items
             ≡ (answers self.now).names variable) };
 
-    /// The date (CSL 1.0.2, Date Variables).
+    /// Returns the date (CSL 1.0.2, Date Variables).
     ///
     /// # Errors
-    /// [`Memory`]: there was no memory left.
+    /// [`Memory`]: out of memory.
     fn resolve_date_variable(
         &self,
         alloc: Global,
@@ -88,15 +90,16 @@ pub trait EntryLike {
         ensures { IfOk result (λ found. option_map (cow_view date_view) found
             ≡ (answers self.now).dates variable) };
 
-    /// Whether the entry is of that kind (CSL 1.0.2, Types). It may be of several, or of none.
+    /// Whether the entry is of this kind (CSL 1.0.2, Types). It may be of several kinds, or of
+    /// none.
     fn matches_entry_type(&self, kind: Kind) -> bool
         ensures { result ≡ (answers self.now).kinds kind };
 
-    /// Whether it is in English, where its language is known.
+    /// Whether the entry is in English, or `None` if its language is unknown.
     fn is_english(&self) -> Option<bool>
         ensures { result ≡ english self.now };
 
-    /// The key that cites it.
+    /// The key by which the entry is cited.
     fn key(&self) -> CowStr<'_, Global>
         ensures { cow_str_bytes result ≡ key_text self.now };
 }

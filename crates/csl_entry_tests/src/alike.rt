@@ -1,4 +1,4 @@
-//! Entries that answer alike what is named, of one type and of two.
+//! Entries that answer the named variables and kinds alike, of one type and of two.
 
 use crate::asked::{assert_answer, only};
 use crate::described::described;
@@ -27,7 +27,7 @@ const AUTHOR_AND_DATE: &[Variable] = &[
     Variable::Date(DateVariable::Issued),
 ];
 
-/// What a reference of a work in a journal names.
+/// The variables that a reference to a work in a journal names.
 const REFERENCE: &[Variable] = &[
     Variable::Name(NameVariable::Author),
     Variable::Name(NameVariable::Editor),
@@ -43,17 +43,17 @@ const ALIKE: &str = "alike";
 
 const NOT_ALIKE: &str = "not alike";
 
-/// Two entries, the variables that are named, and whether they answer alike.
+/// Two entries, the named variables, and whether the entries answer them alike.
 static ROWS: [(&str, &str, &[Variable], &str); 22] = [
     ("book; title T|S", "web; title T|S", TITLE, ALIKE),
-    // Each form counts.
+    // Both forms count.
     ("book; title T|S", "book; title T|U", TITLE, NOT_ALIKE),
     ("book; title T|S", "book; title U|S", TITLE, NOT_ALIKE),
     ("book; title T", "book; title T|T", TITLE, ALIKE),
     ("book; title T", "book; title T|S", TITLE, NOT_ALIKE),
     ("book; title T", "book; title `T", TITLE, NOT_ALIKE),
     ("book; title T", "book", TITLE, NOT_ALIKE),
-    // What is not named does not.
+    // Other variables do not count.
     ("book; title T", "book; title U", &[], ALIKE),
     ("book; title T", "book; title U", VOLUME, ALIKE),
     ("book; volume 9", "book; volume 9", VOLUME, ALIKE),
@@ -125,14 +125,14 @@ static WORKS: [&str; 4] = [
      date 2015; in blog; title Aeon",
 ];
 
-/// A kind that is named, and whether a book and a web site are alike in it.
+/// A named kind, and whether a book and a web site are alike in it.
 static KINDS: [(Kind, &str); 3] = [
     (Kind::Book, NOT_ALIKE),
     (Kind::Webpage, NOT_ALIKE),
     (Kind::Song, ALIKE),
 ];
 
-/// Adds a variable to what is named.
+/// Adds a variable to the named ones.
 fn name(named: &mut Named, variable: Variable) -> Result<(), Memory> {
     match variable {
         Variable::Number(v) => {
@@ -154,7 +154,7 @@ fn name(named: &mut Named, variable: Variable) -> Result<(), Memory> {
     Ok(())
 }
 
-/// The set of some variables, and perhaps a kind.
+/// The sets of these variables, with a kind if there is one.
 fn named(alloc: Global, variables: &[Variable], kind: Option<Kind>) -> Result<Named, Memory> {
     let mut named = Named {
         numbers: BTreeSet::new(alloc),
@@ -173,7 +173,7 @@ fn named(alloc: Global, variables: &[Variable], kind: Option<Kind>) -> Result<Na
     Ok(named)
 }
 
-/// Whether the two answer alike.
+/// Whether the two entries answer alike.
 fn compared<T: EntryLike, U: EntryLike>(
     alloc: Global,
     left: &T,
@@ -186,7 +186,7 @@ fn compared<T: EntryLike, U: EntryLike>(
     Ok(if alike { ALIKE } else { NOT_ALIKE })
 }
 
-/// Whether the work that is described answers alike to another.
+/// Whether an entry and a described entry answer alike.
 fn compared_with<T: EntryLike>(
     alloc: Global,
     left: &T,
@@ -244,7 +244,8 @@ fn four_works_are_alike_each_with_itself(rt: HostRuntime) -> Result<(), Fail> {
     Ok(())
 }
 
-/// An entry of another type that says `Crazy Rich Asians` to each text and nothing of persons.
+/// Two entries of different types. The sample answers each text with `Crazy Rich Asians`, and has
+/// no persons.
 #[test]
 fn entries_of_two_types(rt: HostRuntime) -> Result<(), Fail> {
     let alloc = rt.alloc();

@@ -1,4 +1,4 @@
-//! What an entry answers, in words.
+//! Answers of an entry as text.
 
 use crate::asserted::assert_of;
 use csl_entry::NumberVariableResult;
@@ -8,12 +8,12 @@ use std::borrow::Cow;
 use std::process::Abort;
 use std::test::Fail;
 
-/// Asserts that this is the answer to what was asked.
+/// Asserts the answer to a query.
 pub fn assert_answer(rt: &impl Abort, answer: &str, wanted: &str, asked: &str) {
     assert_of(rt, &answer, &wanted, &asked);
 }
 
-/// The number; behind `'` a text that is no number; and `none` where there is no answer.
+/// The number as text, or `'` and the text if it is not a number, or `none` if there is no answer.
 pub fn number_said(
     alloc: Global,
     found: Option<&MaybeTyped<Cow<'_, Numeric>>>,
@@ -25,8 +25,8 @@ pub fn number_said(
     }
 }
 
-/// The answer of a cite to a number variable, in words; after `@` the index of what the caller
-/// writes.
+/// The answer of a cite to a number variable, as text. For a text that the caller writes, it is `@`
+/// and the index.
 pub fn result_said(
     alloc: Global,
     found: Option<&NumberVariableResult<'_>>,
@@ -38,8 +38,8 @@ pub fn result_said(
     }
 }
 
-/// The pieces, with `+` between them, each behind the mark of its kind: a backtick for `Verbatim`,
-/// `$` for `Math`. It is `none` where there is no answer.
+/// The chunks with `+` between them, and the mark of its kind before each: a backtick for
+/// `Verbatim`, `$` for `Math`. Without an answer, it is `none`.
 pub fn text_said(alloc: Global, found: Option<&ChunkedString>) -> Result<String, Fail> {
     let Some(found) = found else {
         return Ok(String::from_str(alloc, "none")?);
@@ -63,7 +63,7 @@ fn mark_of(kind: ChunkKind) -> &'static str {
     }
 }
 
-/// What was found, wherever it lies.
+/// The value that was found, whether it is borrowed or owned.
 pub fn borrowed<'a, T: Drop>(found: &'a Option<Cow<'_, T>>) -> Option<&'a T> {
     match found {
         Some(value) => Some(value.as_ref()),

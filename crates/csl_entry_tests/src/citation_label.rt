@@ -8,7 +8,7 @@ use std::alloc::Global;
 use std::process::Abort;
 use std::test::Fail;
 
-/// Whether the two make labels alike: they do where they take as many letters.
+/// Whether the rules for labels are equal: exactly if they take the same number of letters.
 fn same_way(a: Alphanumerical, b: Alphanumerical) -> bool
     ensures { IsTrue result ↔ (a ≡ b) }
 {
@@ -29,7 +29,7 @@ fn label(alloc: Global, letters: usize, description: &str) -> Result<String, Fai
     Ok(label)
 }
 
-/// Asserts the label of that many letters.
+/// Asserts the label with this number of letters.
 fn assert_letters(
     rt: &impl Abort,
     alloc: Global,
@@ -42,14 +42,14 @@ fn assert_letters(
     Ok(())
 }
 
-/// A description, and the label of three letters: three of one creator, the first of each of two or
-/// three, and those of a text or of the key where there is none.
+/// A description, and its label of three letters. One creator gives three letters, and two or three
+/// give the first letter of each. Without a creator, the letters are those of a text or of the key.
 static LABELS: [(&str, &str); 33] = [
     // One creator gives three letters.
     ("book; date 2014; authors Kwan", "Kwa14"),
     ("book; date 2015; authors Ungard-Sargon", "Ung15"),
     ("book; date 1961; authors Gross", "Gro61"),
-    // More give a letter each, or a plus.
+    // Two or three give one letter each. Four or more give three letters of the first, and a plus.
     ("book; date 2014; authors Kwan, Gross", "KG14"),
     (
         "book; date 1987; authors Ferrante, Ottenstein, Warren",
@@ -59,24 +59,23 @@ static LABELS: [(&str, &str); 33] = [
         "book; date 1987; authors Ferrante, Ottenstein, Warren, Kwan",
         "Fer+87",
     ),
-    // A text stands in for creators.
-    // Of the key the letters alone count.
+    // Without creators, the letters are those of a text. Of the key, only the letters count.
     ("book; key x1-yz2w", "xyz"),
     ("book; key x1-yz2w; title Na+ture", "Nat"),
     ("book; key x1-yz2w; title Na+ture; organization +Who", "Who"),
-    // A list of authors that is there and empty names no creator.
+    // An empty list of authors names no creator.
     (
         "book; key x1-yz2w; title Na+ture; organization +Who; authors",
         "Who",
     ),
-    // Years are two digits.
+    // Years have two digits.
     ("book; date 2005; authors Kwan", "Kwa05"),
     ("book; date 2000; authors Kwan", "Kwa00"),
-    // The year before the year 1.
+    // Year 0 and earlier years: the last two digits, plus one.
     ("book; date 0; authors Kwan", "Kwa01"),
     ("book; date -1; authors Kwan", "Kwa02"),
     ("book; date -99; authors Kwan", "Kwa100"),
-    // Without a date the visit counts.
+    // Without a date, the year of the visit counts.
     (
         "book; date 2014; authors Kwan; url https://aeon.co/essays 2021",
         "Kwa14",
@@ -104,20 +103,20 @@ static LABELS: [(&str, &str); 33] = [
         "book; translator Tom; director Dan; editors Ann, Ben; authors Cid",
         "Cid",
     ),
-    // A list of authors counts though it is empty.
+    // An empty list of authors counts, so editors are ignored.
     (
         "book; translator Tom; director Dan; editors Ann; authors",
         "key",
     ),
-    // A book is by its compilers or translators.
+    // A book is by its compilers, else by its translators.
     ("book; translator Tom; director Dan", "Tom"),
     ("book; translator Tom; director Dan; compiler Cora", "Cor"),
-    // A video is by its directors or executive producers.
+    // A video is by its directors, else by its executive producers.
     (
         "video; executive-producer Eve; executive-producer Eli; director Dan",
         "Dan",
     ),
-    // A writer alone makes an episode, and no other video.
+    // A writer counts for an episode only.
     ("video; executive-producer Eve; writer Wes", "Eve"),
     // An episode is by its directors and writers.
     (
@@ -128,12 +127,12 @@ static LABELS: [(&str, &str); 33] = [
         "video; issue 3; volume 1; writer Wes; director Dan; in video; executive-producer Sue",
         "DW",
     ),
-    // It is else by those of its series.
+    // Without these, it is by the executive producers of its series.
     (
         "video; issue 3; volume 1; executive-producer Own; in video; executive-producer Sue",
         "Sue",
     ),
-    // Without an issue it is a video like any other.
+    // Without an issue, it is a video like any other.
     (
         "video; volume 1; executive-producer Own; in video; executive-producer Sue",
         "Own",

@@ -12,7 +12,7 @@ use std::test::Fail;
 
 const FIVE: LocatorPayload<'static> = LocatorPayload::Str("5");
 
-/// The kind and the payload of a locator, and whether it is page 5.
+/// The kind and the payload of a locator, and whether it is equal to page 5.
 type LocatorRow = (Locator, LocatorPayload<'static>, bool);
 
 static LOCATORS: [LocatorRow; 4] = [
@@ -40,7 +40,7 @@ const TITLE: SpecialForm = SpecialForm::VarOnly(Variable::Standard(StandardVaria
 
 const NOTE: SpecialForm = SpecialForm::VarOnly(Variable::Standard(StandardVariable::Note));
 
-/// Two parts of a cite that are shown, and whether they are one.
+/// Two special forms of a cite, and whether they are equal.
 static FORMS: [(SpecialForm, SpecialForm, bool); 4] = [
     (TITLE, TITLE, true),
     (TITLE, NOTE, false),
@@ -64,7 +64,7 @@ fn what_belongs_to_a_cite_is_told_apart(rt: HostRuntime) {
     }
 }
 
-/// What tells a cite from others.
+/// A kind of disambiguation.
 #[derive(Clone, Copy, Debug)]
 pub enum Told {
     ByNothing,
@@ -73,7 +73,8 @@ pub enum Told {
     BySuffix(u16),
 }
 
-/// The state of a cite that is told so, where by names by those of the author.
+/// The state of a cite that is disambiguated in this way. For names, the names are those of the
+/// author.
 pub fn state(alloc: Global, told: Told) -> Result<DisambiguateState, Memory> {
     match told {
         Told::ByNothing => Ok(DisambiguateState::None),
@@ -88,7 +89,7 @@ pub fn state(alloc: Global, told: Told) -> Result<DisambiguateState, Memory> {
     }
 }
 
-/// What a state is, and the number that it holds: of variables, or of a year suffix.
+/// The name of a state, and a number: how many variables it has, or its year suffix, else 0.
 fn said(state: &DisambiguateState) -> (&'static str, usize) {
     match state {
         DisambiguateState::None => ("none", 0),
@@ -110,7 +111,7 @@ fn copy_said(alloc: Global, told: Told) -> Result<(&'static str, usize), Memory>
     Ok(said)
 }
 
-/// What tells a cite from others, and what its state is.
+/// A kind of disambiguation, and the name and the number of its state.
 static STATES: [(Told, (&str, usize)); 5] = [
     (Told::ByNothing, ("none", 0)),
     (Told::ByChoice, ("choose", 0)),
@@ -138,7 +139,7 @@ fn a_copy_of_each_state(rt: HostRuntime) -> Result<(), Memory> {
     Ok(())
 }
 
-/// The third cite that was handed in, on page 5.
+/// The third cite that the caller handed in, on page 5.
 fn on_page_five() -> Result<CiteProperties<'static>, Fail> {
     Ok(CiteProperties {
         certain: CertainCiteProperties {
@@ -156,15 +157,15 @@ fn on_page_five() -> Result<CiteProperties<'static>, Fail> {
     })
 }
 
-/// What a citation says for good: the note, whether the cite is the first and near a note, and its
-/// index.
+/// The certain properties of a cite: the first note of its entry, whether it is the entry's first
+/// cite, whether a near note cites the entry, and its index.
 type Certain = (Option<NoteNumber>, bool, bool, usize);
 
-/// What a citation may say anew of a cite: its disambiguation, its place, its number and how it
-/// relates to the cite before it.
+/// The speculative properties of a cite: the name of its disambiguation, its locator, its number,
+/// and its relation to the cite before it.
 type Speculative<'s> = (&'static str, Option<SpecificLocator<'s>>, u32, IbidState);
 
-/// What a citation says of a cite.
+/// All properties of a cite.
 fn all_said<'s>(cite: &CiteProperties<'s>) -> (Certain, Speculative<'s>) {
     let (certain, speculative) = (cite.certain, &cite.speculative);
     let (state, _) = said(&speculative.disambiguation);
@@ -184,7 +185,7 @@ fn all_said<'s>(cite: &CiteProperties<'s>) -> (Certain, Speculative<'s>) {
     )
 }
 
-/// The properties of the first cite of an entry that a choice of the style disambiguates.
+/// The properties of a first cite that branches of the style disambiguate.
 fn said_of_the_first() -> (Certain, Speculative<'static>) {
     let cite = CiteProperties::first(DisambiguateState::Choose);
     let said = all_said(&cite);

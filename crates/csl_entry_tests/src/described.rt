@@ -1,13 +1,13 @@
-//! Entries made from a short description.
+//! Entries from a short description.
 //!
-//! A description has clauses, with `; ` between them. The first is the type of the entry, and each
-//! that follows says one thing of it: `chapter; volume 9; authors Ann, Ben`. `in book` begins the
-//! work that the one before is a part of, and `also periodical` a further work that the entry
-//! itself is a part of. What follows is said of that work.
+//! A description has clauses, with `; ` between them. The first clause is the type of the entry,
+//! and each of the others sets a field: `chapter; volume 9; authors Ann, Ben`. `in book` begins the
+//! work that contains the one before it. `also periodical` begins a further work that contains the
+//! entry itself. The clauses after these set fields of that work.
 //!
-//! A number is written as it is, and after `'` where it is a text that is no number. A text has
-//! pieces, with `+` between them, and after `|` its short form; a piece of `Verbatim` kind begins
-//! with a backtick, and one of `Math` kind with `$`.
+//! A number is written as it is, and a text that is not a number after `'`. A text has chunks, with
+//! `+` between them, and its short form after `|`. A chunk of the kind `Verbatim` begins with a
+//! backtick, and one of the kind `Math` with `$`.
 
 use lit_model::{
     ChunkKind, ChunkedString, Date, Entry, EntryType, FormatString, LanguageIdentifier, MaybeTyped,
@@ -19,8 +19,8 @@ use std::collections::BTreeMap;
 use std::test::Fail;
 use url::Url;
 
-/// The entry that is described, alone in a list: what holds the list is quicker to prove than what
-/// holds the entry.
+/// The described entry, alone in a list. Code that holds the list is quicker to prove than code
+/// that holds the entry.
 pub fn described(alloc: Global, description: &str) -> Result<Vec<Entry>, Fail> {
     let mut chains = description.split("; also ");
     let first = chains.next().unwrap_or("");
@@ -35,7 +35,7 @@ pub fn described(alloc: Global, description: &str) -> Result<Vec<Entry>, Fail> {
     part_of(alloc, own, wholes)
 }
 
-/// The first of the works, each a part of the next.
+/// The first of these works, each of which is a part of the next.
 fn chain(alloc: Global, works: &str) -> Result<Vec<Entry>, Fail> {
     let mut chain = Vec::new(alloc);
     for clauses in works.rsplit("; in ") {
@@ -54,7 +54,7 @@ fn part_of(alloc: Global, clauses: &str, wholes: Vec<Entry>) -> Result<Vec<Entry
     Ok(works)
 }
 
-/// Says all that the clauses say of the work.
+/// Sets the fields of the work that the clauses name.
 fn state_all(alloc: Global, work: &mut Entry, clauses: &str) -> Result<(), Fail> {
     for clause in clauses.split("; ") {
         let (word, value) = clause.split_once(' ').unwrap_or((clause, ""));
@@ -70,19 +70,19 @@ pub fn alone<T: Drop>(alloc: Global, item: T) -> Result<Vec<T>, Memory> {
     Ok(items)
 }
 
-/// Adds an item to a list.
+/// Appends an item to a list.
 pub fn put<T: Drop>(items: &mut Vec<T>, item: T) -> Result<(), Memory> {
     Ok(items.push(item)?)
 }
 
-/// A work of that type, a part of these.
+/// A work of this type, as a part of other works.
 fn bare(alloc: Global, kind: EntryType, wholes: Vec<Entry>) -> Result<Vec<Entry>, Memory> {
     let mut work = Entry::new(alloc, "key", kind)?;
     work.parents = wholes;
     alone(alloc, work)
 }
 
-/// Sets the field of a work that a word names.
+/// Sets the field of the work that a word names.
 fn state(alloc: Global, work: &mut Entry, word: &str, value: &str) -> Result<(), Fail> {
     if state_text(alloc, work, word, value)?
         || state_number(alloc, work, word, value)?
@@ -93,7 +93,7 @@ fn state(alloc: Global, work: &mut Entry, word: &str, value: &str) -> Result<(),
     state_rest(alloc, work, word, value)
 }
 
-/// Says a text of the work, where the word is one's.
+/// Sets a text of the work if the word names one. Returns whether it does.
 fn state_text(alloc: Global, work: &mut Entry, word: &str, value: &str) -> Result<bool, Fail> {
     match text_field(work, word) {
         Some(field) => *field = Some(text(alloc, value)?),
@@ -102,7 +102,8 @@ fn state_text(alloc: Global, work: &mut Entry, word: &str, value: &str) -> Resul
     Ok(true)
 }
 
-/// Says a number of the work, or how many of its parts there are, where the word is one's.
+/// Sets a number of the work, or its number of volumes or pages, if the word names one. Returns
+/// whether it does.
 fn state_number(alloc: Global, work: &mut Entry, word: &str, value: &str) -> Result<bool, Fail> {
     match word {
         "volumes" => work.volume_total = Some(Numeric::new(integer(value)?)),
@@ -115,7 +116,7 @@ fn state_number(alloc: Global, work: &mut Entry, word: &str, value: &str) -> Res
     Ok(true)
 }
 
-/// Says persons of the work, where the word is theirs.
+/// Sets persons of the work if the word names them. Returns whether it does.
 fn state_persons(alloc: Global, work: &mut Entry, word: &str, value: &str) -> Result<bool, Fail> {
     match word {
         "authors" => work.authors = Some(persons(alloc, value)?),
@@ -128,7 +129,7 @@ fn state_persons(alloc: Global, work: &mut Entry, word: &str, value: &str) -> Re
     Ok(true)
 }
 
-/// Says what no field of a sort holds.
+/// Sets a field that is neither a text, a number nor persons.
 fn state_rest(alloc: Global, work: &mut Entry, word: &str, value: &str) -> Result<(), Fail> {
     match word {
         "key" => work.key = String::from_str(alloc, value)?,
@@ -143,7 +144,7 @@ fn state_rest(alloc: Global, work: &mut Entry, word: &str, value: &str) -> Resul
     Ok(())
 }
 
-/// The field of that name, where it holds a text.
+/// The field of this name, if it holds a text.
 fn text_field<'e>(work: &'e mut Entry, name: &str) -> Option<&'e mut Option<FormatString>> {
     match name {
         "title" => Some(&mut work.title),
@@ -160,7 +161,7 @@ fn text_field<'e>(work: &'e mut Entry, name: &str) -> Option<&'e mut Option<Form
     }
 }
 
-/// The field of that name, where it holds a number.
+/// The field of this name, if it holds a number.
 fn number_field<'e>(
     work: &'e mut Entry,
     name: &str,
@@ -174,7 +175,7 @@ fn number_field<'e>(
     }
 }
 
-/// The text of these pieces, with its short form where it has one.
+/// The text with these chunks, and with its short form if it has one.
 pub fn text(alloc: Global, text: &str) -> Result<FormatString, Fail> {
     let Some((long, short)) = text.split_once('|') else {
         let value = pieces(alloc, text)?;
@@ -188,7 +189,7 @@ pub fn text(alloc: Global, text: &str) -> Result<FormatString, Fail> {
     })
 }
 
-/// The text of the chunks that a text describes.
+/// The text of the chunks that `text` describes.
 pub fn pieces(alloc: Global, text: &str) -> Result<ChunkedString, Fail> {
     let mut chunks = Vec::new(alloc);
     for piece in text.split('+') {
@@ -199,7 +200,7 @@ pub fn pieces(alloc: Global, text: &str) -> Result<ChunkedString, Fail> {
     Ok(ChunkedString(chunks))
 }
 
-/// The kind of a piece, and the piece without the mark of its kind.
+/// The kind of a chunk, and the chunk without the mark of its kind.
 fn kind_of(piece: &str) -> (ChunkKind, &str) {
     if let Some(verbatim) = piece.strip_prefix('`') {
         return (ChunkKind::Verbatim, verbatim);
@@ -233,7 +234,7 @@ fn date(year: &str) -> Result<Option<Date>, Fail> {
     Ok(Date::new(integer(year)?, None, None, None, false))
 }
 
-/// An address, and the year in which it was visited where that stands behind it.
+/// An address, and the year of the visit if one comes after it.
 fn address(alloc: Global, value: &str) -> Result<QualifiedUrl, Fail> {
     let Some((address, year)) = value.split_once(' ') else {
         return Ok(QualifiedUrl {
@@ -247,7 +248,7 @@ fn address(alloc: Global, value: &str) -> Result<QualifiedUrl, Fail> {
     })
 }
 
-/// A name and, behind `|`, a place; with neither, a publisher of whom nothing is known.
+/// A publisher with the name before `|` and the place after it. Without `|`, it has neither.
 fn publisher(alloc: Global, value: &str) -> Result<Publisher, Fail> {
     let Some((name, place)) = value.split_once('|') else {
         return Ok(Publisher {
@@ -263,7 +264,7 @@ fn publisher(alloc: Global, value: &str) -> Result<Publisher, Fail> {
     })
 }
 
-/// A language and, behind `-`, a region.
+/// A language, and the region after `-` if there is one.
 fn language(alloc: Global, value: &str) -> Result<LanguageIdentifier, Fail> {
     let Some((language, region)) = value.split_once('-') else {
         let language = String::from_str(alloc, value)?;
@@ -280,7 +281,7 @@ fn language(alloc: Global, value: &str) -> Result<LanguageIdentifier, Fail> {
     })
 }
 
-/// Adds the number under its scheme, which is the first word.
+/// Adds a serial number. The first word is its scheme.
 fn add_serial(alloc: Global, work: &mut Entry, value: &str) -> Result<(), Fail> {
     let (scheme, number) = value.split_once(' ').unwrap_or((value, ""));
     let mut numbers = match work.serial_number.take() {
@@ -294,7 +295,7 @@ fn add_serial(alloc: Global, work: &mut Entry, value: &str) -> Result<(), Fail> 
     Ok(())
 }
 
-/// The persons, with `, ` between them; nobody where there is no name.
+/// The persons of these names, with `, ` between the names. An empty text names nobody.
 fn persons(alloc: Global, names: &str) -> Result<Vec<Person>, Fail> {
     let mut persons = Vec::new(alloc);
     if names.is_empty() {
@@ -306,7 +307,7 @@ fn persons(alloc: Global, names: &str) -> Result<Vec<Person>, Fail> {
     Ok(persons)
 }
 
-/// A person of this name and, behind `/`, this given name.
+/// A person of this name, with the given name after `/`. Without `/`, an institution.
 fn person(alloc: Global, name: &str) -> Result<Person, Fail> {
     match name.split_once('/') {
         Some((name, given)) => Ok(Person::new(alloc, name, given)?),
@@ -314,7 +315,7 @@ fn person(alloc: Global, name: &str) -> Result<Person, Fail> {
     }
 }
 
-/// Adds a group of persons of that role.
+/// Adds a group of persons of this role.
 fn affiliate(alloc: Global, work: &mut Entry, role: PersonRole, names: &str) -> Result<(), Fail> {
     let names = persons(alloc, names)?;
     let mut groups = match work.affiliated.take() {

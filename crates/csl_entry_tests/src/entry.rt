@@ -1,4 +1,4 @@
-//! What an `Entry` answers.
+//! The answers of an `Entry`.
 
 mod date;
 mod kind;

@@ -19,8 +19,8 @@ use std::borrow::{Cow, CowStr};
 use std::process::Abort;
 use std::test::Fail;
 
-/// An entry that answers the same to each variable of a sort: a number, pages, or a text. It has
-/// no names and no dates.
+/// An entry with one number for all number variables, one value for all page variables, and one
+/// text for all text variables. It has no names and no dates.
 #[derive(Drop)]
 pub struct Sample {
     number: Numeric,
@@ -103,7 +103,7 @@ impl EntryLike for Sample {
     }
 }
 
-/// Number 20, page 7 and a text of these pieces, alone in a list.
+/// A sample with number 20, page 7 and a text of these chunks, alone in a list.
 pub fn samples(alloc: Global, text: &str) -> Result<Vec<Sample>, Fail> {
     let pages = PageRanges::parse(alloc, "7")?;
     let text = pieces(alloc, text)?;
@@ -115,7 +115,8 @@ pub fn samples(alloc: Global, text: &str) -> Result<Vec<Sample>, Fail> {
     Ok(alone(alloc, sample)?)
 }
 
-/// The third cite that was handed in, of citation number 4; where it has a locator, to a page.
+/// The third cite that the caller handed in, with citation number 4. Its locator, if it has one, is
+/// a page.
 pub fn cited<'s>(
     first_note_number: Option<NoteNumber>,
     page: Option<LocatorPayload<'s>>,
@@ -157,8 +158,8 @@ fn instance<'s>(
     }
 }
 
-/// The number that the cite answers; behind `'` a text that is no number; behind `@` the index of
-/// what the caller writes; and `none` where there is no answer.
+/// The number that the cite answers, as text: `'` and the text if it is not a number, `@` and the
+/// index of a text that the caller writes, or `none` if there is no answer.
 fn number(
     alloc: Global,
     first_note_number: Option<NoteNumber>,
@@ -172,7 +173,7 @@ fn number(
     number
 }
 
-/// The number that the cite answers with these properties.
+/// The number that a cite with these properties answers, as text.
 fn number_in<'s>(
     alloc: Global,
     samples: &'s [Sample],
@@ -195,13 +196,13 @@ fn numbers_of_the_citation_and_of_the_entry(rt: HostRuntime) -> Result<(), Fail>
         (six, None, NumberVariable::FirstReferenceNoteNumber, "6"),
         (six, None, locator, "none"),
         (None, None, NumberVariable::FirstReferenceNoteNumber, "none"),
-        // All else is asked of the entry.
+        // The entry answers all other variables.
         (None, None, NumberVariable::Volume, "20"),
         (None, Some(LocatorPayload::Str(" 12")), locator, "12"),
         (None, Some(LocatorPayload::Str("12 b")), locator, "'12 b"),
         (None, Some(LocatorPayload::Str("x")), locator, "'x"),
         (None, Some(LocatorPayload::Str("")), locator, "'"),
-        // The caller writes it.
+        // The caller writes the locator.
         (None, Some(LocatorPayload::Transparent), locator, "@2"),
     ] {
         let number = number(rt.alloc(), note, page, variable)?;
@@ -210,10 +211,10 @@ fn numbers_of_the_citation_and_of_the_entry(rt: HostRuntime) -> Result<(), Fail>
     Ok(())
 }
 
-/// A number, and what separates it from the next.
+/// A number, and the separator after it.
 type Separated = (i32, Option<NumericDelimiter>);
 
-/// The two numbers of a locator, where it is a list of two.
+/// The two numbers of a locator, if it is a list of two.
 fn two_numbers(alloc: Global, page: &str) -> Result<Option<(Separated, Separated)>, Fail> {
     let samples = samples(alloc, "`Nature")?;
     let props = cited(
@@ -226,7 +227,7 @@ fn two_numbers(alloc: Global, page: &str) -> Result<Option<(Separated, Separated
     numbers
 }
 
-/// The two numbers of a locator, where it is a list of two, from the properties of the cite.
+/// The two numbers of the locator of a cite with these properties, if it is a list of two.
 fn two_numbers_in<'s>(
     alloc: Global,
     samples: &'s [Sample],
@@ -239,7 +240,7 @@ fn two_numbers_in<'s>(
     Ok(numbers)
 }
 
-/// The numbers that were found, where they are two.
+/// The found numbers, if they are two.
 fn two_of(found: &Option<NumberVariableResult<'_>>) -> Option<(Separated, Separated)> {
     let Some(NumberVariableResult::Regular(MaybeTyped::Typed(number))) = found else {
         return None;
@@ -264,7 +265,7 @@ fn a_locator_of_two_numbers(rt: HostRuntime) -> Result<(), Fail> {
     Ok(())
 }
 
-/// The text that a copy of the cite answers, with the marks of its pieces.
+/// The text that a copy of the cite answers, with the marks of its chunks.
 fn text_in<'s>(
     alloc: Global,
     samples: &'s [Sample],
@@ -279,7 +280,7 @@ fn text_in<'s>(
     text
 }
 
-/// The text that the cite answers where entries are told apart in this way.
+/// The text that a cite with this disambiguation answers.
 fn text(
     alloc: Global,
     told: Told,
@@ -320,7 +321,7 @@ const SHORT: LongShortForm = LongShortForm::Short;
 
 const SUFFIX: StandardVariable = StandardVariable::YearSuffix;
 
-/// What tells entries apart, the form, the variable, and the text.
+/// A kind of disambiguation, the form, the variable, and the text.
 type TextRow = (Told, LongShortForm, StandardVariable, &'static str);
 
 static TEXTS: [TextRow; 6] = [
@@ -329,7 +330,7 @@ static TEXTS: [TextRow; 6] = [
     (Told::ByNames, LONG, SUFFIX, "none"),
     (Told::ByChoice, LONG, SUFFIX, "none"),
     (Told::ByNothing, LONG, SUFFIX, "none"),
-    // All else is asked of the entry.
+    // The entry answers all other variables.
     (Told::BySuffix(0), LONG, StandardVariable::Title, "`Nature"),
 ];
 

@@ -19,7 +19,7 @@ fn language(
     Ok(LanguageIdentifier { language, region })
 }
 
-/// The language, as a style prints it.
+/// The language in the form that a style prints.
 fn printed(alloc: Global, name: &str, region: Option<&str>) -> Result<String, Fail> {
     let language = language(alloc, name, region)?;
     let printed = csl_language(alloc, &language)?;

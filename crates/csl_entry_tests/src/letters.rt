@@ -4,7 +4,7 @@ use std::alloc::Global;
 use std::process::Abort;
 use std::test::Fail;
 
-/// The words of 0 to 255, by length and then by alphabet.
+/// The letters of the year suffixes 0 to 255, by length and then by alphabet.
 static FIRST: [&str; 256] = [
     "a", "b", "c", "d", "e", "f", "g", "h", "i", "j", "k", "l", "m", "n", "o", "p", "q", "r", "s",
     "t", "u", "v", "w", "x", "y", "z", "aa", "ab", "ac", "ad", "ae", "af", "ag", "ah", "ai", "aj",
@@ -24,7 +24,7 @@ static FIRST: [&str; 256] = [
     "ik", "il", "im", "in", "io", "ip", "iq", "ir", "is", "it", "iu", "iv",
 ];
 
-/// A year suffix, and its word.
+/// A year suffix, and its letters.
 static WORDS: [(u16, &str); 10] = [
     (0, "a"),
     (25, "z"),

@@ -1,4 +1,4 @@
-//! Tests of what an entry and a cite answer to a style.
+//! Tests of the answers of entries and cites to a style.
 #![tactic(auto)]
 
 #[cfg(test)]

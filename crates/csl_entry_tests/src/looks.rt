@@ -15,19 +15,19 @@ use std::alloc::Global;
 use std::process::Abort;
 use std::test::Fail;
 
-/// What is looked for in a cite.
+/// A lookup in a cite.
 #[derive(Clone, Copy)]
 enum Sought {
     /// A number, or pages.
     Number(NumberOrPageVariable),
-    /// The names, each with a space behind it.
+    /// The names, with a space after each.
     Names(NameVariable),
     /// The year of a date.
     Year(DateVariable),
 }
 
-/// The number; behind `p` the pages; behind `'` a text that is neither; behind `@` the index of
-/// what the caller writes; and `none` where there is no answer.
+/// The answer as text: a number, `p` and pages, `'` and a text that is neither, `@` and the index
+/// of a text that the caller writes, or `none`.
 fn number_or_page_said(
     alloc: Global,
     found: &Option<NumberOrPageVariableResult<'_>>,
@@ -80,7 +80,7 @@ fn year(
     }
 }
 
-/// What a cite of the entry answers.
+/// The answer of a cite of the entry.
 fn found_in<'s>(
     alloc: Global,
     entries: &'s [Entry],
@@ -100,7 +100,7 @@ fn found_in<'s>(
     }
 }
 
-/// What a cite answers whose locator the caller writes.
+/// The answer of a cite whose locator the caller writes.
 fn found(alloc: Global, description: &str, sought: Sought) -> Result<String, Fail> {
     let entries = described(alloc, description)?;
     let props = cited(
@@ -125,7 +125,7 @@ const PAGE: Sought = Sought::Number(NumberOrPageVariable::Page(PageVariable::Pag
 
 const CITED: Sought = Sought::Number(NumberOrPageVariable::Number(NumberVariable::CitationNumber));
 
-/// An entry, what is looked for in its cite, and what the cite answers.
+/// An entry, a lookup in its cite, and the answer of the cite.
 static ANSWERS: [(&str, Sought, &str); 12] = [
     (BOOK, VOLUME, "3"),
     (PAMPHLET, VOLUME, "'third"),
@@ -160,7 +160,7 @@ fn what_a_cite_answers(rt: HostRuntime) -> Result<(), Fail> {
     Ok(())
 }
 
-/// An answer that two entries are compared by.
+/// The answer that is compared for two entries.
 #[derive(Clone, Copy)]
 enum Compared {
     Authors,
@@ -226,7 +226,7 @@ fn same(alloc: Global, left: &str, right: &str, compared: Compared) -> Result<bo
     same_in(alloc, &left, &right, compared)
 }
 
-/// Two entries, the answer that they are compared by, and whether it shows the same.
+/// Two entries, the compared answer, and whether it is the same.
 type ComparedRow = (&'static str, &'static str, Compared, bool);
 
 static PAIRS: [ComparedRow; 19] = [

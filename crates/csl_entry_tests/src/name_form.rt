@@ -14,14 +14,14 @@ const LONG: DisambiguatedNameForm = DisambiguatedNameForm::LongInitialized;
 
 const LONGEST: DisambiguatedNameForm = DisambiguatedNameForm::LongFull;
 
-/// Whether the first form stands before the second: it does where its place is the lower one.
+/// Whether the first form comes before the second: exactly if its place is lower.
 fn is_less(a: DisambiguatedNameForm, b: DisambiguatedNameForm) -> bool
     ensures { IsTrue result ↔ (form_place a < form_place b) }
 {
     a < b
 }
 
-/// How the two forms stand in order: as their places do.
+/// The order of the forms, which is that of their places.
 fn order(a: DisambiguatedNameForm, b: DisambiguatedNameForm) -> Ordering
     ensures { result ≡ form_cmp a b }
 {
@@ -59,7 +59,7 @@ fn assert_long(rt: &impl Abort, &(form, wanted): &(DisambiguatedNameForm, bool))
     assert_of(rt, &form.is_long(), &wanted, &form);
 }
 
-/// A form, whether given names may be written out, and the fuller form.
+/// A form, whether given names may be written out, and the next fuller form.
 type Row = (DisambiguatedNameForm, bool, Option<DisambiguatedNameForm>);
 
 static FULLER_FORMS: [Row; 8] = [

@@ -12,14 +12,14 @@ use std::alloc::Global;
 use std::process::Abort;
 use std::test::Fail;
 
-/// Whether the two are equal: they are where the default form, the variables and the forms are.
+/// Whether the properties are equal: exactly if their default forms, variables and forms are.
 fn same(a: &NameDisambiguationProperties, b: &NameDisambiguationProperties) -> bool
     ensures { IsTrue result ↔ (name_properties a.now ≡ name_properties b.now) }
 {
     *a == *b
 }
 
-/// Equal ones feed a hasher the same.
+/// Equal properties have the same hash.
 fn hashed_alike(a: &NameDisambiguationProperties, b: &NameDisambiguationProperties)
     ensures { name_properties a.now ≡ name_properties b.now
         → hash_properties.it a.now ≡ hash_properties.it b.now }
@@ -27,7 +27,7 @@ fn hashed_alike(a: &NameDisambiguationProperties, b: &NameDisambiguationProperti
     let _same = *a == *b;
 }
 
-/// Two lists: of two names, of which the second is not shown, and of one name.
+/// The properties of two lists: of two names, the second of which is not shown, and of one name.
 fn properties(
     alloc: Global,
     variable: NameVariable,
@@ -41,7 +41,7 @@ fn properties(
     Ok(NameDisambiguationProperties::new(short, variables, lists))
 }
 
-/// What the readers answer of those of the author, with that last form.
+/// The results of the readers for properties of the author with this last form.
 fn parts(alloc: Global, last: DisambiguatedNameForm) -> Result<String, Memory> {
     let properties = properties(alloc, NameVariable::Author, Some(last))?;
     let form = properties.default_name_form();
@@ -54,7 +54,7 @@ fn parts(alloc: Global, last: DisambiguatedNameForm) -> Result<String, Memory> {
     Ok(parts)
 }
 
-/// Whether a copy of the author's equals those of that variable with that last form.
+/// Whether a copy of the author's properties equals those of this variable with this last form.
 fn copy_equals(
     alloc: Global,
     variable: NameVariable,
@@ -86,7 +86,7 @@ fn parts_are_answered_and_equal_by_value(rt: HostRuntime) -> Result<(), Memory> 
     Ok(())
 }
 
-/// The form of a name, by its letter. Any other letter is a name that is not shown.
+/// The form of a name, by its letter. Any other letter is for a name that is not shown.
 fn form_of(letter: char) -> Option<DisambiguatedNameForm> {
     match letter {
         'c' => Some(DisambiguatedNameForm::Count),
@@ -109,8 +109,8 @@ fn letter_of(form: Option<DisambiguatedNameForm>) -> char {
     }
 }
 
-/// The forms of names of some variables and lists. A list is a word, `.` a list of no names; the
-/// default form is `default`.
+/// The properties of these variables and lists. Each word is a list, with a letter for each name,
+/// and `.` is a list without names. The default form is `default`.
 fn made(
     alloc: Global,
     default: DisambiguatedNameForm,
@@ -131,7 +131,7 @@ fn made(
     Ok(NameDisambiguationProperties::new(default, variables, name_forms))
 }
 
-/// The default form, and each list.
+/// The default form and each list, as letters.
 fn said(alloc: Global, properties: &NameDisambiguationProperties) -> Result<String, Memory> {
     let mut said = String::new(alloc);
     said.push(letter_of(Some(properties.default_name_form())))?;
@@ -144,7 +144,8 @@ fn said(alloc: Global, properties: &NameDisambiguationProperties) -> Result<Stri
     Ok(said)
 }
 
-/// Lists, how many names are shown in turn, and what is there then and was answered.
+/// Lists, the numbers of names that successive calls show, and the lists after the calls with the
+/// results.
 type AddedRow = (&'static str, &'static [usize], &'static str);
 
 static ADDED: [AddedRow; 10] = [
@@ -186,8 +187,8 @@ fn names_are_added_in_the_first_list_of_so_many(rt: HostRuntime) -> Result<(), F
     assert_added(&rt, rt.alloc(), &ADDED)
 }
 
-/// Lists, a variable, places, and what is there then and was answered, where it may be asked.
-/// Variables are the author, the editor, and the author once more.
+/// Lists, a variable, places, and the lists after the call with its result, or `refused` if the
+/// call is not allowed. The variables are the author, the editor, and the author once more.
 type ToldRow = (&'static str, NameVariable, &'static [usize], &'static str);
 
 static TOLD: [ToldRow; 17] = [
@@ -266,8 +267,8 @@ fn one_form_on_the_author_holds_one_place(rt: HostRuntime) -> Result<(), Memory>
     Ok(())
 }
 
-/// Lists of the first, whose default form is a count, lists of the second, whose default form is
-/// the fullest, and the one that shows more.
+/// The lists of two properties, and the properties that show more. The default form of the first is
+/// a count, and that of the second the fullest form.
 type MaxRow = (&'static str, &'static str, &'static str);
 
 static MAX: [MaxRow; 11] = [
@@ -304,7 +305,8 @@ fn the_greater_shows_more_names_or_later_forms(rt: HostRuntime) -> Result<(), Fa
     assert_max(&rt, rt.alloc(), &MAX)
 }
 
-/// Lists, a place among all forms, and what is there once the form was read and a count put there.
+/// Lists, an index among all forms, and the form at this index with the lists after a count
+/// replaced it.
 type LentRow = (&'static str, usize, &'static str);
 
 static LENT: [LentRow; 9] = [
@@ -319,7 +321,7 @@ static LENT: [LentRow; 9] = [
     ("--", 0, "L: c --"),
 ];
 
-/// The form at that place is counted, and which it was.
+/// Replaces the form at this index by a count, and returns the replaced form.
 fn count_form(
     properties: &mut NameDisambiguationProperties,
     idx: usize,

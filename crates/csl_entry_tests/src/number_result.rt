@@ -10,14 +10,15 @@ use std::cmp::Ordering;
 use std::process::Abort;
 use std::test::Fail;
 
-/// Whether the two are equal: they are where both are one number, one text or of one index.
+/// Whether the answers are equal: exactly if both are the same number, the same text or the same
+/// index.
 fn same(a: &NumberVariableResult<'_>, b: &NumberVariableResult<'_>) -> bool
     ensures { IsTrue result ↔ (result_view a.now ≡ result_view b.now) }
 {
     *a == *b
 }
 
-/// Two answers, to number or page variables, are equal exactly if their views are.
+/// Whether the answers to number or page variables are equal: exactly if their views are.
 fn same_kind(a: &NumberOrPageVariableResult<'_>, b: &NumberOrPageVariableResult<'_>) -> bool
     ensures { IsTrue result ↔ (number_or_page_view a.now ≡ number_or_page_view b.now) }
 {
@@ -31,9 +32,9 @@ enum Answer {
     Spelled(&'static str),
     /// One number, even if no text spells it.
     One(i32),
-    /// A text that is no number.
+    /// A text that is not a number.
     Text(&'static str),
-    /// What the caller writes, with the index of the cite.
+    /// A text that the caller writes for the cite with this index.
     Index(usize),
 }
 
@@ -50,7 +51,7 @@ fn made(alloc: Global, answer: Answer) -> Result<NumberVariableResult<'static>, 
     Ok(NumberVariableResult::from_regular(MaybeTyped::Typed(Cow::Owned(number))))
 }
 
-/// The answers, one behind the other.
+/// Both answers, in order.
 fn both(alloc: Global, a: Answer, b: Answer) -> Result<Vec<NumberVariableResult<'static>>, Fail> {
     let mut both = Vec::new(alloc);
     both.push(made(alloc, a)?)?;
@@ -58,7 +59,8 @@ fn both(alloc: Global, a: Answer, b: Answer) -> Result<Vec<NumberVariableResult<
     Ok(both)
 }
 
-/// How the first stands to the second and the second to the first, and whether they are equal.
+/// The order of the first to the second, that of the second to the first, and whether they are
+/// equal.
 fn compared(alloc: Global, a: Answer, b: Answer) -> Result<(Ordering, Ordering, bool), Fail> {
     let both = both(alloc, a, b)?;
     match both.as_slice() {
@@ -67,21 +69,21 @@ fn compared(alloc: Global, a: Answer, b: Answer) -> Result<(Ordering, Ordering, 
     }
 }
 
-/// Of each pair the first stands before the second.
+/// Pairs of answers. The first comes before the second.
 static IN_ORDER: [(Answer, Answer); 19] = [
-    // A number stands before a text, and what the caller writes stands last.
+    // A number comes before a text, and a text that the caller writes comes last.
     (Answer::Spelled("2000"), Answer::Text("1")),
     (Answer::Spelled("2000"), Answer::Index(0)),
     (Answer::Text("zero"), Answer::Index(0)),
-    // What the caller writes goes by its index, and numbers go by value.
+    // Texts that the caller writes are ordered by index, and numbers by value.
     (Answer::Index(2), Answer::Index(10)),
     (Answer::Spelled("9"), Answer::Spelled("10")),
     (Answer::One(-1), Answer::One(0)),
     (Answer::One(-2), Answer::One(-1)),
-    // Texts go by bytes.
+    // Texts are ordered by bytes.
     (Answer::Text("10"), Answer::Text("9")),
     (Answer::Text("Z"), Answer::Text("a")),
-    // Lists go number by number, and one number goes as a list of one.
+    // Lists are ordered number by number, and one number as a list of one.
     (Answer::Spelled("1, 2"), Answer::Spelled("1-3")),
     (Answer::Spelled("1, 2"), Answer::Spelled("1-2, 0")),
     (Answer::One(1), Answer::Spelled("1 & 2")),
@@ -110,7 +112,7 @@ fn answers_in_order_and_at_one_place(rt: HostRuntime) -> Result<(), Fail> {
     for (first, second, are_equal) in [
         (Answer::Index(2), Answer::Index(2), true),
         (Answer::One(-1), Answer::One(-1), true),
-        // Separators do not count.
+        // Separators do not count for the order.
         (Answer::Spelled("1-2"), Answer::Spelled("1, 2"), false),
     ] {
         let compared = compared(rt.alloc(), first, second)?;
@@ -120,7 +122,7 @@ fn answers_in_order_and_at_one_place(rt: HostRuntime) -> Result<(), Fail> {
     Ok(())
 }
 
-/// Whether the answer equals that number, borrowed.
+/// Whether the answer equals this number, borrowed.
 fn equals_borrowed(alloc: Global, number: i32, answer: Answer) -> Result<bool, Fail> {
     let number = Numeric::new(number);
     let borrowed = NumberVariableResult::from_regular(MaybeTyped::Typed(Cow::Borrowed(&number)));
@@ -128,7 +130,7 @@ fn equals_borrowed(alloc: Global, number: i32, answer: Answer) -> Result<bool, F
     Ok(same(&borrowed, &answer))
 }
 
-/// Whether a copy of that number, borrowed, equals it, and whether the copy borrows.
+/// Whether a copy of this number, borrowed, equals it, and whether the copy borrows.
 fn copy_of_borrowed(alloc: Global, number: i32) -> Result<(bool, bool), Fail> {
     let number = Numeric::new(number);
     let borrowed = NumberVariableResult::from_regular(MaybeTyped::Typed(Cow::Borrowed(&number)));
@@ -140,7 +142,7 @@ fn copy_of_borrowed(alloc: Global, number: i32) -> Result<(bool, bool), Fail> {
     Ok((same(&copy, &borrowed), borrows))
 }
 
-/// Whether a copy equals the answer.
+/// Whether a copy equals the answer that is described.
 fn equals_copy(alloc: Global, answer: Answer) -> Result<bool, Fail> {
     let answer = made(alloc, answer)?;
     let copy = answer.clone(alloc)?;
@@ -157,7 +159,7 @@ fn number_and_page(alloc: Global) -> Result<Vec<NumberOrPageVariableResult<'stat
     Ok(both)
 }
 
-/// Whether a copy equals the answer.
+/// Whether a copy equals the answer to a number or page variable.
 fn equals_own_copy(alloc: Global, answer: &NumberOrPageVariableResult<'_>) -> Result<bool, Fail> {
     let copy = answer.clone(alloc)?;
     Ok(same_kind(&copy, answer))
@@ -194,7 +196,7 @@ fn equal_answers_are_of_one_kind_and_copies_are_equal(rt: HostRuntime) -> Result
     ] {
         assert_of(&rt, &equals_copy(rt.alloc(), answer)?, &true, &answer);
     }
-    // Pages are no number.
+    // Pages are not a number.
     assert_same(&rt, &kinds_compared(rt.alloc())?, &(false, true, true));
     Ok(())
 }

@@ -1,4 +1,4 @@
-//! What a citation says of a cite, beside its entry.
+//! The properties of a cite in its citation, without its entry.
 
 ghost use Rattle.std.specs.Prelude.{◌≡◌, IfOk};
 
@@ -8,47 +8,48 @@ use csl_style::{Locator, Variable};
 use lit_model::Memory;
 use std::alloc::Global;
 
-/// How a cite stands to the one before it (CSL 1.0.2, Choose: position).
+/// How a cite relates to the cite before it (CSL 1.0.2, Choose: position).
 #[derive(Clone, Copy, Debug, PartialEq, Eq, Hash)]
 pub enum IbidState {
     /// The cite before it is of another entry, or there is none.
     Different,
     /// The cite before it is of the same entry with the same locator.
     Ibid,
-    /// The cite before it is of the same entry, and this one has a locator that it did not have.
+    /// The cite before it is of the same entry, and this cite has a locator that the other lacks.
     IbidWithLocator,
 }
 
-/// What a sort key is made from, where a cite is rendered to be sorted (CSL 1.0.2, Sorting).
+/// The source of a sort key, if a cite is rendered to be sorted (CSL 1.0.2, Sorting).
 #[derive(Clone, Copy, Debug, PartialEq, Eq, Hash)]
 pub enum Sorting {
     Variable,
     Macro,
 }
 
-/// A form of a cite that shows a part of what it would show.
+/// A form of a cite that renders only a part of it.
 #[derive(Clone, Copy, Debug, PartialEq, Eq)]
 pub enum SpecialForm {
-    /// Shows one variable alone.
+    /// One variable only.
     VarOnly(Variable),
-    /// Shows the first date alone.
+    /// The first date. The year suffix and the locator stay too.
     OnlyFirstDate,
-    /// Shows the year suffix alone.
+    /// The year suffix. The locator stays too.
     OnlyYearSuffix,
-    /// Shows all but the author.
+    /// All but the author.
     SuppressAuthor,
 }
 
-/// Where in its work a cite points, and by what kind of part (CSL 1.0.2, Locators).
+/// The place in its work that a cite points to: the kind of part, and the locator (CSL 1.0.2,
+/// Locators).
 #[derive(Clone, Copy, Debug, PartialEq, Eq)]
 pub struct SpecificLocator<'a>(pub Locator, pub LocatorPayload<'a>);
 
-/// What a locator prints.
+/// The source of a locator's text.
 #[derive(Clone, Copy, Debug, PartialEq, Eq)]
 pub enum LocatorPayload<'a> {
     /// The locator is this text.
     Str(&'a str),
-    /// The caller writes the locator at its place.
+    /// The caller writes the locator. The output keeps a place for it.
     Transparent,
 }
 
@@ -57,15 +58,15 @@ pub enum LocatorPayload<'a> {
 pub enum DisambiguateState {
     /// The cite is not disambiguated.
     None,
-    /// By these forms of its names (disambiguate-add-names, disambiguate-add-givenname).
+    /// The forms of its names (disambiguate-add-names, disambiguate-add-givenname).
     NameDisambiguation(NameDisambiguationProperties),
-    /// The branches of a style that ask for `disambiguate` (Choose: disambiguate).
+    /// The branches of a style that test `disambiguate` (Choose: disambiguate).
     Choose,
-    /// The year suffix of that place, from 0 to 65,535: 0 is `a` (disambiguate-add-year-suffix).
+    /// The year suffix of this number, from 0 to 65,535: 0 is `a` (disambiguate-add-year-suffix).
     YearSuffix(u16),
 }
 
-/// What a citation says of a cite.
+/// The properties of a cite in its citation.
 #[derive(Drop)]
 pub struct CiteProperties<'s> {
     /// The properties that no rendering changes.
@@ -74,41 +75,41 @@ pub struct CiteProperties<'s> {
     pub speculative: SpeculativeCiteProperties<'s>,
 }
 
-/// What a citation says of a cite for good.
+/// The properties of a cite that no rendering changes.
 #[derive(Clone, Copy, Debug)]
 pub struct CertainCiteProperties {
-    /// The number of the note that cites the entry first, where a note does (CSL 1.0.2, Number
+    /// The number of the first note that cites the entry, if a note does (CSL 1.0.2, Number
     /// Variables: first-reference-note-number).
     pub first_note_number: Option<NoteNumber>,
-    /// Whether no cite of the entry stands before it (CSL 1.0.2, Choose: position).
+    /// Whether no earlier cite is of the same entry (CSL 1.0.2, Choose: position).
     pub is_first: bool,
-    /// Whether a note close before it cites the entry (CSL 1.0.2, Choose: position, near-note).
+    /// Whether a near note before it cites the same entry (CSL 1.0.2, Choose: position, near-note).
     pub is_near_note: bool,
-    /// The place, from 0, that the cite was given when it was handed in. It names the cite in
-    /// what the caller writes for it.
+    /// The index of the cite, from 0, as the caller handed it in. The answer of a locator that the
+    /// caller writes holds this index.
     pub initial_idx: usize,
 }
 
-/// What a citation says of a cite as far as it was rendered.
+/// The properties of a cite that may change when the other cites are rendered.
 #[derive(Drop)]
 pub struct SpeculativeCiteProperties<'s> {
-    /// Where in its work the cite points (CSL 1.0.2, Locators).
+    /// The place in its work that the cite points to (CSL 1.0.2, Locators).
     pub locator: Option<SpecificLocator<'s>>,
-    /// Its citation number, which counts from 0 (CSL 1.0.2, Number Variables: citation-number).
+    /// The citation number, from 0 (CSL 1.0.2, Number Variables: citation-number).
     pub citation_number: CitationNumber,
     /// How the cite is disambiguated.
     pub disambiguation: DisambiguateState,
-    /// How it stands to the cite before it.
+    /// How the cite relates to the cite before it.
     pub ibid: IbidState,
 }
 
 impl DisambiguateState {
     ghost use Rattle.csl_entry.specs.Cite.{disambiguation_of};
 
-    /// An equal value.
+    /// Returns an equal value.
     ///
     /// # Errors
-    /// [`Memory`]: there was no memory left.
+    /// [`Memory`]: out of memory.
     pub fn clone(&self, alloc: Global) -> Result<Self, Memory>
         ensures { IfOk result (λ copy. disambiguation_of copy ≡ disambiguation_of self.now) }
     {
@@ -127,8 +128,8 @@ impl DisambiguateState {
 impl<'s> CiteProperties<'s> {
     ghost use Rattle.csl_entry.specs.Cite.{cite_state, disambiguation_of, first_cite};
 
-    /// What a citation says of a cite that no other one stands before, told apart so: no note has
-    /// it, it points at no part of its entry, and its citation number is 0, which prints as 1.
+    /// The properties of a first cite with this disambiguation. No cite comes before it, no note
+    /// cites its entry, it has no locator, and its citation number is 0, which prints as 1.
     pub fn first(disambiguation: DisambiguateState) -> CiteProperties<'s>
         ensures { cite_state result ≡ first_cite (disambiguation_of disambiguation) }
     {
@@ -151,10 +152,10 @@ impl<'s> CiteProperties<'s> {
         }
     }
 
-    /// An equal value.
+    /// Returns an equal value.
     ///
     /// # Errors
-    /// [`Memory`]: there was no memory left.
+    /// [`Memory`]: out of memory.
     pub fn clone(&self, alloc: Global) -> Result<CiteProperties<'s>, Memory>
         ensures { IfOk result (λ copy. cite_state copy ≡ cite_state self.now) }
     {
@@ -169,10 +170,10 @@ impl<'s> CiteProperties<'s> {
 impl<'s> SpeculativeCiteProperties<'s> {
     ghost use Rattle.csl_entry.specs.Cite.{speculation};
 
-    /// An equal value.
+    /// Returns an equal value.
     ///
     /// # Errors
-    /// [`Memory`]: there was no memory left.
+    /// [`Memory`]: out of memory.
     pub fn clone(&self, alloc: Global) -> Result<SpeculativeCiteProperties<'s>, Memory>
         ensures { IfOk result (λ copy. speculation copy ≡ speculation self.now) }
     {

@@ -1,4 +1,4 @@
-//! A cite with its entry: what it answers to a style.
+//! A cite with its entry, and its answers to a style.
 
 ghost use Rattle.std.specs.Prelude.{◌≡◌, map, IfOk, option_map};
 ghost use Rattle.lit_model.specs.Date.{date_view};
@@ -32,15 +32,15 @@ use lit_model::{
 use std::alloc::{AllocError, Global};
 use std::borrow::Cow;
 
-/// A cite: its entry, and what its citation says of it.
+/// A cite: its entry, and its properties in the citation.
 pub struct InstanceContext<'s, T> {
     /// The entry that is cited.
     pub entry: &'s T,
-    /// What the citation says of the cite.
+    /// The properties of the cite in its citation.
     pub cite_props: &'s CiteProperties<'s>,
-    /// What the sort key is made from, where the cite is rendered to be sorted.
+    /// The source of the sort key, if the cite is rendered to be sorted.
     pub sorting: Option<Sorting>,
-    /// The part of the cite that is to be shown, where it is not the whole.
+    /// The special form of the cite, if only a part of it is rendered.
     pub kind: Option<SpecialForm>,
 }
 
@@ -59,12 +59,13 @@ impl<'s, T> Clone for InstanceContext<'s, T> {
 impl<'s, T> Copy for InstanceContext<'s, T> {}
 
 impl<'s, T: EntryLike> InstanceContext<'s, T> {
-    /// What the cite answers to a number variable: its citation number plus one, the number of the
-    /// note that cites the entry first, or its locator; all else the entry answers (CSL 1.0.2,
-    /// Number Variables). The text of a locator is a number where it stands for one.
+    /// Returns the cite's answer to a number variable (CSL 1.0.2, Number Variables). The citation
+    /// answers three: the citation number plus one, the number of the first note that cites the
+    /// entry, and the locator. The entry answers all others. The locator is a number if its text
+    /// spells one.
     ///
     /// # Errors
-    /// [`Memory`]: there was no memory left.
+    /// [`Memory`]: out of memory.
     #[tactic(auto, using(crate::proofs::Looks::number_alike))]
     pub fn resolve_number_variable(
         &self,
@@ -74,8 +75,8 @@ impl<'s, T: EntryLike> InstanceContext<'s, T> {
         ensures value { IfOk result (λ found. option_map result_view found
             ≡ resolve_number (instance_of T.answers self.now) variable) }
 
-        // It depends on the citation, and on the entry's answer to this variable alone, where the
-        // variable is not the citation's.
+        // The answer depends only on the citation and, unless the variable is one of the
+        // citation's, on the entry's answer to this variable.
         ensures depends { (i j : Instance) → i.cite ≡ j.cite → SameNumber i j variable
             → resolve_number i variable ≡ resolve_number j variable }
     {
@@ -105,10 +106,10 @@ impl<'s, T: EntryLike> InstanceContext<'s, T> {
         }
     }
 
-    /// What the cite answers to a page variable: what its entry does.
+    /// Returns the cite's answer to a page variable, which is its entry's answer.
     ///
     /// # Errors
-    /// [`Memory`]: there was no memory left.
+    /// [`Memory`]: out of memory.
     pub fn resolve_page_variable(
         &self,
         alloc: Global,
@@ -120,11 +121,11 @@ impl<'s, T: EntryLike> InstanceContext<'s, T> {
         self.entry.resolve_page_variable(alloc, variable)
     }
 
-    /// What the cite answers to a variable that holds a number or pages: what it answers to that
-    /// number variable, or to that page variable.
+    /// Returns the cite's answer to a variable that holds a number or pages: its answer to that
+    /// number variable or page variable.
     ///
     /// # Errors
-    /// [`Memory`]: there was no memory left.
+    /// [`Memory`]: out of memory.
     pub fn resolve_number_or_page_variable(
         &self,
         alloc: Global,
@@ -149,11 +150,12 @@ impl<'s, T: EntryLike> InstanceContext<'s, T> {
         }
     }
 
-    /// What the cite answers to a standard variable: its year suffix, where it has one; all else
-    /// the entry answers (CSL 1.0.2, Standard Variables).
+    /// Returns the cite's answer to a standard variable (CSL 1.0.2, Standard Variables). The
+    /// citation answers the year suffix, if the cite has one. The entry answers all other
+    /// variables.
     ///
     /// # Errors
-    /// [`Memory`]: there was no memory left.
+    /// [`Memory`]: out of memory.
     #[tactic(auto, using(crate::proofs::Looks::standard_alike))]
     pub fn resolve_standard_variable(
         &self,
@@ -164,8 +166,8 @@ impl<'s, T: EntryLike> InstanceContext<'s, T> {
         ensures value { IfOk result (λ found. option_map (cow_view chunks) found
             ≡ resolve_standard (instance_of T.answers self.now) form variable) }
 
-        // It depends on the citation, and on the entry's answer to this variable in this form
-        // alone, where the variable is not the citation's.
+        // The answer depends only on the citation and, unless the variable is the citation's, on
+        // the entry's answer to this variable in this form.
         ensures depends { (i j : Instance) → i.cite ≡ j.cite → SameStandard i j form variable
             → resolve_standard i form variable ≡ resolve_standard j form variable }
     {
@@ -177,11 +179,11 @@ impl<'s, T: EntryLike> InstanceContext<'s, T> {
         }
     }
 
-    /// What the cite answers to a name variable: the persons that its entry does, in order; none
-    /// where there are none (CSL 1.0.2, Name Variables).
+    /// Returns the cite's answer to a name variable, which is its entry's answer: the persons in
+    /// order, or an empty list if there are none (CSL 1.0.2, Name Variables).
     ///
     /// # Errors
-    /// [`Memory`]: there was no memory left.
+    /// [`Memory`]: out of memory.
     pub fn resolve_name_variable(
         &self,
         alloc: Global,
@@ -193,10 +195,11 @@ impl<'s, T: EntryLike> InstanceContext<'s, T> {
         self.entry.resolve_name_variable(alloc, variable)
     }
 
-    /// What the cite answers to a date variable: what its entry does (CSL 1.0.2, Date Variables).
+    /// Returns the cite's answer to a date variable, which is its entry's answer (CSL 1.0.2, Date
+    /// Variables).
     ///
     /// # Errors
-    /// [`Memory`]: there was no memory left.
+    /// [`Memory`]: out of memory.
     pub fn resolve_date_variable(
         &self,
         alloc: Global,
@@ -209,7 +212,7 @@ impl<'s, T: EntryLike> InstanceContext<'s, T> {
     }
 }
 
-/// A number that was counted, with no text around it. It is at most 2147483647, the largest `i32`.
+/// A number without prefix and suffix. It is at most 2147483647, the largest `i32`.
 fn plain_number<'s>(number: u32) -> NumberVariableResult<'s>
     requires { IsNoteNumber number }
     ensures { result_view result ≡ plain_number number }
@@ -218,7 +221,7 @@ fn plain_number<'s>(number: u32) -> NumberVariableResult<'s>
     NumberVariableResult::Regular(MaybeTyped::Typed(Cow::Owned(number)))
 }
 
-/// What a locator answers at the cite of that index.
+/// The answer of a locator at the cite with this index.
 fn locator_answer<'s>(
     alloc: Global,
     index: usize,
@@ -241,7 +244,7 @@ fn locator_answer<'s>(
     }
 }
 
-/// The letters of the year suffix, where the cite has one.
+/// The letters of the year suffix, if the cite has one.
 fn year_suffix<'s>(
     alloc: Global,
     state: &DisambiguateState,

@@ -6,11 +6,12 @@ ghost use Rattle.csl_entry.specs.Letters.{IsWord, StandsBefore, word_index, lett
 use lit_model::Memory;
 use std::alloc::Global;
 
-/// Word number `n` of the words over a to z, by length and then by alphabet: `a` is number 0, `z`
-/// 25, `aa` 26 and `aaa` 702 (CSL 1.0.2, Disambiguation: disambiguate-add-year-suffix).
+/// Returns word number `n` of the words over a to z, ordered by length and then by alphabet: `a` is
+/// number 0, `z` 25, `aa` 26 and `aaa` 702 (CSL 1.0.2, Disambiguation:
+/// disambiguate-add-year-suffix).
 ///
 /// # Errors
-/// [`Memory`]: there was no memory left.
+/// [`Memory`]: out of memory.
 pub fn letter(alloc: Global, n: u16) -> Result<String, Memory>
     ensures letters { IfOk result (λ s. string_bytes s ≡ letters n) }
     ensures word { IfOk result (λ s. IsWord (string_bytes s)) }
@@ -24,8 +25,7 @@ pub fn letter(alloc: Global, n: u16) -> Result<String, Memory>
     Ok(word)
 }
 
-/// The word of that place. The letters before its last one, if there are some, are the word of
-/// place `n / 26 - 1`.
+/// Returns word number `n`. The letters before its last one, if any, are word number `n / 26 - 1`.
 fn word_at(alloc: Global, n: u16) -> Result<String, Memory>
     ensures word { IfOk result (λ s. IsWord (string_bytes s)) }
     ensures place { IfOk result (λ s. word_index (string_bytes s) ≡ n) }

@@ -2,7 +2,7 @@
 
 ghost use Rattle.std.specs.Prelude.{◌≡◌, ◌↔◌, ◌≤◌, IsSome, IfSome};
 
-/// The place of a citation in its document, from 0 (CSL 1.0.2, Number Variables:
+/// The index of a cited entry in the bibliography, from 0 (CSL 1.0.2, Number Variables:
 /// citation-number).
 #[derive(Clone, Copy, Debug, PartialEq, Eq, PartialOrd, Ord, Hash)]
 pub struct CitationNumber {
@@ -13,8 +13,8 @@ pub struct CitationNumber {
 impl CitationNumber {
     ghost use Rattle.csl_entry.specs.Numbers.{IsCitationNumber, citation_number};
 
-    /// The citation number, where it is at most 2147483646, so that the number that is printed,
-    /// one more, is an `i32`. Otherwise `None`.
+    /// Returns the citation number, or `None` if `number` is above 2147483646. The printed number
+    /// is one more, and fits an `i32`.
     pub fn new(number: u32) -> Option<CitationNumber>
         ensures range { IsSome result ↔ IsCitationNumber number }
         ensures value { IfSome result (λ c. citation_number c ≡ number) }
@@ -25,7 +25,7 @@ impl CitationNumber {
         Some(CitationNumber { number })
     }
 
-    /// The number as it is held.
+    /// The number itself, which counts from 0. The printed number is one more.
     pub fn get(self) -> u32
         ensures value { result ≡ citation_number self }
         ensures range { IsCitationNumber result }
@@ -44,8 +44,7 @@ pub struct NoteNumber {
 impl NoteNumber {
     ghost use Rattle.csl_entry.specs.Numbers.{IsNoteNumber, note_number};
 
-    /// The note number, where it is at most 2147483647, so that it is an `i32`. Otherwise
-    /// `None`.
+    /// Returns the note number, or `None` if `number` is above 2147483647. It fits an `i32`.
     pub fn new(number: u32) -> Option<NoteNumber>
         ensures range { IsSome result ↔ IsNoteNumber number }
         ensures value { IfSome result (λ n. note_number n ≡ number) }
@@ -56,7 +55,7 @@ impl NoteNumber {
         Some(NoteNumber { number })
     }
 
-    /// The number as it is held.
+    /// The number itself.
     pub fn get(self) -> u32
         ensures value { result ≡ note_number self }
         ensures range { IsNoteNumber result }

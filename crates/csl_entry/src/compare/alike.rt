@@ -1,5 +1,5 @@
-//! Whether two entries of any types answer alike what is named (CSL 1.0.2, Appendix III: Types;
-//! Appendix IV: Variables).
+//! Whether two entries of any types give the same answers to named variables and kinds (CSL 1.0.2,
+//! Appendix III: Types; Appendix IV: Variables).
 
 ghost use Rattle.std.specs.Prelude.{◌≡◌, ◌&&◌, IfOk};
 ghost use Rattle.std.specs.Bool.{Decides};
@@ -16,7 +16,7 @@ use lit_model::{LongShortForm, Memory};
 use std::alloc::Global;
 use std::collections::BTreeSet;
 
-/// Whether both answer a number alike.
+/// Whether both entries give the same answer to a number variable.
 fn is_number_alike<T: EntryLike, U: EntryLike>(
     alloc: Global,
     a: &T,
@@ -31,7 +31,7 @@ fn is_number_alike<T: EntryLike, U: EntryLike>(
     Ok(same_number(&left, &right))
 }
 
-/// Whether both answer the pages alike.
+/// Whether both entries give the same answer to a page variable.
 fn are_pages_alike<T: EntryLike, U: EntryLike>(
     alloc: Global,
     a: &T,
@@ -46,7 +46,7 @@ fn are_pages_alike<T: EntryLike, U: EntryLike>(
     Ok(same_pages(&left, &right))
 }
 
-/// Whether both answer a date alike.
+/// Whether both entries give the same answer to a date variable.
 fn is_date_alike<T: EntryLike, U: EntryLike>(
     alloc: Global,
     a: &T,
@@ -61,7 +61,7 @@ fn is_date_alike<T: EntryLike, U: EntryLike>(
     Ok(same_date(&left, &right))
 }
 
-/// Whether both answer the persons of a variable alike.
+/// Whether both entries give the same answer to a name variable.
 fn are_people_alike<T: EntryLike, U: EntryLike>(
     alloc: Global,
     a: &T,
@@ -76,7 +76,7 @@ fn are_people_alike<T: EntryLike, U: EntryLike>(
     Ok(same_people(&left, &right))
 }
 
-/// Whether both answer a text alike in one form.
+/// Whether both entries give the same answer to a standard variable in one form.
 fn is_text_alike<T: EntryLike, U: EntryLike>(
     alloc: Global,
     a: &T,
@@ -92,7 +92,7 @@ fn is_text_alike<T: EntryLike, U: EntryLike>(
     Ok(same_text(&left, &right))
 }
 
-/// Whether both answer a text alike in both forms.
+/// Whether both entries give the same answer to a standard variable in both forms.
 fn is_standard_alike<T: EntryLike, U: EntryLike>(
     alloc: Global,
     a: &T,
@@ -107,14 +107,14 @@ fn is_standard_alike<T: EntryLike, U: EntryLike>(
     Ok(long && short)
 }
 
-/// Whether both are of a kind, or neither is.
+/// Whether both entries are of a kind, or neither is.
 fn is_kind_alike<T: EntryLike, U: EntryLike>(a: &T, b: &U, kind: Kind) -> bool
     ensures { Decides result ((T.answers a.now).kinds kind ≡ (U.answers b.now).kinds kind) }
 {
     a.matches_entry_type(kind) == b.matches_entry_type(kind)
 }
 
-/// Whether both answer all these numbers alike.
+/// Whether both entries give the same answer to each of these number variables.
 fn are_numbers_alike<T: EntryLike, U: EntryLike>(
     alloc: Global,
     a: &T,
@@ -132,7 +132,7 @@ fn are_numbers_alike<T: EntryLike, U: EntryLike>(
     Ok(true)
 }
 
-/// Whether both answer all these variables of pages alike.
+/// Whether both entries give the same answer to each of these page variables.
 fn are_all_pages_alike<T: EntryLike, U: EntryLike>(
     alloc: Global,
     a: &T,
@@ -150,7 +150,7 @@ fn are_all_pages_alike<T: EntryLike, U: EntryLike>(
     Ok(true)
 }
 
-/// Whether both answer all these texts in both forms alike.
+/// Whether both entries give the same answer to each of these standard variables in both forms.
 fn are_standards_alike<T: EntryLike, U: EntryLike>(
     alloc: Global,
     a: &T,
@@ -168,7 +168,7 @@ fn are_standards_alike<T: EntryLike, U: EntryLike>(
     Ok(true)
 }
 
-/// Whether both answer all these variables of persons alike.
+/// Whether both entries give the same answer to each of these name variables.
 fn are_names_alike<T: EntryLike, U: EntryLike>(
     alloc: Global,
     a: &T,
@@ -186,7 +186,7 @@ fn are_names_alike<T: EntryLike, U: EntryLike>(
     Ok(true)
 }
 
-/// Whether both answer all these dates alike.
+/// Whether both entries give the same answer to each of these date variables.
 fn are_dates_alike<T: EntryLike, U: EntryLike>(
     alloc: Global,
     a: &T,
@@ -204,7 +204,7 @@ fn are_dates_alike<T: EntryLike, U: EntryLike>(
     Ok(true)
 }
 
-/// Whether of each of these kinds both are, or neither is.
+/// Whether for each of these kinds both entries are of it, or neither is.
 fn are_kinds_alike<T: EntryLike, U: EntryLike>(a: &T, b: &U, set: &BTreeSet<Kind>) -> bool
     ensures { Decides result (Each (λ v. (T.answers a.now).kinds v
         ≡ (U.answers b.now).kinds v) set.now.keys) }
@@ -217,7 +217,7 @@ fn are_kinds_alike<T: EntryLike, U: EntryLike>(a: &T, b: &U, set: &BTreeSet<Kind
     true
 }
 
-/// Whether two entries answer alike in all six sets.
+/// Whether two entries answer alike in all six sets of variables and kinds.
 fn all(numbers: bool, pages: bool, standards: bool, names: bool, dates: bool, kinds: bool) -> bool
     ensures { result
         ≡ (numbers && (pages && (standards && (names && (dates && kinds))))) }
@@ -225,12 +225,12 @@ fn all(numbers: bool, pages: bool, standards: bool, names: bool, dates: bool, ki
     numbers && pages && standards && names && dates && kinds
 }
 
-/// Whether the two answer alike on all that is named: equal numbers, pages, texts in the long and
-/// in the short form, persons and dates, and each kind of both or of neither. What is not named is
-/// not asked; nor are the key and the language.
+/// Whether both entries answer alike for each named variable and kind: equal numbers, pages, texts
+/// in the long and in the short form, persons and dates, and each kind of both or of neither. Other
+/// variables and kinds are not compared, nor are the key and the language.
 ///
 /// # Errors
-/// [`Memory`]: there was no memory left.
+/// [`Memory`]: out of memory.
 pub fn same_answers<T: EntryLike, U: EntryLike>(
     alloc: Global,
     a: &T,

@@ -1,8 +1,9 @@
-//! When two answers are equal, whichever entries gave them and whether they are borrowed: both are
-//! absent, or both are present and show the same. Texts show the text and the kind of each chunk;
-//! numbers their numbers, what separates these, prefix and suffix; pages the pages, ranges and
-//! separators in order; dates year, month, day, season and whether they are approximate; persons,
-//! one by one, every text and the comma. A number or pages never equal a text that is neither.
+//! Equality of two answers, whichever entries give them, borrowed or owned. They are equal if both
+//! are absent, or both are present and have the same content. Texts are compared by the text and
+//! the kind of each chunk; numbers by their numbers, separators, prefix and suffix; pages by the
+//! pages, ranges and separators in order; dates by year, month, day, season and whether they are
+//! approximate; persons, one by one, by every text and the comma. A number never equals a text that
+//! is not a number, and pages never equal a text that is not pages.
 
 ghost use Rattle.std.specs.Prelude.{◌≡◌, ◌↔◌, map, option_map, option_copied, IsTrue};
 ghost use Rattle.lit_model.specs.Date.{date_view};
@@ -19,8 +20,8 @@ use crate::number_result::PageVariableResult;
 use lit_model::{ChunkedString, Date, MaybeTyped, Numeric, Person};
 use std::borrow::Cow;
 
-/// Whether the two lists of persons are equally long and the persons at each place show the same:
-/// every text, and whether a comma stands before the suffix (CSL 1.0.2, Name Variables).
+/// Whether two lists of persons have the same length and the persons at each place are equal: in
+/// every text, and in whether a comma comes before the suffix (CSL 1.0.2, Name Variables).
 pub fn same_people(people: &[Cow<'_, Person>], others: &[Cow<'_, Person>]) -> bool
     ensures texts { IsTrue result
         ↔ (map (cow_view person_view) people.now ≡ map (cow_view person_view) others.now) }
@@ -31,7 +32,7 @@ pub fn same_people(people: &[Cow<'_, Person>], others: &[Cow<'_, Person>]) -> bo
     same_each(people, others)
 }
 
-/// Compares two lists of persons, person by person.
+/// Whether two lists of persons are equal, person by person.
 fn same_each(people: &[Cow<'_, Person>], others: &[Cow<'_, Person>]) -> bool
     ensures { result ≡ same_people (map (cow_view person_view) people.now)
         (map (cow_view person_view) others.now) }
@@ -50,7 +51,7 @@ fn same_each(people: &[Cow<'_, Person>], others: &[Cow<'_, Person>]) -> bool
     true
 }
 
-/// Whether both texts are absent, or both are there and agree in the text and the kind of each
+/// Whether both texts are absent, or both are present and equal in the text and the kind of each
 /// chunk (CSL 1.0.2, Standard Variables).
 pub fn same_text(
     text: &Option<Cow<'_, ChunkedString>>,
@@ -62,8 +63,8 @@ pub fn same_text(
     *text == *other
 }
 
-/// Whether both numbers are absent, or both are there and agree as numbers, what separates them,
-/// prefixes and suffixes included, or as texts (CSL 1.0.2, Number Variables).
+/// Whether both numbers are absent, or both are present and equal: as numbers with their
+/// separators, prefix and suffix, or as texts (CSL 1.0.2, Number Variables).
 pub fn same_number(
     number: &Option<MaybeTyped<Cow<'_, Numeric>>>,
     other: &Option<MaybeTyped<Cow<'_, Numeric>>>,
@@ -75,7 +76,7 @@ pub fn same_number(
     *number == *other
 }
 
-/// Whether both answers to the page variable are absent, or both are there and agree as pages,
+/// Whether both answers to the page variable are absent, or both are present and equal: as pages,
 /// ranges and separators in order, or as texts (CSL 1.0.2, Number Variables: page).
 pub fn same_pages(pages: &Option<PageVariableResult>, others: &Option<PageVariableResult>) -> bool
     ensures { IsTrue result
@@ -85,7 +86,7 @@ pub fn same_pages(pages: &Option<PageVariableResult>, others: &Option<PageVariab
     *pages == *others
 }
 
-/// Whether both dates are absent, or both are there and agree in year, month, day, season and
+/// Whether both dates are absent, or both are present and equal in year, month, day, season and
 /// whether they are approximate (CSL 1.0.2, Date Variables).
 pub fn same_date(date: &Option<Cow<'_, Date>>, other: &Option<Cow<'_, Date>>) -> bool
     ensures { IsTrue result
@@ -94,7 +95,7 @@ pub fn same_date(date: &Option<Cow<'_, Date>>, other: &Option<Cow<'_, Date>>) ->
     as_deref(date) == as_deref(other)
 }
 
-/// The answer itself, whether it is borrowed or owned.
+/// Returns a reference to the answer, whether it is borrowed or owned.
 pub fn as_deref<'a, T: Drop>(found: &'a Option<Cow<'_, T>>) -> Option<&'a T>
     ensures { option_copied result ≡ option_map cow_value found.now }
 {

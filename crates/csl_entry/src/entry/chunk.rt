@@ -1,4 +1,4 @@
-//! Texts of one piece.
+//! Texts of one chunk.
 
 ghost use Rattle.std.specs.Prelude.{◌≡◌, IfOk, string_bytes};
 ghost use Rattle.csl_entry.specs.Chunk as spec;
@@ -7,7 +7,7 @@ ghost use Rattle.lit_model.specs.Text.{chunks};
 use lit_model::{ChunkKind, ChunkedString, Memory, StringChunk};
 use std::alloc::Global;
 
-/// The text as one piece of that kind (CSL 1.0.2, Standard Variables).
+/// Returns the text as one chunk of this kind (CSL 1.0.2, Standard Variables).
 pub(crate) fn one_chunk(
     alloc: Global,
     text: String,

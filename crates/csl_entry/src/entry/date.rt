@@ -1,4 +1,4 @@
-//! What an entry answers to a date variable.
+//! The answers of an entry to date variables.
 
 ghost use Rattle.std.specs.Prelude.{◌≡◌, option_map, option_and_then, option_copied};
 ghost use Rattle.lit_model.specs.Date.{date_view};
@@ -11,10 +11,11 @@ use lit_model::select::event;
 use lit_model::{Date, Entry};
 use std::borrow::Cow;
 
-/// The date that an entry answers (CSL 1.0.2, Date Variables): as accessed, when the first address
-/// along the entry and its parents was visited; of an event, the date of the parent at which it
-/// was shown; as issued, the first date along the entry and its parents; of the original, the date
-/// of the parent that was translated or printed again. It answers no other date.
+/// Returns the entry's answer to a date variable (CSL 1.0.2, Date Variables). Accessed is the visit
+/// date of the first address along the entry and its parents, and issued the first date along them.
+/// The event date is the date of the parent at which the entry was shown, and the original date
+/// that of the parent that was translated or printed again. There is no answer to any other
+/// variable.
 pub(crate) fn date_variable(entry: &Entry, variable: DateVariable) -> Option<Cow<'_, Date>>
     ensures { option_map (cow_view date_view) result ≡ date_of entry.now variable }
 {
@@ -28,7 +29,7 @@ pub(crate) fn date_variable(entry: &Entry, variable: DateVariable) -> Option<Cow
     date.map(Cow::Borrowed)
 }
 
-/// When the first address along the entry and its parents was visited.
+/// The visit date of the first address along the entry and its parents.
 pub(crate) fn visit_date(entry: &Entry) -> Option<&Date>
     ensures { option_copied result ≡ visit_date entry.now }
 {

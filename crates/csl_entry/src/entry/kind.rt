@@ -8,8 +8,8 @@ ghost use Rattle.csl_entry.specs.EntryKind.{typing_of, TypingIsShown, is_a, stan
 use csl_style::Kind;
 use lit_model::{Bind, Clause, Entry, EntryType};
 
-/// The kind of an audio or a video: each is of exactly one of `Broadcast`, `MotionPicture`,
-/// `MusicalScore` and `Song`. `None` for an entry of another type, which is of none of them (CSL
+/// The kind of an audio or a video. Each is of exactly one of `Broadcast`, `MotionPicture`,
+/// `MusicalScore` and `Song`. `None` for an entry of another type, which is of none of these (CSL
 /// 1.0.2, Appendix III: Types).
 pub fn recording_kind(entry: &Entry) -> Option<Kind>
     ensures recording { IsSome result ↔ IsTrue (is_recording (typing_of entry.now)) }
@@ -32,8 +32,8 @@ pub fn recording_kind(entry: &Entry) -> Option<Kind>
     Some(Kind::Broadcast)
 }
 
-/// The kind of a law: one that has a publisher is `Legislation`, any other a `Bill`, and none is
-/// both. `None` for an entry of another type, which is neither (CSL 1.0.2, Appendix III: Types).
+/// The kind of a law: `Legislation` if it has a publisher, else `Bill`. No law is both. `None` for
+/// an entry of another type, which is neither (CSL 1.0.2, Appendix III: Types).
 pub fn legislation_kind(entry: &Entry) -> Option<Kind>
     ensures law { IsSome result ↔ IsTrue (is_a Legislation (typing_of entry.now)) }
     ensures one { IfSome result (λ kind.
@@ -49,12 +49,13 @@ pub fn legislation_kind(entry: &Entry) -> Option<Kind>
     }
 }
 
-/// The entry is of that kind (CSL 1.0.2, Appendix III: Types). It may be of several, or of none.
+/// Whether the entry is of this kind (CSL 1.0.2, Appendix III: Types). It may be of several kinds,
+/// or of none.
 #[tactic(auto, using(crate::proofs::ShowSame::same_typing))]
 pub(crate) fn is_of_kind(entry: &Entry, kind: Kind) -> bool
     ensures value { result ≡ is_kind kind (typing_of entry.now) }
 
-    // It depends on what the entry and its parents show alone.
+    // The kinds depend only on the fields of the entry and its parents (`works`).
     ensures shown { TypingIsShown entry.now }
 {
     match kind {
@@ -87,12 +88,12 @@ pub(crate) fn is_of_kind(entry: &Entry, kind: Kind) -> bool
         Kind::Song => is_song(entry),
         Kind::Thesis => is_thesis(entry),
         Kind::Webpage => is_webpage(entry),
-        // The types of entries do not tell these from other kinds.
+        // No entry is of any other kind, because entry types do not distinguish them.
         _ => false,
     }
 }
 
-/// A work that the entry is directly a part of is of one of these types.
+/// Whether a direct parent of the entry is of one of these types.
 fn stands_in(entry: &Entry, types: &[EntryType]) -> bool
     ensures { result ≡ stands_in types.now (typing_of entry.now) }
 {
@@ -134,8 +135,8 @@ fn is_thesis(entry: &Entry) -> bool
     entry.entry_type == EntryType::Thesis || stands_in(entry, &[EntryType::Thesis])
 }
 
-/// An article that is no narrower kind of article, no report or thesis, and in no blog. No article
-/// is a manuscript, since that is a type of its own.
+/// Whether the entry is an article, but of no narrower kind of article, not a report or a thesis,
+/// and not in a blog. No article is a manuscript, because that is a type of its own.
 fn is_article(entry: &Entry) -> bool
     ensures { result ≡ is_kind kind.Article (typing_of entry.now) }
 {
@@ -190,7 +191,7 @@ fn is_recording(entry: &Entry) -> bool
     entry.entry_type == EntryType::Audio || entry.entry_type == EntryType::Video
 }
 
-/// An audio that comes with something to read.
+/// Whether the entry is an audio with a direct parent that can be read, such as a book.
 fn is_musical_score(entry: &Entry) -> bool
     ensures { result ≡ is_musical_score (typing_of entry.now) }
 {
@@ -228,14 +229,14 @@ fn is_broadcast(entry: &Entry) -> bool
     is_recording(entry) && !(is_musical_score(entry) || is_motion_picture(entry) || is_song(entry))
 }
 
-/// A law that has a publisher.
+/// Whether the entry is a law with a publisher.
 fn is_legislation(entry: &Entry) -> bool
     ensures { result ≡ is_kind kind.Legislation (typing_of entry.now) }
 {
     entry.entry_type == EntryType::Legislation && entry.publisher.is_some()
 }
 
-/// A law that has no publisher.
+/// Whether the entry is a law without a publisher.
 fn is_bill(entry: &Entry) -> bool
     ensures { result ≡ is_kind kind.Bill (typing_of entry.now) }
 {
@@ -254,8 +255,8 @@ fn is_post(entry: &Entry) -> bool
     entry.entry_type == EntryType::Post || stands_in(entry, &[EntryType::Thread])
 }
 
-/// A site, a blog or a thread, anything in a site or a blog, and what is of no type of its own
-/// but has an address.
+/// Whether the entry is a site, a blog or a thread, is in a site or a blog, or is of no type of its
+/// own (`Misc`) but has an address.
 fn is_online(entry: &Entry) -> bool
     ensures { result ≡ is_online (typing_of entry.now) }
 {

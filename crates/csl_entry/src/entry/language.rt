@@ -7,11 +7,11 @@ ghost use Rattle.csl_entry.specs.Language.{language_text, english_of};
 use lit_model::{Entry, LanguageIdentifier, Memory};
 use std::alloc::Global;
 
-/// A language as a style prints it (CSL 1.0.2, Standard Variables: language): the language, then
-/// `-` and the region where there is one, as `en-US`.
+/// Returns the text of a language (CSL 1.0.2, Standard Variables: language): the language, then `-`
+/// and the region if there is one, such as `en-US`.
 ///
 /// # Errors
-/// [`Memory`]: there was no memory left.
+/// [`Memory`]: out of memory.
 pub fn csl_language(alloc: Global, language: &LanguageIdentifier) -> Result<String, Memory>
     ensures { IfOk result (λ s. string_bytes s ≡ language_text (language_of language.now)) }
 {
@@ -23,8 +23,8 @@ pub fn csl_language(alloc: Global, language: &LanguageIdentifier) -> Result<Stri
     Ok(text)
 }
 
-/// Whether the entry's own language is `en`, in any region; `None` where it has none. Only English
-/// titles are put into title case (CSL 1.0.2, Title Case Conversion).
+/// Whether the entry's own language is `en`, whatever the region, or `None` if it has no language.
+/// CSL has title case for English titles only (CSL 1.0.2, Title Case Conversion).
 pub(crate) fn is_english(entry: &Entry) -> Option<bool>
     ensures { result ≡ english_of entry.now }
 {

@@ -1,4 +1,4 @@
-//! Names that an entry answers (CSL 1.0.2, Appendix IV: Name Variables).
+//! The answers of an entry to name variables (CSL 1.0.2, Appendix IV: Name Variables).
 
 ghost use Rattle.std.specs.Prelude.{◌≡◌, map, option_copied, IfOk};
 ghost use Rattle.lit_model.specs.declared.person.PersonRole.TheVariants as role;
@@ -14,7 +14,7 @@ use lit_model::{Bind, Clause, Entry, EntryType, Memory, Person, PersonRole};
 use std::alloc::Global;
 use std::borrow::Cow;
 
-/// The persons, in order, borrowed from the entry and its parents.
+/// Returns the persons in order, borrowed from the entry and its parents.
 pub(super) fn name_variable(
     alloc: Global,
     entry: &Entry,
@@ -71,7 +71,7 @@ static MEETING: [Clause<'static>; 1] = [Clause {
     bind: Bind::Parent,
 }];
 
-/// The proceedings or the conference that an entry stands in.
+/// Selects the first parent that is proceedings or a conference.
 fn meeting() -> &'static [Clause<'static>]
     ensures { map clause_view result.now ≡ conference_clauses }
 {
@@ -85,21 +85,21 @@ static EXHIBITION: [Clause<'static>; 1] = [Clause {
     bind: Bind::Parent,
 }];
 
-/// The exhibition that an entry stands in.
+/// Selects the first parent that is an exhibition.
 fn exhibition() -> &'static [Clause<'static>]
     ensures { map clause_view result.now ≡ exhibition }
 {
     &EXHIBITION
 }
 
-/// The recording that an entry is of, or is.
+/// The recording: the first parent that is one, or else the entry itself if it is one.
 fn recording(entry: &Entry) -> Option<&Entry>
     ensures { option_copied result ≡ bound_select audio_video entry.now }
 {
     entry.bound_select(audio_video())
 }
 
-/// The authors of the work that was found; nobody where none was.
+/// The authors of a work, or nobody if there is no work or it has no list of authors.
 fn authors(work: Option<&Entry>) -> &[Person]
     ensures { result.now ≡ persons_of_bound own_authors (option_copied work.entry) }
 {
@@ -109,7 +109,7 @@ fn authors(work: Option<&Entry>) -> &[Person]
     }
 }
 
-/// The editors of the work that was found; nobody where none was.
+/// The editors of a work, or nobody if there is no work or it has no list of editors.
 fn editors(work: Option<&Entry>) -> &[Person]
     ensures { result.now ≡ persons_of_bound own_editors (option_copied work.entry) }
 {
@@ -119,7 +119,7 @@ fn editors(work: Option<&Entry>) -> &[Person]
     }
 }
 
-/// The entry's own editors; where none are named, those of the work that holds it.
+/// The entry's own editors, or those of its container if it has no list of editors.
 fn editors_or_of_container(entry: &Entry) -> &[Person]
     ensures { result.now ≡ persons_of entry.now NameVariable.Editor }
 {
@@ -129,7 +129,7 @@ fn editors_or_of_container(entry: &Entry) -> &[Person]
     }
 }
 
-/// Persons of the entry as an answer, each borrowed.
+/// Returns these persons as an answer, each borrowed.
 fn name_answer(alloc: Global, persons: &[Person]) -> Result<Vec<Cow<'_, Person>>, Memory>
     ensures { IfOk result (λ found. map (cow_view person_view) found.items
         ≡ map person_view persons.now) }
@@ -141,7 +141,7 @@ fn name_answer(alloc: Global, persons: &[Person]) -> Result<Vec<Cow<'_, Person>>
     Ok(found)
 }
 
-/// Referenced persons of the entry as an answer, each borrowed.
+/// Returns these referenced persons as an answer, each borrowed.
 fn reference_answer<'a>(
     alloc: Global,
     persons: &[&'a Person],
@@ -156,7 +156,7 @@ fn reference_answer<'a>(
     Ok(found)
 }
 
-/// The persons of a role in the work that was found.
+/// The persons of a role in a work, or nobody if there is no work.
 fn in_role<'a>(
     alloc: Global,
     work: Option<&'a Entry>,
@@ -174,7 +174,7 @@ fn in_role<'a>(
     }
 }
 
-/// The entry's own editors who are among its translators too.
+/// The entry's own editors who are also among its translators.
 fn editor_translators(alloc: Global, entry: &Entry) -> Result<Vec<Cow<'_, Person>>, Memory>
     ensures { IfOk result (λ found. map (cow_view person_view) found.items
         ≡ names_of entry.now NameVariable.EditorTranslator) }
@@ -189,7 +189,7 @@ fn editor_translators(alloc: Global, entry: &Entry) -> Result<Vec<Cow<'_, Person
     Ok(found)
 }
 
-/// The person shows the same as one of the entry's translators.
+/// Whether the person is equal to one of the entry's translators.
 fn is_translator(entry: &Entry, person: &Person) -> bool
     ensures { result ≡ is_one_of (in_role role.Translator entry.now) person.now }
 {
@@ -203,7 +203,7 @@ fn is_translator(entry: &Entry, person: &Person) -> bool
     false
 }
 
-/// Whether one of the persons shows the same as `person`.
+/// Whether one of the persons is equal to `person`.
 fn is_one_of(persons: &[Person], person: &Person) -> bool
     ensures { result ≡ is_one_of persons.now person.now }
 {

@@ -1,4 +1,4 @@
-//! What an entry answers to a number variable.
+//! The answers of an entry to number variables.
 
 ghost use Rattle.std.specs.Prelude.{◌≡◌, IfOk, option_map, option_copied};
 ghost use Rattle.lit_model.specs.MaybeTyped.{maybe_view, typed};
@@ -13,9 +13,10 @@ use lit_model::{Entry, EntryType, MaybeTyped, Memory, Numeric};
 use std::alloc::Global;
 use std::borrow::Cow;
 
-/// The number that an entry answers (CSL 1.0.2, Number Variables), or its text where it is no
-/// number. What the citation knows (`CitationNumber`, `FirstReferenceNoteNumber`, `Locator`) the
-/// entry does not answer, nor `Section` and `SupplementNumber`.
+/// Returns the entry's answer to a number variable (CSL 1.0.2, Number Variables): the number, or
+/// the text if it is not a number. The citation answers `CitationNumber`,
+/// `FirstReferenceNoteNumber` and `Locator`, and the entry does not. It does not answer `Section`
+/// and `SupplementNumber` either.
 pub(crate) fn number_variable(
     alloc: Global,
     entry: &Entry,
@@ -45,7 +46,7 @@ pub(crate) fn number_variable(
     }
 }
 
-/// A number that an entry holds: borrowed, and copied where it is a text.
+/// The number or text that was found. A number is borrowed, and a text is copied.
 fn number_answer(
     alloc: Global,
     found: Option<&MaybeTyped<Numeric>>,
@@ -63,7 +64,7 @@ fn number_answer(
     }
 }
 
-/// A number that is no text, borrowed.
+/// The number that was found, borrowed.
 fn numeric_answer(found: Option<&Numeric>) -> Option<MaybeTyped<Cow<'_, Numeric>>>
     ensures { option_map (maybe_view (cow_view numeric_view)) result
         ≡ option_map (λ n. typed (numeric_view n)) (option_copied found.entry) }
@@ -74,7 +75,7 @@ fn numeric_answer(found: Option<&Numeric>) -> Option<MaybeTyped<Cow<'_, Numeric>
     }
 }
 
-/// A text of a serial number, as the number that it stands for, if it stands for one.
+/// The number that the text of a serial number spells, or the text if it spells none.
 fn serial_answer<'a>(
     alloc: Global,
     found: Option<&str>,
@@ -91,7 +92,7 @@ fn serial_answer<'a>(
     }
 }
 
-/// The chapter, or else the volume of the work where that numbers a chapter.
+/// The entry's own chapter, or else its own volume if that numbers a chapter.
 fn chapter_number(entry: &Entry) -> Option<&MaybeTyped<Numeric>>
     ensures { option_copied result ≡ chapter_number entry.now }
 {
@@ -100,14 +101,14 @@ fn chapter_number(entry: &Entry) -> Option<&MaybeTyped<Numeric>>
         .or_else(|| entry.bound_select(chapter())?.volume())
 }
 
-/// The volume of the collection in which the work stands.
+/// The volume of the entry's collection.
 fn collection_number(entry: &Entry) -> Option<&MaybeTyped<Numeric>>
     ensures { option_copied result ≡ collection_number entry.now }
 {
     entry.get_collection()?.volume()
 }
 
-/// The work's own serial number, or else a chapter's own chapter.
+/// The entry's own number named `serial`, or else a chapter's own chapter.
 fn own_number(alloc: Global, entry: &Entry) -> Result<Option<MaybeTyped<Cow<'_, Numeric>>>, Memory>
     ensures { IfOk result (λ r. option_map (maybe_view (cow_view numeric_view)) r
         ≡ own_number entry.now) }
@@ -119,7 +120,7 @@ fn own_number(alloc: Global, entry: &Entry) -> Result<Option<MaybeTyped<Cow<'_, 
     }
 }
 
-/// The first page of the work's own pages, where they are known as pages.
+/// The first of the entry's own pages, if they are pages and not a text.
 fn first_page(entry: &Entry) -> Option<&Numeric>
     ensures { option_map (λ page. numeric_view page.now) result ≡ first_page_of entry.now }
 {
@@ -129,21 +130,21 @@ fn first_page(entry: &Entry) -> Option<&Numeric>
     }
 }
 
-/// The volume of the work where that numbers a part.
+/// The entry's own volume, if it numbers a part.
 fn part_number(entry: &Entry) -> Option<&MaybeTyped<Numeric>>
     ensures { option_copied result ≡ part_number entry.now }
 {
     entry.bound_select(part())?.volume()
 }
 
-/// The printing in the first serial number along the work and its parents.
+/// The number named `printing` in the first set of serial numbers along the entry and its parents.
 fn printing_number(entry: &Entry) -> Option<&str>
     ensures { option_copied result ≡ printing_number entry.now }
 {
     entry.map(|work| work.serial_number())?.get("printing")
 }
 
-/// The version of a repository.
+/// The version of the entry, if it is a repository.
 fn version_number(entry: &Entry) -> Option<&str>
     ensures { option_copied result ≡ version_number entry.now }
 {
@@ -154,7 +155,7 @@ fn version_number(entry: &Entry) -> Option<&str>
     }
 }
 
-/// The volume of the work that holds this one, or else its own.
+/// The volume of the entry's container, or else the entry's own.
 fn volume_number(entry: &Entry) -> Option<&MaybeTyped<Numeric>>
     ensures { option_copied result ≡ volume_number entry.now }
 {

@@ -1,4 +1,4 @@
-//! Texts that may stand for a number.
+//! Texts that may spell a number.
 
 ghost use Rattle.std.specs.Prelude.{◌≡◌, ◌↔◌, IfOk, chars};
 ghost use Rattle.lit_model.specs.MaybeTyped.{maybe_view, typed};
@@ -8,12 +8,11 @@ ghost use Rattle.csl_entry.specs.NumericText.{numeric_or_text};
 use lit_model::{MaybeTyped, Memory, Numeric, NumericError};
 use std::alloc::Global;
 
-/// The number that a text stands for, or the text itself where it stands for none (CSL 1.0.2,
-/// Number).
+/// Returns the number that a text spells, or the text itself if it spells none (CSL 1.0.2, Number).
 pub(crate) fn numeric_or_text(alloc: Global, text: &str) -> Result<MaybeTyped<Numeric>, Memory>
     ensures exact { IfOk result (λ found.
         maybe_view numeric_view found ≡ numeric_or_text text.now) }
-    // It is a number exactly where the characters spell one, and then that one.
+    // The result is a number exactly if the characters spell that number.
     ensures spells { IfOk result (λ found. (v : NumericView) →
         (maybe_view numeric_view found ≡ typed v) ↔ Spells v (chars text.now)) }
 {

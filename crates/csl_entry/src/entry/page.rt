@@ -1,4 +1,4 @@
-//! What an entry answers to a page variable.
+//! The answer of an entry to a page variable.
 
 ghost use Rattle.std.specs.Prelude.{◌≡◌, IfOk, option_map};
 ghost use Rattle.lit_model.specs.MaybeTyped.{maybe_view};
@@ -9,8 +9,8 @@ use csl_style::PageVariable;
 use lit_model::{Entry, MaybeTyped, Memory, PageRanges};
 use std::alloc::Global;
 
-/// The pages that an entry answers (CSL 1.0.2, Number Variables: page): a copy of those on which
-/// it stands itself.
+/// Returns the entry's answer to a page variable (CSL 1.0.2, Number Variables: page): a copy of its
+/// own pages.
 pub(crate) fn page_variable(
     alloc: Global,
     entry: &Entry,

@@ -28,15 +28,16 @@ static REPOSITORY: [Clause<'static>; 1] = [Clause {
     bind: Bind::Parent,
 }];
 
-/// The repository that an entry stands in: its first parent that is one.
+/// Selects the first parent that is a repository.
 fn repository() -> &'static [Clause<'static>]
     ensures { map clause_view result.now ≡ repository }
 {
     &REPOSITORY
 }
 
-/// The text that an entry answers to a standard variable (CSL 1.0.2, Appendix IV: Variables), in
-/// the form that is asked for, where it has one. What the entry holds is borrowed.
+/// Returns the entry's answer to a standard variable (CSL 1.0.2, Appendix IV: Variables), in the
+/// requested form. `TitleShort` and `ContainerTitleShort` are always in the short form. A format
+/// string of the entry is borrowed, and any other text is new.
 pub(crate) fn standard_variable(
     alloc: Global,
     entry: &Entry,
@@ -115,14 +116,14 @@ pub(crate) fn standard_variable(
     }
 }
 
-/// The text in the form that is asked for, as the entry holds it.
+/// The text in the requested form, borrowed from the entry.
 fn in_form(text: Option<&FormatString>, form: LongShortForm) -> Option<Cow<'_, ChunkedString>>
     ensures { option_map (cow_view chunks) result ≡ in_form form (option_copied text.entry) }
 {
     Some(Cow::Borrowed(text?.select(form)))
 }
 
-/// The text as one piece that no style changes, where it is known.
+/// The text as one chunk that no style changes, if there is a text.
 fn verbatim_chunk<'t>(
     alloc: Global,
     text: Option<&str>,
@@ -140,7 +141,7 @@ fn verbatim_chunk<'t>(
     }
 }
 
-/// The language as one piece, where it is known.
+/// The language as one chunk, if there is a language.
 fn language_answer<'t>(
     alloc: Global,
     language: Option<&LanguageIdentifier>,
@@ -158,7 +159,7 @@ fn language_answer<'t>(
     }
 }
 
-/// The label of an entry as one piece.
+/// The label of an entry as one chunk.
 fn label_answer<'t>(alloc: Global, entry: &Entry) -> Result<Option<Cow<'t, ChunkedString>>, Memory>
     ensures { IfOk result (λ found. option_map (cow_view chunks) found
         ≡ Some (spec.one_chunk Normal (label 3 entry.now))) }
@@ -168,42 +169,42 @@ fn label_answer<'t>(alloc: Global, entry: &Entry) -> Result<Option<Cow<'t, Chunk
     Ok(Some(Cow::Owned(label)))
 }
 
-/// The title of a work, where they are known.
+/// The title of a work, if there is a work and it has one.
 fn title_of(work: Option<&Entry>) -> Option<&FormatString>
     ensures { option_copied result ≡ option_and_then own_title (option_copied work.entry) }
 {
     work?.title.as_ref()
 }
 
-/// The place of a work, where they are known.
+/// The place of a work, if there is a work and it has one.
 fn location_of(work: Option<&Entry>) -> Option<&FormatString>
     ensures { option_copied result ≡ option_and_then own_location (option_copied work.entry) }
 {
     work?.location.as_ref()
 }
 
-/// The publisher of a work, where they are known.
+/// The publisher of a work, if there is a work and it has one.
 fn publisher_of(work: Option<&Entry>) -> Option<&Publisher>
     ensures { option_copied result ≡ option_and_then own_publisher (option_copied work.entry) }
 {
     work?.publisher.as_ref()
 }
 
-/// The name of a publisher, where they are known.
+/// The name of a publisher, if there is a publisher and it has one.
 fn press_name(press: Option<&Publisher>) -> Option<&FormatString>
     ensures { option_copied result ≡ press_name (option_copied press.entry) }
 {
     press?.name.as_ref()
 }
 
-/// The place of a publisher, where they are known.
+/// The place of a publisher, if there is a publisher and it has one.
 fn press_place(press: Option<&Publisher>) -> Option<&FormatString>
     ensures { option_copied result ≡ press_place (option_copied press.entry) }
 {
     press?.location.as_ref()
 }
 
-/// The text of an address, where it is known.
+/// The text of an address, if there is an address.
 fn web_address(url: Option<&QualifiedUrl>) -> Option<&str>
     ensures { option_copied result ≡ web_address (option_copied url.entry) }
 {

@@ -1,4 +1,4 @@
-//! In which forms the names of one list are shown.
+//! The forms of the names of one list. The form of a name that is not shown is absent.
 
 ghost use Rattle.std.specs.Prelude.{◌≡◌, ◌≤◌, ◌<◌, ◌↔◌, Bool, Some, is_some, length, All, IsTrue, IsSome, option_and_then, slice_get, count_by};
 ghost use Rattle.std.specs.Borrow.{sem};
@@ -8,7 +8,7 @@ ghost use Rattle.csl_entry.specs.NameProperties.{all_shown, first_shown, disambi
 
 use crate::forms::name_form::DisambiguatedNameForm;
 
-/// Shows each name that is not shown, in that form.
+/// Replaces each absent form with this form.
 fn show_all(forms: &mut [Option<DisambiguatedNameForm>], form: DisambiguatedNameForm)
     ensures { forms.new ≡ all_shown form forms.old }
 {
@@ -17,7 +17,7 @@ fn show_all(forms: &mut [Option<DisambiguatedNameForm>], form: DisambiguatedName
     }
 }
 
-/// Shows those of the first `num` names that are not shown, in that form.
+/// Replaces each absent form among the first `num` with this form.
 pub(crate) fn show_first(
     forms: &mut [Option<DisambiguatedNameForm>],
     num: usize,
@@ -30,8 +30,8 @@ pub(crate) fn show_first(
     show_all(first, form);
 }
 
-/// The form that tells a name further apart from others, where there is one. A name that is not
-/// shown comes to be shown in the default form.
+/// The form that disambiguates a name further, if there is one. An absent form becomes the default
+/// form.
 fn further(
     form: Option<DisambiguatedNameForm>,
     default: DisambiguatedNameForm,
@@ -44,8 +44,8 @@ fn further(
     }
 }
 
-/// Tells the names at these places apart from others, place by place, and answers whether a form
-/// changed.
+/// Gives the name at each of these places its next form, if there is one, place by place. Returns
+/// whether any form changed.
 pub(crate) fn disambiguate_forms(
     forms: &mut [Option<DisambiguatedNameForm>],
     default: DisambiguatedNameForm,
@@ -64,21 +64,22 @@ pub(crate) fn disambiguate_forms(
     changed
 }
 
-/// Whether the list holds each of these places.
+/// Whether the list has each of these places.
 pub(crate) fn holds_each(forms: &[Option<DisambiguatedNameForm>], places: &[usize]) -> bool
     ensures { IsTrue result ↔ All (λ k. k < length forms.now) places.now }
 {
     places.iter().all(|place| *place < forms.len())
 }
 
-/// How many of these names are shown.
+/// The number of names that are shown.
 pub(crate) fn count_shown(forms: &[Option<DisambiguatedNameForm>]) -> usize
     ensures { result ≡ count_by is_some forms.now }
 {
     forms.iter().filter(|form| form.is_some()).count()
 }
 
-/// The form at this place, which is not absent, as a mutable reference. Nothing else changes.
+/// Returns a mutable reference to the form at this place, which must not be absent. Nothing else
+/// changes.
 pub(crate) fn shown_mut(
     forms: &mut Vec<Option<DisambiguatedNameForm>>,
     place: usize,

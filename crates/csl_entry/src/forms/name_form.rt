@@ -1,17 +1,17 @@
-//! How much of a name is shown.
+//! The forms of a name.
 
 ghost use Rattle.std.specs.Prelude.{◌≡◌, ◌<◌, Bool, IfSome};
 ghost use Rattle.csl_entry.specs.NameForm.{form_place, shows_given_name, fuller_form};
 
-/// How much of a name is shown, from the least to the most (CSL 1.0.2, Disambiguation:
-/// disambiguate-add-givenname).
+/// The form of a name: how much of it is shown, from the least to the most (CSL 1.0.2,
+/// Disambiguation: disambiguate-add-givenname).
 #[derive(Clone, Copy, Debug, PartialEq, Eq, PartialOrd, Ord, Hash)]
 pub enum DisambiguatedNameForm {
-    /// The name is counted, and nothing of it is shown.
+    /// The name is only counted. Nothing of it is shown.
     Count,
-    /// The short form, where given names are initials.
+    /// The short form, if given names are initials in the long form.
     ShortInitialized,
-    /// The short form, where given names are written out.
+    /// The short form, if given names are written out in the long form.
     ShortFull,
     /// The long form, with initials.
     LongInitialized,
@@ -30,8 +30,8 @@ impl DisambiguatedNameForm {
         )
     }
 
-    /// The form that shows more of the name, or `None` where there is none. `full` says whether
-    /// given names may be written out. At most two steps follow one another.
+    /// Returns the next form that shows more of the name, or `None` if there is none. `full` allows
+    /// given names to be written out. At most two such steps are possible in a row.
     pub fn disambiguate(self, full: bool) -> Option<DisambiguatedNameForm>
         ensures form { result ≡ fuller_form full self }
         ensures fuller { IfSome result (λ form. form_place self < form_place form) }

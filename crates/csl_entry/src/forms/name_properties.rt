@@ -1,4 +1,4 @@
-//! In which forms the names of a cite are shown.
+//! The forms in which the names of a cite are shown.
 
 ghost use Rattle.std.specs.Prelude.{◌≡◌, ◌<◌, ◌↔◌, ◌⊎◌, Bool, map, is_some, vec_len, slice_index_or, IsTrue, IfOk, IsSomeAnd, if◌then◌else◌};
 ghost use Rattle.std.specs.Borrow.{sem};
@@ -15,7 +15,7 @@ use lit_model::Memory;
 use std::alloc::Global;
 use std::cmp::Ordering;
 
-/// In which forms the names of a cite are shown (CSL 1.0.2, Disambiguation:
+/// The forms in which the names of a cite are shown (CSL 1.0.2, Disambiguation:
 /// disambiguate-add-names and disambiguate-add-givenname).
 #[derive(PartialEq, Eq, Hash, Drop)]
 pub struct NameDisambiguationProperties {
@@ -25,9 +25,9 @@ pub struct NameDisambiguationProperties {
 }
 
 impl NameDisambiguationProperties {
-    /// Forms of names: `default_name_form` is the form of a name that comes to be shown,
-    /// `variables` are the variables of the lists, and `name_forms` has, for each list of names,
-    /// the form of each name, or `None` where the name is not shown.
+    /// Returns the properties with these forms. `default_name_form` is the form of a name that
+    /// becomes shown, and `variables` are the variables of the lists. For each list of names,
+    /// `name_forms` has the form of each name, or `None` if the name is not shown.
     pub fn new(
         default_name_form: DisambiguatedNameForm,
         variables: Vec<NameVariable>,
@@ -46,31 +46,31 @@ impl NameDisambiguationProperties {
         }
     }
 
-    /// The form of a name that comes to be shown.
+    /// The form of a name that becomes shown.
     pub fn default_name_form(&self) -> DisambiguatedNameForm
         ensures { result ≡ (name_properties self.now).default_form }
     {
         self.default_name_form
     }
 
-    /// The variables whose names these are.
+    /// The variables of the lists of names.
     pub fn variables(&self) -> &[NameVariable]
         ensures { result.now ≡ (name_properties self.now).variables }
     {
         &self.variables
     }
 
-    /// For each list of names the form of each name, or `None` where the name is not shown.
+    /// The form of each name, for each list of names, or `None` if the name is not shown.
     pub fn name_forms(&self) -> &[Vec<Option<DisambiguatedNameForm>>]
         ensures { map (λ forms. forms.items) result.now ≡ (name_properties self.now).lists }
     {
         &self.name_forms
     }
 
-    /// An equal value.
+    /// Returns an equal value.
     ///
     /// # Errors
-    /// [`Memory`]: there was no memory left.
+    /// [`Memory`]: out of memory.
     pub fn clone(&self, alloc: Global) -> Result<Self, Memory>
         ensures { IfOk result (λ copy. name_properties copy ≡ name_properties self.now) }
     {
@@ -86,15 +86,15 @@ impl NameDisambiguationProperties {
         })
     }
 
-    /// The place of the first list of at least `num` forms.
+    /// The place of the first list with at least `num` forms.
     fn first_as_long(&self, num: usize) -> Option<usize>
         ensures { result ≡ first_as_long num (name_properties self.now).lists }
     {
         self.name_forms.iter().position(|forms| forms.len() >= num)
     }
 
-    /// Shows the first `num` names of the first list that has so many: each of them that was not
-    /// shown is shown in the default form. Answers whether there is such a list.
+    /// Shows the first `num` names of the first list with at least `num` names. Each of them that
+    /// was not shown gets the default form. Returns whether there is such a list.
     pub fn add_name(&mut self, num: usize) -> bool
         ensures answer { result ≡ is_some (first_as_long num (name_properties self.old).lists) }
         ensures shown { name_properties self.new ≡ with_names_shown num (name_properties self.old) }
@@ -106,15 +106,15 @@ impl NameDisambiguationProperties {
         true
     }
 
-    /// The first position of the variable, where it is listed.
+    /// The first position of the variable, if it is listed.
     fn first_listed(&self, variable: NameVariable) -> Option<usize>
         ensures { result ≡ first_listed variable (name_properties self.now) }
     {
         self.variables.iter().position(|listed| *listed == variable)
     }
 
-    /// Whether [`disambiguate_list`](Self::disambiguate_list) may be called: where the variable is
-    /// listed, a list of forms stands at its first position and holds each of these places.
+    /// Whether [`disambiguate_list`](Self::disambiguate_list) may be called. If the variable is
+    /// listed, there has to be a list of forms at its first position that has each of these places.
     pub fn can_disambiguate(&self, variable: NameVariable, items: &[usize]) -> bool
         ensures { IsTrue result ↔ CanDisambiguate variable items.now (name_properties self.now) }
     {
@@ -127,10 +127,10 @@ impl NameDisambiguationProperties {
         }
     }
 
-    /// Tells the names at these places of the variable's list apart from others, place by place:
-    /// one that is not shown comes to be shown in the default form, and another shows more of
-    /// itself where it can. Answers whether a form changed; of a variable that is not listed none
-    /// does. [`can_disambiguate`](Self::can_disambiguate) says whether it may be called.
+    /// Disambiguates the names at these places of the variable's list, place by place. A name that
+    /// is not shown gets the default form, and any other the next form that shows more of it, if
+    /// there is one. Returns whether any form changed. Nothing changes if the variable is not
+    /// listed. [`can_disambiguate`](Self::can_disambiguate) returns whether the call is allowed.
     pub fn disambiguate_list(&mut self, variable: NameVariable, items: &[usize]) -> bool
         requires { CanDisambiguate variable items.now (name_properties self.old) }
         ensures told { name_properties self.new
@@ -144,7 +144,8 @@ impl NameDisambiguationProperties {
         disambiguate_forms(&mut self.name_forms[place], self.default_name_form, items)
     }
 
-    /// How many names are shown. Lists and their names are too few to exceed 128 bits.
+    /// The number of names that are shown. It fits 128 bits, whatever the number of lists and
+    /// names.
     fn shown_count(&self) -> u128
         ensures { result ≡ shown_count (name_properties self.now) }
     {
@@ -155,7 +156,7 @@ impl NameDisambiguationProperties {
         count
     }
 
-    /// The order by all forms, of which an absent one stands first.
+    /// Compares all forms, list after list. An absent form comes first.
     fn compare_forms(&self, other: &Self) -> Ordering
         ensures { result ≡ forms_cmp (all_forms (name_properties self.now).lists)
             (all_forms (name_properties other.now).lists) }
@@ -164,7 +165,7 @@ impl NameDisambiguationProperties {
         forms.cmp(other.name_forms.iter().flatten())
     }
 
-    /// The order by the number of names that are shown, then by all forms.
+    /// Compares the number of names that are shown, then all forms.
     fn compare(&self, other: &Self) -> Ordering
         ensures { result ≡ properties_cmp (name_properties self.now) (name_properties other.now) }
     {
@@ -172,14 +173,15 @@ impl NameDisambiguationProperties {
         by_count.then(self.compare_forms(other))
     }
 
-    /// The one of the two that shows more: more names, or, of as many, the later one in the order
-    /// of all forms, of which an absent one stands first. Where neither does, the second.
+    /// Returns the one of the two that shows more names. If both show the same number, it is the
+    /// later one in the order of all forms, where an absent form comes first. On a tie it is
+    /// `other`.
     pub fn max(self, other: Self) -> Self
         ensures value { result ≡ (if is_gt
             (properties_cmp (name_properties self) (name_properties other)) then self else other) }
         ensures one { (result ≡ self) ⊎ (result ≡ other) }
 
-        // It is at least both.
+        // The result is not less than either of the two.
         ensures at_least_self { IsTrue (is_le
             (properties_cmp (name_properties self) (name_properties result))) }
         ensures at_least_other { IsTrue (is_le
@@ -194,8 +196,8 @@ impl NameDisambiguationProperties {
         }
     }
 
-    /// The list in which the form stands that is the `idx`-th of all, and its place there, unless
-    /// it is absent.
+    /// The list with the `idx`-th of all forms, and the place of the form in it. `None` if the form
+    /// is absent or does not exist.
     fn shown_at(&self, idx: usize) -> Option<(usize, usize)>
         ensures { result ≡ shown_from 0 idx (name_properties self.now).lists }
     {
@@ -209,7 +211,7 @@ impl NameDisambiguationProperties {
         None
     }
 
-    /// The list at this place, as a mutable reference. Nothing else changes.
+    /// Returns a mutable reference to the list at this place. Nothing else changes.
     fn list_mut(&mut self, list: usize) -> &mut Vec<Option<DisambiguatedNameForm>>
         requires { list < vec_len self.old.name_forms }
         ensures* writes_back { sem 𝓛 (lends_list self.entry list result) }
@@ -218,9 +220,9 @@ impl NameDisambiguationProperties {
         &mut self.name_forms[list]
     }
 
-    /// The form that is the `idx`-th of all lists in order, absent ones counted, as a mutable
-    /// reference, or where it is absent or there is none the default form. Nothing else changes. It
-    /// is never `None`.
+    /// Returns a mutable reference to the `idx`-th of all forms, from 0, list after list. Absent
+    /// forms count. If that form is absent or does not exist, the reference is to the default form.
+    /// Nothing else changes. The result is never `None`.
     pub fn get_form_mut(&mut self, idx: usize) -> Option<&mut DisambiguatedNameForm>
         ensures* writes_back { sem 𝓛 (lends_form self.entry idx result) }
         ensures value { IsSomeAnd result (λ form.

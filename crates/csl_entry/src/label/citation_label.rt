@@ -13,12 +13,12 @@ use std::fmt::Write;
 use unicode::properties::is_alphabetic;
 use unicode_segmentation::UnicodeSegmentation;
 
-/// How the label of a citation is made of letters and digits, as `Kwa14` (CSL 1.0.2, Standard
+/// The rule for citation labels of letters and digits, such as `Kwa14` (CSL 1.0.2, Standard
 /// Variables: citation-label).
 #[derive(Clone, Copy, Debug, PartialEq, Eq, Hash)]
 pub struct Alphanumerical {
-    /// How many letters of one name, or of a title, a label takes at most. A letter is an
-    /// extended grapheme cluster.
+    /// The most letters that a label takes from a sole creator, from the first of four or more, or
+    /// from the text in place of creators. A letter is an extended grapheme cluster.
     pub letters: usize,
 }
 
@@ -31,28 +31,30 @@ impl Default for Alphanumerical {
 }
 
 impl Alphanumerical {
-    /// Labels of three letters.
+    /// The rule for labels of three letters.
     pub fn new() -> Alphanumerical
         ensures { result.letters ≡ 3 }
     {
         Alphanumerical { letters: 3 }
     }
 
-    /// The label of an entry: the letters of its creators, and then two digits of its year.
+    /// The label of an entry: letters of its creators, then its year in two digits or more.
     ///
-    /// An untitled chapter or scene takes the label of the work that it is a part of. One
-    /// creator gives the first letters of the name, two or three give the first letter of each,
-    /// and more give the letters of the first one and `+`. Where there is no creator the
-    /// organization counts, else the title, else the letters of the key. The year is that of
-    /// the date, else that in which the address was visited; without either there is none.
+    /// An untitled chapter or scene takes the label of the work that it is a part of. One creator
+    /// gives the first letters of the name, and two or three give the first letter of each. Four or
+    /// more give the first letters of the first one and `+`. Without creators the label has the
+    /// first letters of the organization, else of the title, else of the alphabetic characters of
+    /// the key. The year is that of the first date along the work and its parents, else that of the
+    /// visit to the first address along them. The label has its last two digits, plus one if the
+    /// year is 0 or less: year -99 gives `100`. Without a date there is no year.
     ///
     /// # Errors
-    /// [`Memory`]: there was no memory left.
+    /// [`Memory`]: out of memory.
     #[tactic(auto, using(crate::proofs::ShowSame::same_label))]
     pub fn citation(self, alloc: Global, entry: &Entry) -> Result<String, Memory>
         ensures value { IfOk result (λ s. string_bytes s ≡ label self.letters entry.now) }
 
-        // It depends on what the entry and its parents show alone.
+        // The label depends only on the fields of the entry and its parents (`works`).
         ensures shown { LabelIsShown self.letters entry.now }
     {
         let work = entry.get_full();
@@ -91,7 +93,7 @@ impl Alphanumerical {
     }
 }
 
-/// Adds the first letters of a text.
+/// Appends the first `count` letters of a text, or all if it has fewer.
 fn push_letters(label: &mut String, text: &str, count: usize) -> Result<(), Memory>
     ensures { OnOk result (string_bytes label.new
         ≡ string_bytes label.old ++ first_letters count text.now) }
@@ -100,7 +102,8 @@ fn push_letters(label: &mut String, text: &str, count: usize) -> Result<(), Memo
     Ok(())
 }
 
-/// The text in place of creators: the organization, else the title, else the letters of the key.
+/// The text in place of creators: the organization, else the title, else the alphabetic characters
+/// of the key.
 fn stand_in(alloc: Global, work: &Entry) -> Result<String, Memory>
     ensures { IfOk result (λ s. string_bytes s ≡ stand_in work.now) }
 {
@@ -112,7 +115,7 @@ fn stand_in(alloc: Global, work: &Entry) -> Result<String, Memory>
     Ok(text)
 }
 
-/// The letters of a key.
+/// The alphabetic characters of a key.
 fn alphabetic_part(alloc: Global, key: &str) -> Result<String, Memory>
     ensures { IfOk result (λ s. string_bytes s ≡ alphabetic_part key.now) }
 {
@@ -120,7 +123,7 @@ fn alphabetic_part(alloc: Global, key: &str) -> Result<String, Memory>
     Ok(letters)
 }
 
-/// The date whose year a label shows.
+/// The date from which a label takes its year.
 fn label_date(work: &Entry) -> Option<&Date>
     ensures { option_copied result ≡ label_date work.now }
 {
@@ -137,7 +140,7 @@ fn push_year(label: &mut String, date: Option<&Date>) -> Result<(), Memory>
     Ok(())
 }
 
-/// The number that a label shows of a year.
+/// The number of a year in a label: its last two digits, plus one if the year is 0 or less.
 fn year_number(year: i32) -> u32
     ensures { result ≡ year_number year }
 {

@@ -1,4 +1,4 @@
-//! The creators of a work, by whom its label is made (CSL 1.0.2, Appendix IV: Standard Variables,
+//! The creators of a work, for its label (CSL 1.0.2, Appendix IV: Standard Variables,
 //! citation-label).
 
 ghost use Rattle.std.specs.Prelude.{◌≡◌, ◌++◌, map, IfOk};
@@ -16,15 +16,16 @@ static SERIES: [Clause<'static>; 1] = [Clause {
     bind: Bind::Parent,
 }];
 
-/// The series of an episode that has an issue and a volume.
+/// Selects the series of an episode. An episode is a video with an issue and a volume, and its
+/// series is the first parent that is a video.
 fn series() -> &'static [Clause<'static>]
     ensures { map clause_view result.now ≡ series }
 {
     &SERIES
 }
 
-/// The creators, in order: the authors; where none are named, the editors; else, by its type,
-/// those who made it. A list that is named and empty counts.
+/// The creators, in order: those in the list of authors, else in the list of editors, else the
+/// makers. An empty list counts as a list.
 #[tactic(auto, using(crate::proofs::Persons::named_each))]
 pub(crate) fn creators(alloc: Global, entry: &Entry) -> Result<Vec<&Person>, Memory>
     ensures { IfOk result (λ v. map (λ p. person_view p.now) v.items ≡ creators_of entry.now) }
@@ -47,7 +48,7 @@ fn references(alloc: Global, persons: &[Person]) -> Result<Vec<&Person>, Memory>
     Ok(list)
 }
 
-/// The persons who made a work without lists of authors and editors.
+/// The makers of a work, by its type: the creators of a work without lists of authors and editors.
 fn makers(alloc: Global, entry: &Entry) -> Result<Vec<&Person>, Memory>
     ensures { IfOk result (λ v. map (λ p. p.now) v.items ≡ makers entry.now) }
 {

@@ -15,14 +15,14 @@ fn year(alloc: Global, description: &str, variable: DateVariable) -> Result<Opti
     Ok(borrowed(&date).map(|date| date.year()))
 }
 
-/// A blog post of no date in a blog of 2001 that was read in 2015, shown at a conference of 2002,
-/// first printed in 1999.
+/// A blog post without a date. Its blog is of 2001 and was visited in 2015, its conference is of
+/// 2002, and its original is of 1999.
 const POST: &str = "article; \
     in blog; date 2001; url https://aeon.co/essays 2015; \
     also conference; date 2002; \
     also original; date 1999";
 
-/// A post with a date of its own, and works around it that have dates.
+/// A post with a date of its own, whose parents have dates.
 const DATED_POST: &str = "article; date 2010; \
     in blog; date 2001; url https://aeon.co/essays 2015; \
     also conference; date 2002; \
@@ -38,7 +38,7 @@ static YEARS: [Row; 10] = [
     (POST, DateVariable::OriginalDate, Some(1999)),
     (POST, DateVariable::AvailableDate, None),
     (POST, DateVariable::Submitted, None),
-    // The own date comes first.
+    // The entry's own date comes first.
     (DATED_POST, DateVariable::Issued, Some(2010)),
     ("book; date 2014", DateVariable::Accessed, None),
     ("book; date 2014", DateVariable::EventDate, None),

@@ -55,7 +55,7 @@ static NAMES: [&str; 45] = [
     "webpage",
 ];
 
-/// The names of all kinds that the entry is of, each with a space behind it.
+/// The names of all kinds of the entry, with a space after each.
 fn kinds(alloc: Global, description: &str, all: &[&'static str]) -> Result<String, Fail> {
     let works = described(alloc, description)?;
     let entry = only(&works)?;
@@ -70,7 +70,7 @@ fn kinds(alloc: Global, description: &str, all: &[&'static str]) -> Result<Strin
     Ok(kinds)
 }
 
-/// Asserts that each entry is of these kinds and of no other.
+/// Asserts that each entry is of exactly these kinds.
 fn assert_kinds(
     rt: &impl Abort,
     alloc: Global,
@@ -83,9 +83,9 @@ fn assert_kinds(
     Ok(())
 }
 
-/// A description, and the kinds that the entry is of, each with a space behind it.
+/// A description, and the kinds of the entry, with a space after each.
 static KINDS: [(&str, &str); 52] = [
-    // Articles, by what they stand in.
+    // Articles, by the works that contain them.
     ("article", "article "),
     ("article; in periodical", "article-journal "),
     ("article; in newspaper", "article-newspaper "),
@@ -94,8 +94,7 @@ static KINDS: [(&str, &str); 52] = [
     ("article; in report", "report "),
     ("article; in thesis", "thesis "),
     ("article; in reference", "article entry-encyclopedia "),
-    // An article of a blog that can be read on the web is a post, and neither a page nor an
-    // article.
+    // An article of a blog on the web is a post, and neither a webpage nor an article.
     (
         "article; url https://aeon.co/; in blog; in web",
         "post-weblog ",
@@ -118,7 +117,7 @@ static KINDS: [(&str, &str); 52] = [
     ("periodical", ""),
     ("proceedings; in periodical", "book "),
     ("anthology", "collection "),
-    // The works that it is directly in count each.
+    // Each work that directly contains the entry counts.
     ("artwork; in article; in blog", "figure "),
     (
         "article; in proceedings; also periodical",
@@ -149,7 +148,7 @@ static KINDS: [(&str, &str); 52] = [
     ("blog", "webpage "),
     ("thread", "webpage "),
     ("report; in web", "report webpage "),
-    // An address makes a page of what has no type.
+    // An entry of type Misc is a webpage if it has an address. A report is not.
     ("misc; url https://aeon.co/", "document webpage "),
     ("report; url https://aeon.co/", "report "),
 ];
@@ -159,7 +158,7 @@ fn kinds_of_works(rt: HostRuntime) -> Result<(), Fail> {
     assert_kinds(&rt, rt.alloc(), &KINDS)
 }
 
-/// What kind of recording and what kind of law the entry is.
+/// The kind of a recording and the kind of a law that the entry is.
 fn narrower_kinds(alloc: Global, description: &str) -> Result<(Option<Kind>, Option<Kind>), Fail> {
     let works = described(alloc, description)?;
     let entry = only(&works)?;

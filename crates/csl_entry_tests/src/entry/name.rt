@@ -6,7 +6,7 @@ use std::alloc::Global;
 use std::process::Abort;
 use std::test::Fail;
 
-/// The names, each with a space behind it.
+/// The names, with a space after each.
 fn names(alloc: Global, description: &str, variable: NameVariable) -> Result<String, Fail> {
     let works = described(alloc, description)?;
     let entry = only(&works)?;
@@ -31,8 +31,8 @@ fn assert_names(
     Ok(())
 }
 
-/// A chapter of two authors and no editors, in an anthology with an author and two editors, in a
-/// collection that has an editor.
+/// A chapter of two authors without editors. It is in an anthology with an author and two editors,
+/// which is in a collection with an editor.
 const CHAPTER: &str = "chapter; authors Ann, Ben; \
     in anthology; authors Max; editors Eve, Eli; \
     in periodical; editors Sam";
@@ -42,7 +42,7 @@ const EDITED_CHAPTER: &str = "chapter; authors Ann, Ben; editors Own; \
     in anthology; authors Max; editors Eve, Eli; \
     in periodical; editors Sam";
 
-/// A chapter in an anthology, with a list of editors that is empty.
+/// A chapter in an anthology, with an empty list of editors.
 const CHAPTER_OF_NO_EDITORS: &str = "chapter; authors Ann, Ben; editors; \
     in anthology; authors Max; editors Eve, Eli; \
     in periodical; editors Sam";
@@ -62,29 +62,29 @@ const VIDEO: &str = "video; director Dan; founder Flo";
 
 const EPISODE: &str = "video; director Dan; founder Flo; in video; director Pat; founder Fay";
 
-/// A book with persons of five roles, of which the translators stand in two groups.
+/// A book with persons of five roles. The translators are in two groups.
 const BOOK: &str = "book; translator Tom; compiler Cora; illustrator Ida; collaborator Col; \
     organizer Oz; translator Tess";
 
-/// A performance with persons of the other roles that a variable names.
+/// A performance with persons of the remaining roles that have a variable.
 const PLAY: &str = "performance; composer Cy; narrator Nan; producer Pru; \
     executive-producer Ex; cast-member Mel; writer Wes";
 
-/// A description, a variable, and the names, each with a space behind it.
+/// A description, a variable, and the names, with a space after each.
 static NAMES: [(&str, NameVariable, &str); 40] = [
     (CHAPTER, NameVariable::Author, "Ann Ben "),
     (CHAPTER, NameVariable::ContainerAuthor, "Max "),
     (CHAPTER, NameVariable::CollectionEditor, "Sam "),
     (CHAPTER, NameVariable::Editor, "Eve Eli "),
     (EDITED_CHAPTER, NameVariable::Editor, "Own "),
-    // Nobody where no work is found.
+    // There are no names if no work is found.
     ("book; authors Ann", NameVariable::ContainerAuthor, ""),
     ("book; authors Ann", NameVariable::OriginalAuthor, ""),
     ("book; authors Ann", NameVariable::CollectionEditor, ""),
     ("book; authors Ann", NameVariable::Director, ""),
     (TRANSLATION, NameVariable::OriginalAuthor, "Homer "),
     (TRANSLATION, NameVariable::Author, ""),
-    // A list of editors counts though it is empty.
+    // An empty list of editors counts.
     (CHAPTER_OF_NO_EDITORS, NameVariable::Editor, ""),
     // Chairs of proceedings and conferences.
     (PAPER, NameVariable::Chair, "Dan "),
@@ -95,10 +95,10 @@ static NAMES: [(&str, NameVariable, &str); 40] = [
     (ARTWORK, NameVariable::Curator, "Olga "),
     (ARTWORK, NameVariable::Organizer, ""),
     (ARTWORK, NameVariable::Chair, ""),
-    // Those of a recording.
+    // Persons of a recording.
     (VIDEO, NameVariable::Director, "Dan "),
     (VIDEO, NameVariable::SeriesCreator, "Flo "),
-    // Those of the series come before the episode's own.
+    // Persons of the series come before those of the episode.
     (EPISODE, NameVariable::Director, "Pat "),
     (EPISODE, NameVariable::SeriesCreator, "Fay "),
     // Persons of a role.
@@ -113,7 +113,7 @@ static NAMES: [(&str, NameVariable, &str); 40] = [
     (PLAY, NameVariable::ExecutiveProducer, "Ex "),
     (PLAY, NameVariable::Performer, "Mel "),
     (PLAY, NameVariable::ScriptWriter, "Wes "),
-    // Nobody by the other variables.
+    // The other variables have no names.
     (PLAY, NameVariable::EditorialDirector, ""),
     (PLAY, NameVariable::Guest, ""),
     (PLAY, NameVariable::Host, ""),

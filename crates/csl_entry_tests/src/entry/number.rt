@@ -15,7 +15,7 @@ fn number(alloc: Global, description: &str, variable: NumberVariable) -> Result<
     number
 }
 
-/// Asserts the number; behind `'` a text that is no number; or `none`.
+/// Asserts the answer: the number, or `'` and the text if it is not a number, or `none`.
 fn assert_number(
     rt: &impl Abort,
     alloc: Global,
@@ -29,30 +29,31 @@ fn assert_number(
     Ok(())
 }
 
-/// Chapter 4 of an anthology, volume 2, in a series, volume 7.
+/// Chapter 4 of an anthology, which is volume 2, in a series, which is volume 7.
 const CHAPTER: &str =
     "chapter; chapter 4; volume 9; in anthology; volume 2; in book; volume 7; edition 3";
 
-/// An article, volume 5, in proceedings of which no volume is known.
+/// An article, volume 5, in proceedings without a volume.
 const PAPER: &str = "article; volume 5; in proceedings";
 
 /// An article on pages 454 to 477 of issue 3 of volume 20 of a journal.
 const ARTICLE: &str = "article; pages 454-477; in periodical; issue 3; volume 20";
 
-/// A law, volume 8 of 12 of a code, on 300 pages.
+/// A law: volume 8 of 12 of a code, on 300 pages.
 const LAW: &str = "case; volume 8; volumes 12; total 300; in legislation";
 
 /// A report with a serial number of its own, in a series with a printing.
 const REPORT: &str = "report; serial serial 123; in book; serial printing 2";
 
-/// A book with a version, in that series.
+/// A book with a version, in a series with a printing.
 const BOOK: &str = "book; serial version 1.2; in book; serial printing 2";
 
-/// A repository of which nothing that is a text is a number, in that series.
+/// A repository in a series with a printing. Its version, edition and pages are texts that are not
+/// numbers.
 const REPOSITORY: &str = "repository; serial version 1.2 beta; edition 'second; pages 'passim; \
     in book; serial printing 2";
 
-/// A description, a variable, and the number as it is said.
+/// A description, a variable, and the number as text.
 static NUMBERS: [(&str, NumberVariable, &str); 29] = [
     (CHAPTER, NumberVariable::ChapterNumber, "4"),
     (CHAPTER, NumberVariable::Number, "4"),
@@ -73,7 +74,7 @@ static NUMBERS: [(&str, NumberVariable, &str); 29] = [
     (PAPER, NumberVariable::Number, "none"),
     // Serial numbers.
     (REPORT, NumberVariable::Number, "123"),
-    // Its own serial number has no printing, so the one of the series is not looked for.
+    // Its own serial number has no printing. The series is not searched.
     (REPORT, NumberVariable::PrintingNumber, "none"),
     (BOOK, NumberVariable::Version, "none"),
     (
@@ -81,11 +82,11 @@ static NUMBERS: [(&str, NumberVariable, &str); 29] = [
         NumberVariable::PrintingNumber,
         "2",
     ),
-    // Texts that are no numbers.
+    // Texts that are not numbers.
     (REPOSITORY, NumberVariable::Version, "'1.2 beta"),
     (REPOSITORY, NumberVariable::Edition, "'second"),
     (REPOSITORY, NumberVariable::PageFirst, "none"),
-    // What the citation knows.
+    // Variables that no entry answers.
     (ARTICLE, NumberVariable::CitationNumber, "none"),
     (ARTICLE, NumberVariable::FirstReferenceNoteNumber, "none"),
     (ARTICLE, NumberVariable::Locator, "none"),

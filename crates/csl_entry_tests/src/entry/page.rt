@@ -7,7 +7,7 @@ use std::alloc::Global;
 use std::process::Abort;
 use std::test::Fail;
 
-/// The pages; behind `'` a text that is none; and `none` where there is no answer.
+/// The pages, or `'` and the text if it is not pages, or `none` if there is no answer.
 fn pages(alloc: Global, description: &str) -> Result<String, Fail> {
     let works = described(alloc, description)?;
     let entry = only(&works)?;
@@ -23,7 +23,7 @@ static PAGES: [(&str, &str); 4] = [
     ("article", "none"),
     ("article; pages 454", "454"),
     ("article; pages 'passim", "'passim"),
-    // The pages of a parent are no answer.
+    // The pages of a parent do not count.
     ("chapter; in book; pages '1-9", "none"),
 ];
 

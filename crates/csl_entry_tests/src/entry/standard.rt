@@ -9,7 +9,7 @@ use std::borrow::Cow;
 use std::process::Abort;
 use std::test::Fail;
 
-/// The text, with the marks of its pieces.
+/// The text with the marks of its chunks.
 fn text(
     alloc: Global,
     description: &str,
@@ -39,12 +39,12 @@ fn assert_text(
 /// A book of 2014 by one author.
 const BOOK: &str = "book; title Crazy Rich Asians; authors Kwan; date 2014";
 
-/// An article in a journal that has a short title and belongs to nothing.
+/// An article with a short title, in a journal with a short title and without parents.
 const ARTICLE: &str = "article; key quantized-vortex; \
     title Structure of a Quantized Vortex in Boson Systems|Quantized Vortex; \
     in periodical; key cimento; title Il Nuovo Cimento|Nuovo Cim.";
 
-/// A chapter of an anthology that stands in a series.
+/// A chapter of an anthology that is in a series.
 const CHAPTER: &str = "chapter; title The Signal-Man; in anthology; title Ghost Stories; \
     in book; title Everyman's Library";
 
@@ -58,7 +58,7 @@ const PAPER_OF_PROCEEDINGS: &str = "article; title Program Slicing; \
     in proceedings; title POPL Proceedings; \
     in conference; title POPL 1984";
 
-/// A post, in a language of its own, of a blog of a newspaper's site.
+/// A post with a language of its own, in a blog of a newspaper's site.
 const POST: &str = "post; title She swoons to conquer; language en-AU; \
     in blog; title Aeon; url https://aeon.co/essays; genre essay; \
     in web; title Aeon Media";
@@ -98,9 +98,9 @@ const SHORT: LongShortForm = LongShortForm::Short;
 
 const WHOLE: &str = "Structure of a Quantized Vortex in Boson Systems";
 
-/// A description, a form, a variable, and the text as it is said.
+/// A description, a form, a variable, and the text with the marks of its chunks.
 static TEXTS: [(&str, LongShortForm, StandardVariable, &str); 38] = [
-    // Titles, in the form that is asked for.
+    // Titles, in the form of the query.
     (ARTICLE, LONG, StandardVariable::Title, WHOLE),
     (ARTICLE, SHORT, StandardVariable::Title, "Quantized Vortex"),
     (
@@ -127,14 +127,14 @@ static TEXTS: [(&str, LongShortForm, StandardVariable, &str); 38] = [
         StandardVariable::ContainerTitleShort,
         "Nuovo Cim.",
     ),
-    // Without a short form the whole title stands for it.
+    // Without a short form, the whole title replaces it.
     (
         CHAPTER,
         SHORT,
         StandardVariable::TitleShort,
         "The Signal-Man",
     ),
-    // Of parents.
+    // Texts of parents.
     (
         CHAPTER,
         LONG,
@@ -209,21 +209,21 @@ static TEXTS: [(&str, LongShortForm, StandardVariable, &str); 38] = [
         StandardVariable::PublisherPlace,
         "Leipzig",
     ),
-    // The title stands in for the authors, and there is no date.
+    // The title replaces the authors, and there is no date.
     (ARTICLE, LONG, StandardVariable::CitationLabel, "Str"),
-    // Of the entry alone.
+    // Texts of the entry alone.
     (FILM, LONG, StandardVariable::ArchiveLocation, "Shelf 4"),
     (FILM, LONG, StandardVariable::Authority, "Film Society"),
     (FILM, LONG, StandardVariable::CallNumber, "RT 27"),
     (FILM, SHORT, StandardVariable::Dimensions, "12 min"),
     (FILM, LONG, StandardVariable::Note, "none"),
     (FILM, SHORT, StandardVariable::Note, "none"),
-    // What parents share.
+    // Texts that parents share.
     (FILM, LONG, StandardVariable::Abstract, "Rays in one week."),
     (FILM, LONG, StandardVariable::Annote, "Needs a large screen"),
     (FILM, LONG, StandardVariable::Archive, "Vault 2"),
     (FILM, LONG, StandardVariable::Source, "Ray Tracer"),
-    // The repository itself has the note, and is no entry's parent here.
+    // The repository itself has the note. Here it is the entry and not a parent.
     (
         REPOSITORY,
         LONG,
@@ -242,7 +242,7 @@ static TEXTS_OF_ONE_FORM: [(&str, StandardVariable, &str); 34] = [
     (NUMBERED, StandardVariable::ISSN, "`0029-6341"),
     (NUMBERED, StandardVariable::PMCID, "`PMC2717145"),
     (NUMBERED, StandardVariable::PMID, "`19255231"),
-    // One piece of each kind; that of an empty text is empty.
+    // A chunk of each kind. An empty text has an empty chunk.
     (
         "book; language Il Nuovo Cimento",
         StandardVariable::Language,
@@ -254,7 +254,7 @@ static TEXTS_OF_ONE_FORM: [(&str, StandardVariable, &str); 34] = [
     (ARTICLE, StandardVariable::CollectionTitle, "none"),
     (ARTICLE, StandardVariable::VolumeTitle, "none"),
     (CHAPTER, StandardVariable::VolumeTitle, "none"),
-    // Events of parents of parents do not count.
+    // Events of a parent's parents do not count.
     (PAPER_OF_PROCEEDINGS, StandardVariable::Event, "none"),
     // Numbers are the entry's own.
     (CHAPTER_OF_NUMBERED, StandardVariable::DOI, "none"),
@@ -308,7 +308,7 @@ fn texts_of_an_entry_and_its_parents(rt: HostRuntime) -> Result<(), Fail> {
     assert_all_in_both(&rt, rt.alloc(), &TEXTS_OF_ONE_FORM)
 }
 
-/// Whether the short text is one that the entry holds; `None` where there is no answer.
+/// Whether the text in the short form is borrowed from the entry, or `None` if there is no answer.
 fn is_borrowed(
     alloc: Global,
     description: &str,

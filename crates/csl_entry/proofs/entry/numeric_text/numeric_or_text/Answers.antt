@@ -3,7 +3,7 @@ use Rattle.lit_model.specs.MaybeTyped.{MaybeView, typed, text}
 use Rattle.lit_model.specs.Numeric.{NumericView, Spells}
 use Rattle.csl_entry.proofs.entry.numeric_text.numeric_or_text.Goals as goal
 
--- a number that was found is the one that is asked for
+-- equal typed values hold the same number
 one_number : {x y : NumericView} → ◌≡◌ {A = MaybeView NumericView} (typed x) (typed y) → x ≡ y
 one_number e = cc
 

@@ -5,7 +5,7 @@ use Rattle.csl_entry.specs.NameProperties.{NameForms}
 use Rattle.csl_entry.proofs.FormLists.{holds_there, holds_at, stands_at}
 use Rattle.csl_entry.proofs.forms.name_properties.NameDisambiguationProperties.can_disambiguate.Goals as goal
 
--- the list holds each of the places
+-- the list has each of the places
 abbrev HoldsEach : List ℕ → NameForms → Type 0
 HoldsEach places forms = All (λ k. k < length forms) places
 

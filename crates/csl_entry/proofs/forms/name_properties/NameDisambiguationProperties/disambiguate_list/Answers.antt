@@ -4,7 +4,7 @@ use Rattle.csl_entry.specs.NameProperties.{NameForms, NameProperties, disambigua
 use Rattle.csl_entry.proofs.FormLists.{changed_at, stands_at, holds_at, same_after, same_there, with_lists}
 use Rattle.csl_entry.proofs.forms.name_properties.NameDisambiguationProperties.disambiguate_list.Goals as goal
 
--- the list holds each of the places
+-- the list has each of the places
 abbrev HoldsEach : List ℕ → NameForms → Type 0
 HoldsEach places forms = All (λ k. k < length forms) places
 
