@@ -1,9 +1,9 @@
--- A *content* is what a node prints: a list of tokens. Of two contents in a row (`++>`), a last
--- text and a first text of equal formatting become one text. An empty text has no content, and
--- neither has a markup or a link with an empty text. An element that is closed around no content is
--- no content. So what these build has no empty leaf and no element without children (`IsContent`).
--- An element that is appended whole stands as it is, be it without children.
--- A content between affixes (CSL 1.0.2, Affixes) is nothing if the content is nothing, else prefix,
+-- A *content* is the output of a node, as a list of tokens. If two contents are put in a row
+-- (`++>`), a last text and a first text of equal formatting become one text. A text, a markup or a
+-- link with empty text has the empty content. So does an element that is closed around the empty
+-- content. Contents built this way have no empty leaf and no element without children
+-- (`IsContent`). An element that is appended whole is kept as it is, even without children.
+-- A content between affixes (CSL 1.0.2, Affixes) is empty if the content is empty, else prefix,
 -- content and suffix in a row.
 use Rattle.std.specs.Prelude.{◌≡◌, ℕ, List, [], ◌∷◌, ◌++◌, Option, Some, None, option_map, string_bytes, if◌then◌else◌}
 use Rattle.std.specs.Borrow.{Bor}
@@ -17,13 +17,13 @@ use Rattle.csl_tree.specs.declared.elem.ElemChild.{ElemChild}
 use Rattle.csl_tree.specs.declared.elem.ElemChild.TheOpen.{ElemChild-F, Text, Elem, Markup, Link, Transparent}
 use Rattle.csl_tree.specs.declared.elem.ElemChild.TheViews.{out-ElemChild}
 
--- a text in front of what follows
+-- a text, then a content that it may join
 abbrev pub text_before : List ℕ → Formatting → List Token → List Token
 text_before bs f [] = text bs f ∷ []
 text_before bs f (text more g ∷ rest) = if same_formatting f g then text (bs ++ more) f ∷ rest else text bs f ∷ text more g ∷ rest
 text_before bs f (solid s ∷ rest) = text bs f ∷ solid s ∷ rest
 
--- the last token of a content, in front of what follows
+-- a token, then a content that it may join
 abbrev pub last_before : Token → List Token → List Token
 last_before (text bs f) rest = text_before bs f rest
 last_before (solid s) rest = solid s ∷ rest
@@ -32,7 +32,7 @@ abbrev pub join_tokens : Token → List Token → List Token → List Token
 join_tokens t [] b = last_before t b
 join_tokens t (u ∷ a) b = t ∷ join_tokens u a b
 
--- two contents in a row, in which texts of equal formatting that meet become one
+-- two contents in a row: a last text and a first text of equal formatting become one
 infixr 65 ◌++>◌
 abbrev pub ◌++>◌ : List Token → List Token → List Token
 [] ++> b = b
@@ -52,7 +52,7 @@ optional_text (Some bs) f = text_content bs f
 abbrev pub lent_text : Option (Bor (List ℕ)) → Formatting → List Token
 lent_text t f = optional_text (option_map (λ s. s.now) t) f
 
--- an element around a content, unless there is none
+-- an element around a content, or nothing if the content is empty
 abbrev pub elem_content : Option Display → Option Meta → List Token → List Token
 elem_content d m [] = []
 elem_content d m (t ∷ ts) = elem_around d m (t ∷ ts)
@@ -67,7 +67,7 @@ abbrev pub link_content : List ℕ → Formatting → List ℕ → List Token
 link_content [] f url = []
 link_content (b ∷ bs) f url = solid (link (b ∷ bs) f url) ∷ []
 
--- the content of one child: an element stands, whatever is in it
+-- the content of one child: an element is kept, even without children
 abbrev pub layer_content : ElemChild-F ElemChild elem.Elem ElemChildren → List Token
 layer_content (Text t) = text_content (string_bytes t.text) t.formatting
 layer_content (Elem e) = elem_around (elem.out-Elem e).display (optional_meta (elem.out-Elem e).meta) (tokens (elem.out-Elem e).children)
@@ -78,13 +78,12 @@ layer_content (Transparent n f) = solid (transparent n f) ∷ []
 abbrev pub child_content : ElemChild → List Token
 child_content k = layer_content (out-ElemChild k)
 
--- a content between two others, unless there is none
+-- a content between two others, or nothing if the content is empty
 abbrev pub affixed_content : List Token → List Token → List Token → List Token
 affixed_content prefix suffix [] = []
 affixed_content prefix suffix (t ∷ ts) = prefix ++> ((t ∷ ts) ++> suffix)
 
--- a content as the calls leave it: leaves that are not empty, and elements around contents that are
--- not nothing
+-- a content as calls build it: no leaf is empty, and no element is around the empty content
 pub data IsContent : List Token → Type 0 where
   nothing : IsContent []
   text_then : (b : ℕ) (bs : List ℕ) (f : Formatting) (rest : List Token) → IsContent rest → IsContent (text (b ∷ bs) f ∷ rest)
@@ -94,10 +93,10 @@ pub data IsContent : List Token → Type 0 where
   element_then : (d : Option Display) (m : Option Meta) (t : Token) (inside rest : List Token)
       → IsContent (t ∷ inside) → IsContent rest → IsContent (solid (elem_start d m) ∷ (t ∷ (inside ++ solid (elem_end d) ∷ rest)))
 
--- the children show what they did, and then a further content
+-- the new children have the old tokens, and then a further content
 abbrev pub Appends : ElemChildren → ElemChildren → List Token → Type 0
 Appends old new more = tokens new ≡ tokens old ++> more
 
--- the children show what they did
+-- the tokens of the children are unchanged
 abbrev pub Stays : ElemChildren → ElemChildren → Type 0
 Stays old new = tokens new ≡ tokens old

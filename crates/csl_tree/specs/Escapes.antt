@@ -1,5 +1,5 @@
 -- Text in HTML: `&`, `<`, `>` and `"` are written as `&amp;`, `&lt;`, `&gt;` and `&quot;`, all
--- other characters as themselves. The four are ASCII, so their bytes are no part of another
+-- other characters as themselves. The four are ASCII, so their bytes are not part of any other
 -- character.
 use Rattle.std.specs.Prelude.{◌≡◌, ℕ, Bool, false, not, ◌||◌, ◌==◌, List, [], ◌∷◌, codes, if◌then◌else◌}
 use Rattle.std.specs.List.{flat_map}
@@ -31,7 +31,7 @@ escape_all bs = flat_map escape bs
 abbrev pub is_reserved : ℕ → Bool
 is_reserved b = b == ampersand || (b == less_than || (b == greater_than || b == quotation_mark))
 
--- the byte stands for itself
+-- HTML writes the byte as itself
 abbrev pub is_plain : ℕ → Bool
 is_plain b = not (is_reserved b)
 
@@ -39,6 +39,6 @@ abbrev pub starts_plain : List ℕ → Bool
 starts_plain [] = false
 starts_plain (b ∷ bs) = is_plain b
 
--- the text is one byte, whose reference this is, and the rest
+-- the text is one byte and the rest, and the reference is that byte in HTML
 abbrev pub BeginsEscaped : List ℕ → List ℕ → List ℕ → Type 0
 BeginsEscaped text reference rest = (b : ℕ) × (reference ≡ escape b) × (text ≡ b ∷ rest)

@@ -1,8 +1,8 @@
--- The contents that are being written: that of the innermost open part (`inner`), and those of the
--- parts around it from the inside out (`outer`), of which the last is the root. So there is always
--- at least one. Opening a part adds an empty content. Closing it removes its content, and appends
--- to the content around it what was made of it: an element, the content between two texts, or
--- nothing.
+-- The open parts of a tree under construction, each with its content: that of the innermost part
+-- (`inner`), and those of the parts around it from the inside out (`outer`). The outermost part is
+-- the root, which is always open. Opening a part adds an empty content. Closing it removes its
+-- content, and appends one of these to the content around it: an element, the content between two
+-- texts, or nothing.
 use Rattle.std.specs.Prelude.{Option, None, Some, List, [], ◌∷◌, string_bytes}
 use Rattle.csl_tree.specs.Tokens.{Token}
 use Rattle.csl_tree.specs.Content.{◌++>◌, text_content}
@@ -25,7 +25,7 @@ with_tokens c p = record { inner = p.inner ++> c; outer = p.outer }
 abbrev pub open_part : OpenParts → OpenParts
 open_part p = record { inner = []; outer = p.inner ∷ p.outer }
 
--- the innermost part is closed, and a content made of it is appended to the part around it
+-- the innermost part is closed, and the given content is appended to the part around it
 abbrev pub close_into : List Token → OpenParts → List (List Token) → OpenParts
 close_into c p [] = p
 close_into c p (part ∷ parts) = record { inner = part ++> c; outer = parts }

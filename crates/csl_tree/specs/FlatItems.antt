@@ -1,7 +1,7 @@
--- A row of items, children and marks, and its contents (`open_parts`), item by item: a child joins
--- the innermost content, and a mark opens a part. So the contents do not depend on how a text is
--- split over items. The definitions from `plain_step` on are the code's own: private contracts
--- alone cite them.
+-- The contents of a list of items (`open_parts`), item by item: a child is appended to the
+-- innermost content, and a mark opens a part. So the contents do not depend on how a text is split
+-- over items. The definitions from `plain_step` on are internal: only the contracts of private
+-- functions cite them.
 use Rattle.std.specs.Prelude.{◌≡◌, ℕ, ◌+◌, ◌-◌, ◌<◌, ◌≤◌, List, [], ◌∷◌, ◌++◌, length, take, drop, get_or}
 use Rattle.csl_tree.specs.Tokens.{Token, child_tokens}
 use Rattle.csl_tree.specs.Content.{◌++>◌}
@@ -21,7 +21,7 @@ parts_from p (x ∷ xs) = parts_from (step p x) xs
 abbrev pub open_parts : List Item → OpenParts
 open_parts xs = parts_from only_root xs
 
--- the innermost content after one more item, where texts that meet stay apart
+-- the innermost content after one more item, without joining texts
 abbrev pub plain_step : List Token → Item → List Token
 plain_step c (Child k) = c ++ child_tokens k
 plain_step c Mark = []
@@ -55,7 +55,7 @@ IsRun (Mark ∷ xs) = ⊥
 abbrev pub IsLastPart : List Item → ℕ → Type 0
 IsLastPart xs n = (n ≤ length xs) × IsRun (drop (length xs - n) xs) × (n < length xs → get_or xs (length xs - n - 1) Mark ≡ Mark)
 
--- no texts that could be one meet in the innermost part
+-- in the innermost part, no adjacent texts have equal formatting
 abbrev pub IsJoined : List Item → Type 0
 IsJoined xs = plain_inner xs ≡ (open_parts xs).inner
 
@@ -63,13 +63,13 @@ IsJoined xs = plain_inner xs ≡ (open_parts xs).inner
 abbrev pub IsFresh : List Item → Type 0
 IsFresh xs = (plain_inner xs ≡ []) × ((open_parts xs).inner ≡ [])
 
--- the third is the first with a content joined to it
+-- the third item is the first with the content appended
 abbrev pub JoinsAs : Item → List Token → Item → Type 0
 JoinsAs Mark ts z = ⊥
 JoinsAs (Child a) ts Mark = ⊥
 JoinsAs (Child a) ts (Child c) = child_tokens c ≡ child_tokens a ++> ts
 
--- the third is the first with the second joined to it
+-- the third item is the first with the second appended
 abbrev pub Joins : Item → Item → Item → Type 0
 Joins x Mark z = ⊥
 Joins x (Child b) z = JoinsAs x (child_tokens b) z
@@ -81,7 +81,7 @@ IsSame Mark (Child b) = ⊥
 IsSame (Child a) Mark = ⊥
 IsSame (Child a) (Child b) = child_tokens b ≡ child_tokens a
 
--- a content does not join the item
+-- the content does not join the item
 abbrev pub IsApartFrom : Item → List Token → Type 0
 IsApartFrom Mark ts = Unit {0}
 IsApartFrom (Child a) ts = child_tokens a ++> ts ≡ child_tokens a ++ ts
@@ -91,6 +91,6 @@ abbrev pub IsApart : Item → Item → Type 0
 IsApart x Mark = Unit {0}
 IsApart x (Child b) = IsApartFrom x (child_tokens b)
 
--- the items up to a place, and those from another on
+-- the items up to and including `last`, and those from `next` on
 abbrev pub without_range : List Item → ℕ → ℕ → List Item
 without_range xs last next = take (last + 1) xs ++ drop next xs

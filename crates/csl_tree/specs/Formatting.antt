@@ -1,7 +1,7 @@
 -- In a tree each of the five attributes of a formatting has a value (CSL 1.0.2, Formatting). The
--- default is the first value of each: normal, normal, normal, none, none. A node's formatting over
--- that of its place takes each attribute that the node sets, and the other's for the rest. Two
--- formattings are equal if all five attributes are.
+-- default is the first value of each: normal, normal, normal, none, none. A node's formatting is
+-- applied to that of its place. The result has each attribute that the node sets, and that of the
+-- place for the rest. Two formattings are equal if all five attributes are.
 use Rattle.std.specs.Prelude.{ℕ, Bool, ◌&&◌, ◌==◌, unwrap_or}
 use Rattle.csl_style.specs.declared.formatting.FontStyle.{FontStyle}
 use Rattle.csl_style.specs.declared.formatting.FontStyle.TheVariants as style
@@ -26,7 +26,7 @@ apply_formatting p f = record {
   vertical_align = unwrap_or p.vertical_align f.vertical_align;
 }
 
--- the formatting of a text without a set attribute
+-- the formatting of a text for which no node sets an attribute
 abbrev pub default_formatting : Formatting
 default_formatting = record {
   font_style = style.Normal;
@@ -36,7 +36,7 @@ default_formatting = record {
   vertical_align = align.None;
 }
 
--- the place of each value in its list
+-- a number for each value of an attribute
 abbrev pub style_place : FontStyle → ℕ
 style_place style.Normal = 0
 style_place style.Italic = 1

@@ -1,13 +1,14 @@
--- HTML is the bytes (`html_bytes`) of a list of start tags, end tags and texts (`html`), in which
--- texts and addresses are escaped. An element with a display is a `div` around its children. A text
--- whose formatting is not the default is in a `span`. A link is an anchor around its text. A span
+-- HTML is the bytes (`html_bytes`) of a list of start tags, end tags and texts (`html`). Texts and
+-- addresses are escaped. An element with a display is a `div` around its children. A text whose
+-- formatting is not the default is in a `span`. A link is an anchor around its text. A span
 -- declares font-style, font-weight, text-decoration, font-variant and vertical-align in this order,
--- with nothing between them. Normal values and the alignments none and baseline declare nothing.
+-- with nothing between them. It has no declaration for a normal value, for the decoration none, or
+-- for the alignments none and baseline.
 -- A list is *nested* if it is empty, or a text and a nested list, or a start tag, a nested list,
--- its end tag and a nested list. A text is HTML (`IsHtmlOf`) if it is the bytes of a nested list.
--- Its text is the texts of that list, joined. So a span may have any declarations, in their order
--- and one for each attribute at most, or none. No other tag, attribute or reference is HTML. HTML
--- has exactly one such text, and a tree is written as HTML of its leaf text.
+-- its end tag and a nested list. Bytes are HTML (`IsHtmlOf`) if they are those of a nested list.
+-- The text of HTML is the texts of that list, joined. So a span may have any declarations in this
+-- order, at most one for each attribute, or none. No other tag, attribute or reference is HTML.
+-- HTML has exactly one text. For the HTML of a tree, it is the leaf text of the tree.
 use Rattle.std.specs.Prelude.{◌≡◌, ℕ, List, [], ◌∷◌, ◌++◌, Some, None, codes, if◌then◌else◌}
 use Rattle.std.specs.List.{flat_map}
 use Rattle.csl_style.specs.declared.formatting.Display.{Display}
@@ -37,7 +38,7 @@ pub data HtmlToken : Type 0 where
   end_tag : Tag → HtmlToken
   characters : List ℕ → HtmlToken
 
--- a text in its formatting, which has no span where it is the default
+-- a text in a span of its formatting, or without one if the formatting is the default
 abbrev pub html_of_text : List ℕ → Formatting → List HtmlToken
 html_of_text bs f = if same_formatting f default_formatting then characters bs ∷ [] else start_tag (span f) ∷ characters bs ∷ end_tag (span f) ∷ []
 
@@ -69,7 +70,7 @@ characters_of (characters bs) = bs
 abbrev pub html_text : List HtmlToken → List ℕ
 html_text hs = flat_map characters_of hs
 
--- the declaration of each attribute, which a value that changes nothing lacks
+-- the declaration of each attribute, empty for a value that changes nothing
 abbrev pub style_css : FontStyle → List ℕ
 style_css style.Normal = []
 style_css style.Italic = codes "font-style: italic;"
@@ -116,8 +117,8 @@ html_bytes_of (characters bs) = escape_all bs
 abbrev pub html_bytes : List HtmlToken → List ℕ
 html_bytes hs = flat_map html_bytes_of hs
 
--- The bytes are HTML, and these are its texts joined: they are those of a nested list of tags and
--- texts.
+-- `html` is the bytes of a nested list of tags and texts, and `leaves` is the texts of that list,
+-- joined.
 pub record IsHtmlOf (html leaves : List ℕ) : Type 0 where
   pub tokens : List HtmlToken
   pub nested : IsNested tokens

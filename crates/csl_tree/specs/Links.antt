@@ -1,5 +1,5 @@
--- In a tree in which only some addresses are allowed, each link to another address becomes its
--- text, which is not joined with a text beside it.
+-- If only some addresses are allowed, a link to any other address becomes its text. The text is not
+-- joined with a text beside it.
 use Rattle.std.specs.Prelude.{◌≡◌, ℕ, Bool, List, [], ◌∷◌, map, if◌then◌else◌}
 use Rattle.std.specs.List.{flat_map}
 use Rattle.std.specs.Borrow.{Bor}
@@ -11,7 +11,7 @@ use Rattle.csl_tree.specs.declared.elem.Elem as elem
 use Rattle.csl_tree.specs.declared.elem.ElemChildren.{ElemChildren}
 use Rattle.csl_tree.specs.Tokens.{Token, text, solid, markup, link, transparent, elem_start, elem_end}
 
--- the token, where a link of another address is its text
+-- the token, or its text if it is a link to an address that is not allowed
 abbrev pub kept_link : (List ℕ → Bool) → Token → Token
 kept_link allowed (text bs f) = text bs f
 kept_link allowed (solid (markup bs)) = solid (markup bs)
@@ -30,11 +30,11 @@ layer_unlinked (Markup s) k = k
 layer_unlinked (Link t u) k = variants.Text t
 layer_unlinked (Transparent n f) k = k
 
--- the text of a link, and any other child as it is
+-- the text of a link, and any other child unchanged
 abbrev pub child_without_link : ElemChild → ElemChild
 child_without_link k = layer_unlinked (out-ElemChild k) k
 
--- the addresses that a token leads to
+-- the address of a link, and none for any other token
 abbrev pub link_address : Token → List (List ℕ)
 link_address (text bs f) = []
 link_address (solid (markup bs)) = []
@@ -46,6 +46,6 @@ link_address (solid (elem_end d)) = []
 abbrev pub addresses : List Token → List (List ℕ)
 addresses ts = flat_map link_address ts
 
--- each call of a closure returns what the test gives for the address
+-- each call of a closure returns the result of the test for the address
 abbrev pub AllowsBy : {F : Type 0} → (F → Bor (List ℕ) → Bool → F → Type 0) → (List ℕ → Bool) → Type 0
 AllowsBy {F} step allowed = (f after : F) (url : Bor (List ℕ)) (r : Bool) → step f url r after → r ≡ allowed url.now

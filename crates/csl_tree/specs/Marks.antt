@@ -1,8 +1,9 @@
 -- HTML is read as *pieces*: start tags, end tags and the escaped bytes of texts. Its first bytes
--- decide the first piece, so it is one list of pieces at most. A mark is what the reader takes at
--- once: a start tag, an end tag or a text.
+-- decide the first piece, so it has at most one list of pieces. Only the alignments none and
+-- baseline of a `span` are not distinguished. A *mark* is one step of the reader: a start tag, an
+-- end tag or a text.
 -- `BeginsNoStart`, `IsAfterAnchor`, `byte_at`, `IsAfterText`, `rest_found`, `texts_found` and
--- `as_text` are the code's own: private contracts alone cite them.
+-- `as_text` are internal: only the contracts of private functions cite them.
 use Rattle.std.specs.Prelude.{◌≡◌, ℕ, ◌<◌, ◌==◌, List, [], ◌∷◌, ◌++◌, length, Option, Some, None, option_map, option_and_then, unwrap_or, codes, if◌then◌else◌}
 use denote.Ref.{Bor}
 use Rattle.csl_tree.specs.Escapes.{escape, escape_all, is_plain, ampersand, less_than, greater_than, quotation_mark}
@@ -17,7 +18,7 @@ element_of (div d) = Div
 element_of (span f) = Span
 element_of (anchor url) = Anchor
 
--- an end tag names the element alone
+-- an end tag depends on the element alone
 abbrev pub end_bytes : Element → List ℕ
 end_bytes Div = codes "</div>"
 end_bytes Span = codes "</span>"
@@ -43,12 +44,12 @@ IsStart html e rest = (tag : Tag) × (element_of tag ≡ e) × (html ≡ html_by
 abbrev pub BeginsNoStart : List ℕ → Type 0
 BeginsNoStart html = (tag : Tag) (more : List ℕ) → html ≡ html_bytes_of (start_tag tag) ++ more → ⊥
 
--- the start tag of an anchor, then the rest; or none
+-- the start tag of an anchor, then the rest; at `None`, the bytes begin with no such tag
 abbrev pub IsAfterAnchor : List ℕ → Option (List ℕ) → Type 0
 IsAfterAnchor html None = (url : List ℕ) (more : List ℕ) → html ≡ html_bytes_of (start_tag (anchor url)) ++ more → ⊥
 IsAfterAnchor html (Some rest) = (url : List ℕ) × (html ≡ html_bytes_of (start_tag (anchor url)) ++ rest)
 
--- what the mark stands for, then the rest
+-- the bytes of the mark, then the rest
 abbrev pub IsMark : List ℕ → Mark → List ℕ → Type 0
 IsMark html (marks.Text text) rest = (0 < length text.now) × (html ≡ escape_all text.now ++ rest)
 IsMark html (marks.Start e) rest = IsStart html e rest
@@ -56,13 +57,13 @@ IsMark html (marks.End e) rest = html ≡ end_bytes e ++ rest
 
 -- ---- the rest after a front
 
--- the text without this front, if it begins with it
+-- the text without this front, if the text begins with it
 abbrev pub without : List ℕ → List ℕ → Option (List ℕ)
 without [] bs = Some bs
 without (x ∷ xs) [] = None
 without (x ∷ xs) (b ∷ bs) = if b == x then without xs bs else None
 
--- the text without this front, or all of it
+-- the text without this front, or all of it if it does not begin with the front
 abbrev pub after : List ℕ → List ℕ → List ℕ
 after front bs = unwrap_or (without front bs) bs
 
@@ -70,7 +71,7 @@ abbrev pub or_else : {A : Type 0} → Option A → Option A → Option A
 or_else None o = o
 or_else (Some x) o = Some x
 
--- what the front stands for, and the rest
+-- the value `x` for the front, and the rest after the front
 abbrev pub entity_at : {A : Type 0} → A → List ℕ → List ℕ → Option (A × List ℕ)
 entity_at x front bs = option_map (λ rest. (x, rest)) (without front bs)
 
@@ -81,12 +82,12 @@ reference_at bs =
     (or_else (entity_at greater_than (codes "&gt;") bs)
     (entity_at quotation_mark (codes "&quot;") bs)))
 
--- the first byte of a text in HTML, and the rest
+-- the first byte of a text in HTML, unescaped, and the rest
 abbrev pub byte_at : List ℕ → Option (ℕ × List ℕ)
 byte_at [] = None
 byte_at (b ∷ bs) = if is_plain b then Some (b, bs) else reference_at (b ∷ bs)
 
--- a text, then the rest, which begins with none
+-- a text, then a rest that begins with no text
 abbrev pub IsAfterText : List ℕ → List ℕ → Type 0
 IsAfterText html rest = (bs : List ℕ) × (html ≡ escape_all bs ++ rest) × (byte_at rest ≡ None)
 
@@ -125,7 +126,7 @@ end_at bs =
     (or_else (entity_at Span (codes "</span>") bs)
     (entity_at Anchor (codes "</a>") bs))
 
--- ---- the code's answers, as bytes
+-- ---- the results of the code, as bytes
 
 abbrev pub rest_found : Option (Bor (List ℕ)) → Option (List ℕ)
 rest_found o = option_map (λ x. x.now) o

@@ -1,10 +1,10 @@
--- The place of the first element, in preorder, that a `cs:names` made, and that element as a
--- mutable reference. When the reference ends, the tree has the last value that was written there,
--- and is otherwise as it was.
+-- The place of the first element of a `cs:names`, in preorder, and that element as a mutable
+-- reference. When the reference ends, the tree has the last value written through it, and is
+-- otherwise unchanged.
 -- `find_of_child`, `find_at`, `first_index`, `names_index`, `names_items`, `put_names_items`,
 -- `lends_names_items`, `lends_names_child`, `is_found`, `is_here`, `any_is_here`, `here_index`,
--- `elem_at`, `first_names`, `lends_elem` and `lends_that_names` are the code's own: private
--- contracts alone cite them.
+-- `elem_at`, `first_names`, `lends_elem` and `lends_that_names` are internal: only the contracts of
+-- private functions cite them.
 use Rattle.std.specs.Prelude.{ℕ, ◌+◌, Bool, true, false, List, [], ◌∷◌, Option, Some, None, ◌||◌, if◌then◌else◌}
 use Rattle.std.specs.Borrow.{Fml, MutBor, Lends, LendsIf}
 use Rattle.std.specs.declared.vec.Vec.{Vec}
@@ -21,8 +21,8 @@ use Rattle.csl_tree.specs.contracts.elem.ElemChildren as children
 use Rattle.csl_tree.specs.contracts.elem.ElemChild as child
 use Rattle.csl_tree.specs.contracts.elem.Elem as elem_rows
 
--- where a child has the first element of names: nowhere, it is the one, or below it at the end of a
--- path
+-- where a child has its first element of a `cs:names`: nowhere, at the child itself, or below it at
+-- the end of a path
 pub data NamesPosition : Type 0 where
   absent : NamesPosition
   here : NamesPosition
@@ -46,7 +46,7 @@ find_from false r = find_inside r
 abbrev pub find_elem : Elem-F NamesPosition NamesPosition (Option (List ℕ)) → NamesPosition
 find_elem e = find_from (is_names_meta e.meta) e.children
 
--- the path to the children among which the element is, with its index last
+-- the path to the element if child `i` has one, else `o`; the last index is the element's own
 abbrev pub found_or : ℕ → NamesPosition → Option (List ℕ) → Option (List ℕ)
 found_or i absent o = o
 found_or i here o = Some (i ∷ [])
@@ -59,18 +59,18 @@ first_found i (r ∷ rs) = found_or i r (first_found (i + 1) rs)
 abbrev pub find_children : ElemChildren-F NamesPosition NamesPosition (Option (List ℕ)) → Option (List ℕ)
 find_children c = first_found 0 c.0.items
 
--- the path to the first element of names: an index at each level
+-- the path to the first element of a `cs:names`: an index at each level
 abbrev pub names_find : ElemChildren → Option (List ℕ)
 names_find = fold-ElemChildren NamesPosition NamesPosition (Option (List ℕ)) find_child find_elem find_children
 
 abbrev pub find_of_child : ElemChild → NamesPosition
 find_of_child = fold-ElemChild NamesPosition NamesPosition (Option (List ℕ)) find_child find_elem find_children
 
--- where the child at an index has the first element of names
+-- where the child at an index has its first element of a `cs:names`
 abbrev pub find_at : ElemChildren → ℕ → NamesPosition
 find_at c i = find_of_child (child_at c i)
 
--- the path less its last index
+-- the path without its last index
 abbrev pub parent_path : List ℕ → List ℕ
 parent_path [] = []
 parent_path (i ∷ []) = []
@@ -91,7 +91,7 @@ abbrev pub first_index : List ℕ → ℕ
 first_index [] = 0
 first_index (i ∷ p) = i
 
--- whether the element is below a child, and which child that is
+-- whether the element is below a child, and the index of that child
 abbrev pub names_below : ElemChildren → Bool
 names_below c = is_nested_path (names_path c)
 
@@ -120,7 +120,7 @@ is_here absent = false
 is_here here = true
 is_here (below p) = false
 
--- the first child of a list that is an element of names
+-- whether a child in the list is the element of a `cs:names`, and the index of the first such child
 abbrev pub any_is_here : List ElemChild → Bool
 any_is_here [] = false
 any_is_here (k ∷ ks) = is_here (find_of_child k) || any_is_here ks
@@ -143,7 +143,7 @@ abbrev pub put_elem_at : Option (List ℕ) → ElemChildren → elem.Elem → El
 put_elem_at None c e = c
 put_elem_at (Some p) c e = put_at (parent_path p) c (put_child (get_at (parent_path p) c) (end_of p) (variants.Elem e))
 
--- the first element of names, in preorder, and the tree with another element there
+-- the first element of a `cs:names`, in preorder, and the tree with another element there
 abbrev pub first_names : ElemChildren → Option elem.Elem
 first_names c = elem_at (names_find c) c
 

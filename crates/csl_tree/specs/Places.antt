@@ -1,9 +1,9 @@
 -- A place in a tree is a path of indices. When a mutable reference to a place ends, the tree has
--- the last value that was written there, and is otherwise as it was. The tree ends at the path that
--- goes down the last child as long as that is an element.
+-- the last value written there, and is otherwise unchanged. The path to the *end* of the tree goes
+-- down the last child as long as that is an element.
 -- `layer_text`, `text_of_child`, `last_path_of_child`, `last_items`, `put_last_items`, `items_row`,
 -- `lends_items`, `lends_last_items`, `lends_children`, `lends_last_child`, `lends_text` and
--- `lends_that_text` are the code's own: private contracts alone cite them.
+-- `lends_that_text` are internal: only the contracts of private functions cite them.
 use Rattle.std.specs.Prelude.{ℕ, ◌-◌, Bool, List, [], ◌∷◌, Option, Some, None, length, is_some, unwrap_or, slice_index_or}
 use Rattle.std.specs.Vec.{with_item}
 use Rattle.std.specs.Borrow.{Fml, MutBor, Lends, LendsIf}
@@ -33,7 +33,7 @@ layer_children (Markup s) = None
 layer_children (Link t u) = None
 layer_children (Transparent n f) = None
 
--- the children of a child, where it is an element
+-- the children of a child, if it is an element
 abbrev pub children_of : ElemChild → Option ElemChildren
 children_of k = layer_children (out-ElemChild k)
 
@@ -44,7 +44,7 @@ layer_with (Markup s) k w = k
 layer_with (Link t u) k w = k
 layer_with (Transparent n f) k w = k
 
--- a child with other children, where it is an element
+-- a child with other children, if it is an element
 abbrev pub with_children : ElemChild → ElemChildren → ElemChild
 with_children k w = layer_with (out-ElemChild k) k w
 
@@ -55,11 +55,11 @@ layer_text (Markup s) = None
 layer_text (Link t u) = None
 layer_text (Transparent n f) = None
 
--- the text of a child, where it is a text
+-- the text of a child, if it is a text
 abbrev pub text_of_child : ElemChild → Option Formatted
 text_of_child k = layer_text (out-ElemChild k)
 
--- the child that is read beyond the last one
+-- the child at an index beyond the last one
 abbrev pub no_child : ElemChild
 no_child = variants.Transparent 0 default_formatting
 
@@ -90,8 +90,7 @@ last c = length c.0.items - 1
 abbrev pub ends_in_elem : ElemChildren → Bool
 ends_in_elem c = is_some (children_of (child_at c (last c)))
 
--- the path to the children among which the tree ends: down the last child as long as that is an
--- element
+-- the path to the end of the tree: down the last child as long as that is an element
 abbrev pub child_path : ElemChild-F (Option (List ℕ)) (List ℕ) (List ℕ) → Option (List ℕ)
 child_path (Text t) = None
 child_path (Elem p) = Some p
@@ -118,14 +117,14 @@ last_path = fold-ElemChildren (Option (List ℕ)) (List ℕ) (List ℕ) child_pa
 abbrev pub last_path_of_child : ElemChild → Option (List ℕ)
 last_path_of_child = fold-ElemChild (Option (List ℕ)) (List ℕ) (List ℕ) child_path elem_path children_path
 
--- the items where the tree ends, and the tree with others there
+-- the items at the end of the tree, and the tree with others there
 abbrev pub last_items : ElemChildren → Vec ElemChild Global
 last_items c = (get_at (last_path c) c).0
 
 abbrev pub put_last_items : ElemChildren → Vec ElemChild Global → ElemChildren
 put_last_items c v = put_at (last_path c) c (record { 0 = v })
 
--- the tree with another child where it ends, and with another last text
+-- the tree with another last child at its end, and with another last text
 abbrev pub put_final : ElemChildren → ElemChild → ElemChildren
 put_final c k = put_at (last_path c) c (put_child (get_at (last_path c) c) (last (get_at (last_path c) c)) k)
 

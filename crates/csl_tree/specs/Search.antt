@@ -1,10 +1,10 @@
 -- Searches in a tree. *Preorder* is an element, then the elements inside it, then those to its
 -- right. A search returns the first element in preorder that passes its test. The *last text* is
 -- the last child if that is a text, the last text inside it if it is an element, else none.
--- `remove_any_meta` takes out tokens that open with the first element that has a meta. The tokens
--- before and after them stay, and meet (`MetaRemoved`).
+-- `remove_any_meta` removes the tokens of the first element with a meta. The tokens before and
+-- after it stay (`MetaRemoved`).
 -- `child_preorder`, `layer_elem`, `elem_of`, `last_text_of`, `layer_has_meta` and `child_has_meta`
--- are the code's own: private contracts alone cite them.
+-- are internal: only the contracts of private functions cite them.
 use Rattle.std.specs.Prelude.{◌≡◌, ◌⊎◌, Bool, true, false, List, [], ◌∷◌, ◌++◌, Option, Some, None, is_some, flat_map}
 use Rattle.std.specs.Borrow.{Bor}
 use Rattle.std.specs.List.{list_any}
@@ -20,8 +20,8 @@ use Rattle.csl_tree.specs.declared.elem.ElemChild.TheVariants as variants
 use Rattle.csl_tree.specs.declared.elem.Elem as elem
 use Rattle.csl_tree.specs.declared.elem.ElemChildren.{ElemChildren}
 
--- One level of a tree, each part beside its own preorder: a child that is an element gives the
--- element and then what is inside.
+-- One level of a tree, each part with its own preorder. A child that is an element gives the
+-- element and then the elements inside it.
 abbrev pub Walk : Type 0
 Walk = List elem.Elem
 
@@ -51,7 +51,7 @@ abbrev pub IsFirst : {A : Type 0} → (A → Type 0) → List A → Option A →
 IsFirst P [] o = o ≡ None
 IsFirst P (x ∷ xs) o = (P x × (o ≡ Some x)) ⊎ ((P x → ⊥) × IsFirst P xs o)
 
--- a closure returns what the test p gives for the element
+-- a closure returns the result of the test p for the element
 abbrev pub AnswersBy : (Bor elem.Elem → Bool → Type 0) → (elem.Elem → Bool) → Type 0
 AnswersBy post p = (e : Bor elem.Elem) (r : Bool) → post e r → r ≡ p e.now
 
@@ -62,7 +62,7 @@ layer_elem (Markup s) = None
 layer_elem (Link t url) = None
 layer_elem (Transparent n f) = None
 
--- the element that a child is, if it is one
+-- a child as an element, if it is one
 abbrev pub elem_of : ElemChild → Option elem.Elem
 elem_of k = layer_elem (out-ElemChild k)
 
@@ -70,11 +70,11 @@ elem_of k = layer_elem (out-ElemChild k)
 abbrev pub as_child : elem.Elem → ElemChild
 as_child = variants.Elem
 
--- what made an element
+-- the meta of an element
 abbrev pub elem_meta : elem.Elem → Option Meta
 elem_meta e = optional_meta (elem.out-Elem e).meta
 
--- a meta says what made an element
+-- the element has this meta
 abbrev pub IsMadeBy : ElemMeta → elem.Elem → Type 0
 IsMadeBy m e = elem_meta e ≡ Some (meta_of m)
 
@@ -90,7 +90,7 @@ is_names_meta (Some (meta.Name v n)) = false
 is_names_meta (Some (meta.Entry n)) = false
 is_names_meta (Some meta.CitationLabel) = false
 
--- a `cs:names` made the element
+-- the element is that of a `cs:names`
 abbrev pub is_names : elem.Elem → Bool
 is_names e = is_names_meta (elem.out-Elem e).meta
 
@@ -98,8 +98,8 @@ is_names e = is_names_meta (elem.out-Elem e).meta
 abbrev pub has_meta : elem.Elem → Bool
 has_meta e = is_some (elem.out-Elem e).meta
 
--- Last text: the last child where that is a text, the last text inside it where it is an element,
--- else none.
+-- Last text: the last child if that is a text, the last text inside it if it is an element, else
+-- none.
 abbrev pub last_of : List (Option Formatted) → Option Formatted
 last_of [] = None
 last_of (t ∷ []) = t
@@ -135,7 +135,7 @@ layer_has_meta (Transparent n f) = false
 abbrev pub child_has_meta : ElemChild → Bool
 child_has_meta k = layer_has_meta (out-ElemChild k)
 
--- an element with a meta opens here
+-- the token opens an element with a meta
 abbrev pub opens_meta : Token → Bool
 opens_meta (text bs f) = false
 opens_meta (solid (markup bs)) = false
@@ -148,8 +148,7 @@ opens_meta (solid (elem_end d)) = false
 abbrev pub HasNoMeta : List Token → Type 0
 HasNoMeta ts = list_any opens_meta ts ≡ false
 
--- Some tokens are taken out of others, and the tokens before and after them meet. No element before
--- them has a meta.
+-- `new` is `old` without the tokens `taken`. No element that opens before them has a meta.
 pub record MetaRemoved (old taken new : List Token) : Type 0 where
   pub before : List Token
   pub after : List Token

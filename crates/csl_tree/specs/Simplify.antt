@@ -1,13 +1,13 @@
 -- Simplification of a tree. CSL has no section on this.
 -- - An element is *plain* if it has neither display nor meta.
--- - *One round* replaces a plain element by its children as they are, and any other by itself with
---   a round inside. Then each text that was itself a child joins a text of equal formatting before
---   it, also one from a plain element.
+-- - *One round* replaces a plain element by its children, unchanged, and does a round inside any
+--   other element. Each text that was itself a child then joins a text of equal formatting before
+--   it, even one from a plain element.
 -- - The *styled value* is each byte of the texts with its formatting, the other leaves, and the
 --   elements that are not plain around their own styled value.
--- - A tree is *normal* if at no depth an element is plain or two neighbouring texts have equal
+-- - A tree is *normal* if, at every depth, no element is plain and no neighbouring texts have equal
 --   formatting.
--- - The *normal form* is the tree after as many rounds as it has nodes, at all depths.
+-- - The *normal form* is the tree after `n` rounds if it has `n` nodes at all depths.
 use Rattle.std.specs.Prelude.{ℕ, zero, suc, ◌+◌, Bool, true, false, not, ◌&&◌, List, [], ◌∷◌, ◌++◌, map, Option, Some, None, if◌then◌else◌}
 use Rattle.csl_style.specs.declared.formatting.Display.{Display}
 use Rattle.csl_tree.specs.declared.formatting.Formatting.{Formatting}
@@ -28,20 +28,20 @@ is_empty_tree (text_then bs f t) = false
 is_empty_tree (leaf_then l t) = false
 is_empty_tree (element_then d m inside t) = false
 
--- a tree and a text after it, which joins a last text of equal formatting
+-- a tree with a text appended, which joins a last text of equal formatting
 abbrev pub with_text : Tree → List ℕ → Formatting → Tree
 with_text empty_tree bs f = text_then bs f empty_tree
 with_text (text_then cs g t) bs f = if is_empty_tree t && same_formatting g f then text_then (cs ++ bs) g empty_tree else text_then cs g (with_text t bs f)
 with_text (leaf_then l t) bs f = leaf_then l (with_text t bs f)
 with_text (element_then d m inside t) bs f = element_then d m inside (with_text t bs f)
 
--- a round replaces a plain element by its children as they are, and any other by itself with a
--- round inside
+-- an element after a round: the tree inside if the element is plain, else the element around that
+-- tree after a round
 abbrev pub simplified_elem : Option Display → Option Meta → Tree → Tree → Tree
 simplified_elem d m inside rounded = if is_plain d m then inside else element_then d m rounded empty_tree
 
 -- One round: each element is replaced (`simplified_elem`), and each child that is a text joins a
--- text of equal formatting before it, also one from a plain element. A text of a plain element
+-- text of equal formatting before it, even one from a plain element. A text from a plain element
 -- joins none.
 abbrev pub simplify_once_after : Tree → Tree → Tree
 simplify_once_after before empty_tree = before
@@ -64,8 +64,8 @@ abbrev pub styled_bytes : List ℕ → Formatting → List Token
 styled_bytes bs f = map (λ b. text (b ∷ []) f) bs
 
 -- The styled value: each byte of a text with its formatting, the other leaves, and the elements
--- that are not plain around their own styled value. It does not show how the texts are cut, nor the
--- plain elements.
+-- that are not plain around their own styled value. It leaves out the plain elements and how the
+-- texts are split.
 abbrev pub styled_value : Tree → List Token
 styled_value empty_tree = []
 styled_value (text_then bs f t) = styled_bytes bs f ++ styled_value t
@@ -78,7 +78,7 @@ begins_with f (text_then bs g t) = same_formatting f g
 begins_with f (leaf_then l t) = false
 begins_with f (element_then d m inside t) = false
 
--- normal: at no depth is an element plain, or are neighbouring texts of equal formatting
+-- normal: at every depth, no element is plain and no neighbouring texts have equal formatting
 abbrev pub is_normal : Tree → Bool
 is_normal empty_tree = true
 is_normal (text_then bs f t) = not (begins_with f t) && is_normal t
@@ -97,7 +97,7 @@ abbrev pub simplify_times : ℕ → Tree → Tree
 simplify_times zero t = t
 simplify_times (suc n) t = simplify_times n (simplify_once t)
 
--- the normal form: as many rounds as the tree has nodes
+-- the normal form: one round for each node of the tree
 abbrev pub normal_form : Tree → Tree
 normal_form t = simplify_times (node_count t) t
 
@@ -112,14 +112,14 @@ has_no_empty_text (text_then bs f t) = is_nonempty_text bs && has_no_empty_text 
 has_no_empty_text (leaf_then l t) = has_no_empty_text t
 has_no_empty_text (element_then d m inside t) = has_no_empty_text inside && has_no_empty_text t
 
--- the formatting of a text that ends a tree
+-- the formatting of the last node, if that is a text
 abbrev pub last_formatting : Tree → Option Formatting
 last_formatting empty_tree = None
 last_formatting (text_then bs f t) = if is_empty_tree t then Some f else last_formatting t
 last_formatting (leaf_then l t) = last_formatting t
 last_formatting (element_then d m inside t) = last_formatting t
 
--- normal, and no text that begins it has the formatting of a text before it
+-- normal, and a first text differs in formatting from a text before it
 abbrev pub is_normal_after : Option Formatting → Tree → Bool
 is_normal_after None t = is_normal t
 is_normal_after (Some f) t = not (begins_with f t) && is_normal t

@@ -1,6 +1,6 @@
 -- A stack is a list of at least one item, and contracts see the list. When a mutable reference to
--- an item ends, the list has the last value that was written there, and is otherwise as it was. The
--- last item that a predicate accepts is one that it accepts while it rejects each later one.
+-- an item ends, the list has the last value written there, and is otherwise unchanged. The last
+-- item that a predicate accepts is one that it accepts while it rejects each later one.
 use Rattle.std.specs.Prelude.{Bool, true, false, ◌+◌, ◌≤◌, ◌≡◌, ℕ, ◌<◌, List, length, Option, slice_index_or, slice_set, IfSome}
 use Rattle.std.specs.Borrow.{Bor, Fml, RattleType, MutBor, Lends, LendsSo}
 use Rattle.std.specs.Fn.{Shared, FnReturnsAt}
@@ -19,11 +19,11 @@ abbrev pub IsLastAccepted : {F T : Type 0} → Shared F (Bor T × Unit {0}) Bool
 IsLastAccepted calls f xs i x = (i < length xs) × IsLastAt calls f xs i × (x ≡ slice_index_or xs i x)
 
 module _ (T : RattleType) (s : MutBor (List T.Denot)) where
-  -- item i has the last value behind r
+  -- item i gets the last value of r
   abbrev pub lends_item : ℕ → MutBor T.Denot → Fml
   lends_item i r = Lends (the_row T) T s r (slice_set s.now i)
 
-  -- the item behind r is the last that the predicate accepts, and that one has the last value
-  -- behind r; at `None` the stack stays
+  -- r refers to the last item that the predicate accepts, and that item gets the last value of r;
+  -- at `None` the stack is unchanged
   abbrev pub lends_accepted : {F : Type 0} → Shared F (Bor T.Denot × Unit {0}) Bool → F → Option (MutBor T.Denot) → Fml
   lends_accepted calls f r = LendsSo (the_row T) T s r (λ n w. IfSome r (λ x. (i : ℕ) × IsLastAccepted calls f s.now i x.now × (n ≡ slice_set s.now i w))) (λ n. n ≡ s.now)

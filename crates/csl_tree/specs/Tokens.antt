@@ -1,6 +1,6 @@
--- An output tree as a list of tokens: one for each text, markup, link and transparent, and for each
--- element one where it opens, with its display and meta, and one where it closes. The list forgets
--- how texts are stored, and nothing else.
+-- An output tree as a list of tokens. Each text, markup, link and transparent has one token. Each
+-- element has one where it opens, with its display and meta, and one where it closes. The list
+-- leaves out only how texts are stored.
 -- - The *leaf text* is the text of the texts, markups and links, in order. A transparent has none.
 --   The length of a tree is the number of bytes of its leaf text, or `usize::MAX` if there are
 --   more.
@@ -29,7 +29,7 @@ use Rattle.csl_tree.specs.declared.elem.ElemChild.TheFolds.{fold-ElemChild, fold
 use Rattle.csl_tree.specs.declared.elem.Elem as elem
 use Rattle.csl_tree.specs.declared.elem.ElemChildren.{ElemChildren}
 
--- which node made an element
+-- the kind of node that rendered an element
 pub data Meta : Type 0 where
   of_names : List (List PersonView × NameVariable) → Meta
   of_date : Meta
@@ -84,7 +84,7 @@ link_tokens t url = solid (link (string_bytes t.text) t.formatting url) ∷ []
 abbrev pub elem_around : Option Display → Option Meta → List Token → List Token
 elem_around d m inside = solid (elem_start d m) ∷ (inside ++ solid (elem_end d) ∷ [])
 
--- one level of a tree, with the tokens of what is inside
+-- one level of a tree, with the tokens of its parts
 abbrev pub child_step : ElemChild-F (List Token) (List Token) (List Token) → List Token
 child_step (Text t) = text_tokens t
 child_step (Elem inside) = inside
@@ -139,7 +139,8 @@ abbrev pub has_children : List Token → Bool
 has_children [] = false
 has_children (t ∷ ts) = true
 
--- an empty text, markup or link is empty, and so is an element of such; a transparent is not empty
+-- a text, markup or link with empty text is empty; the tokens of an element count as empty, and a
+-- transparent does not
 abbrev pub is_empty_token : Token → Bool
 is_empty_token (text bs f) = length bs == 0
 is_empty_token (solid (markup bs)) = length bs == 0
@@ -151,7 +152,7 @@ is_empty_token (solid (elem_end d)) = true
 abbrev pub is_empty : List Token → Bool
 is_empty ts = list_all is_empty_token ts
 
--- a character of the text is no white space
+-- the text has a character other than white space
 abbrev pub has_visible : List ℕ → Bool
 has_visible bs = list_any is_not_whitespace (chars bs)
 

@@ -1,7 +1,7 @@
 -- An output tree as nested nodes: texts with their formatting, leaves (markup, links and
 -- transparents), and elements around nodes (`tree`). Its tokens are those of the nodes, in order.
--- It forgets how texts are stored, and nothing else. CSL has no section on this.
--- `child_tree` and `row` are the code's own: private contracts alone cite them.
+-- It leaves out only how texts are stored. CSL has no section on this.
+-- `child_tree` and `row` are internal: only the contracts of private functions cite them.
 use Rattle.std.specs.Prelude.{ℕ, List, [], ◌∷◌, ◌++◌, map, Option, string_bytes}
 use Rattle.csl_style.specs.declared.formatting.Display.{Display}
 use Rattle.csl_tree.specs.declared.formatting.Formatting.{Formatting}
@@ -13,7 +13,7 @@ use Rattle.csl_tree.specs.declared.elem.ElemChildren.{ElemChildren}
 use Rattle.csl_tree.specs.Tokens as tokens
 use Rattle.csl_tree.specs.Tokens.{Meta, Token, Solid, solid, optional_meta, elem_around}
 
--- what is no text and holds no tree
+-- a node that is not a text and contains no tree
 pub data Leaf : Type 0 where
   markup : List ℕ → Leaf
   link : List ℕ → Formatting → List ℕ → Leaf

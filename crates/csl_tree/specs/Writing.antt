@@ -1,5 +1,5 @@
 -- Plain text is the leaf text, with a newline where an element of display Block opens and where it
--- closes. HTML is that of `Html`.
+-- closes. `Html` defines HTML.
 use Rattle.std.specs.Prelude.{ℕ, List, [], ◌∷◌, Option, Some, None}
 use Rattle.std.specs.List.{flat_map}
 use Rattle.csl_style.specs.declared.formatting.Display.{Display}

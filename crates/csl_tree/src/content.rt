@@ -1,5 +1,4 @@
-//! Contents: children that are written one after another, where texts of equal formatting that
-//! meet become one text.
+//! Appends content to children. An appended text joins a last text of equal formatting.
 
 ghost use Rattle.std.specs.Prelude.{◌≡◌, ◌≤◌, ◌+◌, [], ◌∷◌, ◌++◌, OnOk, OnErr, IfOk, vec_len};
 ghost use Rattle.std.specs.Vec.{vec_capacity};
@@ -15,10 +14,10 @@ use lit_model::Memory;
 use std::alloc::Global;
 
 impl ElemChildren {
-    /// Appends a text, which joins a last text of equal formatting. An empty text writes nothing.
+    /// Appends a text, which joins a last text of equal formatting. An empty text adds nothing.
     ///
     /// # Errors
-    /// [`Memory`]: there was no memory left. The children stay as they were.
+    /// [`Memory`]: out of memory. The children are unchanged.
     pub fn push_text(
         &mut self,
         alloc: Global,
@@ -38,7 +37,7 @@ impl ElemChildren {
     /// Appends an element around some children, unless there are none.
     ///
     /// # Errors
-    /// [`Memory`]: there was no memory left. The children stay as they were.
+    /// [`Memory`]: out of memory. The children are unchanged.
     pub fn push_box(
         &mut self,
         children: ElemChildren,
@@ -61,10 +60,11 @@ impl ElemChildren {
         Ok(())
     }
 
-    /// Appends some children, the first of which may join the last that is there.
+    /// Appends the given children. If the first is a text, it joins a last text of equal
+    /// formatting.
     ///
     /// # Errors
-    /// [`Memory`]: there was no memory left. The children stay as they were.
+    /// [`Memory`]: out of memory. The children are unchanged.
     pub fn append(&mut self, alloc: Global, children: ElemChildren) -> Result<(), Memory>
         ensures ok { OnOk result (Appends self.old self.new (tokens children)) }
         ensures err { OnErr result (Stays self.old self.new) }
@@ -82,11 +82,11 @@ impl ElemChildren {
 }
 
 impl ElemChildren {
-    /// Appends a child, which joins a last text if it is a text of equal formatting. A text, a
-    /// markup or a link of empty text writes nothing; an element stands, be it without children.
+    /// Appends a child. A text joins a last text of equal formatting. A text, markup or link with
+    /// empty text adds nothing. An element is appended even without children.
     ///
     /// # Errors
-    /// [`Memory`]: there was no memory left. The children stay as they were.
+    /// [`Memory`]: out of memory. The children are unchanged.
     pub fn push_child(&mut self, alloc: Global, child: ElemChild) -> Result<(), Memory>
         ensures ok { OnOk result (Appends self.old self.new (child_content child)) }
         ensures err { OnErr result (Stays self.old self.new) }
@@ -98,10 +98,10 @@ impl ElemChildren {
         Ok(())
     }
 
-    /// Appends some children between two others, unless there are none.
+    /// Appends `before`, `middle` and `after`, or nothing if `middle` has no children.
     ///
     /// # Errors
-    /// [`Memory`]: there was no memory left. The children stay as they were.
+    /// [`Memory`]: out of memory. The children are unchanged.
     pub fn push_between(
         &mut self,
         alloc: Global,
@@ -125,7 +125,7 @@ impl ElemChildren {
 }
 
 impl ElemChild {
-    /// Whether it is a text, a markup or a link of empty text.
+    /// Whether the child is a text, markup or link with empty text.
     pub(crate) fn shows_nothing(&self) -> bool
         ensures nothing { OnTrue result (child_content self.now ≡ []) }
         ensures something { OnFalse result (child_content self.now ≡ child_tokens self.now) }
@@ -160,10 +160,10 @@ impl ElemChildren {
         }
     }
 
-    /// Appends some children between two texts, unless there are none.
+    /// Appends the prefix, the children and the suffix, or nothing if there are no children.
     ///
     /// # Errors
-    /// [`Memory`]: there was no memory left. The children stay as they were.
+    /// [`Memory`]: out of memory. The children are unchanged.
     pub fn push_affixed(
         &mut self,
         alloc: Global,
@@ -189,7 +189,7 @@ impl ElemChildren {
     }
 }
 
-/// Appends a text to a child that is a text of equal formatting, and says whether it is one.
+/// Appends a text to a child if that is a text of equal formatting. Returns whether it is.
 pub(crate) fn join_last(
     last: &mut ElemChild,
     more: &str,
@@ -220,7 +220,7 @@ pub(crate) fn join_last(
     }
 }
 
-/// Appends a text that is not empty.
+/// Appends a text, even an empty one. It joins a last text of equal formatting.
 pub(crate) fn push_text_to(
     children: &mut Vec<ElemChild>,
     alloc: Global,
@@ -246,7 +246,7 @@ pub(crate) fn push_text_to(
     Ok(())
 }
 
-/// Appends a child, which joins a last text if it is a text of equal formatting.
+/// Appends a child, even one with empty text. A text joins a last text of equal formatting.
 fn push_child_to(
     children: &mut Vec<ElemChild>,
     alloc: Global,

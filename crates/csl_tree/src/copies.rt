@@ -1,4 +1,4 @@
-//! Copies of a tree and of its parts. A copy is equal to what it was made of.
+//! Copies of a tree and of its parts. A copy equals its original.
 
 ghost use Rattle.std.specs.Prelude.{◌≡◌, map, IfOk};
 ghost use Rattle.lit_model.specs.Person.{person_view};
@@ -11,10 +11,10 @@ use lit_model::{Memory, Person};
 use std::alloc::Global;
 
 impl Formatted {
-    /// An equal text.
+    /// Returns a copy of the text.
     ///
     /// # Errors
-    /// [`Memory`]: there was no memory left.
+    /// [`Memory`]: out of memory.
     pub fn clone(&self, alloc: Global) -> Result<Formatted, Memory>
         ensures { IfOk result (λ copy. text_tokens copy ≡ text_tokens self.now) }
     {
@@ -23,7 +23,7 @@ impl Formatted {
     }
 }
 
-/// A copy of each person, in order.
+/// Copies the persons, in order.
 fn copy_persons(persons: &[Person], alloc: Global) -> Result<Vec<Person>, Memory>
     ensures { IfOk result (λ copies. map person_view copies.items ≡ map person_view persons.now) }
 {
@@ -34,7 +34,7 @@ fn copy_persons(persons: &[Person], alloc: Global) -> Result<Vec<Person>, Memory
     Ok(copies)
 }
 
-/// A copy of the persons of each variable, in order.
+/// Copies the variables with their persons, in order.
 fn copy_names(
     names: &[(Vec<Person>, NameVariable)],
     alloc: Global,
@@ -50,10 +50,10 @@ fn copy_names(
 }
 
 impl ElemMeta {
-    /// An equal meta.
+    /// Returns a copy of the meta.
     ///
     /// # Errors
-    /// [`Memory`]: there was no memory left.
+    /// [`Memory`]: out of memory.
     pub fn clone(&self, alloc: Global) -> Result<ElemMeta, Memory>
         ensures { IfOk result (λ copy. meta_of copy ≡ meta_of self.now) }
     {
@@ -74,7 +74,7 @@ impl ElemMeta {
     }
 }
 
-/// An equal meta, where there is one.
+/// Returns a copy of the meta, if there is one.
 pub(crate) fn clone_meta(meta: &Option<ElemMeta>, alloc: Global) -> Result<Option<ElemMeta>, Memory>
     ensures { IfOk result (λ copy. optional_meta copy ≡ optional_meta meta.now) }
 {
@@ -85,10 +85,10 @@ pub(crate) fn clone_meta(meta: &Option<ElemMeta>, alloc: Global) -> Result<Optio
 }
 
 impl ElemChildren {
-    /// Equal children.
+    /// Returns a copy of the children.
     ///
     /// # Errors
-    /// [`Memory`]: there was no memory left.
+    /// [`Memory`]: out of memory.
     #[cycle(copies)]
     pub fn clone(&self, alloc: Global) -> Result<ElemChildren, Memory>
         ensures { IfOk result (λ copy. tokens copy ≡ tokens self.now) }
@@ -102,10 +102,10 @@ impl ElemChildren {
 }
 
 impl Elem {
-    /// An equal element.
+    /// Returns a copy of the element.
     ///
     /// # Errors
-    /// [`Memory`]: there was no memory left.
+    /// [`Memory`]: out of memory.
     #[cycle(copies)]
     pub fn clone(&self, alloc: Global) -> Result<Elem, Memory>
         ensures { IfOk result (λ copy. elem_tokens copy ≡ elem_tokens self.now) }
@@ -121,10 +121,10 @@ impl Elem {
 }
 
 impl ElemChild {
-    /// An equal child.
+    /// Returns a copy of the child.
     ///
     /// # Errors
-    /// [`Memory`]: there was no memory left.
+    /// [`Memory`]: out of memory.
     #[cycle(copies)]
     pub fn clone(&self, alloc: Global) -> Result<ElemChild, Memory>
         ensures { IfOk result (λ copy. child_tokens copy ≡ child_tokens self.now) }

@@ -1,11 +1,11 @@
-//! The strings of HTML.
+//! Strings of HTML: the CSS declaration of each attribute, and the start tag of a `div`.
 
 ghost use Rattle.std.specs.Prelude.{◌≡◌};
 ghost use Rattle.csl_tree.specs.Html.{style_css, variant_css, weight_css, decoration_css, align_css, div_start};
 
 use csl_style::{Display, FontStyle, FontVariant, FontWeight, TextDecoration, VerticalAlign};
 
-/// The declaration of a style, if it is not the normal one.
+/// The CSS declaration of a font style, empty for the normal one.
 pub(crate) fn declare_style(style: FontStyle) -> &'static str
     ensures { result.now ≡ style_css style }
 {
@@ -15,7 +15,7 @@ pub(crate) fn declare_style(style: FontStyle) -> &'static str
     }
 }
 
-/// The declaration of a weight, if it is not the normal one.
+/// The CSS declaration of a font weight, empty for the normal one.
 pub(crate) fn declare_weight(weight: FontWeight) -> &'static str
     ensures { result.now ≡ weight_css weight }
 {
@@ -26,7 +26,7 @@ pub(crate) fn declare_weight(weight: FontWeight) -> &'static str
     }
 }
 
-/// The declaration of a decoration, if there is one.
+/// The CSS declaration of a text decoration, empty for none.
 pub(crate) fn declare_decoration(decoration: TextDecoration) -> &'static str
     ensures { result.now ≡ decoration_css decoration }
 {
@@ -36,7 +36,7 @@ pub(crate) fn declare_decoration(decoration: TextDecoration) -> &'static str
     }
 }
 
-/// The declaration of a variant, if it is not the normal one.
+/// The CSS declaration of a font variant, empty for the normal one.
 pub(crate) fn declare_variant(variant: FontVariant) -> &'static str
     ensures { result.now ≡ variant_css variant }
 {
@@ -46,7 +46,7 @@ pub(crate) fn declare_variant(variant: FontVariant) -> &'static str
     }
 }
 
-/// The declaration of an alignment, if the text leaves the baseline.
+/// The CSS declaration of a vertical alignment, empty for none and for the baseline.
 pub(crate) fn declare_align(align: VerticalAlign) -> &'static str
     ensures { result.now ≡ align_css align }
 {
@@ -57,7 +57,7 @@ pub(crate) fn declare_align(align: VerticalAlign) -> &'static str
     }
 }
 
-/// The start tag of an element with a display.
+/// The start tag of the `div` for a display.
 pub(crate) fn div_start(display: Display) -> &'static str
     ensures { result.now ≡ div_start display }
 {

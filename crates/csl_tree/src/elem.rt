@@ -1,4 +1,5 @@
-//! The output tree and what is asked of it.
+//! The types of the output tree. Their methods return whether a part is empty or has content, and
+//! the length of its text.
 
 ghost use Rattle.std.specs.Prelude.{◌≡◌, ◌↔◌, [], length, min, None, IsTrue};
 ghost use Rattle.csl_tree.specs.declared.elem.Elem.{out-Elem};
@@ -9,12 +10,12 @@ use csl_style::{Display, NameVariable};
 use lit_model::Person;
 use std::alloc::Global;
 
-/// Some children in order.
+/// A list of children.
 #[cycle(tree)]
 #[derive(PartialEq, Eq, Hash, Drop)]
 pub struct ElemChildren(pub Vec<ElemChild>);
 
-/// An element: what one node of a style made.
+/// An element: children in a group, such as the output of one node of a style.
 #[cycle(tree)]
 #[derive(PartialEq, Eq, Hash, Drop)]
 pub struct Elem {
@@ -22,7 +23,7 @@ pub struct Elem {
     pub children: ElemChildren,
     /// The place of the element on the page, if the style sets one (CSL 1.0.2, Display).
     pub display: Option<Display>,
-    /// Which node of the style made it, where that matters to a reader of the tree.
+    /// The kind of node that rendered the element, if a reader of the tree needs it.
     pub meta: Option<ElemMeta>,
 }
 
@@ -34,7 +35,7 @@ pub enum ElemChild {
     Text(Formatted),
     /// An element.
     Elem(Elem),
-    /// A text that a typesetter reads as markup, as a formula.
+    /// A text that a typesetter reads as markup, for example a formula.
     Markup(String),
     /// A link.
     Link {
@@ -43,16 +44,16 @@ pub enum ElemChild {
         /// The address that the link leads to.
         url: String,
     },
-    /// A place that the reader of the tree fills with the text of a citation.
+    /// A place that the reader of the tree fills with text of a cite, such as its locator.
     Transparent {
-        /// The index of the citation's item as it was handed in.
+        /// The index of the cite in the order of the caller.
         cite_idx: usize,
         /// The formatting of the place.
         format: Formatting,
     },
 }
 
-/// Which node of a style made an element.
+/// The kind of node that rendered an element.
 #[derive(PartialEq, Eq, Hash, Drop)]
 pub enum ElemMeta {
     /// A `cs:names`, with the persons of each of its variables.
@@ -75,7 +76,7 @@ pub enum ElemMeta {
     CitationLabel,
 }
 
-/// What a tree is written as.
+/// The output format of a tree.
 #[derive(Clone, Copy, Debug, Default, PartialEq, Eq)]
 pub enum BufWriteFormat {
     /// The text of the tree, with line breaks around blocks.
@@ -86,7 +87,7 @@ pub enum BufWriteFormat {
     Html,
 }
 
-/// Whether a character of the text is no white space.
+/// Whether the text has a character other than white space.
 fn has_visible(text: &str) -> bool
     ensures { result ≡ has_visible text.now }
 {
@@ -94,7 +95,7 @@ fn has_visible(text: &str) -> bool
 }
 
 impl ElemChildren {
-    /// No children.
+    /// Returns an empty list of children.
     pub fn new(alloc: Global) -> ElemChildren
         ensures { tokens result ≡ [] }
     {
@@ -114,7 +115,7 @@ impl ElemChildren {
         true
     }
 
-    /// Whether a child has content other than white space.
+    /// Whether any child has content ([`ElemChild::has_content`]).
     #[cycle(content)]
     pub fn has_content(&self) -> bool
         ensures { result ≡ has_content (tokens self.now) }
@@ -127,7 +128,7 @@ impl ElemChildren {
         false
     }
 
-    /// The bytes of the text of the leaves, or `usize::MAX` where there are more.
+    /// The number of bytes in the texts, markups and link texts, at most `usize::MAX`.
     #[cycle(len)]
     pub fn str_len(&self) -> usize
         ensures { result ≡ min (length (leaf_text (tokens self.now))) usize.MAX }
@@ -149,7 +150,7 @@ impl Elem {
         self.children.is_empty()
     }
 
-    /// Whether a child has content other than white space.
+    /// Whether any child has content ([`ElemChild::has_content`]).
     #[cycle(content)]
     pub fn has_content(&self) -> bool
         ensures { result ≡ has_content (elem_tokens self.now) }
@@ -157,7 +158,7 @@ impl Elem {
         self.children.has_content()
     }
 
-    /// The bytes of the text of the leaves, or `usize::MAX` where there are more.
+    /// The number of bytes in the texts, markups and link texts, at most `usize::MAX`.
     #[cycle(len)]
     pub fn str_len(&self) -> usize
         ensures { result ≡ min (length (leaf_text (elem_tokens self.now))) usize.MAX }
@@ -165,7 +166,7 @@ impl Elem {
         self.children.str_len()
     }
 
-    /// Whether its children may stand in its place: it has neither display nor meta.
+    /// Whether the children may replace the element: it has neither display nor meta.
     pub fn may_inline(&self) -> bool
         ensures { IsTrue result ↔ ((out-Elem self.now).display ≡ None)
             × (optional_meta (out-Elem self.now).meta ≡ None) }
@@ -175,7 +176,8 @@ impl Elem {
 }
 
 impl ElemChild {
-    /// Whether it is a text, a markup or a link of empty text, or an element of empty children.
+    /// Whether it is a text, markup or link with empty text, or an element whose children are all
+    /// empty.
     #[cycle(empty)]
     pub fn is_empty(&self) -> bool
         ensures { result ≡ is_empty (child_tokens self.now) }
@@ -204,7 +206,7 @@ impl ElemChild {
         }
     }
 
-    /// The bytes of the text of the leaves, or `usize::MAX` where there are more.
+    /// The number of bytes in the texts, markups and link texts, at most `usize::MAX`.
     #[cycle(len)]
     pub fn str_len(&self) -> usize
         ensures { result ≡ min (length (leaf_text (child_tokens self.now))) usize.MAX }

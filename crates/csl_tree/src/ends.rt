@@ -1,4 +1,4 @@
-//! Whether contents have children and text, and what their text ends in.
+//! Whether children exist, whether they have text, and the last character of their leaf text.
 
 ghost use Rattle.std.specs.Prelude.{◌≡◌};
 ghost use Rattle.csl_tree.specs.Tokens.{tokens, elem_tokens, child_tokens, leaf_text, has_text, last_char, ends_in_white_space, has_children};
@@ -13,21 +13,21 @@ fn last_char(text: &str) -> Option<char>
 }
 
 impl ElemChildren {
-    /// Whether there are children, be they empty.
+    /// Whether there are children, even empty ones.
     pub fn has_children(&self) -> bool
         ensures { result ≡ has_children (tokens self.now) }
     {
         !self.0.is_empty()
     }
 
-    /// Whether the text of the leaves is not empty.
+    /// Whether the leaf text is not empty.
     pub fn has_text(&self) -> bool
         ensures { result ≡ has_text (tokens self.now) }
     {
         self.str_len() > 0
     }
 
-    /// Whether the text of the leaves ends in white space.
+    /// Whether the leaf text ends in white space.
     pub fn ends_in_white_space(&self) -> bool
         ensures { result ≡ ends_in_white_space (tokens self.now) }
     {
@@ -37,7 +37,7 @@ impl ElemChildren {
         }
     }
 
-    /// The last character of the text of the leaves.
+    /// The last character of the leaf text.
     #[cycle(ends)]
     fn last_char(&self) -> Option<char>
         ensures { result ≡ last_char (leaf_text (tokens self.now)) }
@@ -55,7 +55,7 @@ impl ElemChildren {
 }
 
 impl Elem {
-    /// The last character of the text of the leaves.
+    /// The last character of the leaf text.
     #[cycle(ends)]
     fn last_char(&self) -> Option<char>
         ensures { result ≡ last_char (leaf_text (elem_tokens self.now)) }
@@ -65,7 +65,7 @@ impl Elem {
 }
 
 impl ElemChild {
-    /// The last character of the text of the leaves.
+    /// The last character of the leaf text.
     #[cycle(ends)]
     pub(crate) fn last_char(&self) -> Option<char>
         ensures { result ≡ last_char (leaf_text (child_tokens self.now)) }

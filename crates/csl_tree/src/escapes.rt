@@ -8,14 +8,14 @@ ghost use Rattle.csl_tree.specs.Escapes.{is_reserved, is_plain, starts_plain, es
 use csl_common::Sink;
 use std::fmt;
 
-/// Whether a reference stands for the byte in HTML.
+/// Whether the byte is reserved: HTML has a reference in its place.
 fn is_reserved(byte: u8) -> bool
     ensures { result ≡ is_reserved byte }
 {
     matches!(byte, b'&' | b'<' | b'>' | b'"')
 }
 
-/// Splits a text after its longest front without a reserved character.
+/// Splits a text before its first reserved character, or at its end if there is none.
 pub fn split_plain(text: &str) -> (&str, &str)
     ensures whole { text.now ≡ result.0.now ++ result.1.now }
     ensures plain { list_all is_plain result.0.now ≡ true }
@@ -27,8 +27,7 @@ pub fn split_plain(text: &str) -> (&str, &str)
     }
 }
 
-/// The reference of the reserved character that a text begins with, and the text after that
-/// character.
+/// The reference of the reserved character that a text begins with, and the rest of the text.
 fn reference_of_first(text: &str) -> Option<(&'static str, &str)>
     ensures found { IfSome result (λ x. BeginsEscaped text.now x.0.now x.1.now) }
     ensures none { IfNone result (starts_plain text.now ≡ false → text.now ≡ []) }
@@ -51,7 +50,7 @@ fn reference_of_first(text: &str) -> Option<(&'static str, &str)>
 /// Writes a text with a reference in place of each reserved character.
 ///
 /// # Errors
-/// [`fmt::Error`]: the sink refused a part of it. What it holds then is left open.
+/// [`fmt::Error`]: the sink refused a part of it; the contents of the sink are then unspecified.
 pub fn write_escaped<S: Sink>(text: &str, sink: &mut S) -> fmt::Result
     ensures ok { OnOk result (WritesInCalls S.write_str_gives sink.old
         (escape_all text.now) sink.new) }

@@ -1,4 +1,4 @@
-//! The first element that a `cs:names` made, as a mutable reference.
+//! Finds the first element of a `cs:names`, as a mutable reference.
 
 ghost use Rattle.std.specs.Prelude.{◌≡◌, ◌<◌, Some, None, IsTrue, is_some, vec_len, IfSome, IfNone, option_map};
 ghost use Rattle.std.specs.Borrow.{sem};
@@ -10,7 +10,7 @@ ghost use Rattle.csl_tree.specs.NamesSearch.{is_here, is_found, find_of_child, f
 use crate::elem::{Elem, ElemChild, ElemChildren, ElemMeta};
 
 impl ElemChild {
-    /// Whether a `cs:names` made the child.
+    /// Whether the child is the element of a `cs:names`.
     fn is_names(&self) -> bool
         ensures { result ≡ is_here (find_of_child self.now) }
     {
@@ -20,7 +20,7 @@ impl ElemChild {
         }
     }
 
-    /// Whether a `cs:names` made the child or an element inside it.
+    /// Whether the child is the element of a `cs:names`, or contains one.
     #[cycle(find)]
     fn has_names(&self) -> bool
         ensures { result ≡ is_found (find_of_child self.now) }
@@ -34,7 +34,7 @@ impl ElemChild {
         }
     }
 
-    /// The element that the child is, as a mutable reference.
+    /// The child as an element, by mutable reference. It must be the element of a `cs:names`.
     fn elem_mut(&mut self) -> &mut Elem
         requires { IsTrue (is_here (find_of_child self.old)) }
         ensures* writes_back { sem 𝓛 (lends_elem self.entry result) }
@@ -47,7 +47,7 @@ impl ElemChild {
     }
 }
 
-/// The first child that a `cs:names` made.
+/// The index of the first child that is the element of a `cs:names`. There must be one.
 fn first_of_names(items: &Vec<ElemChild>) -> usize
     requires { IsTrue (any_is_here items.now.items) }
     ensures index { result < vec_len items.now }
@@ -62,7 +62,7 @@ fn first_of_names(items: &Vec<ElemChild>) -> usize
 }
 
 impl ElemChildren {
-    /// The first child that is, or holds, an element that a `cs:names` made.
+    /// The index of the first child that is or contains the element of a `cs:names`.
     #[cycle(find)]
     fn names_at(&self) -> Option<usize>
         ensures index { IfSome result (λ i. i < vec_len self.now.0) }
@@ -79,7 +79,7 @@ impl ElemChildren {
         None
     }
 
-    /// Whether the first element that a `cs:names` made is inside a child.
+    /// Whether the first element of a `cs:names` is inside a child, and not itself a child.
     fn names_below(&mut self) -> bool
         ensures value { result ≡ names_below self.old }
         ensures unchanged { self.new ≡ self.old }
@@ -90,7 +90,7 @@ impl ElemChildren {
         }
     }
 
-    /// The child that holds the first element of names, as a mutable reference.
+    /// The child that contains the first element of a `cs:names`, as a mutable reference.
     fn names_child_mut(&mut self) -> &mut ElemChild
         requires { IsTrue (names_below self.old) }
         ensures* writes_back { sem 𝓛 (lends_names_child self.entry result) }
@@ -102,8 +102,8 @@ impl ElemChildren {
         }
     }
 
-    /// The children among which the first element that a `cs:names` made is, as a mutable
-    /// reference.
+    /// The list of children that has the first element of a `cs:names` as an item, as a mutable
+    /// reference. If there is no such element, it is the outermost list.
     #[cycle(names)]
     fn names_items_mut(&mut self) -> &mut Vec<ElemChild>
         ensures* writes_back { sem 𝓛 (lends_names_items self.entry result) }
@@ -116,7 +116,7 @@ impl ElemChildren {
         }
     }
 
-    /// The first element of names, as a mutable reference; there has to be one.
+    /// The first element of a `cs:names`, as a mutable reference. There must be one.
     fn that_names_mut(&mut self) -> &mut Elem
         requires { IsTrue (is_some (names_find self.old)) }
         ensures* writes_back { sem 𝓛 (lends_that_names self.entry result) }
@@ -128,8 +128,8 @@ impl ElemChildren {
         child.elem_mut()
     }
 
-    /// The first element that a `cs:names` made, as `find_names` finds it, as a mutable reference.
-    /// When that is given back, nothing else has changed.
+    /// The element that `find_names` finds, as a mutable reference. Nothing else in the tree
+    /// changes through it.
     pub fn find_names_mut(&mut self) -> Option<&mut Elem>
         ensures* writes_back { sem 𝓛 (lends_names self.entry result) }
         ensures value { option_map (λ e. e.now) result ≡ find is_names (preorder self.old) }

@@ -1,5 +1,5 @@
-//! Contents that are being written, in one flat list: children, and a mark where each open part
-//! begins.
+//! A tree under construction, in one flat list: children, and a mark at the start of each open part
+//! but the root.
 
 ghost use Rattle.std.specs.Prelude.{◌≡◌, ◌+◌, ◌<◌, not, length, OnOk, IfOk, OnErr};
 ghost use Rattle.csl_tree.specs.Content.{text_content, child_content, elem_content, affixed_content};
@@ -17,7 +17,7 @@ use lit_model::Memory;
 use std::alloc::Global;
 use std::marker::Model;
 
-/// Contents that are being written. The root is always open.
+/// A tree under construction: its open parts, each with its content. The root is always open.
 #[derive(Drop)]
 pub struct FlatTree {
     alloc: Global,
@@ -38,7 +38,7 @@ impl Model for FlatTree {
 }
 
 impl FlatTree {
-    /// The root is open, and nothing stands in it. It takes no memory.
+    /// Returns a tree of which only the root is open, without content. Allocates nothing.
     pub fn new(alloc: Global) -> FlatTree
         ensures { result ≡ only_root }
     {
@@ -49,28 +49,28 @@ impl FlatTree {
         }
     }
 
-    /// How many parts are open, the root among them.
+    /// The number of open parts, including the root.
     pub fn depth(&self) -> usize
         ensures { result ≡ length self.now.outer + 1 }
     {
         self.opened + 1
     }
 
-    /// Whether nothing stands in the innermost part.
+    /// Whether the innermost part has no children.
     pub fn is_empty(&self) -> bool
         ensures { result ≡ not (has_children self.now.inner) }
     {
         is_fresh(&self.items)
     }
 
-    /// Whether the text of the innermost part is not empty.
+    /// Whether the leaf text of the innermost part is not empty.
     pub fn has_text(&self) -> bool
         ensures { result ≡ has_text self.now.inner }
     {
         last_char(&self.items).is_some()
     }
 
-    /// Whether the text of the innermost part ends in white space.
+    /// Whether the leaf text of the innermost part ends in white space.
     pub fn ends_in_white_space(&self) -> bool
         ensures { result ≡ ends_in_white_space self.now.inner }
     {
@@ -80,10 +80,10 @@ impl FlatTree {
         }
     }
 
-    /// Appends a text, which joins a last text of equal formatting. An empty text writes nothing.
+    /// Appends a text, which joins a last text of equal formatting. An empty text adds nothing.
     ///
     /// # Errors
-    /// [`Memory`]: there was no memory left. The contents stay as they were.
+    /// [`Memory`]: out of memory. The tree is unchanged.
     pub fn push_text(&mut self, more: &str, formatting: Formatting) -> Result<(), Memory>
         ensures ok { OnOk result
             (self.new ≡ with_tokens (text_content more.now formatting) self.old) }
@@ -96,11 +96,11 @@ impl FlatTree {
         Ok(())
     }
 
-    /// Appends a child, which joins a last text if it is a text of equal formatting. A text, a
-    /// markup or a link of empty text writes nothing; an element stands, be it without children.
+    /// Appends a child. A text joins a last text of equal formatting. A text, markup or link with
+    /// empty text adds nothing. An element is appended even without children.
     ///
     /// # Errors
-    /// [`Memory`]: there was no memory left. The contents stay as they were.
+    /// [`Memory`]: out of memory. The tree is unchanged.
     pub fn push(&mut self, child: ElemChild) -> Result<(), Memory>
         ensures ok { OnOk result (self.new ≡ with_tokens (child_content child) self.old) }
         ensures err { OnErr result (self.new ≡ self.old) }
@@ -115,7 +115,7 @@ impl FlatTree {
     /// Opens a part.
     ///
     /// # Errors
-    /// [`Memory`]: there was no memory left. The contents stay as they were.
+    /// [`Memory`]: out of memory. The tree is unchanged.
     pub fn open(&mut self) -> Result<(), Memory>
         ensures ok { OnOk result (self.new ≡ open_part self.old) }
         ensures err { OnErr result (self.new ≡ self.old) }
@@ -125,10 +125,11 @@ impl FlatTree {
         Ok(())
     }
 
-    /// Closes the innermost part as an element in the part around it, unless nothing stands in it.
+    /// Closes the innermost part, and appends its content to the part around it as an element.
+    /// Without content it appends nothing.
     ///
     /// # Errors
-    /// [`Memory`]: there was no memory left. The contents stay as they were.
+    /// [`Memory`]: out of memory. The tree is unchanged.
     pub fn close_elem(
         &mut self,
         display: Option<Display>,
@@ -145,11 +146,11 @@ impl FlatTree {
         Ok(())
     }
 
-    /// Closes the innermost part, and leaves what stands in it between two texts in the part around
-    /// it, unless nothing stands in it.
+    /// Closes the innermost part, and appends its content between two texts to the part around it.
+    /// Without content it appends nothing.
     ///
     /// # Errors
-    /// [`Memory`]: there was no memory left. The contents stay as they were.
+    /// [`Memory`]: out of memory. The tree is unchanged.
     pub fn close_spliced(
         &mut self,
         before: Option<Formatted>,
@@ -166,7 +167,7 @@ impl FlatTree {
         Ok(())
     }
 
-    /// Closes the innermost part, and drops what stands in it.
+    /// Closes the innermost part and drops its content.
     pub fn discard(&mut self)
         requires is_open { 0 < length self.old.outer }
         ensures { self.new ≡ discard_part self.old }
@@ -175,10 +176,10 @@ impl FlatTree {
         self.opened -= 1;
     }
 
-    /// What stands in the root, once only that is open.
+    /// Returns the content of the root. No other part may be open.
     ///
     /// # Errors
-    /// [`Memory`]: there was no memory left. The contents are dropped.
+    /// [`Memory`]: out of memory. The content is dropped.
     pub fn finish(self) -> Result<ElemChildren, Memory>
         requires root { length self.outer ≡ 0 }
         ensures { IfOk result (λ children. tokens children ≡ self.inner) }

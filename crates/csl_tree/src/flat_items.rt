@@ -1,4 +1,4 @@
-//! The items of a flat list of contents: children, and a mark where each open part begins.
+//! The items of a `FlatTree`: children, and a mark at the start of each open part but the root.
 
 ghost use Rattle.std.specs.Prelude.{◌≡◌, ◌+◌, ◌-◌, ◌<◌, ◌≤◌, not, [], ◌∷◌, ◌++◌, length, get_or, take, drop, remove, OnOk, IfOk, OnErr, vec_len, vec_capacity};
 ghost use Rattle.std.specs.Bool.{OnTrue, OnFalse};
@@ -22,11 +22,11 @@ use std::mem;
 pub(crate) enum Item {
     /// A child.
     Child(ElemChild),
-    /// A part is opened.
+    /// The start of an open part.
     Mark,
 }
 
-/// Appends an item. If memory runs out, the items stay as they were.
+/// Appends an item. If memory runs out, the items are unchanged.
 pub(crate) fn push_item(items: &mut Vec<Item>, item: Item) -> Result<(), Memory>
     ensures ok { OnOk result (open_parts items.new.items ≡ step (open_parts items.old.items) item) }
     ensures err { OnErr result (items.new.items ≡ items.old.items) }
@@ -35,7 +35,7 @@ pub(crate) fn push_item(items: &mut Vec<Item>, item: Item) -> Result<(), Memory>
     Ok(())
 }
 
-/// Appends a text to an item that is a text of equal formatting, and says whether it is one.
+/// Appends a text to an item if that is a text of equal formatting. Returns whether it is.
 fn join_item(item: &mut Item, more: &str, formatting: Formatting) -> Result<bool, Memory>
     ensures joins { IfOk result (λ did. OnTrue did (JoinsAs item.old (text more.now formatting ∷
         []) item.new)) }
@@ -53,7 +53,7 @@ fn join_item(item: &mut Item, more: &str, formatting: Formatting) -> Result<bool
     }
 }
 
-/// Appends a text to the last item, if that is a text of equal formatting, and says whether it is.
+/// Appends a text to the last item if that is a text of equal formatting. Returns whether it is.
 fn join_end(items: &mut Vec<Item>, more: &str, formatting: Formatting) -> Result<bool, Memory>
     ensures joins { IfOk result (λ did. OnTrue did (open_parts items.new.items ≡ with_tokens (text
         more.now formatting ∷ []) (open_parts items.old.items))) }
@@ -72,7 +72,8 @@ fn join_end(items: &mut Vec<Item>, more: &str, formatting: Formatting) -> Result
     }
 }
 
-/// Appends a text that is not empty. If memory runs out, the contents stay as they were.
+/// Appends a text, even an empty one. It joins a last text of equal formatting. If memory runs out,
+/// the contents are unchanged.
 fn push_text_item(items: &mut Vec<Item>, text: Formatted) -> Result<(), Memory>
     ensures ok { OnOk result (open_parts items.new.items ≡ with_tokens (text_tokens text)
         (open_parts
@@ -86,7 +87,8 @@ fn push_text_item(items: &mut Vec<Item>, text: Formatted) -> Result<(), Memory>
     Ok(())
 }
 
-/// Appends a text that is not empty. If memory runs out, the contents stay as they were.
+/// Appends a text, even an empty one. It joins a last text of equal formatting. If memory runs out,
+/// the contents are unchanged.
 pub(crate) fn push_str_item(
     items: &mut Vec<Item>,
     alloc: Global,
@@ -108,7 +110,7 @@ pub(crate) fn push_str_item(
     Ok(())
 }
 
-/// How many children stand behind the last mark.
+/// The number of children after the last mark.
 pub(crate) fn run_len(items: &[Item]) -> usize
     ensures count { result ≡ last_run_len items.now }
     ensures last { IsLastPart items.now result }
@@ -124,8 +126,7 @@ pub(crate) fn run_len(items: &[Item]) -> usize
     items.len()
 }
 
-/// Joins the second item to the first, if they are texts of equal formatting, and says whether
-/// they are.
+/// Joins `right` to `left` if both are texts of equal formatting. Returns whether they are.
 fn join_onto(left: &mut Item, right: &Item) -> Result<bool, Memory>
     ensures joins { IfOk result (λ did. OnTrue did (Joins left.old right.now left.new)) }
     ensures unchanged { IfOk result (λ did. OnFalse did (IsSame left.old left.new)) }
@@ -147,8 +148,8 @@ fn join_onto(left: &mut Item, right: &Item) -> Result<bool, Memory>
     }
 }
 
-/// Joins an item to one before it, if they are texts of equal formatting, else puts it right behind
-/// that one, and says whether they are. What lies between the two does not count.
+/// Joins the item at `next` to the one at `last` if both are texts of equal formatting, else moves
+/// it to `last + 1`. Returns whether it joined them. The items between the two have no meaning.
 fn join_next(items: &mut Vec<Item>, last: usize, next: usize) -> Result<bool, Memory>
     requires within { (last < next) × (next < length items.old.items) }
     ensures len { length items.new.items ≡ length items.old.items }
@@ -180,7 +181,7 @@ fn join_next(items: &mut Vec<Item>, last: usize, next: usize) -> Result<bool, Me
     }
 }
 
-/// Takes the items between two places away.
+/// Removes the items at `from..to`.
 fn close_gap(items: &mut Vec<Item>, from: usize, to: usize)
     requires within { (from ≤ to) × (to ≤ length items.old.items) }
     ensures { items.new.items ≡ take from items.old.items ++ drop to items.old.items }
@@ -188,7 +189,7 @@ fn close_gap(items: &mut Vec<Item>, from: usize, to: usize)
     items.drain(from..to);
 }
 
-/// Joins the texts of the innermost part, which begins at `from`, that meet.
+/// Joins adjacent texts of equal formatting in the innermost part, which begins at `from`.
 pub(crate) fn join_texts(items: &mut Vec<Item>, from: usize) -> Result<(), Memory>
     requires within { from ≤ length items.old.items }
     requires begins { IsFresh (take from items.old.items) }
@@ -215,7 +216,7 @@ pub(crate) fn join_texts(items: &mut Vec<Item>, from: usize) -> Result<(), Memor
     Ok(())
 }
 
-/// Takes the children of the innermost part, and its mark, if it has one.
+/// Removes the innermost part with its mark, if it has one, and returns its children.
 pub(crate) fn take_part(items: &mut Vec<Item>, alloc: Global) -> Result<Vec<ElemChild>, Memory>
     ensures children { IfOk result (λ ks. flat_map child_tokens ks.items ≡ plain_inner
         items.old.items) }
@@ -243,7 +244,7 @@ pub(crate) fn take_part(items: &mut Vec<Item>, alloc: Global) -> Result<Vec<Elem
     Ok(children)
 }
 
-/// Puts an item where there is room for it.
+/// Appends an item. There must be room for it.
 fn put(items: &mut Vec<Item>, item: Item)
     requires room { vec_len items.old < vec_capacity items.old }
     ensures { open_parts items.new.items ≡ step (open_parts items.old.items) item }
@@ -254,7 +255,7 @@ fn put(items: &mut Vec<Item>, item: Item)
     }
 }
 
-/// Drops the items behind the last mark, and the mark.
+/// Drops the last mark and the items after it.
 pub(crate) fn drop_part(items: &mut Vec<Item>)
     requires is_open { 0 < length (open_parts items.old.items).outer }
     ensures { (open_parts items.old.items).outer ≡ (open_parts items.new.items).inner ∷ (open_parts
@@ -264,8 +265,8 @@ pub(crate) fn drop_part(items: &mut Vec<Item>)
     items.truncate(at);
 }
 
-/// Closes the innermost part as an element, unless nothing stands in it. The only error is want of
-/// memory, and leaves all.
+/// Closes the innermost part as an element, or drops it if it has no content. If memory runs out,
+/// the contents are unchanged.
 pub(crate) fn close_items(
     items: &mut Vec<Item>,
     alloc: Global,
@@ -295,7 +296,7 @@ pub(crate) fn close_items(
     Ok(())
 }
 
-/// Puts a text in the place of a mark, or takes the mark away.
+/// Replaces the mark at `at` by a text, or removes it if there is no text or an empty one.
 fn unmark(items: &mut Vec<Item>, at: usize, text: Option<Formatted>)
     requires within { at < length items.old.items }
     requires mark { get_or items.old.items at Mark ≡ Mark }
@@ -319,7 +320,7 @@ fn unmark(items: &mut Vec<Item>, at: usize, text: Option<Formatted>)
     }
 }
 
-/// Puts a text behind the others, where there is room for it.
+/// Appends a text, unless it is absent or empty. There must be room for it.
 fn put_text(items: &mut Vec<Item>, text: Option<Formatted>)
     requires room { vec_len items.old < vec_capacity items.old }
     ensures { open_parts items.new.items ≡ with_tokens (affix_content text)
@@ -335,8 +336,8 @@ fn put_text(items: &mut Vec<Item>, text: Option<Formatted>)
     }
 }
 
-/// Closes the innermost part between two texts, unless it is empty. If memory runs out, the
-/// contents stay as they were.
+/// Closes the innermost part with its content between two texts, or drops it if it has no content.
+/// If memory runs out, the contents are unchanged.
 pub(crate) fn splice_items(
     items: &mut Vec<Item>,
     before: Option<Formatted>,
@@ -360,7 +361,8 @@ pub(crate) fn splice_items(
     Ok(())
 }
 
-/// Appends a child that shows something. If memory runs out, the contents stay as they were.
+/// Appends a child, even one with empty text. A text joins a last text of equal formatting. If
+/// memory runs out, the contents are unchanged.
 pub(crate) fn push_child_item(items: &mut Vec<Item>, child: ElemChild) -> Result<(), Memory>
     ensures ok { OnOk result
         (open_parts items.new.items ≡ with_tokens (child_tokens child) (open_parts items.old.items)) }
@@ -378,7 +380,7 @@ pub(crate) fn push_child_item(items: &mut Vec<Item>, child: ElemChild) -> Result
     }
 }
 
-/// Whether nothing stands in the innermost part.
+/// Whether the innermost part has no children.
 pub(crate) fn is_fresh(items: &[Item]) -> bool
     ensures { result ≡ not (has_children (open_parts items.now).inner) }
 {
@@ -392,7 +394,7 @@ pub(crate) fn is_fresh(items: &[Item]) -> bool
     }
 }
 
-/// The last character of the text of the innermost part.
+/// The last character of the leaf text of the innermost part.
 pub(crate) fn last_char(items: &[Item]) -> Option<char>
     ensures { result ≡ last_char (leaf_text (open_parts items.now).inner) }
 {

@@ -1,11 +1,11 @@
-//! Text in a formatting (CSL 1.0.2, Formatting).
+//! Formatted text (CSL 1.0.2, Formatting).
 
 ghost use Rattle.std.specs.Prelude.{◌≡◌};
 ghost use Rattle.csl_tree.specs.Formatting.{apply_formatting};
 
 use csl_style::{FontStyle, FontVariant, FontWeight, TextDecoration, VerticalAlign, formatting};
 
-/// How a text is formatted: every attribute has a value.
+/// The formatting of a text. Every attribute has a value.
 #[derive(Clone, Copy, Debug, Default, PartialEq, Eq, Hash)]
 pub struct Formatting {
     pub font_style: FontStyle,
@@ -16,7 +16,7 @@ pub struct Formatting {
 }
 
 impl Formatting {
-    /// A node's formatting over this one: each attribute that the node sets, else that of `self`.
+    /// Applies a node's formatting: returns each attribute that the node sets, else that of `self`.
     pub fn apply(self, other: formatting::Formatting) -> Formatting
         ensures { result ≡ apply_formatting other self }
     {
@@ -29,7 +29,7 @@ impl Formatting {
         }
     }
 
-    /// The text in this formatting.
+    /// Returns the text with this formatting.
     pub fn add_text(self, text: String) -> Formatted
         ensures { result ≡ record { text = text; formatting = self } }
     {
@@ -40,7 +40,7 @@ impl Formatting {
     }
 }
 
-/// A text in a formatting.
+/// A text with its formatting.
 #[derive(PartialEq, Eq, Hash, Drop)]
 pub struct Formatted {
     pub text: String,

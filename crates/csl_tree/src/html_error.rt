@@ -1,4 +1,4 @@
-//! Why a text is not read as HTML.
+//! The error of reading a text as HTML.
 
 ghost use Rattle.std.specs.Prelude.{◌≡◌, Some};
 ghost use Rattle.csl_tree.specs.HtmlError.{error_text};
@@ -9,12 +9,12 @@ use std::alloc::{AllocError, AllocFailed};
 use std::error::Error;
 use std::fmt;
 
-/// Why a text is not read as HTML.
+/// The error of reading a text as HTML.
 #[derive(Clone, Copy, Debug, PartialEq, Eq, Hash)]
 pub enum HtmlError {
     /// Out of memory.
     Memory,
-    /// The text is not HTML as this crate writes it.
+    /// The text is not HTML as `leaf_text_of_html` defines it.
     NotHtml,
 }
 

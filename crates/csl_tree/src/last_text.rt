@@ -1,4 +1,4 @@
-//! Places in a tree, as mutable references. When one is given back, nothing else has changed.
+//! Places in a tree, as mutable references. Nothing else in the tree changes through them.
 
 ghost use Rattle.std.specs.Prelude.{◌≡◌, ◌<◌, Some, IsTrue, is_some, option_map, vec_len};
 ghost use Rattle.std.specs.Borrow.{sem};
@@ -10,7 +10,7 @@ use crate::elem::{ElemChild, ElemChildren};
 use crate::formatting::Formatted;
 
 impl ElemChild {
-    /// The children of an element, as a mutable reference.
+    /// The children of a child that is an element, as a mutable reference.
     pub(crate) fn children_mut(&mut self) -> &mut ElemChildren
         requires { IsTrue (is_some (children_of self.old)) }
         ensures* writes_back { sem 𝓛 (lends_children self.entry result) }
@@ -22,7 +22,7 @@ impl ElemChild {
         }
     }
 
-    /// The text of a text, as a mutable reference.
+    /// The formatted text of a child that is a text, as a mutable reference.
     fn text_mut(&mut self) -> &mut Formatted
         requires { IsTrue (is_some (text_of_child self.old)) }
         ensures* writes_back { sem 𝓛 (lends_text self.entry result) }
@@ -62,7 +62,8 @@ impl ElemChildren {
         &mut self.0
     }
 
-    /// The children among which the tree ends, as a mutable reference.
+    /// The list of children at the end of the tree, as a mutable reference. The path to it goes
+    /// down the last child as long as that is an element.
     #[cycle(inner)]
     fn last_items_mut(&mut self) -> &mut Vec<ElemChild>
         ensures* writes_back { sem 𝓛 (lends_last_items self.entry result) }
@@ -75,7 +76,7 @@ impl ElemChildren {
         }
     }
 
-    /// The last text, as a mutable reference, where there is one.
+    /// The last text, as a mutable reference. There must be one.
     fn that_text_mut(&mut self) -> &mut Formatted
         requires { IsTrue (is_some (last_text self.old)) }
         ensures* writes_back { sem 𝓛 (lends_that_text self.entry result) }
@@ -87,7 +88,7 @@ impl ElemChildren {
         child.text_mut()
     }
 
-    /// The last text, as `last_text` finds it, as a mutable reference.
+    /// The text that `last_text` finds, as a mutable reference.
     pub fn last_text_mut(&mut self) -> Option<&mut Formatted>
         ensures* writes_back { sem 𝓛 (lends_last_text self.entry result) }
         ensures value { option_map (λ t. t.now) result ≡ last_text self.old }

@@ -1,7 +1,8 @@
-//! The output tree: what a style made of an entry, as formatted text, elements and links.
+//! The output tree: rendered output as formatted text, elements and links.
 //!
-//! Contracts see a tree as its list of tokens (`specs/Tokens.antt`), which forgets how the texts
-//! are stored and nothing else.
+//! The *leaf text* of a tree is its texts, markups and link texts in order, joined. Contracts see a
+//! tree as its list of tokens (`specs/Tokens.antt`). The tokens leave out only how the texts are
+//! stored.
 #![tactic(auto)]
 
 pub mod content;

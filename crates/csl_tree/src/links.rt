@@ -1,4 +1,4 @@
-//! Links whose address is not allowed.
+//! Replaces links by their text if their address is not allowed.
 
 ghost use Rattle.std.specs.Prelude.{◌≡◌, Bool, List, ℕ, true};
 ghost use Rattle.std.specs.List.{list_all};
@@ -11,7 +11,7 @@ use crate::formatting::Formatting;
 use std::mem;
 
 impl ElemChild {
-    /// The text of a link, and any other child as it is.
+    /// Returns the text of a link, and any other child unchanged.
     fn without_link(self) -> ElemChild
         ensures { result ≡ child_without_link self }
     {
@@ -21,7 +21,7 @@ impl ElemChild {
         }
     }
 
-    /// Makes a link its text, and leaves any other child as it is.
+    /// Replaces a link by its text. Any other child is unchanged.
     fn unlink(&mut self)
         ensures { self.new ≡ child_without_link self.old }
     {
@@ -33,7 +33,7 @@ impl ElemChild {
         *self = child.without_link();
     }
 
-    /// Keeps the links of the child whose address is allowed.
+    /// Replaces each link in the child by its text, unless `is_allowed` accepts the address.
     #[cycle(links)]
     fn keep_links_by<F: FnMut(&str) -> bool>(&mut self, is_allowed: &mut F)
         requires { F.IsAlwaysCallable is_allowed.old }
@@ -68,11 +68,12 @@ impl ElemChildren {
         }
     }
 
-    /// Turns each link whose address is not allowed into its text, at any depth. Takes no memory.
+    /// Replaces each link whose address is not allowed by its text, at any depth. Allocates
+    /// nothing.
     pub fn keep_links<F: FnMut(&str) -> bool>(&mut self, mut is_allowed: F)
         requires { F.IsAlwaysCallable is_allowed }
-        // Where `is_allowed` answers by the address alone, exactly the links whose address it
-        // rejects are texts now.
+        // If the result of `is_allowed` depends on the address alone, exactly the links whose
+        // address it rejects become texts.
         ensures kept { (allowed : List ℕ → Bool) → AllowsBy F.step allowed
             → tokens self.new ≡ kept_links allowed (tokens self.old) }
         ensures allowed { (allowed : List ℕ → Bool) → AllowsBy F.step allowed

@@ -1,4 +1,4 @@
-//! What HTML begins with: a tag or a text.
+//! Reads the tag or the text that HTML begins with.
 
 ghost use Rattle.std.specs.Prelude.{◌≡◌, ◌<◌, ◌++◌, length, Option, None, IfSome, IfNone};
 ghost use Rattle.csl_tree.specs.Escapes.{escape_all};
@@ -8,7 +8,7 @@ ghost use Rattle.csl_tree.specs.Marks.{after, IsAfterAnchor, IsStart, BeginsNoSt
 
 use crate::escapes::split_plain;
 
-/// An element: it has a start tag and an end tag.
+/// An HTML element, by its tag name.
 #[derive(Clone, Copy, PartialEq, Eq)]
 pub enum Element {
     Div,
@@ -16,7 +16,7 @@ pub enum Element {
     Anchor,
 }
 
-/// What HTML begins with.
+/// A tag or a text that HTML begins with.
 #[derive(Clone, Copy)]
 pub enum Mark<'a> {
     Start(Element),
@@ -45,8 +45,8 @@ fn reference_at(html: &str) -> Option<(&'static str, &str)>
     }
 }
 
-/// The text that HTML begins with, unescaped, and the rest: as many characters as stand for
-/// themselves, or the character of one reference.
+/// The text that HTML begins with, unescaped, and the rest. The text is all characters before the
+/// first reserved one, or the character of one reference.
 fn text_at(html: &str) -> Option<(&str, &str)>
     ensures found { IfSome result (λ x. (0 < length x.0.now) ×
         (html.now ≡ escape_all x.0.now ++ x.1.now)) }
@@ -59,7 +59,7 @@ fn text_at(html: &str) -> Option<(&str, &str)>
     reference_at(html)
 }
 
-/// The rest after all the text that HTML begins with.
+/// The rest after all text that HTML begins with.
 fn after_text(html: &str) -> &str
     ensures { IsAfterText html.now result.now }
 {
@@ -70,7 +70,7 @@ fn after_text(html: &str) -> &str
     rest
 }
 
-/// The rest after the start tag of a div.
+/// The rest after the start tag of a `div`, if HTML begins with one.
 #[tactic(auto, unfolding(crate::specs::Marks::div_at), using(crate::proofs::Fronts::stripped))]
 fn after_div(html: &str) -> Option<&str>
     ensures { rest_found result ≡ div_at html.now }
@@ -87,7 +87,7 @@ fn after_div(html: &str) -> Option<&str>
     html.strip_prefix("<div style=\"float: right; clear: both;\">")
 }
 
-/// The rest after a declaration, which may be absent.
+/// The rest after a declaration, or all of `css` if the declaration is absent.
 #[tactic(auto, using(crate::proofs::Fronts::stripped))]
 fn after<'a>(css: &'a str, declaration: &str) -> &'a str
     ensures { result.now ≡ after declaration.now css.now }
@@ -117,7 +117,7 @@ fn after_align(css: &str) -> &str
     after(css, "vertical-align: sub;")
 }
 
-/// The rest after the declarations of a formatting.
+/// The rest after the declarations of a formatting. Any of them may be absent.
 #[tactic(auto, unfolding(crate::specs::Marks::after_css))]
 fn after_css(css: &str) -> &str
     ensures { result.now ≡ after_css css.now }
@@ -129,7 +129,7 @@ fn after_css(css: &str) -> &str
     after_align(css)
 }
 
-/// The rest after the start tag of a span.
+/// The rest after the start tag of a `span`, if HTML begins with one.
 #[tactic(auto, unfolding(crate::specs::Marks::span_at), using(crate::proofs::Fronts::stripped))]
 fn after_span(html: &str) -> Option<&str>
     ensures { rest_found result ≡ span_at html.now }
@@ -138,7 +138,7 @@ fn after_span(html: &str) -> Option<&str>
     after_css(css).strip_prefix("\">")
 }
 
-/// The rest after the start tag of an anchor.
+/// The rest after the start tag of an anchor, if HTML begins with one.
 fn after_anchor(html: &str) -> Option<&str>
     ensures { IsAfterAnchor html.now (rest_found result) }
 {

@@ -1,4 +1,4 @@
-//! Reading HTML back: the leaf text of what a tree is written as.
+//! Reads HTML back. The text of a tree's HTML is the tree's leaf text.
 
 ghost use Rattle.std.specs.Prelude.{◌≡◌, ◌⊎◌, ◌↔◌, ◌++◌, ℕ, List, IsTrue, OnOk, Err, IfOk, IsErrOf, MatchResult, string_bytes, reverse, if◌then◌else◌, Some, None};
 ghost use Rattle.csl_tree.specs.Html.{IsHtmlOf, IsNotHtml};
@@ -13,7 +13,7 @@ use crate::html_error::HtmlError;
 use crate::marks::{Element, Mark, mark_at};
 use std::alloc::{AllocError, Global};
 
-/// What has been read of HTML.
+/// The state of reading HTML.
 #[derive(Drop)]
 struct Reading {
     /// The elements that have started and not ended, outermost first.
@@ -23,7 +23,7 @@ struct Reading {
 }
 
 impl Reading {
-    /// Reads a tag or a text. Returns whether it may stand there: an end tag has to end the
+    /// Reads a tag or a text. Returns whether it is allowed here: an end tag has to end the
     /// innermost element.
     fn take(&mut self, mark: Mark<'_>) -> Result<bool, AllocError>
         ensures within { IfOk result (λ fits. within_after_mark
@@ -48,7 +48,7 @@ impl Reading {
         }
     }
 
-    /// Whether the HTML has ended, and each element too.
+    /// Whether the HTML and each element have ended.
     fn has_ended(&self, rest: &str) -> bool
         ensures { IsTrue result ↔ HasEnded rest.now (reverse self.now.within.items) }
     {
@@ -56,33 +56,33 @@ impl Reading {
     }
 }
 
-/// The leaf text of HTML, unescaped: of what a tree is written as, the tree's leaf text.
+/// Returns the text of HTML, unescaped. For the HTML of a tree, it is the tree's leaf text.
 ///
-/// HTML is the bytes of a nested list of tags and texts. The tags are those that a tree is written
-/// with: a `span` holds declarations in their order, at most one for each attribute, or none.
-/// Texts and addresses hold no `<`, `>` or `"`, and `&` only in `&amp;`, `&lt;`, `&gt;` and
-/// `&quot;`. It may be nested to any depth.
+/// HTML here is a nested list of tags and texts. The tags are those that this crate writes. A
+/// `span` has at most one declaration for each attribute, in a fixed order, and may have none.
+/// Texts and addresses have no `<`, `>` or `"`, and `&` only in `&amp;`, `&lt;`, `&gt;` and
+/// `&quot;`. Elements may be nested to any depth.
 ///
 /// # Errors
 /// - [`HtmlError::NotHtml`]: the text is not HTML.
-/// - [`HtmlError::Memory`]: out of memory. A text that is not HTML may meet that first.
+/// - [`HtmlError::Memory`]: out of memory. For a text that is not HTML, this error may come first.
 #[tactic(auto, using(crate::proofs::Nested::tree_is_html, crate::proofs::Nested::content_is_html))]
 pub fn leaf_text_of_html(alloc: Global, html: &str) -> Result<String, HtmlError>
-    // What is returned is the text of the HTML.
+    // The result is the text of the HTML.
     ensures found { IfOk result (λ text. IsHtmlOf html.now (string_bytes text)) }
-    // HTML gives its text, unless memory runs out.
+    // For HTML, the result is its text, unless memory runs out.
     ensures only { (leaves : List ℕ) → IsHtmlOf html.now leaves
         → MatchResult result (λ text. string_bytes text ≡ leaves) (λ e. e ≡ HtmlError.Memory) }
     ensures not_html { IsErrOf result HtmlError.NotHtml → IsNotHtml html.now }
     // Follows from `found`.
     ensures refused { IsNotHtml html.now → (result ≡ Err HtmlError.NotHtml) ⊎
         (result ≡ Err HtmlError.Memory) }
-    // HTML has one text.
+    // HTML has at most one text.
     ensures unique { (x y : List ℕ) → IsHtmlOf html.now x → IsHtmlOf html.now y → x ≡ y }
-    // What any tree is written as is HTML of its leaf text, empty texts in it or not.
+    // The HTML of any tree has the tree's leaf text as its text, even if the tree has empty texts.
     ensures law { (c : ElemChildren) → IsHtmlOf (text_in_format Html (tokens c))
         (leaf_text (tokens c)) }
-    // And so is what any content is written as.
+    // The HTML of any content has the content's leaf text as its text.
     ensures content_law { (c : List Token) → IsContent c → IsHtmlOf (text_in_format Html c)
         (leaf_text c) }
 {

@@ -1,4 +1,5 @@
-//! Searches in a tree: an element, then what stands inside it, then its right neighbours.
+//! Searches in a tree, in preorder: an element, then the elements inside it, then those to its
+//! right.
 
 ghost use Rattle.std.specs.Prelude.{◌≡◌, Bool, false, option_copied, option_map, IfSome, IfNone};
 ghost use Rattle.std.specs.List.{find};
@@ -21,7 +22,8 @@ impl ElemChild {
 }
 
 impl ElemChildren {
-    /// The first element that `f` accepts. `f` is to answer by the element alone.
+    /// Returns the first element that `f` accepts. The result of `f` should depend on the element
+    /// alone.
     pub fn find_elem_by<F: Fn(&Elem) -> bool>(&self, f: &F) -> Option<&Elem>
         requires { F.IsAlwaysCallable f.now }
         ensures { (p : Elem → Bool) → AnswersBy (F.post f.now) p
@@ -40,22 +42,22 @@ impl ElemChildren {
         None
     }
 
-    /// The first element that this meta is noted of.
+    /// Returns the first element with this meta.
     pub fn find_meta(&self, meta: &ElemMeta) -> Option<&Elem>
         ensures { IsFirst (IsMadeBy meta.now) (preorder self.now) (option_copied result) }
     {
         self.find_elem_by(&|elem: &Elem| elem.meta.as_ref() == Some(meta))
     }
 
-    /// The first element that a `cs:names` made.
+    /// Returns the first element of a `cs:names`.
     pub fn find_names(&self) -> Option<&Elem>
         ensures { option_copied result ≡ find is_names (preorder self.now) }
     {
         self.find_elem_by(&|elem: &Elem| matches!(elem.meta, Some(ElemMeta::Names(_))))
     }
 
-    /// The last text: the last child where that is a text, the last text inside it where it is an
-    /// element, and else none.
+    /// The last text: the last child if it is a text, the last text inside it if it is an element,
+    /// else none.
     pub fn last_text(&self) -> Option<&Formatted>
         ensures { option_copied result ≡ last_text self.now }
     {
@@ -71,7 +73,7 @@ impl ElemChildren {
 }
 
 impl ElemChild {
-    /// Whether the child is an element that a meta is noted of.
+    /// Whether the child is an element with a meta.
     fn has_meta(&self) -> bool
         ensures { result ≡ child_has_meta self.now }
     {
@@ -81,7 +83,8 @@ impl ElemChild {
         }
     }
 
-    /// Takes out the first element inside the child that a meta is noted of.
+    /// Removes and returns the first element with a meta inside the child. The child itself must
+    /// have no meta.
     #[cycle(removal)]
     fn remove_below(&mut self) -> Option<ElemChild>
         requires { child_has_meta self.old ≡ false }
@@ -99,7 +102,7 @@ impl ElemChild {
 }
 
 impl ElemChildren {
-    /// Takes out the first element that a meta is noted of. The others stay in order.
+    /// Removes and returns the first element with a meta. The rest of the tree stays in order.
     #[cycle(removal)]
     pub fn remove_any_meta(&mut self) -> Option<ElemChild>
         ensures found { result ≡ option_map as_child (find has_meta (preorder self.old)) }

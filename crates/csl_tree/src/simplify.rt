@@ -1,5 +1,8 @@
-//! Simplification of a tree: elements that show nothing give way to their children, and texts of
-//! equal formatting that meet become one.
+//! Simplification of a tree. Elements without display and meta are replaced by their children, and
+//! adjacent texts of equal formatting become one.
+//!
+//! The *styled value* of a tree stays the same: each byte of a text with its formatting, the other
+//! leaves, and the elements with display or meta (`specs/Simplify.antt`).
 
 ghost use Rattle.std.specs.Prelude.{◌≡◌, ◌<◌, ◌↔◌, IsTrue, OnOk, IfOk};
 ghost use Rattle.std.specs.Bool.{OnFalse};
@@ -14,13 +17,13 @@ use crate::formatting::Formatting;
 use lit_model::Memory;
 use std::alloc::Global;
 
-/// One round of simplification. An element without display and meta stands for its children as
-/// they are, any other for itself with a round inside; then each text that was itself a child joins
-/// a text of equal formatting before it. What the children show stays the same, and children that a
-/// round leaves as they are need no other.
+/// Returns the children after one round of simplification. An element without display and meta is
+/// replaced by its children, unchanged. Any other element gets a round inside. Each text that was
+/// itself a child then joins a text of equal formatting before it. The styled value stays the same.
+/// The round changes nothing exactly if the children are normal already.
 ///
 /// # Errors
-/// [`Memory`]: there was no memory left.
+/// [`Memory`]: out of memory.
 #[cycle(rounds)]
 pub fn simplify_children(alloc: Global, children: &ElemChildren) -> Result<ElemChildren, Memory>
     ensures round { IfOk result (λ r. tree r ≡ simplify_once (tree children.now)) }
@@ -40,7 +43,7 @@ pub fn simplify_children(alloc: Global, children: &ElemChildren) -> Result<ElemC
 }
 
 impl ElemChild {
-    /// Puts what the child leaves in a round behind what the children before it left.
+    /// Appends the result of a round on the child to `simplified`, that of the children before it.
     #[cycle(rounds)]
     fn simplify_into(&self, alloc: Global, simplified: &mut Vec<ElemChild>) -> Result<(), Memory>
         ensures ok { OnOk result (row simplified.new.items
@@ -73,10 +76,10 @@ impl ElemChild {
 }
 
 impl Elem {
-    /// The element with one round of simplification inside.
+    /// Returns the element with one round of simplification inside.
     ///
     /// # Errors
-    /// [`Memory`]: there was no memory left.
+    /// [`Memory`]: out of memory.
     #[cycle(rounds)]
     pub fn simplify(&self, alloc: Global) -> Result<Elem, Memory>
         ensures round { IfOk result (λ r.
@@ -98,12 +101,12 @@ impl Elem {
     }
 }
 
-/// The normal form of some children: rounds of simplification until nothing changes, which are at
-/// most as many as there are nodes. Children without empty texts end equal exactly if they show
-/// the same.
+/// Returns the normal form of the children: repeats rounds until a further one would change
+/// nothing. No more rounds are needed than there are nodes. Trees without empty texts have the same
+/// normal form exactly if they have the same styled value.
 ///
 /// # Errors
-/// [`Memory`]: there was no memory left.
+/// [`Memory`]: out of memory.
 pub fn simplify_fully(alloc: Global, children: &ElemChildren) -> Result<ElemChildren, Memory>
     ensures rounds { IfOk result (λ r. tree r ≡ normal_form (tree children.now)) }
     ensures normal { IfOk result (λ r. IsTrue (is_normal (tree r))) }
@@ -119,8 +122,8 @@ pub fn simplify_fully(alloc: Global, children: &ElemChildren) -> Result<ElemChil
 }
 
 impl ElemChildren {
-    /// Whether at no depth an element has neither display nor meta, or neighbouring texts have
-    /// equal formatting.
+    /// Whether the children are normal: at every depth, each element has a display or a meta, and
+    /// adjacent texts differ in formatting.
     #[cycle(normal)]
     fn is_normal(&self) -> bool
         ensures { result ≡ is_normal (tree self.now) }
@@ -137,7 +140,7 @@ impl ElemChildren {
 }
 
 impl ElemChild {
-    /// The formatting of a text, and of nothing else.
+    /// The formatting of the child if it is a text, else `None`.
     fn text_formatting(&self) -> Option<Formatting>
         ensures { result ≡ last_formatting (child_tree self.now) }
     {
@@ -147,7 +150,8 @@ impl ElemChild {
         }
     }
 
-    /// Whether it is normal inside, and stands apart from a text before it.
+    /// Whether the child is normal and differs in formatting from a text before it, if both are
+    /// texts. `last` is the formatting of the text before.
     #[cycle(normal)]
     fn is_normal_after(&self, last: Option<Formatting>) -> bool
         ensures { result ≡ is_normal_after last (child_tree self.now) }

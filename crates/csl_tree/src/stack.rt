@@ -1,4 +1,4 @@
-//! A list of at least one item, of which the last is in use.
+//! A list of at least one item. The last item is the current one.
 
 ghost use Rattle.std.specs.Prelude.{◌≡◌, ℕ, ◌+◌, ◌-◌, ◌<◌, [], ◌∷◌, ◌++◌, length, take, drop, IfOk, OnOk, IfErr, OnErr, IfSome, IfNone, slice_index_or};
 ghost use Rattle.std.specs.Borrow.{sem};
@@ -30,10 +30,10 @@ impl<T> Model for NonEmptyStack<T> {
 }
 
 impl<T> NonEmptyStack<T> {
-    /// A stack of one item.
+    /// Returns a stack of one item.
     ///
     /// # Errors
-    /// [`Memory`]: there was no memory left. The item is dropped.
+    /// [`Memory`]: out of memory. The item is dropped.
     pub fn new(alloc: Global, item: T) -> Result<Self, Memory>
     where
         T: Drop,
@@ -44,10 +44,10 @@ impl<T> NonEmptyStack<T> {
         Ok(NonEmptyStack { items })
     }
 
-    /// A stack of one default item.
+    /// Returns a stack of one default item.
     ///
     /// # Errors
-    /// [`Memory`]: there was no memory left.
+    /// [`Memory`]: out of memory.
     pub fn with_default(alloc: Global) -> Result<Self, Memory>
     where
         T: Default + Drop,
@@ -56,7 +56,7 @@ impl<T> NonEmptyStack<T> {
         NonEmptyStack::new(alloc, T::default())
     }
 
-    /// How many items there are.
+    /// The number of items.
     pub fn len(&self) -> NonZeroUsize
         ensures { non_zero_usize_get result ≡ length self.now }
     {
@@ -87,7 +87,7 @@ impl<T> NonEmptyStack<T> {
         &mut self.items[0]
     }
 
-    /// The item at a place, as a mutable reference. Nothing else changes.
+    /// The item at index `i`, as a mutable reference. Nothing else changes.
     fn at_mut(&mut self, i: usize) -> &mut T
         requires { i < length self.old }
         ensures* writes_back { sem 𝓛 (lends_item T.row self.entry i result) }
@@ -96,7 +96,7 @@ impl<T> NonEmptyStack<T> {
         &mut self.items[i]
     }
 
-    /// The place of the last item that the predicate accepts.
+    /// The index of the last item that the predicate accepts.
     fn last_accepted<F: Fn(&T) -> bool + Drop>(&self, predicate: F) -> Option<usize>
         requires { F.IsAlwaysCallable predicate }
         ensures found { IfSome result (λ i.
@@ -113,8 +113,8 @@ impl<T> NonEmptyStack<T> {
         None
     }
 
-    /// The last item that the predicate accepts, as a mutable reference, or `None` where it accepts
-    /// none. That item changes as the reference does, and nothing else.
+    /// The last item that the predicate accepts, as a mutable reference, or `None` if it accepts
+    /// none. Nothing else changes.
     pub fn last_mut_predicate<F: Fn(&T) -> bool + Drop>(&mut self, predicate: F) -> Option<&mut T>
         requires { F.IsAlwaysCallable predicate }
         ensures* writes_back { sem 𝓛 (lends_accepted T.row self.entry F.Fn predicate result) }
@@ -128,10 +128,10 @@ impl<T> NonEmptyStack<T> {
         }
     }
 
-    /// Puts an item behind the others.
+    /// Appends an item.
     ///
     /// # Errors
-    /// The item: there was no memory left.
+    /// The item itself: out of memory. The stack is unchanged.
     pub fn push(&mut self, item: T) -> Result<(), T>
         ensures ok { OnOk result (self.new ≡ self.old ++ item ∷ []) }
         ensures back { IfErr result (λ back. back ≡ item) }
@@ -143,7 +143,7 @@ impl<T> NonEmptyStack<T> {
         }
     }
 
-    /// Takes the last item, unless it is the only one.
+    /// Removes and returns the last item, unless it is the only one.
     pub fn pop(&mut self) -> Option<T>
         ensures some { IfSome result (λ item. self.old ≡ self.new ++ item ∷ []) }
         ensures left { IfSome result (λ _. 0 < length self.new) }
@@ -156,10 +156,10 @@ impl<T> NonEmptyStack<T> {
         }
     }
 
-    /// Takes the items from `idx` on, in order, and leaves those before.
+    /// Removes the items from `idx` on, and returns them in order.
     ///
     /// # Errors
-    /// [`Memory`]: there was no memory left. All items stay.
+    /// [`Memory`]: out of memory. The stack is unchanged.
     pub fn drain(&mut self, idx: NonZeroUsize) -> Result<Vec<T>, Memory>
         requires { non_zero_usize_get idx < length self.old }
         ensures taken { IfOk result (λ items.
@@ -178,7 +178,7 @@ impl<T> NonEmptyStack<T> {
         self.items.iter()
     }
 
-    /// The one item that is left.
+    /// Returns the item of a stack that has only one.
     pub fn finish(self) -> T
         requires { length self ≡ 1 }
         ensures { self ≡ result ∷ [] }
@@ -194,7 +194,7 @@ impl<T> NonEmptyStack<T> {
     }
 }
 
-/// Stacks are equal where they have equal items in the same order.
+/// Stacks are equal if they have equal items in the same order.
 impl<T: PartialEq> PartialEq for NonEmptyStack<T> {
     ghost eq = { pointwise T.eq };
 

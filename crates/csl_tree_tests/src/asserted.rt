@@ -1,14 +1,14 @@
-//! Assertions that show what was answered.
+//! Assertions that report both values.
 
 use std::fmt::Debug;
 use std::process::Abort;
 
-/// What was answered is what is wanted.
+/// Asserts that the answer is the wanted value.
 pub(crate) fn assert_same<T: Debug + PartialEq>(rt: &impl Abort, answer: &T, wanted: &T) {
     assert_eq!(rt; answer, wanted);
 }
 
-/// What was answered of something is what is wanted.
+/// Asserts that the answer is the wanted value, and reports the input `of` if it is not.
 pub(crate) fn assert_of<T: Debug + PartialEq, O: Debug>(
     rt: &impl Abort,
     answer: &T,

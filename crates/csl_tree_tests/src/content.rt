@@ -1,4 +1,4 @@
-//! Contents that meet.
+//! Contents that are joined.
 
 use crate::trees::{assert_text, assert_tree};
 use csl_style::Display;
@@ -8,7 +8,7 @@ use std::alloc::Global;
 use std::process::Abort;
 use std::test::Fail;
 
-/// Children of one text.
+/// Children with one text.
 fn text(alloc: Global, text: &str) -> Result<ElemChildren, Memory> {
     let mut children = ElemChildren::new(alloc);
     children.push_text(alloc, text, Formatting::default())?;
@@ -24,7 +24,7 @@ fn push_texts(alloc: Global, all: &mut ElemChildren) -> Result<(), Memory> {
     all.append(alloc, text(alloc, "c")?)
 }
 
-/// Appends a box and affixes around nothing.
+/// Appends a box without content, and affixes around nothing.
 fn push_nothing(alloc: Global, all: &mut ElemChildren) -> Result<(), Memory> {
     all.push_box(ElemChildren::new(alloc), Some(Display::Block), None)?;
     all.push_affixed(
@@ -36,7 +36,7 @@ fn push_nothing(alloc: Global, all: &mut ElemChildren) -> Result<(), Memory> {
     )
 }
 
-/// The contents after some of three steps: texts, nothing, a box.
+/// The contents after one, two or three steps: texts, nothing, a box.
 fn contents(alloc: Global, steps: usize) -> Result<ElemChildren, Memory> {
     let mut all = ElemChildren::new(alloc);
     push_texts(alloc, &mut all)?;

@@ -1,4 +1,4 @@
-//! What is pushed into contents, and what these say of their text.
+//! Pushing into contents, and the flags of their text.
 
 use crate::asserted::assert_of;
 use crate::trees::{assert_tree, read};
@@ -7,21 +7,21 @@ use std::alloc::Global;
 use std::process::Abort;
 use std::test::Fail;
 
-/// Pushes the one child that there is.
+/// Pushes the last child of `only`.
 fn push_only(alloc: Global, all: &mut ElemChildren, only: ElemChildren) -> Result<(), Fail> {
     let ElemChildren(mut children) = only;
     let child = children.pop().ok_or("a description has a child")?;
     Ok(all.push_child(alloc, child)?)
 }
 
-/// A tree, and a child behind it.
+/// A tree, and a child after it.
 fn with_child(alloc: Global, before: &str, child: &str) -> Result<ElemChildren, Fail> {
     let mut all = read(alloc, before)?;
     push_only(alloc, &mut all, read(alloc, child)?)?;
     Ok(all)
 }
 
-/// A tree, a child behind it, and the tree of both.
+/// A tree, a child, and the tree with the child after it.
 static PUSHED: [(&str, &str, &str); 16] = [
     ("a", "_", "a"),
     ("a", "$_", "a"),
@@ -35,7 +35,7 @@ static PUSHED: [(&str, &str, &str); 16] = [
     ("a", "@b|u", "a @b|u"),
     ("a", "#1", "a #1"),
     ("a", "( b )block", "a ( b )block"),
-    // An element stands, be it without children.
+    // An element is kept, even without children.
     ("", "( )", "( )"),
     ("a", "( )block", "a ( )block"),
     ("( )", "b", "( ) b"),
@@ -59,7 +59,7 @@ fn an_empty_leaf_writes_nothing_and_an_element_stands(rt: HostRuntime) -> Result
     Ok(())
 }
 
-/// A tree, and behind it the middle of three between the others.
+/// A tree, and after it the middle one of three contents between the other two.
 fn with_between(alloc: Global, tree: &str, three: [&str; 3]) -> Result<ElemChildren, Fail> {
     let [before, middle, after] = three;
     let mut all = read(alloc, tree)?;
@@ -72,7 +72,7 @@ fn with_between(alloc: Global, tree: &str, three: [&str; 3]) -> Result<ElemChild
     Ok(all)
 }
 
-/// A tree, the three behind it, and the tree of all.
+/// A tree, the three contents, and the tree with them after it.
 type Between = (&'static str, [&'static str; 3], &'static str);
 
 static BETWEEN: [Between; 7] = [

@@ -1,4 +1,4 @@
-//! Copies are equal to what they were made of.
+//! Copies are equal to their originals.
 
 use crate::trees::{MIXED, assert_tree, names, one, read};
 use csl_style::NameVariable;
@@ -8,12 +8,13 @@ use std::alloc::Global;
 use std::process::Abort;
 use std::test::Fail;
 
-/// A tree of a copy alone.
+/// A tree of this child only.
 fn alone(alloc: Global, child: ElemChild) -> Result<ElemChildren, Memory> {
     Ok(ElemChildren(one(alloc, child)?))
 }
 
-/// The copy of a tree of one child: of the child alone, or of the element or the text that it is.
+/// A copy of the first child of a tree. With `is_inner`, the element or text in the child is
+/// copied.
 fn copy_of_first(
     alloc: Global,
     tree: &ElemChildren,
@@ -46,7 +47,7 @@ fn assert_children_copy(rt: &impl Abort, alloc: Global, source: &str) -> Result<
     assert_tree(rt, alloc, copy, source, source)
 }
 
-/// A meta by its place in a table.
+/// One of four metas, by its index.
 fn meta(alloc: Global, row: usize) -> Result<ElemMeta, Memory> {
     match row {
         0 => Ok(ElemMeta::Entry(3)),
@@ -56,7 +57,7 @@ fn meta(alloc: Global, row: usize) -> Result<ElemMeta, Memory> {
     }
 }
 
-/// Whether a copy of the meta is equal to it.
+/// Whether a meta is equal to its copy.
 fn equals_copy(alloc: Global, meta: &ElemMeta) -> Result<bool, Memory> {
     let copy = meta.clone(alloc)?;
     let is_equal = copy == *meta;
@@ -64,7 +65,7 @@ fn equals_copy(alloc: Global, meta: &ElemMeta) -> Result<bool, Memory> {
     Ok(is_equal)
 }
 
-/// Whether the meta at a place in the table equals its copy.
+/// Whether the meta with this index is equal to its copy.
 fn is_copied(alloc: Global, row: usize) -> Result<bool, Memory> {
     let meta = meta(alloc, row)?;
     let is_copied = equals_copy(alloc, &meta);

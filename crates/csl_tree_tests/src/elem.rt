@@ -1,4 +1,4 @@
-//! What a tree answers of itself, and when two metas are equal.
+//! Readers of a tree, and equality of metas.
 
 ghost use Rattle.std.specs.Prelude.{◌≡◌, ◌↔◌, IsTrue};
 ghost use Rattle.csl_tree.specs.Tokens.{meta_of};
@@ -13,8 +13,7 @@ use std::alloc::Global;
 use std::process::Abort;
 use std::test::Fail;
 
-/// Whether the two metas are equal: they are where what they say is, and equal ones have the same
-/// hash.
+/// Whether the metas are equal: exactly if their views are. Equal metas have the same hash.
 fn same_meta(a: &ElemMeta, b: &ElemMeta) -> bool
     ensures equal { IsTrue result ↔ (meta_of a.now ≡ meta_of b.now) }
     ensures hashed { meta_of a.now ≡ meta_of b.now → hash_meta.it a.now ≡ hash_meta.it b.now }
@@ -22,7 +21,7 @@ fn same_meta(a: &ElemMeta, b: &ElemMeta) -> bool
     *a == *b
 }
 
-/// A meta in plain words.
+/// A short description of a meta.
 #[derive(Clone, Copy)]
 enum Meta {
     Names(&'static str, NameVariable),
@@ -89,7 +88,7 @@ fn metas_are_equal_by_value(rt: HostRuntime) -> Result<(), Fail> {
     Ok(())
 }
 
-/// What is asked of the children, of the first child and of the element that it is.
+/// The results of the readers of a tree, of a child or of an element.
 #[derive(Clone, Copy, Debug, PartialEq)]
 struct Asked {
     is_empty: bool,
@@ -97,8 +96,7 @@ struct Asked {
     str_len: usize,
 }
 
-/// What a tree answers of its children, of the first and of the element that it is, and whether
-/// the children of that may stand in its place.
+/// The results of the readers of a tree, of its first child, and of the element in that child.
 fn answers_of(alloc: Global, tree: &ElemChildren) -> Result<Vec<Asked>, Fail> {
     let mut all = Vec::new(alloc);
     all.push(Asked {
@@ -123,7 +121,7 @@ fn answers_of(alloc: Global, tree: &ElemChildren) -> Result<Vec<Asked>, Fail> {
     Ok(all)
 }
 
-/// The answers of the tree that a text describes.
+/// The results of the readers of the tree that a text describes.
 fn answers(alloc: Global, source: &str) -> Result<Vec<Asked>, Fail> {
     let tree = read(alloc, source)?;
     let answers = answers_of(alloc, &tree);
@@ -155,7 +153,7 @@ fn white_space_is_no_content(rt: HostRuntime) -> Result<(), Fail> {
     Ok(())
 }
 
-/// Whether the children of the first element may stand in its place.
+/// Whether the children of the first element may replace it.
 fn may_inline(alloc: Global, source: &str) -> Result<bool, Fail> {
     let tree = read(alloc, source)?;
     match tree.0.first() {
@@ -164,7 +162,7 @@ fn may_inline(alloc: Global, source: &str) -> Result<bool, Fail> {
     }
 }
 
-/// An element, and whether its children may stand in its place.
+/// An element, and whether its children may replace it.
 static INLINED: [(&str, bool); 4] = [
     (MIXED, false),
     ("( a )block", false),

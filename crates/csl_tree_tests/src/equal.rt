@@ -1,5 +1,5 @@
-//! When trees, elements and children are equal: exactly where their tokens are. Those that are
-//! equal feed a hasher the same.
+//! Equality of trees, elements and children: they are equal exactly if their tokens are. Equal ones
+//! have the same hash.
 
 ghost use Rattle.std.specs.Prelude.{◌≡◌, ◌↔◌, IsTrue};
 ghost use Rattle.csl_tree.specs.Tokens.{tokens, elem_tokens, child_tokens};
@@ -22,7 +22,7 @@ fn same_tree(a: &ElemChildren, b: &ElemChildren) -> bool
     *a == *b
 }
 
-/// Elements are equal exactly if their tokens are, and equal ones have the same hash.
+/// Whether the elements are equal: exactly if their tokens are. Equal elements have the same hash.
 fn same_elem(a: &Elem, b: &Elem) -> bool
     ensures equal { IsTrue result ↔ (elem_tokens a.now ≡ elem_tokens b.now) }
     ensures hashed { elem_tokens a.now ≡ elem_tokens b.now
@@ -31,7 +31,7 @@ fn same_elem(a: &Elem, b: &Elem) -> bool
     *a == *b
 }
 
-/// Children are equal exactly if their tokens are, and equal ones have the same hash.
+/// Whether the children are equal: exactly if their tokens are. Equal children have the same hash.
 fn same_child(a: &ElemChild, b: &ElemChild) -> bool
     ensures equal { IsTrue result ↔ (child_tokens a.now ≡ child_tokens b.now) }
     ensures hashed { child_tokens a.now ≡ child_tokens b.now
@@ -40,8 +40,8 @@ fn same_child(a: &ElemChild, b: &ElemChild) -> bool
     *a == *b
 }
 
-/// Whether two trees are equal: asked of the two elements where each is one, of the two children
-/// where each has one, and else of the trees.
+/// Whether the trees are equal. Two single elements are compared as elements, two other single
+/// children as children, and all else as trees.
 fn same_inner(a: &ElemChildren, b: &ElemChildren) -> bool {
     match (a.0.as_slice(), b.0.as_slice()) {
         ([ElemChild::Elem(a)], [ElemChild::Elem(b)]) => same_elem(a, b),
@@ -50,14 +50,15 @@ fn same_inner(a: &ElemChildren, b: &ElemChildren) -> bool {
     }
 }
 
-/// Whether the trees of two descriptions are equal, and what is in them.
+/// Whether the trees of two descriptions are equal, and whether their single elements or children
+/// are.
 fn are_same(alloc: Global, a: &str, b: &str) -> Result<(bool, bool), Fail> {
     let a = read(alloc, a)?;
     let b = read(alloc, b)?;
     Ok((same_tree(&a, &b), same_inner(&a, &b)))
 }
 
-/// Two descriptions of trees that are equal.
+/// Two descriptions of equal trees.
 static SAME: [(&str, &str); 5] = [
     ("", ""),
     ("a", "a"),
@@ -66,7 +67,7 @@ static SAME: [(&str, &str); 5] = [
     ("( @/x|u $$m$ #7 ~ ):Knuth b", "( @/x|u $$m$ #7 ~ ):Knuth b"),
 ];
 
-/// Two descriptions of trees that are not.
+/// Two descriptions of different trees.
 static DIFFERENT: [(&str, &str); 19] = [
     ("", "_"),
     // Leaves.

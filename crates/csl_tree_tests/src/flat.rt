@@ -1,16 +1,16 @@
-//! Contents that are written into a flat tree, call by call.
+//! Contents that are written into a flat tree by calls.
 //!
-//! The words of a script have one space between them, and each says one call:
+//! The words of a script have one space between them, and each stands for one call:
 //!
 //! | Word | Call |
 //! |---|---|
-//! | `[` | a part is opened |
-//! | `]` | it is closed as a block of a date |
-//! | `}<\|>` | it is spliced between `<` and `>`, of which either may be missing |
-//! | `!` | it is discarded |
-//! | `=a` | the text `a` is pushed as a text |
-//! | `()` | an element without children is pushed |
-//! | any other | a child is pushed, as the descriptions of trees say it |
+//! | `[` | opens a part |
+//! | `]` | closes the part as a block with the meta of a date |
+//! | `}<\|>` | closes the part and splices it between `<` and `>`, each of which may be missing |
+//! | `!` | discards the part |
+//! | `=a` | pushes the text `a` as a text |
+//! | `()` | pushes an element without children |
+//! | any other | pushes the child that the word describes, as in descriptions of trees |
 
 use crate::asserted::{assert_of, assert_same};
 use crate::trees::{assert_tree, read_formatted, read_leaf};
@@ -20,7 +20,7 @@ use std::alloc::Global;
 use std::process::Abort;
 use std::test::Fail;
 
-/// The text of an affix, unless it is missing.
+/// The text of an affix, or `None` if it is missing.
 fn read_affix(alloc: Global, word: &str) -> Result<Option<Formatted>, Fail> {
     if word.is_empty() {
         return Ok(None);
@@ -28,7 +28,7 @@ fn read_affix(alloc: Global, word: &str) -> Result<Option<Formatted>, Fail> {
     Ok(Some(read_formatted(alloc, word)?))
 }
 
-/// Closes the innermost part as a word says.
+/// Closes or discards the innermost part, by a word.
 fn close(tree: &mut FlatTree, alloc: Global, word: &str) -> Result<(), Fail> {
     if tree.depth() == 1 {
         return Err(Fail::from("a part is open"));
@@ -55,7 +55,7 @@ fn childless(alloc: Global) -> ElemChild {
     })
 }
 
-/// Makes the call of a word.
+/// Calls the function of a word.
 fn call(tree: &mut FlatTree, alloc: Global, word: &str) -> Result<(), Fail> {
     if word == "[" {
         return Ok(tree.open()?);
@@ -72,7 +72,7 @@ fn call(tree: &mut FlatTree, alloc: Global, word: &str) -> Result<(), Fail> {
     Ok(tree.push(read_leaf(alloc, word)?)?)
 }
 
-/// Makes the calls of a script.
+/// The flat tree after the calls of a script.
 fn written(alloc: Global, script: &str) -> Result<FlatTree, Fail> {
     let mut tree = FlatTree::new(alloc);
     for word in script.split(' ') {
@@ -91,7 +91,7 @@ fn finished(tree: FlatTree) -> Result<ElemChildren, Fail> {
     Ok(tree.finish()?)
 }
 
-/// A script, and the tree that it makes.
+/// A script, and the tree after its calls.
 static CALLS: [(&str, &str); 22] = [
     ("", ""),
     ("a b", "ab"),
@@ -111,7 +111,7 @@ static CALLS: [(&str, &str); 22] = [
     ("a [ b !", "a"),
     ("[ a [ b ! c ]", "( ac )block:date"),
     ("a [ b [ c ] ! d", "ad"),
-    // An element that is pushed stands, be it without children.
+    // A pushed element is kept, even without children.
     ("a () b", "a ( ) b"),
     ("[ () ]", "( ( ) )block:date"),
     ("a [ () }<|> b", "a< ( ) >b"),
@@ -136,7 +136,7 @@ fn the_calls_of_a_script_make_a_tree(rt: HostRuntime) -> Result<(), Fail> {
     Ok(())
 }
 
-/// A script of empty parts, and the tree that it makes.
+/// A script of empty parts, and the tree after its calls.
 static EMPTY: [(&str, &str); 8] = [
     ("[ ]", ""),
     ("a [ ] b", "ab"),
@@ -157,7 +157,8 @@ fn an_empty_part_leaves_nothing(rt: HostRuntime) -> Result<(), Fail> {
     Ok(())
 }
 
-/// How many parts are open; whether the innermost one is empty, has text, and ends in white space.
+/// The number of open parts, and whether the innermost part is empty, has text, and ends in white
+/// space.
 type Flags = (usize, bool, bool, bool);
 
 fn flags(alloc: Global, script: &str) -> Result<Flags, Fail> {
@@ -170,7 +171,7 @@ fn flags(alloc: Global, script: &str) -> Result<Flags, Fail> {
     ))
 }
 
-/// A script, and what is said of the part that is open after it.
+/// A script, and the flags of the part that is open after it.
 static FLAGS: [(&str, Flags); 17] = [
     ("", (1, true, false, false)),
     ("a", (1, false, true, false)),
@@ -209,7 +210,7 @@ fn what_is_said_of_the_innermost_part(rt: HostRuntime) -> Result<(), Fail> {
     Ok(())
 }
 
-/// A part of a thousand spliced parts.
+/// A tree of a thousand spliced parts.
 fn thousand(alloc: Global) -> Result<FlatTree, Fail> {
     let mut tree = FlatTree::new(alloc);
     for _ in 0..1000 {

@@ -1,4 +1,4 @@
-//! Formatting values: when two are equal, what the defaults are, and one over another.
+//! Formatting values: equality, the defaults, and one applied over another.
 
 ghost use Rattle.std.specs.Prelude.{◌≡◌, ◌↔◌, IsTrue};
 ghost use Rattle.csl_tree.specs.Tokens.{text_tokens};
@@ -12,8 +12,7 @@ use lit_model::Memory;
 use std::alloc::Global;
 use std::test::Fail;
 
-/// Whether the two texts are equal: they are where their tokens are, and equal ones have the same
-/// hash.
+/// Whether the texts are equal: exactly if their tokens are. Equal texts have the same hash.
 fn same_text(a: &Formatted, b: &Formatted) -> bool
     ensures equal { IsTrue result ↔ (text_tokens a.now ≡ text_tokens b.now) }
     ensures hashed { text_tokens a.now ≡ text_tokens b.now
@@ -22,7 +21,7 @@ fn same_text(a: &Formatted, b: &Formatted) -> bool
     *a == *b
 }
 
-/// `==` of formattings is equality, and equal ones have the same hash.
+/// Whether the formattings are equal: exactly if they are the same. Equal ones have the same hash.
 fn same_formatting(a: Formatting, b: Formatting) -> bool
     ensures equal { IsTrue result ↔ (a ≡ b) }
     ensures hashed { a ≡ b → hash_formatting.it a ≡ hash_formatting.it b }
@@ -30,7 +29,7 @@ fn same_formatting(a: Formatting, b: Formatting) -> bool
     a == b
 }
 
-/// The values that say nothing, written out.
+/// The default values, written out.
 const BARE: Formatting = Formatting {
     font_style: FontStyle::Normal,
     font_variant: FontVariant::Normal,

@@ -1,6 +1,7 @@
-//! Laws of contents. Two texts of one formatting in a row are the text of both. Contents in a row,
-//! in an element and, where they are not empty, between two others show the leaf text of all that
-//! is in them, and hold no empty leaf and no empty element where those hold none.
+//! Laws of contents. Two texts of one formatting in a row equal the joined text. Contents in a row,
+//! in an element, or between two others have the leaf texts of all their parts, in order. Between
+//! two others, this holds if the middle one is not empty. If no part has an empty leaf or an empty
+//! element, neither has the result.
 
 ghost use Rattle.std.specs.Prelude.{◌≡◌, ◌<◌, ◌++◌, length, IfOk};
 ghost use Rattle.csl_tree.specs.Content.{text_content, IsContent};
@@ -30,7 +31,7 @@ fn texts_in_a_row(
     Ok(all)
 }
 
-/// A markup alone.
+/// Content of one markup.
 fn one_markup(alloc: Global, markup: String) -> Result<ElemChildren, Memory>
     ensures sound { IfOk result (λ c. IsContent (tokens c)) }
 {
@@ -39,7 +40,7 @@ fn one_markup(alloc: Global, markup: String) -> Result<ElemChildren, Memory>
     Ok(all)
 }
 
-/// A link alone.
+/// Content of one link.
 fn one_link(alloc: Global, text: Formatted, url: String) -> Result<ElemChildren, Memory>
     ensures sound { IfOk result (λ c. IsContent (tokens c)) }
 {
@@ -60,7 +61,7 @@ fn in_a_row(alloc: Global, one: ElemChildren, two: ElemChildren) -> Result<ElemC
     Ok(all)
 }
 
-/// A content in an element.
+/// Content in an element.
 fn in_an_element(
     alloc: Global,
     inside: ElemChildren,
@@ -75,7 +76,7 @@ fn in_an_element(
     Ok(all)
 }
 
-/// A content between two others.
+/// Content between two others.
 fn between(
     alloc: Global,
     before: ElemChildren,

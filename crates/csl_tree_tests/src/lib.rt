@@ -1,4 +1,4 @@
-//! Tests of the output tree. What is expected stands here as written out by hand.
+//! Tests of the output tree. All expected values are written out by hand.
 #![tactic(auto)]
 
 #[cfg(test)]

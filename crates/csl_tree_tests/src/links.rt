@@ -1,11 +1,12 @@
-//! Links whose address is not allowed.
+//! Links whose addresses are not allowed.
 
 use crate::trees::{assert_tree, read};
 use std::alloc::Global;
 use std::process::Abort;
 use std::test::Fail;
 
-/// A tree, and what is left of it where only addresses of `x.y` are allowed.
+/// A tree, and the tree after all links became their texts but those whose address begins with
+/// `https://x.y`.
 static ROWS: [(&str, &str); 6] = [
     ("a", "a"),
     ("@x|https://x.y/", "@x|https://x.y/"),

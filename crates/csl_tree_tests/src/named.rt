@@ -1,4 +1,4 @@
-//! The first element of names, lent to be written.
+//! The first element of a `cs:names`, by mutable reference.
 
 use crate::asserted::assert_of;
 use crate::trees::{assert_tree, read};
@@ -7,7 +7,7 @@ use std::alloc::Global;
 use std::process::Abort;
 use std::test::Fail;
 
-/// Notes a label of the first element of names, and answers whether there is one.
+/// Gives the first element of a `cs:names` the meta of a label. Returns whether there is one.
 fn note_label(tree: &mut ElemChildren) -> bool {
     match tree.find_names_mut() {
         Some(found) => {

@@ -1,4 +1,4 @@
-//! The last text, lent to be written.
+//! The last text, by mutable reference.
 
 use crate::asserted::assert_of;
 use crate::trees::{assert_tree, read};
@@ -7,7 +7,7 @@ use std::alloc::Global;
 use std::process::Abort;
 use std::test::Fail;
 
-/// The tree with more at the end of the last text, and whether there is one.
+/// The tree with `more` appended to its last text, and whether there is a last text.
 fn extended(alloc: Global, source: &str, more: &str) -> Result<(ElemChildren, bool), Fail> {
     let mut tree = read(alloc, source)?;
     let lent = extend_last_text(&mut tree, more)?;

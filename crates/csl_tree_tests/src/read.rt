@@ -1,4 +1,4 @@
-//! How HTML is read back.
+//! Reading HTML back.
 
 use crate::asserted::assert_of;
 use crate::trees::{MIXED, assert_text, read};
@@ -13,7 +13,7 @@ static READ: [(&str, &str); 18] = [
     ("a'b\n📚", "a'b\n📚"),
     ("a&lt;b &amp; &quot;c&quot;", "a<b & \"c\""),
     ("&gt;&gt;", ">>"),
-    // A text is unescaped once.
+    // Texts are unescaped once.
     ("&amp;lt;", "&lt;"),
     ("&amp;amp;", "&amp;"),
     // An address is not part of the leaf text.
@@ -65,7 +65,7 @@ static NOT_HTML: [&str; 36] = [
     "\"",
     "<",
     "a < b",
-    // A tag that no tree is written with.
+    // A tag that no written tree has.
     "<b>x</b>",
     "<br>",
     "<div",
@@ -139,7 +139,7 @@ fn texts_that_are_not_html(rt: HostRuntime) -> Result<(), Fail> {
     Ok(())
 }
 
-/// Ten thousand start tags, a text, and so many end tags.
+/// Ten thousand start tags, a text, and `ends` end tags.
 fn nested(alloc: Global, text: &str, ends: usize) -> Result<String, Fail> {
     let mut html = "<div>".repeat(alloc, 10_000)?;
     html.push_str(text)?;
@@ -147,13 +147,13 @@ fn nested(alloc: Global, text: &str, ends: usize) -> Result<String, Fail> {
     Ok(html)
 }
 
-/// Asserts the text in as many elements, each in the next.
+/// Asserts the text inside ten thousand nested elements.
 fn assert_nested(rt: &impl Abort, alloc: Global, text: &str) -> Result<(), Fail> {
     let html = nested(alloc, text, 10_000)?;
     assert_leaves(rt, alloc, html.as_str(), text, "nested")
 }
 
-/// Asserts that the same is not HTML where other than as many of them end.
+/// Asserts that ten thousand start tags and `ends` end tags are not HTML.
 fn assert_not_nested(rt: &impl Abort, alloc: Global, ends: usize) -> Result<(), Fail> {
     let html = nested(alloc, "", ends)?;
     assert_not_html(rt, alloc, html.as_str(), "nested");

@@ -1,4 +1,4 @@
-//! What is found in a tree, and what is taken out of it.
+//! Searches in a tree, and removal from it.
 
 use crate::trees::{assert_tree, one, put, read, read_meta};
 use csl_tree::{Elem, ElemChild, ElemChildren};
@@ -9,24 +9,24 @@ use std::test::Fail;
 /// An element without meta around names of `x`, then names of `y`.
 const TWO_NAMES: &str = "( ( x ):x ) ( y ):y";
 
-/// A question about a tree.
+/// A search in a tree.
 #[derive(Clone, Copy)]
 enum Asked {
-    /// The first element of names.
+    /// The first element of a `cs:names`.
     Names,
     /// The first element of this meta.
     Meta(&'static str),
     /// The first element.
     Any,
-    /// The first element of some meta.
+    /// The first element with a meta.
     Noted,
-    /// The first element that is none.
+    /// The first element that a test accepts which rejects all elements.
     Nothing,
     /// The last text.
     LastText,
 }
 
-/// A tree of what was found alone.
+/// A tree of the found element, or an empty tree.
 fn found(alloc: Global, elem: Option<&Elem>) -> Result<ElemChildren, Fail> {
     match elem {
         Some(elem) => Ok(ElemChildren(one(alloc, ElemChild::from(elem.clone(alloc)?))?)),
@@ -34,7 +34,7 @@ fn found(alloc: Global, elem: Option<&Elem>) -> Result<ElemChildren, Fail> {
     }
 }
 
-/// The answer of a tree, as children.
+/// The result of a search, as a tree.
 fn answer(alloc: Global, tree: &ElemChildren, asked: Asked) -> Result<ElemChildren, Fail> {
     match asked {
         Asked::Names => found(alloc, tree.find_names()),
@@ -54,7 +54,7 @@ fn answer(alloc: Global, tree: &ElemChildren, asked: Asked) -> Result<ElemChildr
     }
 }
 
-/// A tree, what it is asked, and what is found.
+/// A tree, the search, and the result.
 static SEARCHES: [(&str, Asked, &str); 11] = [
     (TWO_NAMES, Asked::Names, "( x ):x"),
     ("a", Asked::Names, ""),
@@ -65,7 +65,7 @@ static SEARCHES: [(&str, Asked, &str); 11] = [
     (TWO_NAMES, Asked::Any, "( ( x ):x )"),
     (TWO_NAMES, Asked::Noted, "( x ):x"),
     (TWO_NAMES, Asked::Nothing, ""),
-    // The last text is that of the last child.
+    // Only the last child can be or hold the last text.
     ("a @b|", Asked::LastText, ""),
     ("a ( b )", Asked::LastText, "b"),
     ("", Asked::LastText, ""),
@@ -89,7 +89,7 @@ fn searches_go_down_first(rt: HostRuntime) -> Result<(), Fail> {
     Ok(())
 }
 
-/// What is taken out of a tree, and what is left of it, in a list.
+/// The rest of a tree after a removal, and the removed child as a tree.
 fn removal(alloc: Global, source: &str) -> Result<Vec<ElemChildren>, Fail> {
     let mut both = one(alloc, read(alloc, source)?)?;
     let tree = both.first_mut().ok_or("a tree")?;

@@ -1,4 +1,4 @@
-//! Rounds of simplification, and where they end.
+//! Rounds of simplification, and the normal form after the last one.
 
 use crate::trees::{assert_tree, one, read};
 use csl_tree::{ElemChild, ElemChildren, simplify_children, simplify_fully};
@@ -6,17 +6,17 @@ use std::alloc::Global;
 use std::process::Abort;
 use std::test::Fail;
 
-/// A tree, and what a round makes of it.
+/// A tree, and the tree after one round.
 static ROUNDS: [(&str, &str); 9] = [
-    // A plain element takes two rounds.
+    // A plain element takes two rounds: one for the element, and one for its texts.
     ("( a b )", "a b"),
     ("a b", "ab"),
     ("ab", "ab"),
-    // A text of a plain element joins none before it, and one behind it joins it.
+    // A text from a plain element does not join the text before it. A text after it joins it.
     ("a ( b ) c", "a bc"),
     // Texts of equal formatting join.
     ("a _ b /c /_ d", "ab /c d"),
-    // Texts meet where a plain element was empty.
+    // Texts join if the plain element between them is empty.
     ("a ( ) b", "ab"),
     // Other children stay.
     ("_ /_ ( ):date $_", "_ /_ ( ):date $_"),
@@ -39,7 +39,7 @@ fn assert_round(
     assert_tree(rt, alloc, once, wanted, source)
 }
 
-/// The first element with a round inside, alone.
+/// The first element after a round inside it, as a tree.
 fn elem_round(alloc: Global, source: &str) -> Result<ElemChildren, Fail> {
     let tree = read(alloc, source)?;
     match tree.0.first() {

@@ -29,7 +29,8 @@ fn items(alloc: Global, stack: &NonEmptyStack<u8>) -> Result<Vec<u8>, Fail> {
     Ok(stack.iter().copied().collect(alloc)?)
 }
 
-/// How many there are of 1, 2, 3, 4, those from the third on, taken, and those that are left.
+/// The length of the stack 1, 2, 3, 4, the drained items from the third on, and the remaining
+/// items.
 fn drain(alloc: Global) -> Result<(usize, Vec<u8>, Vec<u8>), Fail> {
     let mut stack = one_to_four(alloc)?;
     let two = NonZeroUsize::new(2).ok_or("two")?;
@@ -45,7 +46,8 @@ fn assert_items(rt: &impl Abort, items: &[u8], wanted: &[u8]) {
     assert_same(rt, &items, &wanted);
 }
 
-/// What two calls of `pop` take of a default item and 7, the last item that is left, and all.
+/// The results of two calls of `pop` on a stack of the default item and 7, the last item after
+/// them, and all remaining items.
 fn pop_twice(alloc: Global) -> Result<(Option<u8>, Option<u8>, u8, Vec<u8>), Fail> {
     let mut stack: NonEmptyStack<u8> = NonEmptyStack::with_default(alloc)?;
     push(&mut stack, 7)?;
@@ -54,7 +56,7 @@ fn pop_twice(alloc: Global) -> Result<(Option<u8>, Option<u8>, u8, Vec<u8>), Fai
     Ok((first, second, *stack.last(), items(alloc, &stack)?))
 }
 
-/// The stack 1, 2, 3, 4 with its last, its first and its last odd item written, and whether an
+/// The stack 1, 2, 3, 4 with its last, its first and its last odd item overwritten, and whether an
 /// item is 99.
 fn write_items(alloc: Global) -> Result<(Vec<u8>, bool), Fail> {
     let mut stack = one_to_four(alloc)?;
@@ -67,14 +69,15 @@ fn write_items(alloc: Global) -> Result<(Vec<u8>, bool), Fail> {
     Ok((items(alloc, &stack)?, absent))
 }
 
-/// Whether the two stacks are equal: they are where their items are.
+/// Whether the stacks are equal: exactly if they have the same items.
 fn same_stack(a: &NonEmptyStack<u8>, b: &NonEmptyStack<u8>) -> bool
     ensures { IsTrue result ↔ (a.now ≡ b.now) }
 {
     *a == *b
 }
 
-/// Whether the stack 1, 2, 3, 4 is itself, with one item written anew, and with one more.
+/// Whether the stack 1, 2, 3, 4 is equal to another such stack, to one with another first item, and
+/// to one with one more item.
 fn is_same(alloc: Global) -> Result<(bool, bool, bool), Fail> {
     let stack = one_to_four(alloc)?;
     let mut other = one_to_four(alloc)?;

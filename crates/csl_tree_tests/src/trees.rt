@@ -1,18 +1,19 @@
-//! Trees from plain words, and plain words of trees.
+//! Trees from descriptions, and descriptions of trees.
 //!
-//! The words of a description have one space between them, and each says one child:
+//! The words of a description have one space between them, and each stands for one child:
 //!
 //! | Word | Child |
 //! |---|---|
 //! | `a` | the text `a` |
 //! | `/a` | the text `a` in italics |
 //! | `$a` | the markup `a` |
-//! | `@a\|b` | a link from what `a` says to the address `b` |
-//! | `#3` | the place of the citation 3 |
-//! | `( a )` | an element around what `a` says |
+//! | `@a\|b` | a link with the text that `a` describes to the address `b` |
+//! | `#3` | a place for a text of cite 3 |
+//! | `( a )` | an element around the children that `a` describes |
 //!
-//! In a text `~` says a blank, and `_` nothing. Behind the end of an element stand its display and
-//! its meta: `)block`, `):date`, `)block:entry`. Any other meta is the name of an author.
+//! In a text, `~` is a space and `_` is nothing. After the end of an element come its display and
+//! its meta: `)block`, `):date`, `)block:entry`. A meta other than `date`, `label` and `entry` is
+//! the name of an author.
 
 use csl_style::{Display, FontStyle, NameVariable};
 use csl_tree::{Elem, ElemChild, ElemChildren, ElemMeta, Formatted, Formatting};
@@ -22,7 +23,7 @@ use std::mem;
 use std::process::Abort;
 use std::test::Fail;
 
-/// A block around a link, a markup, a transparent and a text of white space.
+/// A block around a link, a markup, a place for a text of a cite, and a text of white space.
 pub const MIXED: &str = "( @/x|https://x.y/?a=1&b=2 $$m$ #7 ~ )block:entry";
 
 /// Appends an item.
@@ -50,7 +51,7 @@ fn read_text(alloc: Global, word: &str) -> Result<String, Memory> {
     Ok(text)
 }
 
-/// A text in a formatting.
+/// The text that a word describes, with its formatting.
 pub fn read_formatted(alloc: Global, word: &str) -> Result<Formatted, Memory> {
     let mut formatting = Formatting::default();
     match word.strip_prefix('/') {
@@ -62,7 +63,7 @@ pub fn read_formatted(alloc: Global, word: &str) -> Result<Formatted, Memory> {
     }
 }
 
-/// A child that is no element.
+/// A child that is not an element.
 pub fn read_leaf(alloc: Global, word: &str) -> Result<ElemChild, Fail> {
     if let Some(markup) = word.strip_prefix('$') {
         return Ok(ElemChild::Markup(read_text(alloc, markup)?));
@@ -83,7 +84,7 @@ pub fn read_leaf(alloc: Global, word: &str) -> Result<ElemChild, Fail> {
     Ok(ElemChild::Text(read_formatted(alloc, word)?))
 }
 
-/// The meta of one person with a variable.
+/// The meta of names with one person for a variable.
 pub fn names(alloc: Global, name: &str, variable: NameVariable) -> Result<ElemMeta, Memory> {
     let person = Person {
         name: String::from_str(alloc, name)?,
@@ -107,7 +108,7 @@ pub fn read_meta(alloc: Global, word: &str) -> Result<ElemMeta, Memory> {
     }
 }
 
-/// The display that a word says.
+/// The display that a word names.
 fn read_display(word: &str) -> Result<Display, Fail> {
     match word {
         "block" => Ok(Display::Block),
@@ -118,7 +119,7 @@ fn read_display(word: &str) -> Result<Display, Fail> {
     }
 }
 
-/// The element that ends with a word.
+/// The element with these children and the display and meta after its end.
 fn read_elem(alloc: Global, children: Vec<ElemChild>, end: &str) -> Result<ElemChild, Fail> {
     let (display, meta) = end.split_once(':').unwrap_or((end, ""));
     let display = if display.is_empty() {
@@ -138,7 +139,8 @@ fn read_elem(alloc: Global, children: Vec<ElemChild>, end: &str) -> Result<ElemC
     }))
 }
 
-/// Reads a word behind children, with those that stand around them.
+/// Reads a word. `children` are those before it in the same element, and `around` holds the
+/// children before each element around it.
 fn read_word(
     alloc: Global,
     word: &str,
@@ -180,7 +182,7 @@ fn say_text(text: &str, said: &mut String) -> Result<(), Memory> {
     Ok(())
 }
 
-/// Says a text in its formatting.
+/// Appends the description of a text with its formatting.
 fn say_formatted(text: &Formatted, said: &mut String) -> Result<(), Memory> {
     if text.formatting != Formatting::default() {
         said.push('/')?;
@@ -188,7 +190,7 @@ fn say_formatted(text: &Formatted, said: &mut String) -> Result<(), Memory> {
     say_text(text.text.as_str(), said)
 }
 
-/// Says what stands behind the end of an element.
+/// Appends the end of an element, with its display and its meta.
 fn say_end(
     display: Option<Display>,
     meta: &Option<ElemMeta>,
@@ -211,7 +213,7 @@ fn say_end(
     }
 }
 
-/// Says the persons of each variable.
+/// Appends the persons of each variable.
 fn say_names(names: &[(Vec<Person>, NameVariable)], said: &mut String) -> Result<(), Memory> {
     for of_variable in names {
         for person in &of_variable.0 {
@@ -222,7 +224,7 @@ fn say_names(names: &[(Vec<Person>, NameVariable)], said: &mut String) -> Result
     Ok(())
 }
 
-/// Appends a blank and the description of a child.
+/// Appends a space and the description of a child.
 #[cycle(say)]
 fn say_child(child: &ElemChild, said: &mut String) -> Result<(), Memory> {
     match child {
@@ -252,7 +254,7 @@ fn say_child(child: &ElemChild, said: &mut String) -> Result<(), Memory> {
     }
 }
 
-/// Says children, each behind a blank.
+/// Appends the descriptions of children, with a space before each.
 #[cycle(say)]
 fn say_children(children: &ElemChildren, said: &mut String) -> Result<(), Memory> {
     for child in &children.0 {
@@ -268,12 +270,12 @@ pub fn say(alloc: Global, children: &ElemChildren) -> Result<String, Memory> {
     Ok(String::from_str(alloc, said.as_str().trim_start_matches(' '))?)
 }
 
-/// Asserts that a text is the one that was wanted.
+/// Asserts that the text is the wanted text.
 pub fn assert_text(rt: &impl Abort, text: &str, wanted: &str, asked: &str) {
     assert_eq!(rt; text, wanted, "at {asked}");
 }
 
-/// Asserts that a tree is the one of a description, by value and as it is said.
+/// Asserts that a tree is that of a description: by value, and by its own description.
 pub fn assert_tree(
     rt: &impl Abort,
     alloc: Global,

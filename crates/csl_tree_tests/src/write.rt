@@ -1,4 +1,4 @@
-//! How a tree is written.
+//! Writing trees.
 
 use crate::trees::{MIXED, assert_text, read};
 use csl_style::{FontStyle, FontVariant, FontWeight, TextDecoration, VerticalAlign};
@@ -8,7 +8,7 @@ use std::fmt;
 use std::process::Abort;
 use std::test::Fail;
 
-/// What is written of the children, and of the first child, and of the element that it is.
+/// Asserts the written text of a tree, of its first child, and of the element in that child.
 fn assert_tree_written(
     rt: &impl Abort,
     alloc: Global,
@@ -34,7 +34,7 @@ fn assert_tree_written(
     Ok(())
 }
 
-/// Asserts what is written of the tree that a text describes.
+/// Asserts the written text of the tree that a text describes.
 fn assert_written(
     rt: &impl Abort,
     alloc: Global,
@@ -47,7 +47,7 @@ fn assert_written(
     asserted
 }
 
-/// What `{}` and `{:#}` make of a value.
+/// Asserts the text of a value by `{}` and by `{:#}`.
 fn assert_formatted<T: fmt::Display>(
     rt: &impl Abort,
     alloc: Global,
@@ -62,7 +62,8 @@ fn assert_formatted<T: fmt::Display>(
     Ok(())
 }
 
-/// What `{}`, `{:#}` and `to_string` make of the same.
+/// Asserts the text by `{}`, `{:#}` and `to_string` of a tree, its first child, and the element in
+/// it.
 fn assert_tree_displayed(
     rt: &impl Abort,
     alloc: Global,
@@ -86,7 +87,7 @@ fn assert_tree_displayed(
     Ok(())
 }
 
-/// Asserts what the tree that a text describes displays.
+/// Asserts the displayed text of the tree that a text describes.
 fn assert_displayed(
     rt: &impl Abort,
     alloc: Global,
@@ -99,7 +100,7 @@ fn assert_displayed(
     asserted
 }
 
-/// The HTML of the text `x` in a formatting.
+/// Asserts the HTML of the text `x` in a formatting.
 fn assert_span(
     rt: &impl Abort,
     alloc: Global,
@@ -115,7 +116,7 @@ fn assert_span(
     Ok(())
 }
 
-/// A text of every attribute.
+/// A formatting with all attributes set.
 const EVERY: Formatting = Formatting {
     font_style: FontStyle::Italic,
     font_variant: FontVariant::SmallCaps,
@@ -214,7 +215,7 @@ static RESERVED: [(&str, &str, &str); 7] = [
         "<div style=\"padding-left: 4em;\">&amp;</div>",
         "&",
     ),
-    // What looks like a reference or a tag is a text.
+    // A text that looks like a reference or a tag is a text.
     ("&amp;</div>", "&amp;amp;&lt;/div&gt;", "&amp;</div>"),
 ];
 
@@ -236,7 +237,7 @@ fn reserved_characters_are_escaped_in_html(rt: HostRuntime) -> Result<(), Fail> 
     Ok(())
 }
 
-/// A writer that takes some texts and refuses the next.
+/// A writer that accepts this number of texts and refuses the next.
 #[derive(Drop)]
 struct Refusing(usize);
 
@@ -250,13 +251,14 @@ impl fmt::Write for Refusing {
     }
 }
 
-/// Whether the HTML is written to a writer that takes so many texts.
+/// Whether a writer that accepts this number of texts accepts the HTML.
 fn is_taken(tree: &ElemChildren, texts: usize) -> bool {
     tree.write_buf(&mut Refusing(texts), BufWriteFormat::Html)
         .is_ok()
 }
 
-/// The texts that a writer has to take, below a hundred.
+/// The least number of texts that a writer has to accept for the HTML, or 0 if it is not below a
+/// hundred.
 fn texts_taken(alloc: Global, source: &str) -> Result<usize, Fail> {
     let tree = read(alloc, source)?;
     for texts in 0..100 {
@@ -270,7 +272,7 @@ fn texts_taken(alloc: Global, source: &str) -> Result<usize, Fail> {
 #[test]
 fn a_refused_text_is_an_error(rt: HostRuntime) -> Result<(), Fail> {
     let taken = texts_taken(rt.alloc(), MIXED)?;
-    // At least the tags of the block, the link and the span, and the texts.
+    // These are at least the tags of the block, the link and the span, and the texts.
     assert!(rt; taken >= 8, "all was taken after {taken} texts");
     Ok(())
 }
