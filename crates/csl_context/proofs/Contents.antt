@@ -1,4 +1,4 @@
--- Each call leaves contents without empty leaves and elements.
+-- After each call, no open part has an empty leaf or an element without children.
 use Rattle.std.proofs.Common.{◌≡◌, ℕ, suc, Bool, true, false, not, List, [], ◌∷◌, ◌++◌, length, refl, sym, ap, subst, arith}
 use Rattle.std.proofs.lemmas.Grind.{common_steps}
 use Rattle.std.specs.List.{list_all}
@@ -13,12 +13,12 @@ use Rattle.csl_context.specs.Contents.{AreContents, HasContents}
 pub at_the_root : (p : OpenParts) → p ≡ only_root → HasContents p
 at_the_root p e = subst HasContents (sym e) (nothing, tt)
 
--- a content was written, or nothing was
+-- a content was appended, or the call failed and nothing changed
 pub after_writing : {R E : Type 0} (r : Result R E) (c : List Token) (old new : OpenParts) → OnOk r (new ≡ with_tokens c old) → OnErr r (new ≡ old) → IsContent c → HasContents old → HasContents new
 after_writing (Ok _) c old new e _ k h = subst HasContents (sym e) (IsContent-join c h.0 k, h.1)
 after_writing (Err _) c old new _ e k h = subst HasContents (sym e) h
 
--- a part was opened, or nothing was done
+-- a part was opened, or the call failed and nothing changed
 pub after_opening : {R E : Type 0} (r : Result R E) (old new : OpenParts) → OnOk r (new ≡ open_part old) → OnErr r (new ≡ old) → HasContents old → HasContents new
 after_opening (Ok _) old new e _ h = subst HasContents (sym e) (nothing, (h.0, h.1))
 after_opening (Err _) old new _ e h = subst HasContents (sym e) h
@@ -30,7 +30,7 @@ close_onto c inner (part ∷ parts) k h hs = (IsContent-join c hs.0 k, hs.1)
 pub after_the_close : (c : List Token) (old new : OpenParts) → new ≡ close_part c old → IsContent c → HasContents old → HasContents new
 after_the_close c old new e k h = subst HasContents (sym e) (close_onto c old.inner old.outer k h.0 h.1)
 
--- a part was closed and a content made of it, or nothing was done
+-- a part was closed and a content appended, or the call failed and nothing changed
 pub after_closing : {R E : Type 0} (r : Result R E) (c : List Token) (old new : OpenParts) → OnOk r (new ≡ close_part c old) → OnErr r (new ≡ old) → IsContent c → HasContents old → HasContents new
 after_closing (Ok _) c old new e _ k h = after_the_close c old new e k h
 after_closing (Err _) c old new _ e k h = subst HasContents (sym e) h
@@ -49,7 +49,7 @@ list_all-append p (t ∷ a) b h = elim (p t) as (λ x. (x && list_all p a) ≡ f
 nonzero : (n : ℕ) → (suc n == 0) ≡ false
 nonzero n = grind (arith, common_steps)
 
--- a content is empty exactly where it is nothing
+-- a content is empty exactly if it has no tokens
 pub is_empty-content : (c : List Token) → IsContent c → is_empty c ≡ not (has_children c)
 is_empty-content _ nothing = refl
 is_empty-content _ (text_then b bs f rest h) = ap (λ x. x && list_all is_empty_token rest) (nonzero (length bs))

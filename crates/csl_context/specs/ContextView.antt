@@ -1,21 +1,23 @@
--- A context is what rendering reads and writes. Its record has what never changes (style, scope,
--- entry, citation state, sorting, special form), the open parts, the inherited values, the state,
--- and whether it has failed. Each call is one equation on the whole record, so what it does not
--- name stays.
--- - An element, the middle of affixes and the inside of quotes are *open parts*, and the root is
---   always open. Text goes into the innermost. The *mark* of a part is the number of open parts
---   around it, not counting the root. The innermost part is closed by its mark (`IsInnermost`). It
---   becomes an element (nothing if it is empty), or joins the part around it as it is, between
---   affixes or in quotes, or is dropped. Opening and closing leave everything else as it was
---   (`with_part`, `close_part_by`). No contract mentions how a part is stored.
+-- Rendering reads and writes a context. Its record has the fixed values (style, scope, entry,
+-- citation state, sorting, special form), the open parts, the inherited values, the state, and
+-- whether it has failed. Each call is one equation on the whole record, so a field that it does not
+-- name stays unchanged.
+-- - Elements, the content between affixes and the inside of quotes are *open parts*, and the root
+--   is always open. Text goes into the innermost part. The *mark* of a part is the number of open
+--   parts around it, not counting the root. A call closes the innermost part by its mark
+--   (`IsInnermost`). A closed part becomes an element (nothing if it is empty), or joins the part
+--   around it as it is, between affixes or in quotes, or is dropped. Opening and closing leave
+--   everything else unchanged (`with_part`, `close_part_by`). No contract mentions how a part is
+--   stored.
 -- - `ensure_space` writes a space unless the leaf text of the innermost part is empty or ends in
 --   white space (`with_space`).
--- - A call ends as its clause states, or it fails, and one clause says both (`Runs`; `Reads`
---   where a value is read and nothing changes; `Looks` for such a look into a shared context). On
---   `Ok` the context had not failed and is as stated (`Becomes`). `Memory`: it had not failed and
---   has now, and what never changes is as it was (`Frame`); the rest may be anything. `Failed`: it
---   had failed, and nothing changes (`FailsAs`). A shared look that returns `Memory` leaves the
---   context as it was. Pops and `discard_elem` return nothing, and do not change a failed context.
+-- - A call ends as its clause states, or it fails. One predicate covers both: `Runs`; `Reads` for a
+--   call that reads a value and changes nothing; `Looks` for a lookup on a shared context. `Ok`:
+--   the context had not failed, and is as stated (`Becomes`). `Memory`: it had not failed and has
+--   failed now; the fixed values are unchanged (`Frame`), and the rest may be anything. `Failed`:
+--   it had failed already, and nothing changes (`FailsAs`). A shared lookup that returns `Memory`
+--   leaves the context unchanged. The pops of inherited values and `discard_elem` return nothing,
+--   and do not change a failed context.
 use Rattle.std.specs.Prelude.{◌≡◌, ℕ, ◌+◌, Bool, true, false, not, List, [], ◌∷◌, length, Option, Some, None, Result, IfOk, MatchResult}
 use Rattle.std.specs.Bool.{OnFalse}
 use Rattle.std.specs.Option.{option_or}
@@ -42,9 +44,9 @@ use Rattle.csl_context.specs.RenderInput.{RenderInput}
 use Rattle.csl_context.specs.declared.error.RenderError.{RenderError}
 use Rattle.csl_context.specs.declared.error.RenderError.TheVariants.{Memory, Failed}
 
--- What never changes; the innermost open part and those around it, from the inside out; what is
--- inherited, with what lies under each inherited value, from the inside out; the state; whether the
--- context has failed.
+-- The fixed values; the innermost open part; the parts around it, from the inside out; the
+-- inherited values; the formattings, the delimiters and the options under them, from the inside
+-- out; the state; whether the context has failed.
 pub record ContextView (T : Type 0) : Type 0 where
   pub style : StyleParts
   pub scope : Scope
@@ -72,7 +74,7 @@ instance_in answers now = record {
 abbrev pub render_input : {T : Type 0} → (T → Answers) → ContextView T → RenderInput
 render_input answers now = record { style = now.style; scope = now.scope; instance = instance_in answers now }
 
--- ---- how a context begins
+-- ---- a new context
 
 abbrev pub initial_state : State
 initial_state = record { suppressed = []; suppressing = false; first_date_seen = false; first_names = None }
@@ -105,9 +107,9 @@ new_context style scope entry cite sorting special state = record {
   failed = false;
 }
 
--- ---- how a call ends
+-- ---- outcomes of a call
 
--- what a context is made with, which no call changes
+-- the fixed values of a context, which no call changes
 pub record Frame (T : Type 0) : Type 0 where
   pub style : StyleParts
   pub scope : Scope
@@ -126,62 +128,62 @@ frame now = record {
   special = now.special;
 }
 
--- A call failed: out of memory, which fails the context and keeps its frame, or because the context
--- had failed, which changes nothing.
+-- A call failed. `Memory`: the context had not failed, fails now and keeps its fixed values.
+-- `Failed`: it had failed already, and nothing changes.
 abbrev pub FailsAs : {T : Type 0} → RenderError → ContextView T → ContextView T → Type 0
 FailsAs Memory old new = (old.failed ≡ false) × (new.failed ≡ true) × (frame new ≡ frame old)
 FailsAs Failed old new = (old.failed ≡ true) × (new ≡ old)
 
--- A call on a context that had not failed left it as wanted.
+-- The context had not failed, and the call turned it into the wanted one.
 pub record Becomes {T : Type 0} (wanted : ContextView T → ContextView T) (old new : ContextView T) : Type 0 where
   pub was_live : old.failed ≡ false
   pub becomes : new ≡ wanted old
 
--- A call changes a context as `f` says, or it fails.
+-- A call changes a context by `f`, or it fails.
 abbrev pub Runs : {T R : Type 0} → (ContextView T → ContextView T) → Result R RenderError → ContextView T → ContextView T → Type 0
 Runs f result old new = MatchResult result (λ _. Becomes f old new) (λ e. FailsAs e old new)
 
--- The value of a call, seen by `view`, is the wanted one.
+-- If a call returns a value, the view of that value is the wanted one.
 abbrev pub GivesBy : {R E V : Type 0} → (R → V) → Result R E → V → Type 0
 GivesBy view result wanted = IfOk result (λ value. view value ≡ wanted)
 
--- A call on a context that had not failed read the wanted value and left the context as it was.
+-- The context had not failed. The call read the wanted value and left the context unchanged.
 pub record ReadsAs {R V T : Type 0} (view : R → V) (answer : R) (wanted : V) (old new : ContextView T) : Type 0 where
   pub value : view answer ≡ wanted
   pub was_live : old.failed ≡ false
   pub kept : new ≡ old
 
--- A call reads the wanted value and leaves the context as it was, or it fails.
+-- A call reads the wanted value and leaves the context unchanged, or it fails.
 abbrev pub Reads : {R V T : Type 0} → (R → V) → Result R RenderError → V → ContextView T → ContextView T → Type 0
 Reads view result wanted old new = MatchResult result (λ answer. ReadsAs view answer wanted old new) (λ e. FailsAs e old new)
 
--- A look into a shared context failed: the context stays as it is, and its caller is to fail it.
+-- A lookup on a shared context failed. The context stays unchanged, and the caller has to fail it.
 abbrev pub FailsSilently : {T : Type 0} → RenderError → ContextView T → Type 0
 FailsSilently e now = FailsAs e now (record now { failed = true })
 
--- A look into a shared context reads the wanted value, or fails.
+-- A lookup on a shared context reads the wanted value, or it fails.
 abbrev pub Looks : {R V T : Type 0} → (R → V) → Result R RenderError → V → ContextView T → Type 0
 Looks view result wanted now = MatchResult result (λ answer. ReadsAs view answer wanted now now) (λ e. FailsSilently e now)
 
--- The outcome of such a look, whatever its value.
+-- The outcome of such a lookup, with any value.
 abbrev pub IsSilent : {R T : Type 0} → Result R RenderError → ContextView T → Type 0
 IsSilent outcome now = MatchResult outcome (λ _. now.failed ≡ false) (λ e. FailsSilently e now)
 
--- The mark is that of the innermost open part, or the context has failed. Around that part `outer`
--- has the root too, which no mark counts.
+-- The mark is that of the innermost open part, or the context has failed. The parts in `outer`
+-- include the root, which no mark counts.
 abbrev pub IsInnermost : {T : Type 0} → ℕ → ContextView T → Type 0
 IsInnermost mark now = OnFalse now.failed (length now.outer ≡ mark + 1)
 
--- ---- what is written
+-- ---- writing
 
 abbrev pub same_context : {T : Type 0} → ContextView T → ContextView T
 same_context now = now
 
--- the context after a content
+-- the context after a content is appended to the innermost part
 abbrev pub with_content : {T : Type 0} → (Inherited → List Token) → ContextView T → ContextView T
 with_content c now = record now { inner = now.inner ++> c now.inherited }
 
--- the context after a space, where one is wanted
+-- the context after a space, if one is wanted
 abbrev pub with_space : {T : Type 0} → ContextView T → ContextView T
 with_space now = with_content (λ inh. text_in inh (wanted_space now.inner)) now
 
@@ -193,27 +195,27 @@ abbrev pub close_part_into : {T : Type 0} → List Token → ContextView T → L
 close_part_into content now [] = now
 close_part_into content now (part ∷ parts) = record now { inner = part ++> content; outer = parts }
 
--- the context after the innermost part is closed, and what is made of it appended to the part
--- around it
+-- the context after the innermost part is closed, and its content, changed by `f`, is appended to
+-- the part around it
 abbrev pub close_part_by : {T : Type 0} → (Inherited → List Token → List Token) → ContextView T → ContextView T
 close_part_by f now = close_part_into (f now.inherited now.inner) now now.outer
 
--- a dropped part leaves nothing
+-- the content of a dropped part
 abbrev pub no_content : Inherited → List Token → List Token
 no_content inh c = []
 
--- the context on the other side of a quote
+-- the context with the parity of quotes toggled
 abbrev pub with_quotes_toggled : {T : Type 0} → ContextView T → ContextView T
 with_quotes_toggled now = record now { inherited = record now.inherited { in_quotes = not now.inherited.in_quotes } }
 
--- the context after the innermost part, the inside of quotes, is closed and appended in quotes to
--- the part around it
+-- the context after the innermost part is closed, and its content is appended in quotes to the part
+-- around it
 unfoldable pub with_quotes : {T : Type 0} → Option (List ℕ) → ContextView T → ContextView T
 with_quotes suffix now = close_part_into (quoted_content now.style now.inherited suffix now.inner) now now.outer
 
--- ---- what is inherited
+-- ---- inherited values
 
--- a node's formatting over the one before
+-- the context with a node's formatting over the inherited one
 abbrev pub with_format : {T : Type 0} → partial.Formatting → ContextView T → ContextView T
 with_format f now = record now {
   inherited = record now.inherited { formatting = apply_formatting f now.inherited.formatting };
@@ -227,7 +229,7 @@ restore_format now (f ∷ fs) = record now { inherited = record now.inherited { 
 abbrev pub without_format : {T : Type 0} → ContextView T → ContextView T
 without_format now = restore_format now now.formats
 
--- a delimiter, or none, in the place of the one before
+-- the context with this delimiter, or none, instead of the inherited one
 abbrev pub with_delimiter : {T : Type 0} → Option (List ℕ) → ContextView T → ContextView T
 with_delimiter d now = record now {
   inherited = record now.inherited { delimiter = d };
@@ -241,7 +243,7 @@ restore_delimiter now (d ∷ ds) = record now { inherited = record now.inherited
 abbrev pub without_delimiter : {T : Type 0} → ContextView T → ContextView T
 without_delimiter now = restore_delimiter now now.delimiters
 
--- a node's options of names over those before
+-- the context with a node's options of names over the inherited ones
 abbrev pub with_options : {T : Type 0} → PartialOptions → ContextView T → ContextView T
 with_options o now = record now {
   inherited = record now.inherited { options = apply_options o now.inherited.options };
@@ -260,7 +262,7 @@ with_stripping on now = record now { inherited = record now.inherited { strip_pe
 
 -- ---- the state
 
--- the context after a look for printing
+-- the context after a lookup for printing
 abbrev pub after_resolve : {T : Type 0} → Variable → ContextView T → ContextView T
 after_resolve v now = record now { state = state_after_resolve v now.state }
 
@@ -270,6 +272,6 @@ with_switch on now = record now { state = record now.state { suppressing = on } 
 abbrev pub with_first_date : {T : Type 0} → ContextView T → ContextView T
 with_first_date now = record now { state = record now.state { first_date_seen = true } }
 
--- the first names count, and no later ones
+-- the context with these first names, unless it keeps some already
 abbrev pub with_first_names : {T : Type 0} → NameProperties → ContextView T → ContextView T
 with_first_names p now = record now { state = record now.state { first_names = option_or now.state.first_names (Some p) } }

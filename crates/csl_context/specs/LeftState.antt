@@ -1,5 +1,5 @@
--- The state that a rendering leaves, as a value that a caller may keep and begin another context
--- with (`LeftState`).
+-- The state that a rendering leaves, as a value (`LeftState`). A caller may keep it and begin
+-- another context with it.
 use Rattle.std.specs.Prelude.{option_map}
 use Rattle.csl_entry.specs.NameProperties.{name_properties}
 use Rattle.csl_context.specs.declared.context.LeftState.{LeftState}

@@ -1,5 +1,5 @@
--- The definitions that the contracts of `csl_context` cite: what a rendering reads, and what it
--- writes.
+-- The definitions that the contracts of `csl_context` cite: the input and the output of a
+-- rendering.
 pub mod Errors
 pub mod Contents
 pub mod State

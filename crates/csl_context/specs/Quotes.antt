@@ -1,10 +1,10 @@
--- *Quoted* (CSL 1.0.2, Quotes; Locale, `punctuation-in-quote`): nothing around nothing, else the
--- opening term, the content, the moved character and the closing term. Inside of an even number of
--- quotes these are the outer terms, inside of an odd number the inner ones. A term that no locale
--- has writes nothing.
+-- *Quoted* (CSL 1.0.2, Quotes; Locale, `punctuation-in-quote`): nothing if the content is empty,
+-- else the opening term, the content, the moved character and the closing term. These are the outer
+-- terms inside an even number of quotes, and the inner terms inside an odd number. A term that no
+-- locale has writes nothing.
 -- The moved character is a `,` or `.` that the suffix of the same node begins with, before any
 -- stripping. It moves if the first locale asks for it, and the suffix is then written without it
--- (`affixed_after`). Around nothing no character moves.
+-- (`affixed_after`). No character moves if the content is empty.
 use Rattle.std.specs.Prelude.{ℕ, Bool, true, false, ◌||◌, ◌&&◌, ◌==◌, List, [], ◌∷◌, Option, Some, None, is_some, option_map, if◌then◌else◌}
 use Rattle.lit_model.specs.Characters.{comma_char, dot_char}
 use Rattle.csl_style.specs.declared.term.OtherTerm.{OtherTerm}
@@ -20,7 +20,7 @@ use Rattle.csl_context.specs.State.{Inherited}
 use Rattle.csl_context.specs.Texts.{text_in_if, affixed_in}
 use Rattle.csl_context.specs.RenderInput.{term_in}
 
--- the opening term: the inner one inside of an odd number of quotes
+-- the opening term: the inner one inside an odd number of quotes
 abbrev pub opening_quote : Bool → OtherTerm
 opening_quote false = OpenQuote
 opening_quote true = OpenInnerQuote
@@ -32,7 +32,7 @@ closing_quote true = CloseInnerQuote
 abbrev pub quote_text : StyleParts → OtherTerm → Option (List ℕ)
 quote_text style term = term_in style (Other term) Long false
 
--- the comma or period that a suffix begins with
+-- whether a byte may move: a comma or a period
 abbrev pub is_movable : ℕ → Bool
 is_movable b = (b == comma_char) || (b == dot_char)
 
@@ -40,7 +40,7 @@ abbrev pub leading_punctuation : List ℕ → Option (List ℕ)
 leading_punctuation [] = None
 leading_punctuation (b ∷ bs) = if is_movable b then Some (b ∷ []) else None
 
--- the suffix without the comma or period that it begins with
+-- the suffix without a leading comma or period
 abbrev pub after_leading_punctuation : List ℕ → List ℕ
 after_leading_punctuation [] = []
 after_leading_punctuation (b ∷ bs) = if is_movable b then bs else b ∷ bs
@@ -51,18 +51,17 @@ abbrev pub moved_punctuation : StyleParts → Option (List ℕ) → Option (List
 moved_punctuation style None = None
 moved_punctuation style (Some suffix) = if is_punctuation_in_quote style.locales then leading_punctuation suffix else None
 
--- whether a character moves into the quotes around this content; none does where the content is
--- nothing
+-- whether a character moves into the quotes around this content; none does if the content is empty
 abbrev pub moves_punctuation : StyleParts → Option (List ℕ) → List Token → Bool
 moves_punctuation style suffix c = is_some (moved_punctuation style suffix) && has_children c
 
--- Quoted: the content in quotes, with the front of the suffix after it, where that is moved
+-- Quoted: the content in quotes, with the moved character before the closing quote
 abbrev pub quoted_content : StyleParts → Inherited → Option (List ℕ) → List Token → List Token
 quoted_content style inh suffix c =
     affixed_content (text_in_if inh (quote_text style (opening_quote inh.in_quotes)))
     (text_in_if inh (moved_punctuation style suffix) ++> text_in_if inh (quote_text style (closing_quote inh.in_quotes))) c
 
--- the affixes of a content into whose quotes the front of the suffix was moved, or was not
+-- the affixes around quotes: the suffix lacks its front if that moved into the quotes
 abbrev pub affixes_after_move : Bool → AffixTexts → AffixTexts
 affixes_after_move moved a = record { prefix = a.prefix; suffix = if moved then option_map after_leading_punctuation a.suffix else a.suffix }
 

@@ -1,8 +1,8 @@
 -- The *input* of a rendering is style, scope and the cite with its entry (`Instance` of
--- `csl_entry`). It never changes. A *look* for a variable finds nothing (no names) if the variable
--- is suppressed, else the cite's answer (CSL 1.0.2, Appendix IV, Variables). A silent look changes
--- nothing. A look for printing returns what the state before it gives; then, while the switch is
--- on, it suppresses its variable, whatever it returned (`state_after_resolve`).
+-- `csl_entry`). It never changes. A *lookup* of a variable finds nothing (no names) if the variable
+-- is suppressed, else the cite's answer (CSL 1.0.2, Appendix IV, Variables). A silent lookup
+-- changes nothing. A lookup for printing returns the same; then, if the switch is on, it suppresses
+-- its variable, whatever it returned (`state_after_resolve`).
 use Rattle.std.specs.Prelude.{ℕ, Bool, true, false, List, [], Option, None, map, option_map, if◌then◌else◌}
 use Rattle.csl_common.specs.declared.form.LongShortForm.{LongShortForm}
 use Rattle.csl_common.specs.declared.form.NumberForm.{NumberForm}
@@ -41,13 +41,13 @@ pub record RenderInput : Type 0 where
   pub scope : Scope
   pub instance : Instance
 
--- ---- what the style has
+-- ---- the style
 
 -- the terms of each locale
 abbrev pub locale_terms : StyleParts → List (List TermView)
 locale_terms s = map terms_of s.locales
 
--- the text of a term, and the gender of what it names
+-- the text of a term, and its gender
 abbrev pub term_in : StyleParts → Term → TermForm → Bool → Option (List ℕ)
 term_in s term form plural = term_text (locale_terms s) term form plural
 
@@ -63,16 +63,16 @@ number_text s form gender v =
 abbrev pub localized_date : StyleParts → DateForm → Option DateNode
 localized_date s form = option_map view_date (date_in_form s.locales form)
 
--- ---- what the citation says
+-- ---- the citation
 
--- the branches that ask for `disambiguate` are to be taken (CSL 1.0.2, Choose: disambiguate)
+-- whether the condition `disambiguate` of branches is true (CSL 1.0.2, Choose: disambiguate)
 abbrev pub should_disambiguate : Disambiguation → Bool
 should_disambiguate no_disambiguation = false
 should_disambiguate (by_names p) = false
 should_disambiguate by_choose = true
 should_disambiguate (by_year_suffix n) = false
 
--- ---- Look: nothing where the variable is suppressed, else what the cite answers
+-- ---- Lookup: nothing if the variable is suppressed, else the cite's answer
 
 abbrev pub peek_number : RenderInput → State → NumberVariable → Option ResultView
 peek_number w s v = if is_suppressed s (variable.Number v) then None else resolve_number w.instance v

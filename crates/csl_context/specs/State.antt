@@ -1,10 +1,10 @@
--- *State* is what a node leaves for those after it: the suppressed variables, the suppressing
--- switch, whether a date was rendered, even to nothing, and the names that were printed first (CSL
--- 1.0.2, Names, Substitute; Date). Only the first names are kept.
--- *Inherited* is what a node takes from those around it: the formatting, the delimiter or none, the
--- options of names that are set, whether an odd number of quotes is around it, and whether texts
--- lose their periods (Formatting, Delimiter, Inheritable Name Options, Quotes, Strip-periods). Only
--- the parity of quotes counts, so no depth grows too large.
+-- A node leaves the *state* for the nodes after it: the suppressed variables, the suppressing
+-- switch, whether a date was rendered, even to nothing, and the forms of the names that were
+-- printed first (CSL 1.0.2, Names, Substitute; Date). Later names change nothing.
+-- A node takes the *inherited* values from those around it: the formatting, the delimiter or none,
+-- the options of names that are set, whether an odd number of quotes is around it, and whether
+-- texts lose their periods (Formatting, Delimiter, Inheritable Name Options, Quotes,
+-- Strip-periods). Only the parity of quotes counts, so no depth grows too large.
 use Rattle.std.specs.Prelude.{ℕ, Bool, List, Option, if◌then◌else◌}
 use Rattle.std.specs.BTreeSet.{insert_key}
 use Rattle.std.specs.BTreeMap.{is_at}
@@ -18,23 +18,22 @@ use Rattle.csl_tree.specs.declared.formatting.Formatting.{Formatting}
 use Rattle.csl_tree.specs.Formatting.{apply_formatting}
 use Rattle.csl_entry.specs.NameProperties.{NameProperties}
 
--- The suppressed variables; whether a look for printing adds its variable to them; whether a date
--- was rendered, even to nothing; the names that were printed first.
+-- The suppressed variables; whether a lookup for printing suppresses its variable; whether a date
+-- was rendered, even to nothing; the forms of the names that were printed first.
 pub record State : Type 0 where
   pub suppressed : List Variable
   pub suppressing : Bool
   pub first_date_seen : Bool
   pub first_names : Option NameProperties
 
--- the place of a variable among all of them
+-- the order of all variables
 abbrev pub variable_cmp : Variable → Variable → Ordering
 variable_cmp = cmp-value.it
 
 abbrev pub is_suppressed : State → Variable → Bool
 is_suppressed s v = list_any (is_at (variable_cmp v)) s.suppressed
 
--- the state after a look for printing: while the switch is on, the variable is suppressed from then
--- on
+-- the state after a lookup for printing: if the switch is on, the variable is suppressed
 abbrev pub state_after_resolve : Variable → State → State
 state_after_resolve v s = record s { suppressed = if s.suppressing then insert_key variable_cmp s.suppressed v else s.suppressed }
 
@@ -47,6 +46,6 @@ pub record Inherited : Type 0 where
   pub in_quotes : Bool
   pub strip_periods : Bool
 
--- what is inherited inside a node's formatting
+-- the inherited values inside a node's formatting
 abbrev pub with_node_formatting : partial.Formatting → Inherited → Inherited
 with_node_formatting f inh = record inh { formatting = apply_formatting f inh.formatting }

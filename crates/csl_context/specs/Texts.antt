@@ -1,10 +1,10 @@
 -- A text is one text of the tree in the inherited formatting (CSL 1.0.2, Formatting). If periods
 -- are stripped (Strip-periods), it loses each `.` first. An empty rest writes nothing (`text_in`).
 -- A normal chunk is such a text, a verbatim one keeps its periods, and mathematics becomes markup.
--- A link and its address stay as they are. The place of a cite that the caller writes is a
--- transparent. *Affixed* (Affixes): nothing around nothing, else prefix, content and suffix, the
--- two as texts in the inherited formatting. A gap (`wanted_space`) is a space, unless there is no
--- text yet or the text ends in white space.
+-- The text and the address of a link keep their periods. The place of a cite that the caller writes
+-- is a transparent. *Affixed* (Affixes): nothing if the content is empty, else prefix, content and
+-- suffix, the two affixes as texts in the inherited formatting. A gap (`wanted_space`) is a space,
+-- unless there is no text yet or the text ends in white space.
 use Rattle.std.specs.Prelude.{ℕ, Bool, not, ◌&&◌, ◌==◌, List, [], ◌∷◌, Option, Some, None, filter, encode_utf8_all, if◌then◌else◌}
 use Rattle.std.specs.Str.{chars}
 use Rattle.lit_model.specs.Characters.{dot_char, space_char}
@@ -24,11 +24,11 @@ is_no_period c = not (c == dot_char)
 unfoldable pub without_periods : List ℕ → List ℕ
 without_periods bs = encode_utf8_all (filter is_no_period (chars bs))
 
--- a text as it is written, where periods are stripped or not
+-- a text, without its periods if they are stripped
 abbrev pub strip_if : Bool → List ℕ → List ℕ
 strip_if stripping bs = if stripping then without_periods bs else bs
 
--- a text in a formatting, where periods are stripped or not
+-- the content of a text in a formatting, without its periods if they are stripped
 abbrev pub formatted_text : Bool → Formatting → List ℕ → List Token
 formatted_text stripping f bs = text_content (strip_if stripping bs) f
 
@@ -36,19 +36,19 @@ abbrev pub optional_formatted_text : Bool → Formatting → Option (List ℕ) �
 optional_formatted_text stripping f None = []
 optional_formatted_text stripping f (Some bs) = formatted_text stripping f bs
 
--- the bytes of a text as it is written, if there is one
+-- the bytes of a text, if there is one, without its periods if they are stripped
 abbrev pub optional_strip_if : Bool → Option (List ℕ) → List ℕ
 optional_strip_if stripping None = []
 optional_strip_if stripping (Some bs) = strip_if stripping bs
 
--- a text in what it inherits
+-- the content of a text with the inherited formatting and stripping
 abbrev pub text_in : Inherited → List ℕ → List Token
 text_in inh bs = formatted_text inh.strip_periods inh.formatting bs
 
 abbrev pub text_in_if : Inherited → Option (List ℕ) → List Token
 text_in_if inh text = optional_formatted_text inh.strip_periods inh.formatting text
 
--- a piece of a text: one that is verbatim keeps its periods, mathematics becomes markup
+-- a chunk of a text: a verbatim one keeps its periods, mathematics becomes markup
 abbrev pub chunk_in_kind : Inherited → ChunkKind → List ℕ → List Token
 chunk_in_kind inh Normal bs = text_in inh bs
 chunk_in_kind inh Verbatim bs = text_content bs inh.formatting
@@ -70,7 +70,7 @@ link_in inh bs url = link_content bs inh.formatting url
 abbrev pub transparent_in : Inherited → ℕ → List Token
 transparent_in inh index = solid (transparent index inh.formatting) ∷ []
 
--- a space, unless there is no text yet or white space ends it
+-- a space, unless there is no text yet or the text ends in white space
 abbrev pub wanted_space : List Token → List ℕ
 wanted_space ts = if has_text ts && not (ends_in_white_space ts) then space_char ∷ [] else []
 

@@ -1,4 +1,4 @@
-//! A context: what rendering reads and writes, and how it begins and ends.
+//! The context that rendering reads and writes, with its beginning and its end.
 
 ghost use Rattle.std.specs.Prelude.{◌≡◌, ◌↔◌, [], false, true, IfOk, OnOk, IfErr, option_map};
 ghost use Rattle.std.specs.Bool.{OnFalse};
@@ -19,7 +19,7 @@ use std::alloc::Global;
 use std::collections::BTreeSet;
 use std::marker::Model;
 
-/// What is being written of a cite.
+/// The context in which a cite is rendered.
 #[derive(Drop)]
 pub struct Context<'s, T> {
     pub(crate) style: &'s Style,
@@ -28,8 +28,7 @@ pub struct Context<'s, T> {
     pub(crate) writing: WritingContext<'s>,
 }
 
-/// What a context holds beside its style and its cite: the open parts, what nodes inherit, and the
-/// state.
+/// All of a context but its style, scope and cite: the open parts, the inherited values, the state.
 #[derive(Drop)]
 pub struct WritingContext<'s> {
     pub(crate) alloc: Global,
@@ -87,27 +86,27 @@ impl<'s, T> Model for Context<'s, T> {
     ghost invariant = { λ c. HasContents c.writing.content };
 }
 
-/// What a rendering leaves for the next one, beside its content.
+/// The state that a rendering leaves for the next one.
 #[derive(Drop)]
 pub struct LeftState {
-    /// The variables that answer nothing any more.
+    /// The suppressed variables. A lookup finds nothing for them.
     pub suppressed: BTreeSet<Variable>,
-    /// Whether a look for printing adds its variable to them.
+    /// The suppressing switch: whether a lookup for printing suppresses its variable.
     pub suppressing: bool,
-    /// Whether a date was rendered, be it to nothing.
+    /// Whether a date was rendered, even to nothing.
     pub first_date_seen: bool,
     /// The forms of the names that were printed first.
     pub first_names: Option<NameDisambiguationProperties>,
 }
 
-/// The content that a rendering made, and the state that it left.
+/// The content of a rendering, and the state that it leaves.
 #[derive(Drop)]
 pub struct Rendered {
     pub content: ElemChildren,
     pub state: LeftState,
 }
 
-/// A copy of the properties, where there are some.
+/// A copy of the properties, if there are any.
 fn copy_names(
     alloc: Global,
     names: &Option<NameDisambiguationProperties>,
@@ -125,7 +124,8 @@ fn copy_names(
 }
 
 impl LeftState {
-    /// Nothing is suppressed, and no date and no names were printed.
+    /// The initial state: no variable is suppressed, the suppressing switch is off, and no date or
+    /// names were rendered.
     pub fn new(alloc: Global) -> LeftState
         ensures { left_state_view result ≡ initial_state }
     {
@@ -140,7 +140,7 @@ impl LeftState {
     /// An equal value.
     ///
     /// # Errors
-    /// [`Memory`]: there was no memory left.
+    /// [`Memory`]: out of memory.
     pub fn clone(&self, alloc: Global) -> Result<LeftState, Memory>
         ensures { IfOk result (λ copy. left_state_view copy ≡ left_state_view self.now) }
     {
@@ -155,7 +155,7 @@ impl LeftState {
     }
 }
 
-/// A context with the root open, in which the state stands.
+/// Creates a context with only the root open, no content and the given state.
 fn begin<'s, T>(
     alloc: Global,
     style: &'s Style,
@@ -189,10 +189,10 @@ fn begin<'s, T>(
 }
 
 impl<'s, T> Context<'s, T> {
-    /// A context with the root open, in which nothing is written or suppressed.
+    /// Creates a context with only the root open, no content and the initial state.
     ///
     /// # Errors
-    /// [`Memory`]: there was no memory left.
+    /// [`Memory`]: out of memory.
     pub fn new(
         alloc: Global,
         style: &'s Style,
@@ -206,10 +206,11 @@ impl<'s, T> Context<'s, T> {
         Ok(begin(alloc, style, instance, scope, LeftState::new(alloc)))
     }
 
-    /// A context with the root open, which begins with what another rendering left.
+    /// Creates a context with only the root open, no content and the state that another rendering
+    /// left.
     ///
     /// # Errors
-    /// [`Memory`]: there was no memory left.
+    /// [`Memory`]: out of memory.
     pub fn resume(
         alloc: Global,
         style: &'s Style,
@@ -225,13 +226,12 @@ impl<'s, T> Context<'s, T> {
         Ok(begin(alloc, style, instance, scope, state))
     }
 
-    /// What was written, once only the root is open. No text, markup or link in it is empty, and no
-    /// element is without children.
+    /// Returns the content and the state. Only the root may be open, unless the context has failed.
+    /// No text, markup or link in the content is empty, and no element is without children.
     ///
     /// # Errors
-    /// [`RenderError::Memory`]: there was no memory left. It never comes from a context that had
-    /// failed.
-    /// [`RenderError::Failed`]: the context had failed.
+    /// [`RenderError::Memory`]: out of memory. The context had not failed.
+    /// [`RenderError::Failed`]: the context had failed already.
     pub fn finish(self) -> Result<Rendered, RenderError>
         requires closed { OnFalse self.failed (self.outer ≡ []) }
         ensures sound { OnOk result (self.entry.failed ≡ false) }
@@ -275,7 +275,7 @@ impl<'s, T> Context<'s, T> {
         self.style
     }
 
-    /// The layout of the style that is meant.
+    /// The scope: citation or bibliography.
     pub fn scope(&self) -> Scope
         ensures { result ≡ self.now.scope }
     {
@@ -292,14 +292,14 @@ impl<'s, T> Context<'s, T> {
         self.instance
     }
 
-    /// What the sort key is made from, where the cite is rendered to be sorted.
+    /// The source of the sort key, a variable or a macro, if the cite is rendered to be sorted.
     pub fn sorting(&self) -> Option<Sorting>
         ensures { result ≡ self.now.sorting }
     {
         self.instance.sorting
     }
 
-    /// The part of the cite that is to be shown, where it is not the whole.
+    /// The special form, if only a part of the cite is rendered.
     pub fn special_form(&self) -> Option<SpecialForm>
         ensures { result ≡ self.now.special }
     {
@@ -313,7 +313,7 @@ impl<'s, T> Context<'s, T> {
         self.writing.delimiter
     }
 
-    /// The options of names that nodes inherit: each one that is set somewhere.
+    /// The options of names that nodes inherit. Each one may be unset.
     pub fn name_options(&self) -> InheritedNameOptions<'s>
         ensures { inherited_options result ≡ self.now.inherited.options }
     {

@@ -1,4 +1,4 @@
-//! What the nodes of a context inherit.
+//! The values that nodes inherit: formatting, delimiter, options of names, stripping of periods.
 
 ghost use Rattle.std.specs.Prelude.{◌≡◌, ◌<◌, ◌||◌, length, false, true, option_map};
 ghost use Rattle.std.specs.Bool.{OnFalse};
@@ -10,11 +10,11 @@ use crate::error::RenderError;
 use csl_style::{InheritableNameOptions, formatting};
 
 impl<'s, T> Context<'s, T> {
-    /// Puts a node's formatting over the inherited one, until it is popped.
+    /// Puts a node's formatting over the inherited one until [`Context::pop_format`].
     ///
     /// # Errors
-    /// [`RenderError::Memory`]: there was no memory left. The context has failed.
-    /// [`RenderError::Failed`]: the context had failed.
+    /// [`RenderError::Memory`]: out of memory. The context has failed.
+    /// [`RenderError::Failed`]: the context had failed already.
     pub fn push_format(&mut self, format: formatting::Formatting) -> Result<(), RenderError>
         ensures { Runs (with_format format) result self.old self.new }
     {
@@ -26,7 +26,7 @@ impl<'s, T> Context<'s, T> {
         Ok(())
     }
 
-    /// Takes the last formatting off. A context that has failed stays as it is.
+    /// Restores the formatting before the last push. A failed context stays unchanged.
     pub fn pop_format(&mut self)
         requires pushed { OnFalse self.old.failed (0 < length self.old.formats) }
         ensures popped { self.old.failed ≡ false → self.new ≡ without_format self.old }
@@ -43,11 +43,11 @@ impl<'s, T> Context<'s, T> {
         }
     }
 
-    /// Puts a delimiter, or none, in the place of the inherited one, until it is popped.
+    /// Replaces the inherited delimiter by this one, or by none, until [`Context::pop_delimiter`].
     ///
     /// # Errors
-    /// [`RenderError::Memory`]: there was no memory left. The context has failed.
-    /// [`RenderError::Failed`]: the context had failed.
+    /// [`RenderError::Memory`]: out of memory. The context has failed.
+    /// [`RenderError::Failed`]: the context had failed already.
     pub fn push_delimiter(&mut self, delimiter: Option<&'s str>) -> Result<(), RenderError>
         ensures { Runs (with_delimiter (option_map (λ t. t.now) delimiter.entry))
             result self.old self.new }
@@ -60,7 +60,7 @@ impl<'s, T> Context<'s, T> {
         Ok(())
     }
 
-    /// Takes the last delimiter off. A context that has failed stays as it is.
+    /// Restores the delimiter before the last push. A failed context stays unchanged.
     pub fn pop_delimiter(&mut self)
         requires pushed { OnFalse self.old.failed (0 < length self.old.delimiters) }
         ensures popped { self.old.failed ≡ false → self.new ≡ without_delimiter self.old }
@@ -77,12 +77,12 @@ impl<'s, T> Context<'s, T> {
         }
     }
 
-    /// Puts a node's options of names over the inherited ones, until they are popped (CSL 1.0.2,
-    /// Inheritable Name Options).
+    /// Puts a node's options of names over the inherited ones until [`Context::pop_name_options`]
+    /// (CSL 1.0.2, Inheritable Name Options).
     ///
     /// # Errors
-    /// [`RenderError::Memory`]: there was no memory left. The context has failed.
-    /// [`RenderError::Failed`]: the context had failed.
+    /// [`RenderError::Memory`]: out of memory. The context has failed.
+    /// [`RenderError::Failed`]: the context had failed already.
     pub fn push_name_options(
         &mut self,
         options: &'s InheritableNameOptions,
@@ -97,7 +97,7 @@ impl<'s, T> Context<'s, T> {
         Ok(())
     }
 
-    /// Takes the last options of names off. A context that has failed stays as it is.
+    /// Restores the options of names before the last push. A failed context stays unchanged.
     pub fn pop_name_options(&mut self)
         requires pushed { OnFalse self.old.failed (0 < length self.old.options) }
         ensures popped { self.old.failed ≡ false → self.new ≡ without_options self.old }
@@ -114,8 +114,8 @@ impl<'s, T> Context<'s, T> {
         }
     }
 
-    /// Has texts lose their periods from now on, if `strip` is true (CSL 1.0.2, Strip-periods).
-    /// Returns whether they did before.
+    /// Strips the periods of texts from now on if `strip` is true (CSL 1.0.2, Strip-periods).
+    /// Returns whether they were stripped before.
     pub fn may_strip_periods(&mut self, strip: bool) -> bool
         ensures value { result ≡ self.old.inherited.strip_periods }
         ensures after { self.new ≡ with_stripping
@@ -126,7 +126,7 @@ impl<'s, T> Context<'s, T> {
         old
     }
 
-    /// Has texts lose their periods, or keep them, as before.
+    /// Restores whether texts lose their periods.
     pub fn stop_stripping_periods(&mut self, old: bool)
         ensures { self.new ≡ with_stripping old self.old }
     {

@@ -1,6 +1,7 @@
-//! What is being written of a cite: the open parts, what nodes inherit, and what was looked up.
+//! The context in which a cite is rendered: the open parts, the inherited values, and the state
+//! that nodes leave for the nodes after them.
 //!
-//! Contracts see a context as one record (`specs/ContextView.antt`), and each call is one equation
+//! In contracts a context is one record (`specs/ContextView.antt`), and each call is one equation
 //! on it.
 #![tactic(auto)]
 

@@ -4,16 +4,16 @@ ghost use Rattle.std.specs.Prelude.{◌≡◌, ℕ};
 
 use std::marker::Model;
 
-/// An open part of a context, which the call that opens it returns and a call that closes it takes.
-/// Contracts see a mark as the number of open parts around the one that it marks. The root does not
-/// count, so a part that is opened in the root alone has none. A part can be closed while its mark
-/// is that of the innermost one.
+/// The mark of an open part. The call that opens the part returns it, and a call that closes the
+/// part takes it. In contracts a mark is the number of open parts around its part. The root does
+/// not count, so a part that is opened in the root alone has the mark 0. A part can be closed while
+/// its mark is that of the innermost part.
 #[derive(Clone, Copy, Debug)]
 pub struct Mark {
     depth: usize,
 }
 
-/// As many as are open around the part, without the root.
+/// The number of open parts around the marked part, without the root.
 impl Model for Mark {
     ghost Value = { ℕ };
 
@@ -23,7 +23,7 @@ impl Model for Mark {
 }
 
 impl Mark {
-    /// The mark of the part that this many stand around.
+    /// The mark of a part with `depth` open parts around it, without the root.
     pub(crate) fn new(depth: usize) -> Mark
         ensures { result ≡ depth }
     {

@@ -1,4 +1,4 @@
-//! Affixes and quotes around what is written (CSL 1.0.2, Affixes, Quotes).
+//! Affixes and quotes around a content (CSL 1.0.2, Affixes, Quotes).
 
 ghost use Rattle.std.specs.Prelude.{◌≡◌, ◌+◌, length, false, option_map, IfOk};
 ghost use Rattle.csl_style.specs.Dressing.{affix_texts};
@@ -15,7 +15,7 @@ use csl_style::{Affixes, OtherTerm, Term, TermForm};
 use csl_tree::Formatted;
 use lit_model::Memory;
 
-/// The comma or period that a suffix begins with.
+/// The comma or period that a suffix begins with, if any.
 fn leading_punctuation(suffix: &str) -> Option<&'static str>
     ensures { option_map (λ t. t.now) result ≡ leading_punctuation suffix.now }
 {
@@ -28,7 +28,7 @@ fn leading_punctuation(suffix: &str) -> Option<&'static str>
     }
 }
 
-/// The suffix without a comma or period that it begins with.
+/// The suffix without a leading comma or period.
 fn after_leading_punctuation(suffix: &str) -> &str
     ensures { result.now ≡ after_leading_punctuation suffix.now }
 {
@@ -41,7 +41,7 @@ fn after_leading_punctuation(suffix: &str) -> &str
     }
 }
 
-/// The quote that opens, inside of an odd number of quotes or not.
+/// The term for the opening quote: the inner one inside an odd number of quotes.
 fn opening_quote(in_quotes: bool) -> OtherTerm
     ensures { result ≡ opening_quote in_quotes }
 {
@@ -52,7 +52,7 @@ fn opening_quote(in_quotes: bool) -> OtherTerm
     }
 }
 
-/// The quote that closes, inside of an odd number of quotes or not.
+/// The term for the closing quote: the inner one inside an odd number of quotes.
 fn closing_quote(in_quotes: bool) -> OtherTerm
     ensures { result ≡ closing_quote in_quotes }
 {
@@ -64,11 +64,12 @@ fn closing_quote(in_quotes: bool) -> OtherTerm
 }
 
 impl<'s, T> Context<'s, T> {
-    /// Opens the middle of affixes. They are written once it is closed, unless it is empty.
+    /// Opens a part for the content between affixes. [`Context::apply_suffix`] closes it, and
+    /// writes the affixes unless the part is empty.
     ///
     /// # Errors
-    /// [`RenderError::Memory`]: there was no memory left. The context has failed.
-    /// [`RenderError::Failed`]: the context had failed.
+    /// [`RenderError::Memory`]: out of memory. The context has failed.
+    /// [`RenderError::Failed`]: the context had failed already.
     pub fn apply_prefix(&mut self) -> Result<Mark, RenderError>
         ensures after { Runs with_part result self.old self.new }
         ensures mark { IfOk result (λ mark. length self.new.outer ≡ mark + 1) }
@@ -76,12 +77,12 @@ impl<'s, T> Context<'s, T> {
         self.push_elem()
     }
 
-    /// Closes the middle of affixes, and writes it between them, unless it is empty. If `moved`, a
-    /// suffix that begins with `,` or `.` is written without that character.
+    /// Closes a part, and writes its content between the affixes, unless it is empty. If `moved`,
+    /// the suffix is written without a leading `,` or `.`.
     ///
     /// # Errors
-    /// [`RenderError::Memory`]: there was no memory left. The context has failed.
-    /// [`RenderError::Failed`]: the context had failed.
+    /// [`RenderError::Memory`]: out of memory. The context has failed.
+    /// [`RenderError::Failed`]: the context had failed already.
     pub fn apply_suffix(
         &mut self,
         affixes: &Affixes,
@@ -101,11 +102,12 @@ impl<'s, T> Context<'s, T> {
         self.splice_affixed(mark, affixes.prefix.as_deref(), suffix)
     }
 
-    /// Closes a part, and writes it between two texts in the part around it, unless it is empty.
+    /// Closes a part, and writes its content between two texts into the part around it, unless it
+    /// is empty.
     ///
     /// # Errors
-    /// [`RenderError::Memory`]: there was no memory left. The context has failed.
-    /// [`RenderError::Failed`]: the context had failed.
+    /// [`RenderError::Memory`]: out of memory. The context has failed.
+    /// [`RenderError::Failed`]: the context had failed already.
     pub fn splice_affixed(
         &mut self,
         mark: Mark,
@@ -121,7 +123,7 @@ impl<'s, T> Context<'s, T> {
         self.splice_between(mark, before, after)
     }
 
-    /// Closes a part, and writes it between two texts as they stand, unless it is empty.
+    /// Closes a part, and writes its content between two formatted texts, unless it is empty.
     fn splice_between(
         &mut self,
         mark: Mark,
@@ -139,28 +141,29 @@ impl<'s, T> Context<'s, T> {
         Ok(())
     }
 
-    /// Whether an odd number of quotes stands around.
+    /// Whether the number of quotes around is odd.
     fn in_quotes(&self) -> bool
         ensures { result ≡ self.now.inherited.in_quotes }
     {
         self.writing.in_quotes
     }
 
-    /// Goes to the other side of a quote.
+    /// Toggles whether the number of quotes around is odd.
     fn turn(&mut self)
         ensures { self.new ≡ with_quotes_toggled self.old }
     {
         self.writing.in_quotes = !self.writing.in_quotes;
     }
 
-    /// The text of a quote, where a locale has it.
+    /// The text of a quote, if a locale has its term.
     fn quote_text(&self, term: OtherTerm) -> Option<&'s str>
         ensures { option_map (λ t. t.now) result ≡ quote_text self.now.style term }
     {
         self.style.term(Term::Other(term), TermForm::Long, false)
     }
 
-    /// The comma or period that goes from the front of a suffix into the quotes before it.
+    /// The comma or period that moves from the front of a suffix into the quotes before it, if the
+    /// first locale asks for it.
     fn moved_punctuation(&self, suffix: Option<&str>) -> Option<&'static str>
         ensures { option_map (λ t. t.now) result
             ≡ moved_punctuation self.now.style (option_map (λ t. t.now) suffix.entry) }
@@ -177,7 +180,7 @@ impl<'s, T> Context<'s, T> {
         }
     }
 
-    /// The opening quote.
+    /// The opening quote in the inherited formatting, if a locale has its term.
     fn opening_affix(&self) -> Result<Option<Formatted>, Memory>
         ensures { IfOk result (λ t. affix_content t ≡ text_in_if self.now.inherited
             (quote_text self.now.style (opening_quote self.now.inherited.in_quotes))) }
@@ -186,7 +189,7 @@ impl<'s, T> Context<'s, T> {
         self.text_writer().affix(open)
     }
 
-    /// The closing quote behind what is moved before it.
+    /// The closing quote, after the character that moves from the suffix.
     fn closing_affix(&self, suffix: Option<&str>) -> Result<Option<Formatted>, Memory>
         ensures { IfOk result (λ t. affix_content t ≡ text_in_if self.now.inherited
             (moved_punctuation self.now.style (option_map (λ t. t.now) suffix.entry))
@@ -199,7 +202,7 @@ impl<'s, T> Context<'s, T> {
         Ok(affix)
     }
 
-    /// The opening quote, and what follows a content in quotes: the character that moves from the
+    /// The texts around a content in quotes: the opening quote; the character that moves from the
     /// suffix, and the closing quote.
     fn quotes_around(
         &self,
@@ -217,7 +220,8 @@ impl<'s, T> Context<'s, T> {
         Ok((before, after))
     }
 
-    /// Whether something is moved into the quotes that are to be closed.
+    /// Whether a character moves from the suffix into the quotes. None moves if the innermost part
+    /// is empty.
     fn moves_punctuation(&self, suffix: Option<&str>) -> bool
         ensures { result ≡ moves_punctuation self.now.style (option_map (λ t. t.now) suffix.entry)
             self.now.inner }
@@ -225,7 +229,8 @@ impl<'s, T> Context<'s, T> {
         self.moved_punctuation(suffix).is_some() && !self.writing.content.is_empty()
     }
 
-    /// Closes the inside of quotes on their outside.
+    /// Closes the inside of quotes, and writes its content in quotes. The current parity chooses
+    /// them, so `turn` comes first.
     #[tactic(auto, unfolding(crate::specs::ContextView::with_quotes))]
     fn close_quotes(&mut self, mark: Mark, suffix: Option<&str>) -> Result<(), RenderError>
         requires innermost { IsInnermost mark self.old }
@@ -236,11 +241,12 @@ impl<'s, T> Context<'s, T> {
         self.splice_between(mark, before, after)
     }
 
-    /// Opens the inside of quotes. They are written once it is closed, unless it is empty.
+    /// Opens a part for the inside of quotes. [`Context::pop_quotes`] closes it, and writes the
+    /// quotes unless the part is empty.
     ///
     /// # Errors
-    /// [`RenderError::Memory`]: there was no memory left. The context has failed.
-    /// [`RenderError::Failed`]: the context had failed.
+    /// [`RenderError::Memory`]: out of memory. The context has failed.
+    /// [`RenderError::Failed`]: the context had failed already.
     pub fn push_quotes(&mut self) -> Result<Mark, RenderError>
         ensures after { Runs (λ now. with_part (with_quotes_toggled now)) result self.old self.new }
         ensures mark { IfOk result (λ mark. length self.new.outer ≡ mark + 1) }
@@ -250,14 +256,15 @@ impl<'s, T> Context<'s, T> {
         Ok(mark)
     }
 
-    /// Closes the inside of quotes, and writes it in quotes, unless it is empty: in the outer ones
-    /// or, inside of an odd number of quotes, in the inner ones. Where the first locale wants it, a
-    /// comma or period at the front of the suffix that is to be written behind them goes before the
-    /// closing quote (CSL 1.0.2, Locale: punctuation-in-quote). It answers whether one did.
+    /// Closes the inside of quotes, and writes its content in quotes, unless it is empty. The
+    /// quotes are the inner ones inside an odd number of quotes, else the outer ones. The caller
+    /// writes `suffix` after them. If the first locale asks for it, a comma or period at the front
+    /// of `suffix` moves before the closing quote (CSL 1.0.2, Locale: punctuation-in-quote).
+    /// Returns whether one moved.
     ///
     /// # Errors
-    /// [`RenderError::Memory`]: there was no memory left. The context has failed.
-    /// [`RenderError::Failed`]: the context had failed.
+    /// [`RenderError::Memory`]: out of memory. The context has failed.
+    /// [`RenderError::Failed`]: the context had failed already.
     pub fn pop_quotes(&mut self, mark: Mark, suffix: Option<&str>) -> Result<bool, RenderError>
         requires innermost { IsInnermost mark self.old }
         ensures after { Runs (λ now.

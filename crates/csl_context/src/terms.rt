@@ -1,4 +1,4 @@
-//! What the style and the citation of a context say (CSL 1.0.2, Terms, Ordinals, Localized Date
+//! Lookups in the style and the citation of a context (CSL 1.0.2, Terms, Ordinals, Localized Date
 //! Formats; Choose: disambiguate).
 
 ghost use Rattle.std.specs.Prelude.{◌≡◌, option_map};
@@ -11,14 +11,14 @@ use csl_style::{Date, DateForm, LocaleOrdinals, Term, TermForm};
 use lit_model::GrammarGender;
 
 impl<'s, T> Context<'s, T> {
-    /// The text of a term, in the form that is asked for or one that stands in for it.
+    /// The text of a term in the given form, or else in a form that it falls back to.
     pub fn term(&self, term: Term, form: TermForm, plural: bool) -> Option<&'s str>
         ensures { option_map (λ text. text.now) result ≡ term_in self.now.style term form plural }
     {
         self.style.term(term, form, plural)
     }
 
-    /// The gender of what a term names.
+    /// The gender of a term, if it has one.
     pub fn gender(&self, term: Term) -> Option<GrammarGender>
         ensures { result ≡ gender_in self.now.style term }
     {
@@ -32,14 +32,14 @@ impl<'s, T> Context<'s, T> {
         self.style.ordinals()
     }
 
-    /// The first localized date of a form.
+    /// The first localized date in the given form.
     pub fn localized_date(&self, form: DateForm) -> Option<&'s Date>
         ensures { option_map (λ date. date.now) result ≡ date_in_form self.now.style.locales form }
     {
         self.style.localized_date(form)
     }
 
-    /// Whether the branches of the style that ask for `disambiguate` are to be taken.
+    /// Whether the condition `disambiguate` of branches is true.
     pub fn should_disambiguate(&self) -> bool
         ensures { result ≡ should_disambiguate self.now.cite.disambiguation }
     {

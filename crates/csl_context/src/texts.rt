@@ -1,4 +1,4 @@
-//! Texts, markups and links behind what is written (CSL 1.0.2, Formatting, Strip-periods).
+//! Writing of texts, markups and links (CSL 1.0.2, Formatting, Strip-periods).
 
 ghost use Rattle.std.specs.Prelude.{◌≡◌, [], ◌∷◌, ◌++◌, string_bytes, option_map, IfOk, OnOk, OnErr};
 ghost use Rattle.csl_tree.specs.Content.{◌++>◌, markup_content, link_content};
@@ -18,7 +18,7 @@ fn without_periods(alloc: Global, text: &str) -> Result<String, Memory>
     Ok(kept)
 }
 
-/// How texts are written: their formatting, and whether they lose their periods.
+/// A writer of texts: their formatting, and whether they lose their periods.
 #[derive(Clone, Copy)]
 pub(crate) struct TextWriter {
     pub(crate) alloc: Global,
@@ -41,7 +41,7 @@ impl TextWriter {
         }
     }
 
-    /// A copy of a text as it is written.
+    /// A copy of a text, without its periods if they are stripped.
     fn copy(self, text: &str) -> Result<String, Memory>
         ensures { IfOk result (λ s. string_bytes s ≡ strip_if self.strip_periods text.now) }
     {
@@ -53,7 +53,7 @@ impl TextWriter {
         }
     }
 
-    /// Writes a text behind another, if there is one.
+    /// Appends `text`, if there is one, to `all`.
     fn add(self, all: &mut String, text: Option<&str>) -> Result<(), Memory>
         ensures { OnOk result (string_bytes all.new ≡ string_bytes all.old
             ++ optional_strip_if self.strip_periods (option_map (λ t. t.now) text.entry)) }
@@ -83,7 +83,7 @@ impl TextWriter {
         }
     }
 
-    /// Two texts, as far as they are there.
+    /// A prefix and a suffix as they are written, each if there is one.
     pub(crate) fn affixes(
         self,
         prefix: Option<&str>,
@@ -101,7 +101,7 @@ impl TextWriter {
         Ok((before, after))
     }
 
-    /// Two texts in a row, as far as they are there.
+    /// Two texts in a row as one affix, each if there is one.
     pub(crate) fn affix_of_two(
         self,
         first: Option<&str>,
@@ -124,7 +124,7 @@ impl TextWriter {
 }
 
 impl TextWriter {
-    /// Writes a markup into the innermost part, unless it is empty.
+    /// Writes a markup into the innermost part, unless the markup is empty.
     pub(crate) fn write_markup(self, parts: &mut FlatTree, text: &str) -> Result<(), Memory>
         ensures ok { OnOk result (parts.new ≡ with_tokens (markup_content text.now) parts.old) }
         ensures err { OnErr result (parts.new ≡ parts.old) }
@@ -150,7 +150,7 @@ impl TextWriter {
         parts.push(ElemChild::Link { text, url })
     }
 
-    /// Writes a place that the caller fills into the innermost part.
+    /// Writes into the innermost part a place that the caller fills.
     pub(crate) fn write_transparent(
         self,
         parts: &mut FlatTree,

@@ -1,4 +1,4 @@
-//! What a context looks up, for printing or silently (CSL 1.0.2, Appendix IV: Variables).
+//! Lookups of variables, for printing or silent (CSL 1.0.2, Appendix IV: Variables).
 
 ghost use Rattle.std.specs.Prelude.{◌≡◌, map, option_map};
 ghost use Rattle.lit_model.specs.Date.{date_view};
@@ -22,13 +22,12 @@ use lit_model::{ChunkedString, Date, LongShortForm, Person};
 use std::borrow::Cow;
 
 impl<'s, T: EntryLike> Context<'s, T> {
-    /// What the cite answers to a number variable, unless it is suppressed (CSL 1.0.2,
-    /// Number Variables). The look is silent.
+    /// Looks up a number variable silently (CSL 1.0.2, Number Variables). Returns the cite's
+    /// answer, or `None` if the variable is suppressed.
     ///
     /// # Errors
-    /// [`RenderError::Memory`]: there was no memory left, or the entry said so. The context is as
-    /// it was.
-    /// [`RenderError::Failed`]: the context had failed.
+    /// [`RenderError::Memory`]: out of memory, here or in the entry. The context is unchanged.
+    /// [`RenderError::Failed`]: the context had failed already.
     pub fn peek_number_variable(
         &self,
         variable: NumberVariable,
@@ -44,13 +43,12 @@ impl<'s, T: EntryLike> Context<'s, T> {
         Ok(self.instance.resolve_number_variable(alloc, variable)?)
     }
 
-    /// What the cite answers to a page variable, unless it is suppressed (CSL 1.0.2,
-    /// Number Variables). The look is silent.
+    /// Looks up a page variable silently (CSL 1.0.2, Number Variables). Returns the cite's answer,
+    /// or `None` if the variable is suppressed.
     ///
     /// # Errors
-    /// [`RenderError::Memory`]: there was no memory left, or the entry said so. The context is as
-    /// it was.
-    /// [`RenderError::Failed`]: the context had failed.
+    /// [`RenderError::Memory`]: out of memory, here or in the entry. The context is unchanged.
+    /// [`RenderError::Failed`]: the context had failed already.
     pub fn peek_page_variable(
         &self,
         variable: PageVariable,
@@ -66,13 +64,12 @@ impl<'s, T: EntryLike> Context<'s, T> {
         Ok(self.instance.resolve_page_variable(alloc, variable)?)
     }
 
-    /// What the cite answers to a standard variable in a form, unless it is suppressed (CSL 1.0.2,
-    /// Standard Variables). The look is silent.
+    /// Looks up a standard variable in a form silently (CSL 1.0.2, Standard Variables). Returns the
+    /// cite's answer, or `None` if the variable is suppressed.
     ///
     /// # Errors
-    /// [`RenderError::Memory`]: there was no memory left, or the entry said so. The context is as
-    /// it was.
-    /// [`RenderError::Failed`]: the context had failed.
+    /// [`RenderError::Memory`]: out of memory, here or in the entry. The context is unchanged.
+    /// [`RenderError::Failed`]: the context had failed already.
     pub fn peek_standard_variable(
         &self,
         form: LongShortForm,
@@ -92,13 +89,12 @@ impl<'s, T: EntryLike> Context<'s, T> {
         )
     }
 
-    /// What the cite answers to a name variable, unless it is suppressed (CSL 1.0.2,
-    /// Name Variables). The look is silent.
+    /// Looks up a name variable silently (CSL 1.0.2, Name Variables). Returns the cite's answer, or
+    /// no names if the variable is suppressed.
     ///
     /// # Errors
-    /// [`RenderError::Memory`]: there was no memory left, or the entry said so. The context is as
-    /// it was.
-    /// [`RenderError::Failed`]: the context had failed.
+    /// [`RenderError::Memory`]: out of memory, here or in the entry. The context is unchanged.
+    /// [`RenderError::Failed`]: the context had failed already.
     pub fn peek_name_variable(
         &self,
         variable: NameVariable,
@@ -114,13 +110,12 @@ impl<'s, T: EntryLike> Context<'s, T> {
         Ok(self.instance.resolve_name_variable(alloc, variable)?)
     }
 
-    /// What the cite answers to a date variable, unless it is suppressed (CSL 1.0.2,
-    /// Date Variables). The look is silent.
+    /// Looks up a date variable silently (CSL 1.0.2, Date Variables). Returns the cite's answer, or
+    /// `None` if the variable is suppressed.
     ///
     /// # Errors
-    /// [`RenderError::Memory`]: there was no memory left, or the entry said so. The context is as
-    /// it was.
-    /// [`RenderError::Failed`]: the context had failed.
+    /// [`RenderError::Memory`]: out of memory, here or in the entry. The context is unchanged.
+    /// [`RenderError::Failed`]: the context had failed already.
     pub fn peek_date_variable(
         &self,
         variable: DateVariable,
@@ -138,13 +133,13 @@ impl<'s, T: EntryLike> Context<'s, T> {
 }
 
 impl<'s, T: EntryLike> Context<'s, T> {
-    /// The same as [`Context::peek_number_variable`] for printing: while the switch is on, the
-    /// variable is suppressed from then on.
+    /// Looks up a number variable for printing. Returns the same as
+    /// [`Context::peek_number_variable`], and suppresses the variable if the suppressing switch is
+    /// on.
     ///
     /// # Errors
-    /// [`RenderError::Memory`]: there was no memory left, or the entry said so. The context has
-    /// failed.
-    /// [`RenderError::Failed`]: the context had failed.
+    /// [`RenderError::Memory`]: out of memory, here or in the entry. The context has failed.
+    /// [`RenderError::Failed`]: the context had failed already.
     pub fn resolve_number_variable(
         &mut self,
         variable: NumberVariable,
@@ -158,13 +153,12 @@ impl<'s, T: EntryLike> Context<'s, T> {
         Ok(found)
     }
 
-    /// The same as [`Context::peek_page_variable`] for printing: while the switch is on, the
-    /// variable is suppressed from then on.
+    /// Looks up a page variable for printing. Returns the same as [`Context::peek_page_variable`],
+    /// and suppresses the variable if the suppressing switch is on.
     ///
     /// # Errors
-    /// [`RenderError::Memory`]: there was no memory left, or the entry said so. The context has
-    /// failed.
-    /// [`RenderError::Failed`]: the context had failed.
+    /// [`RenderError::Memory`]: out of memory, here or in the entry. The context has failed.
+    /// [`RenderError::Failed`]: the context had failed already.
     pub fn resolve_page_variable(
         &mut self,
         variable: PageVariable,
@@ -178,13 +172,13 @@ impl<'s, T: EntryLike> Context<'s, T> {
         Ok(found)
     }
 
-    /// The same as [`Context::peek_standard_variable`] for printing: while the switch is on, the
-    /// variable is suppressed from then on.
+    /// Looks up a standard variable for printing. Returns the same as
+    /// [`Context::peek_standard_variable`], and suppresses the variable if the suppressing switch
+    /// is on.
     ///
     /// # Errors
-    /// [`RenderError::Memory`]: there was no memory left, or the entry said so. The context has
-    /// failed.
-    /// [`RenderError::Failed`]: the context had failed.
+    /// [`RenderError::Memory`]: out of memory, here or in the entry. The context has failed.
+    /// [`RenderError::Failed`]: the context had failed already.
     pub fn resolve_standard_variable(
         &mut self,
         form: LongShortForm,
@@ -199,13 +193,12 @@ impl<'s, T: EntryLike> Context<'s, T> {
         Ok(found)
     }
 
-    /// The same as [`Context::peek_name_variable`] for printing: while the switch is on, the
-    /// variable is suppressed from then on.
+    /// Looks up a name variable for printing. Returns the same as [`Context::peek_name_variable`],
+    /// and suppresses the variable if the suppressing switch is on.
     ///
     /// # Errors
-    /// [`RenderError::Memory`]: there was no memory left, or the entry said so. The context has
-    /// failed.
-    /// [`RenderError::Failed`]: the context had failed.
+    /// [`RenderError::Memory`]: out of memory, here or in the entry. The context has failed.
+    /// [`RenderError::Failed`]: the context had failed already.
     pub fn resolve_name_variable(
         &mut self,
         variable: NameVariable,
@@ -219,13 +212,12 @@ impl<'s, T: EntryLike> Context<'s, T> {
         Ok(found)
     }
 
-    /// The same as [`Context::peek_date_variable`] for printing: while the switch is on, the
-    /// variable is suppressed from then on.
+    /// Looks up a date variable for printing. Returns the same as [`Context::peek_date_variable`],
+    /// and suppresses the variable if the suppressing switch is on.
     ///
     /// # Errors
-    /// [`RenderError::Memory`]: there was no memory left, or the entry said so. The context has
-    /// failed.
-    /// [`RenderError::Failed`]: the context had failed.
+    /// [`RenderError::Memory`]: out of memory, here or in the entry. The context has failed.
+    /// [`RenderError::Failed`]: the context had failed already.
     pub fn resolve_date_variable(
         &mut self,
         variable: DateVariable,

@@ -1,4 +1,4 @@
-//! What is written into the open parts of a context.
+//! Opening, filling and closing of the parts of a context.
 
 ghost use Rattle.std.specs.Prelude.{◌≡◌, ◌+◌, ◌<◌, not, [], length, false, true, IfOk, OnOk, IfErr, OnErr, IsOk};
 ghost use Rattle.lit_model.specs.Text.{chunk_of, chunks};
@@ -16,7 +16,7 @@ use csl_style::Display;
 use csl_tree::{ElemMeta, FlatTree};
 use lit_model::{ChunkKind, ChunkedString, Memory, StringChunk};
 
-/// Closes the innermost part, and leaves what stands in it in the part around it.
+/// Closes the innermost part, and appends its content to the part around it.
 fn splice_part(parts: &mut FlatTree) -> Result<(), Memory>
     requires is_open { 0 < length parts.old.outer }
     ensures ok { OnOk result (parts.new ≡ close_part parts.old.inner parts.old) }
@@ -26,7 +26,7 @@ fn splice_part(parts: &mut FlatTree) -> Result<(), Memory>
     Ok(())
 }
 
-/// Closes the innermost part, and leaves nothing of it in the part around it.
+/// Closes the innermost part, and drops its content.
 fn drop_part(parts: &mut FlatTree)
     requires is_open { 0 < length parts.old.outer }
     ensures { parts.new ≡ close_part [] parts.old }
@@ -35,10 +35,10 @@ fn drop_part(parts: &mut FlatTree)
 }
 
 impl<'s, T> Context<'s, T> {
-    /// An error where the context has failed.
+    /// Returns an error if the context has failed.
     ///
     /// # Errors
-    /// [`RenderError::Failed`]: the context had failed.
+    /// [`RenderError::Failed`]: the context had failed already.
     pub fn ensure_live(&self) -> Result<(), RenderError>
         ensures { Runs same_context result self.now self.now }
     {
@@ -48,11 +48,11 @@ impl<'s, T> Context<'s, T> {
         Ok(())
     }
 
-    /// The value of a call that allocates. Where it ran out of memory, the context fails.
+    /// Returns the value of a call that allocates. If that call failed, the context fails.
     ///
     /// # Errors
     /// [`RenderError::Memory`]: the outcome is an error. The context has failed.
-    /// [`RenderError::Failed`]: the context had failed.
+    /// [`RenderError::Failed`]: the context had failed already.
     pub fn attempt<R: Drop, E: Drop>(&mut self, outcome: Result<R, E>) -> Result<R, RenderError>
     where
         Memory: From<E>,
@@ -64,7 +64,8 @@ impl<'s, T> Context<'s, T> {
         self.or_fail(outcome)
     }
 
-    /// The same in a context that has not failed.
+    /// Returns the value of a call that allocates, in a context that has not failed. If that call
+    /// failed, the context fails.
     pub(crate) fn or_fail<R: Drop, E: Drop>(
         &mut self,
         outcome: Result<R, E>,
@@ -85,10 +86,10 @@ impl<'s, T> Context<'s, T> {
         }
     }
 
-    /// The outcome of a look into the shared context. Its failure fails the context.
+    /// Returns the outcome of a lookup on the shared context. If it is an error, the context fails.
     ///
     /// # Errors
-    /// That of the outcome.
+    /// The error of the outcome.
     pub fn settle<R: Drop>(&mut self, outcome: Result<R, RenderError>) -> Result<R, RenderError>
         requires silent { IsSilent outcome self.old }
         ensures value { result ≡ outcome }
@@ -103,7 +104,7 @@ impl<'s, T> Context<'s, T> {
         }
     }
 
-    /// The formatting and the stripping that a text inherits here.
+    /// A writer of texts with the inherited formatting and stripping.
     pub(crate) fn text_writer(&self) -> TextWriter
         ensures formatting { result.formatting ≡ self.now.inherited.formatting }
         ensures strip_periods { result.strip_periods ≡ self.now.inherited.strip_periods }
@@ -118,8 +119,8 @@ impl<'s, T> Context<'s, T> {
     /// Writes a text in the inherited formatting (CSL 1.0.2, Formatting, Strip-periods).
     ///
     /// # Errors
-    /// [`RenderError::Memory`]: there was no memory left. The context has failed.
-    /// [`RenderError::Failed`]: the context had failed.
+    /// [`RenderError::Memory`]: out of memory. The context has failed.
+    /// [`RenderError::Failed`]: the context had failed already.
     pub fn push_str(&mut self, text: &str) -> Result<(), RenderError>
         ensures { Runs (with_content (λ inh. text_in inh text.now)) result self.old self.new }
     {
@@ -129,7 +130,7 @@ impl<'s, T> Context<'s, T> {
         self.or_fail(written)
     }
 
-    /// Writes a text in the inherited formatting, which keeps its periods.
+    /// Writes a text in the inherited formatting, and keeps its periods.
     fn push_verbatim(&mut self, text: &str) -> Result<(), RenderError>
         ensures { Runs (with_content (λ inh. text_content text.now inh.formatting))
             result self.old self.new }
@@ -166,8 +167,8 @@ impl<'s, T> Context<'s, T> {
     /// their periods, mathematics as markup.
     ///
     /// # Errors
-    /// [`RenderError::Memory`]: there was no memory left. The context has failed.
-    /// [`RenderError::Failed`]: the context had failed.
+    /// [`RenderError::Memory`]: out of memory. The context has failed.
+    /// [`RenderError::Failed`]: the context had failed already.
     pub fn push_chunked(&mut self, text: &ChunkedString) -> Result<(), RenderError>
         ensures { Runs (with_content (λ inh. chunks_in inh (chunks text.now)))
             result self.old self.new }
@@ -183,8 +184,8 @@ impl<'s, T> Context<'s, T> {
     /// its periods.
     ///
     /// # Errors
-    /// [`RenderError::Memory`]: there was no memory left. The context has failed.
-    /// [`RenderError::Failed`]: the context had failed.
+    /// [`RenderError::Memory`]: out of memory. The context has failed.
+    /// [`RenderError::Failed`]: the context had failed already.
     pub fn push_link(&mut self, text: &str, url: &str) -> Result<(), RenderError>
         ensures { Runs (with_content (λ inh. link_in inh text.now url.now))
             result self.old self.new }
@@ -195,12 +196,12 @@ impl<'s, T> Context<'s, T> {
         self.or_fail(written)
     }
 
-    /// Writes a place that the caller fills, for the cite of that index, in the inherited
+    /// Writes a place that the caller fills, with the index of its cite, in the inherited
     /// formatting.
     ///
     /// # Errors
-    /// [`RenderError::Memory`]: there was no memory left. The context has failed.
-    /// [`RenderError::Failed`]: the context had failed.
+    /// [`RenderError::Memory`]: out of memory. The context has failed.
+    /// [`RenderError::Failed`]: the context had failed already.
     pub fn push_transparent(&mut self, cite_idx: usize) -> Result<(), RenderError>
         ensures { Runs (with_content (λ inh. transparent_in inh cite_idx))
             result self.old self.new }
@@ -214,8 +215,8 @@ impl<'s, T> Context<'s, T> {
     /// Writes a space, unless the text of the innermost open part is empty or ends in white space.
     ///
     /// # Errors
-    /// [`RenderError::Memory`]: there was no memory left. The context has failed.
-    /// [`RenderError::Failed`]: the context had failed.
+    /// [`RenderError::Memory`]: out of memory. The context has failed.
+    /// [`RenderError::Failed`]: the context had failed already.
     pub fn ensure_space(&mut self) -> Result<(), RenderError>
         ensures { Runs with_space result self.old self.new }
     {
@@ -223,7 +224,7 @@ impl<'s, T> Context<'s, T> {
         self.push_str(gap)
     }
 
-    /// A space where one is wanted, else an empty text.
+    /// The text that [`Context::ensure_space`] writes: a space or nothing.
     fn wanted_space(&self) -> &'static str
         ensures { result.now ≡ wanted_space self.now.inner }
     {
@@ -248,11 +249,11 @@ impl<'s, T> Context<'s, T> {
         self.writing.content.is_empty()
     }
 
-    /// Opens an element.
+    /// Opens a part and returns its mark. [`Context::commit_elem`] closes it as an element.
     ///
     /// # Errors
-    /// [`RenderError::Memory`]: there was no memory left. The context has failed.
-    /// [`RenderError::Failed`]: the context had failed.
+    /// [`RenderError::Memory`]: out of memory. The context has failed.
+    /// [`RenderError::Failed`]: the context had failed already.
     pub fn push_elem(&mut self) -> Result<Mark, RenderError>
         ensures after { Runs with_part result self.old self.new }
         ensures mark { IfOk result (λ mark. length self.new.outer ≡ mark + 1) }
@@ -264,12 +265,13 @@ impl<'s, T> Context<'s, T> {
         Ok(Mark::new(depth))
     }
 
-    /// Closes an element (CSL 1.0.2, Display). It is dropped where nothing was written in it. What
-    /// is written in a part is empty, as [`csl_tree::ElemChildren::is_empty`] says, only then.
+    /// Closes a part as an element of the part around it (CSL 1.0.2, Display). A part without
+    /// content is dropped. The content of any other part is not empty by
+    /// [`csl_tree::ElemChildren::is_empty`].
     ///
     /// # Errors
-    /// [`RenderError::Memory`]: there was no memory left. The context has failed.
-    /// [`RenderError::Failed`]: the context had failed.
+    /// [`RenderError::Memory`]: out of memory. The context has failed.
+    /// [`RenderError::Failed`]: the context had failed already.
     pub fn commit_elem(
         &mut self,
         mark: Mark,
@@ -287,7 +289,7 @@ impl<'s, T> Context<'s, T> {
         Ok(())
     }
 
-    /// Closes a part and drops what was written in it.
+    /// Closes a part, and drops its content. A failed context stays unchanged.
     pub fn discard_elem(&mut self, mark: Mark)
         requires innermost { IsInnermost mark self.old }
         ensures closed { self.old.failed ≡ false → self.new ≡ close_part_by no_content self.old }
@@ -299,11 +301,11 @@ impl<'s, T> Context<'s, T> {
         drop_part(&mut self.writing.content);
     }
 
-    /// Closes a part, and leaves what was written in it in the part around it.
+    /// Closes a part, and appends its content to the part around it.
     ///
     /// # Errors
-    /// [`RenderError::Memory`]: there was no memory left. The context has failed.
-    /// [`RenderError::Failed`]: the context had failed.
+    /// [`RenderError::Memory`]: out of memory. The context has failed.
+    /// [`RenderError::Failed`]: the context had failed already.
     pub fn splice(&mut self, mark: Mark) -> Result<(), RenderError>
         requires innermost { IsInnermost mark self.old }
         ensures { Runs (close_part_by (λ _ c. c)) result self.old self.new }

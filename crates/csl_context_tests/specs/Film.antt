@@ -1,4 +1,4 @@
--- The answers of a film, the entry of these tests: a title, and the kind of a motion picture.
+-- The answers of a film, the entry of these tests, to text variables and kinds.
 use Rattle.std.specs.Prelude.{List, Option, Some, None, Bool, true, false}
 use Rattle.lit_model.specs.Text.{Chunk}
 use Rattle.csl_style.specs.declared.taxonomy.Kind.{Kind}

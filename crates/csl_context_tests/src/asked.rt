@@ -1,5 +1,5 @@
-//! What a context is asked: what nodes inherit, the style, the citation, what rendering left. The
-//! answers are written into it, each before a bar.
+//! Queries of a context: its inherited values, style, citation and state. The results are written
+//! into it, each before a bar.
 
 ghost use Rattle.std.specs.Prelude.{◌≡◌, OnOk};
 
@@ -10,7 +10,7 @@ use csl_entry::{DisambiguatedNameForm, NameDisambiguationProperties, Sorting, Sp
 use csl_style::{DateForm, Kind, OtherTerm, PageVariable, Scope, StandardVariable, Term, TermForm};
 use lit_model::{GrammarGender, LongShortForm, Ordinals};
 
-/// Writes an answer, or that there is none, before a bar.
+/// Writes a result, or `none` if there is none, and a bar.
 pub(crate) fn put(ctx: &mut Context<'_, Film>, answer: Option<&str>) -> Result<(), RenderError>
     ensures { OnOk result (ctx.new.outer ≡ ctx.old.outer) }
 {
@@ -19,7 +19,7 @@ pub(crate) fn put(ctx: &mut Context<'_, Film>, answer: Option<&str>) -> Result<(
     Ok(())
 }
 
-/// A text that was allocated for the context, and whether a silent look finds the title.
+/// Writes a text that was allocated for the context, and whether a silent lookup finds the title.
 pub(crate) fn attempt(ctx: &mut Context<'_, Film>) -> Result<(), RenderError>
     ensures { OnOk result (ctx.new.outer ≡ ctx.old.outer) }
 {
@@ -30,7 +30,7 @@ pub(crate) fn attempt(ctx: &mut Context<'_, Film>) -> Result<(), RenderError>
     put(ctx, yes(found.is_some()))
 }
 
-/// The delimiter before, within and behind one and none.
+/// Pushes a delimiter and none, and pops both. Writes the inherited delimiter after each call.
 pub(crate) fn delimit(ctx: &mut Context<'_, Film>) -> Result<(), RenderError>
     ensures { OnOk result (ctx.new.outer ≡ ctx.old.outer) }
 {
@@ -49,8 +49,8 @@ pub(crate) fn delimit(ctx: &mut Context<'_, Film>) -> Result<(), RenderError>
     Ok(())
 }
 
-/// The delimiter of names within and behind the options of the bibliography, and the separator
-/// within them.
+/// Writes the delimiter and the separator of names inside the options of the bibliography, and the
+/// delimiter after them.
 pub(crate) fn inherit_options(ctx: &mut Context<'_, Film>) -> Result<(), RenderError>
     ensures { OnOk result (ctx.new.outer ≡ ctx.old.outer) }
 {
@@ -67,7 +67,8 @@ pub(crate) fn inherit_options(ctx: &mut Context<'_, Film>) -> Result<(), RenderE
 
 const PAGE: Term = Term::Page(PageVariable::Page);
 
-/// The terms of pages in some forms, one that the style has not, and the gender of both.
+/// Writes the term for pages in three forms, a term that the style lacks, and whether the first is
+/// feminine and the second has no gender.
 pub(crate) fn ask_terms(ctx: &mut Context<'_, Film>) -> Result<(), RenderError>
     ensures { OnOk result (ctx.new.outer ≡ ctx.old.outer) }
 {
@@ -87,7 +88,7 @@ pub(crate) fn ask_terms(ctx: &mut Context<'_, Film>) -> Result<(), RenderError>
     put(ctx, yes(has_none))
 }
 
-/// Ordinals, and whether there are localized dates.
+/// Writes the ordinals of 21 and 2, and whether the style has each localized date.
 pub(crate) fn ask_locale(ctx: &mut Context<'_, Film>) -> Result<(), RenderError>
     ensures { OnOk result (ctx.new.outer ≡ ctx.old.outer) }
 {
@@ -100,7 +101,8 @@ pub(crate) fn ask_locale(ctx: &mut Context<'_, Film>) -> Result<(), RenderError>
     put(ctx, yes(in_numbers))
 }
 
-/// Whether the cite is that of the tests.
+/// Writes booleans: properties of the cite, two kinds of its entry, and whether the context has
+/// failed.
 pub(crate) fn ask_cite(ctx: &mut Context<'_, Film>) -> Result<(), RenderError>
     ensures { OnOk result (ctx.new.outer ≡ ctx.old.outer) }
 {
@@ -122,7 +124,7 @@ pub(crate) fn ask_cite(ctx: &mut Context<'_, Film>) -> Result<(), RenderError>
     put(ctx, yes(has_failed))
 }
 
-/// Whether a date is the first, by looks and by printing.
+/// Writes whether no date was rendered yet: silently, by the call that marks one, and both again.
 pub(crate) fn mark_dates(ctx: &mut Context<'_, Film>) -> Result<(), RenderError>
     ensures { OnOk result (ctx.new.outer ≡ ctx.old.outer) }
 {
@@ -136,7 +138,7 @@ pub(crate) fn mark_dates(ctx: &mut Context<'_, Film>) -> Result<(), RenderError>
     put(ctx, yes(printed_again))
 }
 
-/// Keeps names of a form.
+/// Keeps name forms with this default form.
 fn keep(ctx: &mut Context<'_, Film>, form: DisambiguatedNameForm)
     ensures { ctx.new.outer ≡ ctx.old.outer }
 {
@@ -145,7 +147,7 @@ fn keep(ctx: &mut Context<'_, Film>, form: DisambiguatedNameForm)
     ctx.keep_first_name_properties(names);
 }
 
-/// Keeps names of two forms. It writes whether some were kept before.
+/// Keeps name forms with two default forms in turn, and writes whether some were kept before.
 pub(crate) fn keep_names(ctx: &mut Context<'_, Film>) -> Result<(), RenderError>
     ensures { OnOk result (ctx.new.outer ≡ ctx.old.outer) }
 {

@@ -1,4 +1,4 @@
-//! An entry type of these tests' own.
+//! The entry type of these tests.
 
 use crate::made::pieces;
 use csl_entry::EntryLike;
@@ -10,10 +10,11 @@ use std::alloc::Global;
 use std::borrow::{Cow, CowStr};
 use std::test::Fail;
 
-/// A text variable for which a film has no memory.
+/// A text variable whose lookup in a film runs out of memory.
 pub(crate) const UNANSWERED: StandardVariable = StandardVariable::Annote;
 
-/// A film. To each variable of a sort it answers the same, but for the texts: it has a title alone.
+/// A film. It answers all variables of a sort the same way. Of the text variables it has only the
+/// title.
 #[derive(Drop)]
 pub(crate) struct Film {
     number: Numeric,
@@ -107,7 +108,7 @@ impl EntryLike for Film {
     }
 }
 
-/// Number 20, page 7, a title in three pieces, of Lang, in 1927.
+/// Number 20, page 7, a title in three pieces, the director Lang, the year 1927.
 pub(crate) fn metropolis(alloc: Global) -> Result<Film, Fail> {
     let shown = Date::new(1927, None, None, None, false).ok_or("a year")?;
     let pages = PageRanges::parse(alloc, "7")?;

@@ -1,5 +1,5 @@
-//! The tests of `csl_context`: its public calls with ample memory. What is expected stands here as
-//! written out by hand.
+//! Tests of the public calls of `csl_context`, with ample memory. The expected texts are written by
+//! hand.
 #![tactic(auto)]
 
 #[cfg(test)]

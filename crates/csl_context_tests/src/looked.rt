@@ -1,4 +1,4 @@
-//! Looks for printing and silent ones.
+//! Lookups for printing and silent lookups.
 
 ghost use Rattle.std.specs.Prelude.{◌≡◌, OnOk};
 
@@ -9,7 +9,7 @@ use csl_context::{Context, RenderError};
 use csl_style::{DateVariable, NameVariable, NumberVariable, PageVariable, StandardVariable};
 use lit_model::LongShortForm;
 
-/// Which of five variables are found by silent looks.
+/// Whether each of five variables is found by a silent lookup.
 fn found(ctx: &Context<'_, Film>) -> Result<[bool; 5], RenderError> {
     let title = ctx
         .peek_standard_variable(LongShortForm::Short, StandardVariable::Title)?
@@ -21,8 +21,8 @@ fn found(ctx: &Context<'_, Film>) -> Result<[bool; 5], RenderError> {
     Ok([title, number, page, date, names])
 }
 
-/// Writes them. A silent look that is refused memory leaves the context as it was, so the context
-/// is failed here.
+/// Writes whether silent lookups find the five variables. One that runs out of memory leaves the
+/// context unchanged, so this function fails it.
 fn peek_all(ctx: &mut Context<'_, Film>) -> Result<(), RenderError>
     ensures { OnOk result (ctx.new.outer ≡ ctx.old.outer) }
 {
@@ -38,7 +38,7 @@ fn peek_all(ctx: &mut Context<'_, Film>) -> Result<(), RenderError>
     put(ctx, yes(names))
 }
 
-/// Writes which of them are found by looks for printing.
+/// Writes whether lookups for printing find the five variables.
 fn resolve_all(ctx: &mut Context<'_, Film>) -> Result<(), RenderError>
     ensures { OnOk result (ctx.new.outer ≡ ctx.old.outer) }
 {
@@ -61,7 +61,7 @@ fn resolve_all(ctx: &mut Context<'_, Film>) -> Result<(), RenderError>
     put(ctx, yes(found))
 }
 
-/// Looks for printing between silent ones.
+/// Looks up the five variables silently, then for printing, then silently again.
 pub(crate) fn look(ctx: &mut Context<'_, Film>) -> Result<(), RenderError>
     ensures { OnOk result (ctx.new.outer ≡ ctx.old.outer) }
 {
@@ -71,7 +71,8 @@ pub(crate) fn look(ctx: &mut Context<'_, Film>) -> Result<(), RenderError>
     Ok(())
 }
 
-/// Looks up each variable while looks for printing suppress their variable.
+/// Looks up the five variables as [`look`] does, while lookups for printing suppress their
+/// variable.
 pub(crate) fn look_and_suppress(ctx: &mut Context<'_, Film>) -> Result<(), RenderError>
     ensures { OnOk result (ctx.new.outer ≡ ctx.old.outer) }
 {
@@ -81,7 +82,7 @@ pub(crate) fn look_and_suppress(ctx: &mut Context<'_, Film>) -> Result<(), Rende
     Ok(())
 }
 
-/// Whether a look for printing finds a genre, which the entry has not.
+/// Whether a lookup for printing finds a genre. The entry has none.
 fn has_genre(ctx: &mut Context<'_, Film>) -> Result<bool, RenderError>
     ensures { OnOk result (ctx.new.outer ≡ ctx.old.outer) }
 {
@@ -90,7 +91,8 @@ fn has_genre(ctx: &mut Context<'_, Film>) -> Result<bool, RenderError>
     Ok(found.is_some())
 }
 
-/// Has looks for printing suppress their variable from then on, and looks for a genre.
+/// Lets lookups for printing suppress their variable from now on, and looks up a genre. Writes
+/// whether they did before, and whether it was found.
 pub(crate) fn suppress_genre(ctx: &mut Context<'_, Film>) -> Result<(), RenderError>
     ensures { OnOk result (ctx.new.outer ≡ ctx.old.outer) }
 {

@@ -1,4 +1,4 @@
-//! What a context is made of: a style.
+//! Constructors of the tests' style, of texts and of affixes.
 
 use csl_style::{
     Affixes, Date, DateForm, Formatting, InheritableNameOptions, Layout, Locale, OrdinalSlot,
@@ -19,8 +19,8 @@ fn kind_of(piece: &str) -> (ChunkKind, &str) {
     (ChunkKind::Normal, piece)
 }
 
-/// The text of some pieces with `+` between them. A backtick before a piece says `Verbatim`, and
-/// `$` says `Math`.
+/// The text of the pieces that `+` separates. A backtick before a piece means `Verbatim`, and `$`
+/// means `Math`.
 pub(crate) fn pieces(alloc: Global, text: &str) -> Result<ChunkedString, AllocError> {
     let mut chunks = Vec::new(alloc);
     for piece in text.split('+') {
@@ -38,15 +38,15 @@ pub(crate) fn alone<T: Drop>(alloc: Global, item: T) -> Result<Vec<T>, AllocErro
     Ok(items)
 }
 
-/// Adds an item to a list.
+/// Appends an item to a list.
 fn put<T: Drop>(items: &mut Vec<T>, item: T) -> Result<(), AllocError> {
     Ok(items.push(item)?)
 }
 
-/// A term, its form, its text for one and that for several.
+/// A term, its form, its singular and its plural.
 type TermRow = (Term, TermForm, &'static str, &'static str);
 
-/// The terms of the style. Those in the long form are feminine.
+/// The terms of the style.
 static TERMS: [TermRow; 6] = [
     (Term::Other(OtherTerm::OpenQuote), TermForm::Long, "“", "“"),
     (Term::Other(OtherTerm::CloseQuote), TermForm::Long, "”", "”"),
@@ -71,7 +71,7 @@ static TERMS: [TermRow; 6] = [
     (Term::Page(PageVariable::Page), TermForm::Short, "p.", "pp."),
 ];
 
-/// The terms that rows describe.
+/// The terms of the rows. All are feminine.
 fn terms(alloc: Global, rows: &[TermRow]) -> Result<Vec<TermEntry>, AllocError> {
     let mut terms = Vec::new(alloc);
     for (term, form, single, multiple) in rows {
@@ -89,7 +89,7 @@ fn terms(alloc: Global, rows: &[TermRow]) -> Result<Vec<TermEntry>, AllocError> 
     Ok(terms)
 }
 
-/// The ordinals: `st` behind 1, else `th`.
+/// The ordinals: `st` after a last digit 1, else `th`.
 fn ordinals(alloc: Global) -> Result<Vec<OrdinalTerm>, AllocError> {
     let mut ordinals = Vec::new(alloc);
     for (slot, text) in [(OrdinalSlot::Default, "th"), (OrdinalSlot::Two(1), "st")] {
@@ -104,7 +104,7 @@ fn ordinals(alloc: Global) -> Result<Vec<OrdinalTerm>, AllocError> {
     Ok(ordinals)
 }
 
-/// A localized date in words, without parts.
+/// The one localized date, in words and without parts.
 fn dates(alloc: Global) -> Result<Vec<Date>, AllocError> {
     let date = Date {
         variable: None,
@@ -119,7 +119,7 @@ fn dates(alloc: Global) -> Result<Vec<Date>, AllocError> {
     alone(alloc, date)
 }
 
-/// The one locale. A comma or period behind a closing quote goes before it.
+/// The one locale. A comma or period after a closing quote goes before it.
 fn locales(alloc: Global) -> Result<Vec<Locale>, AllocError> {
     let terms = terms(alloc, &TERMS)?;
     let ordinals = ordinals(alloc)?;
@@ -134,7 +134,7 @@ fn locales(alloc: Global) -> Result<Vec<Locale>, AllocError> {
     alone(alloc, locale)
 }
 
-/// Has options of names set a delimiter.
+/// Sets the delimiter of the options of names.
 fn delimit(
     alloc: Global,
     options: &mut InheritableNameOptions,
@@ -144,7 +144,7 @@ fn delimit(
     Ok(())
 }
 
-/// Has the options of names set what the settings say.
+/// Sets the delimiters and the sort separator that [`settings`] describes.
 fn set_names(alloc: Global, settings: &mut StyleSettings) -> Result<(), AllocError> {
     settings.names.sort_separator = Some(String::from_str(alloc, "s")?);
     delimit(alloc, &mut settings.names, "n")?;
@@ -152,7 +152,7 @@ fn set_names(alloc: Global, settings: &mut StyleSettings) -> Result<(), AllocErr
     delimit(alloc, &mut settings.bibliography_names, "b")
 }
 
-/// Settings: names are delimited by `n`, in the citation by `c`, in the bibliography by `b`; the
+/// The settings. The delimiter of names is `n`, in the citation `c`, in the bibliography `b`. The
 /// sort separator is `s`.
 fn settings(alloc: Global) -> Result<StyleSettings, AllocError> {
     let mut settings = StyleSettings::default();
@@ -168,7 +168,7 @@ fn empty_layout(alloc: Global) -> Layout {
     }
 }
 
-/// A style of these settings and this locale, without macros and elements.
+/// The style with these settings and this locale. It has no macros and no nodes.
 pub(crate) fn style(alloc: Global) -> Result<Style, Fail> {
     let locales = locales(alloc)?;
     let settings = settings(alloc)?;

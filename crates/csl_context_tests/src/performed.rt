@@ -1,4 +1,4 @@
-//! The tests: what is done in a context, and what it makes and leaves.
+//! The tests: acts in a context, their content, and the state that they leave.
 
 ghost use Rattle.std.specs.Prelude.{◌≡◌, [], OnOk, IfOk};
 
@@ -20,7 +20,7 @@ use std::alloc::Global;
 use std::process::Abort;
 use std::test::Fail;
 
-/// What a test does in a context.
+/// An act: the calls that a test makes in a context.
 #[derive(Clone, Copy, Debug)]
 enum Act {
     Join,
@@ -76,7 +76,7 @@ fn perform(ctx: &mut Context<'_, Film>, affixes: &Affixes, act: Act) -> Result<(
     }
 }
 
-/// What contexts are made of, and the affixes that are written in them.
+/// The parts of a context, and the affixes that are written in it.
 #[derive(Clone, Copy)]
 struct World<'s> {
     alloc: Global,
@@ -86,7 +86,7 @@ struct World<'s> {
     affixes: &'s Affixes,
 }
 
-/// What a world lends, each alone in a list.
+/// The values that a world borrows. All but the affixes are alone in a list.
 #[derive(Drop)]
 struct Things {
     styles: Vec<Style>,
@@ -120,7 +120,7 @@ fn world_of<'s>(alloc: Global, things: &'s Things) -> Result<World<'s>, Fail> {
     })
 }
 
-/// The cite, as it is sorted by a macro, without its author.
+/// The cite, to be sorted by a macro, and without its author.
 fn instance<'s>(world: World<'s>) -> InstanceContext<'s, Film> {
     InstanceContext {
         entry: world.film,
@@ -130,8 +130,8 @@ fn instance<'s>(world: World<'s>) -> InstanceContext<'s, Film> {
     }
 }
 
-/// What a call of the context answered, where the context answers from then on that it has failed.
-/// Where it does not, the answer is that it had failed before.
+/// Returns the error of a call if the context and later calls report the failure. Otherwise returns
+/// [`RenderError::Failed`].
 fn refused(ctx: &mut Context<'_, Film>, error: RenderError) -> RenderError {
     let written = ctx.push_str("a").err();
     let guard = ctx.ensure_live().err();
@@ -142,7 +142,7 @@ fn refused(ctx: &mut Context<'_, Film>, error: RenderError) -> RenderError {
     RenderError::Failed
 }
 
-/// Where an act begins: in a new context, or with what another one left.
+/// The context of an act: a new one, or one with the state that another act left.
 fn begun<'s>(world: World<'s>, before: Option<&Rendered>) -> Result<Context<'s, Film>, RenderError>
     ensures { IfOk result (λ ctx. ctx.outer ≡ []) }
 {
@@ -157,7 +157,7 @@ fn begun<'s>(world: World<'s>, before: Option<&Rendered>) -> Result<Context<'s, 
     }
 }
 
-/// What an act makes and leaves behind another, if there is one.
+/// The content and the state of an act, after another act if there is one.
 fn made<'s>(
     world: World<'s>,
     before: Option<&Rendered>,
@@ -174,7 +174,7 @@ fn made<'s>(
     }
 }
 
-/// What is made. Where a context is refused memory, another one makes it.
+/// The content and the state of an act. If memory runs out, the act runs again in a new context.
 fn rendered<'s>(world: World<'s>, before: Option<&Rendered>, act: Act) -> Result<Rendered, Fail> {
     match made(world, before, act) {
         Ok(rendered) => Ok(rendered),
@@ -183,7 +183,7 @@ fn rendered<'s>(world: World<'s>, before: Option<&Rendered>, act: Act) -> Result
     }
 }
 
-/// The last of one act or two in a world of these things, in words.
+/// The rendering of the last of one or two acts in the world of these things, in words.
 fn said_in(alloc: Global, things: &Things, act: Act, next: Option<Act>) -> Result<String, Fail> {
     let world = world_of(alloc, things)?;
     let first = rendered(world, None, act)?;
@@ -195,7 +195,7 @@ fn said_in(alloc: Global, things: &Things, act: Act, next: Option<Act>) -> Resul
     said
 }
 
-/// What an act makes and leaves behind another, in words.
+/// The rendering of an act after another act, in words.
 fn said_behind<'s>(world: World<'s>, before: &Rendered, act: Act) -> Result<String, Fail> {
     let made = rendered(world, Some(before), act)?;
     let said = say(world.alloc, &made);
@@ -203,8 +203,7 @@ fn said_behind<'s>(world: World<'s>, before: &Rendered, act: Act) -> Result<Stri
     said
 }
 
-/// Performs an act and perhaps a next one, in a world that is made for them, and describes what was
-/// made.
+/// The rendering of the last of one or two acts in a new world, in words.
 fn said(alloc: Global, act: Act, next: Option<Act>) -> Result<String, Fail> {
     let things = new_things(alloc)?;
     let said = said_in(alloc, &things, act, next);
@@ -212,9 +211,9 @@ fn said(alloc: Global, act: Act, next: Option<Act>) -> Result<String, Fail> {
     said
 }
 
-/// What a context answers to a silent look for which the entry has no memory, to such a look for
-/// printing, to a text behind that, and at its end, where it is an error. Then whether it had
-/// failed behind the first and behind the third.
+/// The errors, if any, of four calls: a silent lookup that runs out of memory in the entry, the
+/// same lookup for printing, the writing of a text, and `finish`. Then whether the context had
+/// failed after the first and the third.
 type Refusals = ([Option<RenderError>; 4], [bool; 2]);
 
 fn refusals_in(alloc: Global, things: &Things) -> Result<Refusals, Fail> {
@@ -232,13 +231,13 @@ fn refusals_in(alloc: Global, things: &Things) -> Result<Refusals, Fail> {
     Ok((errors, [had_failed, has_failed]))
 }
 
-/// What a silent look answers for which the entry has no memory.
+/// The error, if any, of a silent lookup that runs out of memory in the entry.
 fn refused_look(ctx: &Context<'_, Film>) -> Option<RenderError> {
     ctx.peek_standard_variable(LongShortForm::Long, UNANSWERED)
         .err()
 }
 
-/// The results of calls that are refused memory, in a world that is made for them.
+/// The errors of these four calls, in a new world.
 fn refusals(alloc: Global) -> Result<Refusals, Fail> {
     let things = new_things(alloc)?;
     let refusals = refusals_in(alloc, &things);
@@ -246,8 +245,8 @@ fn refusals(alloc: Global) -> Result<Refusals, Fail> {
     refusals
 }
 
-/// What a context answers to a call that ran out of memory, and behind it to one that did not. Then
-/// whether it has failed.
+/// The errors, if any, of [`Context::attempt`] for a call that ran out of memory, and then for one
+/// that did not. Then whether the context has failed.
 fn attempts_in(alloc: Global, things: &Things) -> Result<([Option<RenderError>; 2], bool), Fail> {
     let world = world_of(alloc, things)?;
     let mut ctx = Context::new(world.alloc, world.style, instance(world), Scope::Citation)?;
@@ -260,7 +259,7 @@ fn attempts_in(alloc: Global, things: &Things) -> Result<([Option<RenderError>; 
     Ok(([first, second], has_failed))
 }
 
-/// The same in a world that is made for it.
+/// The errors of these two calls, in a new world.
 fn attempts(alloc: Global) -> Result<([Option<RenderError>; 2], bool), Fail> {
     let things = new_things(alloc)?;
     let attempts = attempts_in(alloc, &things);
@@ -268,7 +267,7 @@ fn attempts(alloc: Global) -> Result<([Option<RenderError>; 2], bool), Fail> {
     attempts
 }
 
-/// An error in words.
+/// The text of an error.
 fn words_of(alloc: Global, error: RenderError) -> Result<String, Fail> {
     Ok(format!(in alloc; "{error}")?)
 }
@@ -277,40 +276,39 @@ fn assert_said(rt: &impl Abort, said: &str, wanted: &str, act: Act) {
     assert_eq!(rt; said, wanted, "{act:?}");
 }
 
-/// An act, and what it makes and leaves.
+/// An act, and its rendering in the words of [`say`].
 static ACTS: [(Act, &str); 27] = [
     (Act::Join, "ab"),
     // An element without content is dropped, whatever its display and its meta are.
     (Act::Nest("b"), "[ a [ b ]block:date ]"),
     (Act::Nest(""), "[ a ]"),
     (Act::Discard, "ac"),
-    // Texts join at the seams.
+    // Adjacent texts become one text.
     (Act::Splice("b"), "ab<b>"),
     (Act::Splice(""), "a"),
     (Act::Affix("m"), "(m,~"),
     (Act::Affix(""), ""),
-    // The comma of the suffix stands inside the quotes, and the rest of it behind them.
+    // The comma of the suffix is inside the quotes, and the rest of the suffix is after them.
     (Act::Quote("A"), "(“A,”~"),
     (Act::Quote(""), ""),
-    // A colon stays, a period goes before the closing quote. Behind the quotes the outer ones count
-    // again.
+    // A colon does not move, a period moves before the closing quote. Quotes after both are outer
+    // ones again.
     (Act::QuoteTwice, "“‘B’.”“C”"),
     (Act::Format, "/a /*b c"),
     (Act::Strip, "abcd.no|yes|"),
-    // What is verbatim, mathematics or a link keeps its periods. A link without text is not
-    // written.
+    // Verbatim texts, mathematics and links keep their periods. A link without text is not written.
     (Act::WritePieces, "ab. $c. @t.|u. #3"),
     (Act::Space, "a~byes|no|yes|no|"),
     (Act::Delimit, ";~|none|;~|none|"),
-    // The citation's own delimiter of names comes before that of the style.
+    // The citation's own delimiter of names overrides that of the style.
     (Act::InheritOptions, "b|s|c|"),
-    // A verb that is missing is the long form.
+    // A missing verb form falls back to the long form.
     (Act::AskTerms, "page|pp.|pages|none|yes|yes|"),
     (Act::AskLocale, "st|th|yes|no|"),
     (Act::AskCite, "yes|yes|yes|yes|yes|yes|no|no|"),
     (Act::MarkDates, "yes|yes|no|no| dated"),
     (Act::KeepNames, "no| named Count"),
-    // Looks for printing suppress nothing by themselves.
+    // Lookups for printing suppress nothing while the switch is off.
     (
         Act::Look,
         "yes|yes|yes|yes|yes|yes|yes|yes|yes|yes|yes|yes|yes|yes|yes|",
@@ -320,7 +318,7 @@ static ACTS: [(Act, &str); 27] = [
         "yes|yes|yes|yes|yes|yes|yes|yes|yes|yes|no|no|no|no|no| suppressed {Standard(Title), \
          Number(Volume), Page(Page), Date(Issued), Name(Director)}",
     ),
-    // A variable is suppressed whatever is found.
+    // A variable is suppressed even if it is not found.
     (
         Act::SuppressGenre,
         "no|no| suppressed {Standard(Genre)} suppressing",
@@ -329,10 +327,9 @@ static ACTS: [(Act, &str); 27] = [
     (Act::Attempt, "7|yes|"),
 ];
 
-/// Two acts, of which the second begins with what the first left, and what that one makes and
-/// leaves.
+/// Two acts, and the rendering of the second, which begins with the state that the first left.
 static TWO_ACTS: [(Act, Act, &str); 5] = [
-    // What was written is not left.
+    // The state has no content.
     (Act::Join, Act::Join, "ab"),
     (Act::MarkDates, Act::MarkDates, "no|no|no|no| dated"),
     (Act::KeepNames, Act::KeepNames, "yes| named Count"),
@@ -342,7 +339,7 @@ static TWO_ACTS: [(Act, Act, &str); 5] = [
         Act::SuppressGenre,
         "yes|no| suppressed {Standard(Genre)} suppressing",
     ),
-    // What was suppressed answers nothing.
+    // A lookup of a suppressed variable finds nothing.
     (
         Act::LookAndSuppress,
         Act::Look,

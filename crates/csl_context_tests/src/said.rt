@@ -1,18 +1,17 @@
-//! What was rendered, in words, with one space between them.
+//! Renderings in words, with one space between them.
 //!
-//! | Word | What was written |
+//! | Word | Content |
 //! |---|---|
 //! | `a` | the text `a` |
 //! | `/a`, `*a` | the text `a` in italics, in bold |
 //! | `$a` | the markup `a` |
-//! | `@a\|b` | a link from what `a` says to the address `b` |
-//! | `#3` | the place of the citation 3 |
-//! | `[ a ]` | an element around what `a` says |
+//! | `@a\|b` | a link with the text `a` to the address `b` |
+//! | `#3` | a place that the caller fills, for the cite of index 3 |
+//! | `[ a ]` | an element with the content `a` |
 //!
-//! In a text `~` says a blank. Behind the end of an element stand its display and its meta:
-//! `]block`, `]:date`, `]block:date`. Behind it all stands what was left, as far as it is not as in
-//! the beginning: ` suppressed {..}`, `suppressing`, `dated`, and `named` with the default form of
-//! the names.
+//! In a text, `~` is a space. The display and the meta of an element follow its end: `]block`,
+//! `]:date`, `]block:date`. The state follows the content, as far as it differs from the initial
+//! one: ` suppressed {..}`, `suppressing`, `dated`, and `named` with the default form of the names.
 
 use csl_context::{LeftState, Rendered};
 use csl_style::{Display, FontStyle, FontWeight};
@@ -29,7 +28,7 @@ fn say_text(text: &str, said: &mut String) -> Result<(), Memory> {
     Ok(())
 }
 
-/// The marks that describe a formatting.
+/// The marks of a formatting.
 fn marks(formatting: Formatting) -> &'static str {
     match (formatting.font_style, formatting.font_weight) {
         (FontStyle::Italic, FontWeight::Bold) => "/*",
@@ -39,13 +38,13 @@ fn marks(formatting: Formatting) -> &'static str {
     }
 }
 
-/// Says a text in its formatting.
+/// Appends a text with the marks of its formatting.
 fn say_formatted(text: &Formatted, said: &mut String) -> Result<(), Memory> {
     said.push_str(marks(text.formatting))?;
     say_text(text.text.as_str(), said)
 }
 
-/// The word that closes an element, by its display.
+/// The end of an element, by its display.
 fn end_of(display: Option<Display>) -> &'static str {
     match display {
         Some(Display::Block) => " ]block",
@@ -54,7 +53,7 @@ fn end_of(display: Option<Display>) -> &'static str {
     }
 }
 
-/// The word for the node that made an element.
+/// The word for the meta of an element.
 fn meta_of(meta: &Option<ElemMeta>) -> &'static str {
     match meta {
         None => "",
@@ -65,7 +64,7 @@ fn meta_of(meta: &Option<ElemMeta>) -> &'static str {
     }
 }
 
-/// Appends a blank and the description of a child.
+/// Appends a space and a child in words.
 #[cycle(say)]
 fn say_child(child: &ElemChild, said: &mut String) -> Result<(), Memory> {
     match child {
@@ -95,7 +94,7 @@ fn say_child(child: &ElemChild, said: &mut String) -> Result<(), Memory> {
     }
 }
 
-/// Says children, each behind a blank.
+/// Appends children in words, each after a space.
 #[cycle(say)]
 fn say_children(children: &ElemChildren, said: &mut String) -> Result<(), Memory> {
     for child in &children.0 {
@@ -104,7 +103,7 @@ fn say_children(children: &ElemChildren, said: &mut String) -> Result<(), Memory
     Ok(())
 }
 
-/// Appends the description of a state.
+/// Appends a state in words.
 fn say_state(state: &LeftState, said: &mut String) -> Result<(), Fail> {
     if !state.suppressed.is_empty() {
         write!(said, " suppressed {:?}", state.suppressed)?;
@@ -121,7 +120,7 @@ fn say_state(state: &LeftState, said: &mut String) -> Result<(), Fail> {
     Ok(())
 }
 
-/// What was rendered and left, in words.
+/// The content and the state of a rendering, in words.
 pub(crate) fn say(alloc: Global, rendered: &Rendered) -> Result<String, Fail> {
     let mut said = String::new(alloc);
     say_children(&rendered.content, &mut said)?;

@@ -1,4 +1,4 @@
-//! What calls write, and around what.
+//! Acts that write content.
 
 ghost use Rattle.std.specs.Prelude.{◌≡◌, OnOk};
 
@@ -9,7 +9,7 @@ use csl_style::{Affixes, Display, FontStyle, FontWeight, StandardVariable, forma
 use csl_tree::ElemMeta;
 use lit_model::LongShortForm;
 
-/// Two texts around an empty one.
+/// Writes two texts around an empty one.
 pub(crate) fn join(ctx: &mut Context<'_, Film>) -> Result<(), RenderError>
     ensures { OnOk result (ctx.new.outer ≡ ctx.old.outer) }
 {
@@ -20,7 +20,7 @@ pub(crate) fn join(ctx: &mut Context<'_, Film>) -> Result<(), RenderError>
     Ok(())
 }
 
-/// A date in a block around the text, in an element with another text.
+/// Writes an element with a text, and with the given text as a date in a block.
 pub(crate) fn nest(ctx: &mut Context<'_, Film>, text: &str) -> Result<(), RenderError>
     ensures { OnOk result (ctx.new.outer ≡ ctx.old.outer) }
 {
@@ -33,7 +33,7 @@ pub(crate) fn nest(ctx: &mut Context<'_, Film>, text: &str) -> Result<(), Render
     Ok(())
 }
 
-/// A part that is dropped between two texts.
+/// Writes two texts, and drops a part between them.
 pub(crate) fn discard(ctx: &mut Context<'_, Film>) -> Result<(), RenderError>
     ensures { OnOk result (ctx.new.outer ≡ ctx.old.outer) }
 {
@@ -45,7 +45,7 @@ pub(crate) fn discard(ctx: &mut Context<'_, Film>) -> Result<(), RenderError>
     Ok(())
 }
 
-/// A part that is spliced, and one that is spliced between two texts.
+/// Writes a text, a spliced part, and a part spliced between affixes.
 pub(crate) fn splice(ctx: &mut Context<'_, Film>, text: &str) -> Result<(), RenderError>
     ensures { OnOk result (ctx.new.outer ≡ ctx.old.outer) }
 {
@@ -59,7 +59,7 @@ pub(crate) fn splice(ctx: &mut Context<'_, Film>, text: &str) -> Result<(), Rend
     Ok(())
 }
 
-/// The text in affixes.
+/// Writes the text between affixes.
 pub(crate) fn affix(
     ctx: &mut Context<'_, Film>,
     affixes: &Affixes,
@@ -73,7 +73,7 @@ pub(crate) fn affix(
     Ok(())
 }
 
-/// The text in quotes in affixes.
+/// Writes the text in quotes, between affixes.
 #[tactic(auto, unfolding(csl_context::specs::ContextView::with_quotes))]
 pub(crate) fn quote(
     ctx: &mut Context<'_, Film>,
@@ -90,7 +90,7 @@ pub(crate) fn quote(
     Ok(())
 }
 
-/// A text in quotes in quotes, before two suffixes that are not written. Behind it a text in
+/// Writes a text in quotes in quotes, each before a suffix that is not written, and another text in
 /// quotes.
 #[tactic(auto, unfolding(csl_context::specs::ContextView::with_quotes))]
 pub(crate) fn quote_twice(ctx: &mut Context<'_, Film>) -> Result<(), RenderError>
@@ -121,7 +121,7 @@ fn bold() -> formatting::Formatting {
     }
 }
 
-/// A text in italics, one that is bold as well, and one behind both.
+/// Writes a text in italics, one in bold italics, and one in neither.
 pub(crate) fn format(ctx: &mut Context<'_, Film>) -> Result<(), RenderError>
     ensures { OnOk result (ctx.new.outer ≡ ctx.old.outer) }
 {
@@ -135,7 +135,8 @@ pub(crate) fn format(ctx: &mut Context<'_, Film>) -> Result<(), RenderError>
     Ok(())
 }
 
-/// Texts that lose their periods, and one that keeps them.
+/// Writes texts that lose their periods, one that keeps them, and the results of
+/// [`Context::may_strip_periods`].
 pub(crate) fn strip(ctx: &mut Context<'_, Film>) -> Result<(), RenderError>
     ensures { OnOk result (ctx.new.outer ≡ ctx.old.outer) }
 {
@@ -150,12 +151,13 @@ pub(crate) fn strip(ctx: &mut Context<'_, Film>) -> Result<(), RenderError>
     Ok(())
 }
 
-/// A word for a truth value.
+/// The word for a boolean.
 pub(crate) fn yes(is_so: bool) -> Option<&'static str> {
     if is_so { Some("yes") } else { Some("no") }
 }
 
-/// The title in its pieces, two links and a place, where texts lose their periods.
+/// Writes the title in its pieces, two links and a place for the caller, while texts lose their
+/// periods.
 pub(crate) fn write_pieces(ctx: &mut Context<'_, Film>) -> Result<(), RenderError>
     ensures { OnOk result (ctx.new.outer ≡ ctx.old.outer) }
 {
@@ -178,7 +180,8 @@ fn write_title(ctx: &mut Context<'_, Film>) -> Result<(), RenderError>
     }
 }
 
-/// Spaces before, between and behind two texts.
+/// Ensures a space before a text, and twice between it and a second one. Writes whether the part
+/// was empty at first and had text after the first call, and whether it has text and is empty now.
 pub(crate) fn space(ctx: &mut Context<'_, Film>) -> Result<(), RenderError>
     ensures { OnOk result (ctx.new.outer ≡ ctx.old.outer) }
 {

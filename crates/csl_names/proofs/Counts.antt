@@ -2,7 +2,7 @@
 use Rattle.std.proofs.Common.{◌≡◌, ℕ, ◌+◌, min, arith}
 use Rattle.std.proofs.Math.Nat.{sub-add-min_cancel}
 
--- a limit at each step, and one at the end
+-- a limit at each step is the same as one at the end
 pub capped : (m x s r : ℕ) → min (min (x + s) m + r) m ≡ min (x + (s + r)) m
 capped m x s r = omega (arith, sub-add-min_cancel (x + s) m, sub-add-min_cancel (min (x + s) m + r) m, sub-add-min_cancel (x + (s + r)) m)
 

@@ -1,4 +1,4 @@
--- Pieces behind pieces.
+-- Two lists of pieces, one after the other.
 use Rattle.std.proofs.Common.{◌≡◌, List, [], ◌∷◌, ◌++◌, refl}
 use Rattle.csl_tree.specs.Tokens.{Token}
 use Rattle.csl_context.specs.State.{Inherited}

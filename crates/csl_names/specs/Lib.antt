@@ -1,5 +1,5 @@
--- The definitions that the contracts of `csl_names` cite: how one name, a list of names and the
--- lists of a names node are written.
+-- The definitions that the contracts of `csl_names` cite: one name, a list of names, and the lists
+-- of a names node.
 pub mod Piece
 pub mod OneName
 pub mod NameStyles

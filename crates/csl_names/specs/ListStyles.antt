@@ -1,5 +1,5 @@
--- How a style writes a list of names (CSL 1.0.2, Name; Et-al). The word before the last name is
--- `&`, or the long term `and`, or nothing if the style lacks the term (`and_word`). `et al.` is the
+-- A style's settings for a list of names (CSL 1.0.2, Name; Et-al). The word before the last name is
+-- `&`, or the long term `and`, or empty if the style lacks the term (`and_word`). `et al.` is the
 -- long form of the term that the Et-al names. Delimiter, rules and order come from the options
 -- (`list_style`, `list_style_in`).
 use Rattle.std.specs.Prelude.{ℕ, Bool, false, List, [], Option, Some, None, codes, is_some, unwrap_or}
@@ -21,15 +21,15 @@ use Rattle.csl_names.specs.OneName.{name_style_view}
 use Rattle.csl_names.specs.NameList.{ListStyleView, with_names}
 use Rattle.csl_names.specs.NameStyles.{name_style}
 
--- the word before the last name, where there is to be one: an ampersand, or the term, or nothing
--- where the style lacks it
+-- the word before the last name, if there is an `and`: an ampersand, or the term, or an empty text
+-- if the style lacks it
 abbrev pub and_word : StyleParts → Option NameAnd → Option (List ℕ)
 and_word style None = None
 and_word style (Some Symbol) = Some (codes "&")
 and_word style (Some Text) = Some (unwrap_or (term_in style (Other And) Long false) [])
 
--- as code holds it: the style, which is asked for a term where it is written, and what is borrowed
--- from it
+-- the settings that the code holds, as data: texts are borrowed, and a term is looked up in the
+-- style when it is written
 abbrev pub list_style_view : ListStyle → ListStyleView
 list_style_view s = record {
   variable = s.variable;
@@ -44,7 +44,7 @@ list_style_view s = record {
   et_al_formatting = s.et_al_formatting;
 }
 
--- how a list of names is written, where a sort key is made or not
+-- the settings of a list of names, in a sort key or not
 abbrev pub list_style : StyleParts → Bool → NameNode → CompleteOptions → EtAlNode → NameVariable → ListStyleView
 list_style style sorting name o et_al variable = record {
   variable = variable;
@@ -59,7 +59,7 @@ list_style style sorting name o et_al variable = record {
   et_al_formatting = et_al.formatting;
 }
 
--- how a list of names is written in a context
+-- the settings of a list of names in a context
 abbrev pub list_style_in : {T : Type 0} → ContextView T → NameNode → CompleteOptions → EtAlNode → NameVariable → ListStyleView
 list_style_in now name o et_al variable = list_style now.style (is_some now.sorting) name o et_al variable
 

@@ -1,8 +1,8 @@
 -- A list of names (CSL 1.0.2, Name: `and`, `delimiter`, `delimiter-precedes-et-al`,
 -- `delimiter-precedes-last`, `et-al-use-last`, `name-as-sort-order`; Et-al) has persons, and a form
--- or none for each place (`NameForms`). It is a list of pieces too (`name_list`): the names, and
--- what replaces those that are left out. A gap of the list sees all of the innermost open part,
--- also what is before the list.
+-- or none for each place (`NameForms`). Like a name, it is a list of pieces (`name_list`): the
+-- names, and the pieces that replace those left out. A gap of the list depends on the whole
+-- innermost open part, also on the content before the list.
 use Rattle.std.specs.Prelude.{ℕ, ◌+◌, ◌-◌, Bool, true, false, ◌&&◌, ◌==◌, nat_lt, nat_le, min, List, [], ◌∷◌, ◌++◌, length, Option, Some, None, is_none, slice_get, codes, if◌then◌else◌}
 use Rattle.std.specs.List.{position}
 use Rattle.lit_model.specs.Person.{PersonView}
@@ -22,10 +22,10 @@ use Rattle.csl_context.specs.ContextView.{ContextView}
 use Rattle.csl_names.specs.Piece.{Piece, word, gap, whole, with_pieces}
 use Rattle.csl_names.specs.OneName.{NameStyleView, name_content}
 
--- The variable; how each name is written; what stands between two names; the word before the last
--- one, where there is to be one; when a delimiter stands before that word and before `et al.`;
--- whether the last name is kept; which names begin with the family name; the text of `et al.`,
--- where the style has one, and its formatting.
+-- The variable; the settings of each name; the text between two names; the word before the last
+-- one, if there is one; when a delimiter precedes that word, and when it precedes `et al.`; whether
+-- the last name is kept; which names begin with the family name; the text of `et al.`, if the style
+-- has one, and its formatting.
 pub record ListStyleView : Type 0 where
   pub variable : NameVariable
   pub name : NameStyleView
@@ -38,16 +38,16 @@ pub record ListStyleView : Type 0 where
   pub et_al : Option (List ℕ)
   pub et_al_formatting : partial.Formatting
 
--- ---- who is shown
--- The names up to the first place without a form (`names_from`). There may be fewer forms than
--- persons, or more. Each name is in an element of its own, with the variable and the place
--- (`one_whole`), and its gaps see that name alone.
+-- ---- shown names
+-- The list shows the names up to the first place without a form (`names_from`). There may be fewer
+-- forms than persons, or more. Each name is in an element of its own, with the variable and the
+-- place (`one_whole`), and its gaps depend on that name alone.
 
 abbrev pub form_or_none : Option (Option DisambiguatedNameForm) → Option DisambiguatedNameForm
 form_or_none None = None
 form_or_none (Some form) = form
 
--- the form of the name at a place; beyond the forms there is none
+-- the form of the name at a place; there is none beyond the forms
 abbrev pub form_at : NameForms → ℕ → Option DisambiguatedNameForm
 form_at forms place = form_or_none (slice_get forms place)
 
@@ -64,7 +64,7 @@ whole_count (Some place) count = None
 -- A *reversed* name begins with its family name: every name under `All`, the one at place 0 under
 -- `First`.
 
--- the name at a place begins with the family name
+-- whether the name at a place begins with the family name
 abbrev pub is_reversed : Option NameAsSortOrder → ℕ → Bool
 is_reversed None place = false
 is_reversed (Some First) place = place == 0
@@ -77,13 +77,13 @@ is_all (Some First) = false
 is_all (Some All) = true
 
 -- ---- before a name
--- Before each name but the first is the delimiter (`name_separator`). Before the last name of a
--- list that is shown whole, if there is an `and`, are the delimiter or a space, the word, and a gap
--- (`last_name_separator`). A delimiter precedes the word or `et al.` (`delimiter_precedes`) under
--- `Always`; never under `Never`; under `Contextual` after two names or more; under
--- `AfterInvertedName` if a name is shown and the last one shown is reversed.
+-- The delimiter precedes each name but the first (`name_separator`). In a list that is shown whole,
+-- if there is an `and`, the last name has a longer separator: the delimiter or a space, the word,
+-- and a gap (`last_name_separator`). A delimiter precedes the word or `et al.`
+-- (`delimiter_precedes`) under `Always`; never under `Never`; under `Contextual` after two names or
+-- more; under `AfterInvertedName` if a name is shown and the last one shown is reversed.
 
--- whether a delimiter follows this many names, of which `shown` are shown
+-- whether a delimiter follows `names` names if `shown` of them are shown
 abbrev pub delimiter_precedes : DelimiterBehavior → Option NameAsSortOrder → ℕ → ℕ → Bool
 delimiter_precedes Contextual order names shown = nat_le 2 names
 delimiter_precedes AfterInvertedName order names shown = nat_lt 0 shown && is_reversed order (shown - 1)
@@ -93,19 +93,19 @@ delimiter_precedes Never order names shown = false
 abbrev pub delimiter_of : ListStyleView → Piece
 delimiter_of how = word how.delimiter no_formatting
 
--- the pieces before the last name: a delimiter or a space, the word and a gap; the delimiter where
--- there is no word
+-- the pieces before the last name: a delimiter or a space, the word and a gap; the delimiter alone
+-- if there is no word
 abbrev pub last_name_separator : ListStyleView → ℕ → Option (List ℕ) → List Piece
 last_name_separator how place None = delimiter_of how ∷ []
 last_name_separator how place (Some and) =
     word (if delimiter_precedes how.before_last how.order place place then how.delimiter else codes " ") no_formatting ∷ word and no_formatting ∷ gap no_formatting ∷ []
 
--- the last place of a list that is shown whole
+-- whether a place is the last one of a list that is shown whole
 abbrev pub is_last : Option ℕ → ℕ → Bool
 is_last None place = false
 is_last (Some count) place = place + 1 == count
 
--- the pieces before the name at a place; `ends` is the number of names, where all are shown
+-- the pieces before the name at a place; `ends` is the number of names if all are shown
 abbrev pub name_separator : ListStyleView → Option ℕ → ℕ → List Piece
 name_separator how ends place =
     if nat_lt 0 place then (if is_last ends place then last_name_separator how place how.and_word else delimiter_of how ∷ []) else []
@@ -130,13 +130,14 @@ names_from inh how ends forms place (p ∷ ps) =
 
 -- ---- after the names
 -- If the forms leave a name out, the list ends with more pieces (`list_end`). With et-al-use-last
--- and a form at the last place (`last_form`): the delimiter, an ellipsis and a space, and the last
--- person in that form, with that person's place, reversed only under `All` (`kept_last`). Else,
--- unless a sort key is made or the style lacks the term (`et_al_pieces`): the delimiter, if it
--- precedes by the place of the first name left out and the persons before it, without the
--- formatting of `et al.`; then a gap and the term in that formatting.
+-- and a form at the last place (`last_form`), they are the delimiter, an ellipsis and a space, and
+-- the last person in that form. That person has its own place, and is reversed only under `All`
+-- (`kept_last`). Else they are a gap and the term, in the formatting of `et al.` (`et_al_pieces`).
+-- There are none in a sort key, or if the style lacks the term. The delimiter is before the gap,
+-- without that formatting, if `delimiter_precedes` is true for the place of the first name left out
+-- and the number of persons before it.
 
--- `et al.` after this many names, of which `shown` are shown
+-- `et al.` after `names` names, if `shown` of them are shown
 abbrev pub et_al_pieces : ListStyleView → ℕ → ℕ → Option (List ℕ) → List Piece
 et_al_pieces how names shown None = []
 et_al_pieces how names shown (Some term) =
@@ -153,12 +154,12 @@ kept_last inh how persons form None = []
 kept_last inh how persons form (Some p) =
     delimiter_of how ∷ word ellipsis no_formatting ∷ one_whole inh how form (is_all how.order) (length persons - 1) p ∷ []
 
--- the form of the last name, where that is to be kept
+-- the last form, if the list keeps its last name
 abbrev pub last_form : ListStyleView → NameForms → Option DisambiguatedNameForm
 last_form how forms = if how.use_last then form_at forms (length forms - 1) else None
 
--- the pieces after the names, of which the one at place `names` is the first without a form; a sort
--- key has no `et al.`
+-- the pieces after the names, if the name at place `names` is the first without a form; a sort key
+-- has no `et al.`
 abbrev pub cut_end : Inherited → ListStyleView → ℕ → NameForms → List PersonView → Option DisambiguatedNameForm → List Piece
 cut_end inh how names forms persons (Some form) = kept_last inh how persons form (slice_get persons (length persons - 1))
 cut_end inh how names forms persons None = if how.name.sorting then [] else et_al_pieces how names (min names (length persons)) how.et_al
@@ -174,8 +175,8 @@ name_list inh how persons forms =
     names_from inh how (whole_count (first_absent forms) (length persons)) forms 0 persons
     ++ list_end inh how forms persons (first_absent forms)
 
--- the context after one name, and after the list; a gap of the list sees all of the innermost open
--- part
+-- the context after one name, and after the list; a gap of the list depends on the whole innermost
+-- open part
 abbrev pub with_whole : {T : Type 0} → ListStyleView → DisambiguatedNameForm → Bool → ℕ → PersonView → ContextView T → ContextView T
 with_whole how form reversed place p now = with_pieces (one_whole now.inherited how form reversed place p ∷ []) now
 

@@ -1,8 +1,8 @@
--- How a style writes one name (CSL 1.0.2, Name; Name-part; `demote-non-dropping-particle`,
--- `initialize-with-hyphen`). The first part of each sort in a Name counts, else a part that sets
--- nothing (`part_in`). A particle is demoted always, only in sorting, or never, by the style's
--- setting (`demotes`). The separator and `initialize-with` come from the options (`name_style`,
--- `name_style_in`).
+-- A style's settings for one name (CSL 1.0.2, Name; Name-part; `demote-non-dropping-particle`,
+-- `initialize-with-hyphen`). The first given part and the first family part of a Name count; a
+-- missing one sets nothing (`part_in`). A particle is demoted always, only in sorting, or never, by
+-- the style's setting (`demotes`). The separator and `initialize-with` come from the options
+-- (`name_style`, `name_style_in`).
 use Rattle.std.specs.Prelude.{Bool, true, false, Option, Some, None, is_some}
 use Rattle.lit_model.specs.Person.{PersonView}
 use Rattle.csl_style.specs.declared.names.NamePartName.{NamePartName}
@@ -22,7 +22,7 @@ abbrev pub part_style_of : Option NamePartNode → PartStyleView
 part_style_of None = record { formatting = no_formatting; affixes = record { prefix = None; suffix = None } }
 part_style_of (Some p) = record { formatting = p.formatting; affixes = p.affixes }
 
--- how a part of a name is written
+-- the formatting and the affixes of a part of a name
 abbrev pub part_in : NamePartName → NameNode → PartStyleView
 part_in which name = part_style_of (first_part which name)
 
@@ -32,7 +32,7 @@ demotes DisplayAndSort sorting = true
 demotes SortOnly sorting = sorting
 demotes Never sorting = false
 
--- how a name is written
+-- the settings of a name, in a sort key or not
 abbrev pub name_style : StyleSettings → Bool → NameNode → CompleteOptions → NameStyleView
 name_style settings sorting name o = record {
   given = part_in Given name;
@@ -44,7 +44,7 @@ name_style settings sorting name o = record {
   sorting = sorting;
 }
 
--- how a name is written in a context
+-- the settings of a name in a context
 abbrev pub name_style_in : {T : Type 0} → ContextView T → NameNode → CompleteOptions → NameStyleView
 name_style_in now name o = name_style now.style.settings (is_some now.sorting) name o
 

@@ -26,10 +26,11 @@ use Rattle.csl_names.specs.NamesForms.{count_of, saturated_count}
 use Rattle.csl_names.specs.CiteForms.{forms_in, with_first_forms_by}
 use Rattle.csl_names.specs.declared.names.written.NamesStyle.{NamesStyle}
 
--- ---- how the lists are written
+-- ---- settings of the lists
 -- The first Name, Et-al and Label among the children count. Options are those of the Name over
--- those of the node over the inherited ones. Between two lists is the names delimiter of the Name,
--- else the delimiter of the node, else that of the node's options over the inherited ones.
+-- those of the node over the inherited ones. The text between two lists is the names delimiter of
+-- the Name, else the delimiter of the node, else that of the node's options over the inherited
+-- ones.
 
 -- the name, its options, et al., the label, and the delimiter between two lists
 pub record NamesStyleView : Type 0 where
@@ -46,7 +47,7 @@ name_of n = unwrap_or (first_name n) default_name
 abbrev pub set_options : NamesNode → PartialOptions → PartialOptions
 set_options n inherited = apply_options (name_of n).options (apply_options n.options inherited)
 
--- the delimiter that the node itself has counts before that among its options
+-- the node's own delimiter counts before the one among its options
 abbrev pub lists_delimiter : NamesNode → PartialOptions → List ℕ
 lists_delimiter n inherited =
     unwrap_or (option_or (name_of n).options.names_delimiter n.delimiter) (names_delimiter_of (apply_options n.options inherited))
@@ -62,35 +63,34 @@ names_style n inherited = record {
 
 -- ---- labels
 -- The label of a list is the affixed term of its variable, in the label's formatting, in the plural
--- unless there is one person. Only the term is stripped. Nothing is written if the style lacks the
--- term, or while a sort key is made. A label is after the names if a name child comes before it. It
--- has no box.
+-- unless there is one person. The label's strip-periods applies to the term alone. Nothing is
+-- written if the style lacks the term, or in a sort key. A label is after the names if a name child
+-- comes before it. It has no box.
 
--- what the term of a label inherits: the label's formatting, and stripping of the term alone
+-- the inherited values of a label's term: the label's formatting, and stripping for the term alone
 abbrev pub in_label : LabelNode → Inherited → Inherited
 in_label l inh = record (with_node_formatting l.formatting inh) { strip_periods = l.strip_periods || inh.strip_periods }
 
 abbrev pub label_content : LabelNode → List ℕ → Inherited → List Token
 label_content l term inh = affixed_in (with_node_formatting l.formatting inh) l.affixes (text_in (in_label l inh) term)
 
--- the term of the label of a list: that of its variable, in the plural where there is not one
--- person
+-- the term of the label of a list: that of its variable, in the plural unless there is one person
 abbrev pub list_term : StyleParts → LabelNode → NameVariable → ℕ → Option (List ℕ)
 list_term style l v count = term_in style (terms.Name v) l.form (not (count == 1))
 
--- the label, if it is on this side and no sort key is made
+-- the label, if it is on this side of the names, and not in a sort key
 abbrev pub label_on : Bool → Bool → Option NamesLabel → Option LabelNode
 label_on sorting behind None = None
 label_on true behind (Some l) = None
 label_on false true (Some l) = if l.is_after then Some l.label else None
 label_on false false (Some l) = if l.is_after then None else Some l.label
 
--- what is written, with a label after it, unless the style lacks the term
+-- a content with a label after it, unless the style lacks the term
 abbrev pub with_term : LabelNode → Option (List ℕ) → Inherited → List Token → List Token
 with_term l None inh ts = ts
 with_term l (Some term) inh ts = ts ++> label_content l term inh
 
--- what is written, with a label after it, if there is one
+-- a content with a label after it, if there is one
 abbrev pub with_label : StyleParts → Option LabelNode → NameVariable → ℕ → Inherited → List Token → List Token
 with_label style None v count inh ts = ts
 with_label style (Some l) v count inh ts = with_term l (list_term style l v count) inh ts
@@ -100,20 +100,21 @@ with_label style (Some l) v count inh ts = with_term l (list_term style l v coun
 -- (`with_labelled_list`). A list that is empty or has no forms is left out, and takes no delimiter
 -- (`with_lists`).
 
--- a list that is empty, or has no forms, is left out
+-- whether a list is left out: it is empty, or has no forms
 abbrev pub is_skipped : List PersonView → Option NameForms → Bool
 is_skipped persons None = true
 is_skipped [] (Some forms) = true
 is_skipped (p ∷ ps) (Some forms) = false
 
 module _ (style : StyleParts) (sorting : Bool) (how : NamesStyleView) (inh : Inherited) where
-  -- what is written, with the names of a list after it, in the formatting of the name
+  -- a content with the names of a list after it, in the formatting of the Name
   abbrev pub with_list : List PersonView → NameVariable → NameForms → List Token → List Token
   with_list persons v forms ts =
       append_pieces (with_node_formatting how.name.formatting inh)
       (name_list (with_node_formatting how.name.formatting inh) (list_style style sorting how.name how.options how.et_al v) persons forms) ts
 
-  -- the delimiter, unless it is the first; label, names, label
+  -- a content with a list after it: the delimiter, unless the list is the first; label, names,
+  -- label
   unfoldable pub with_labelled_list : Bool → List PersonView → NameVariable → NameForms → List Token → List Token
   with_labelled_list first persons v forms ts =
       with_label style (label_on sorting true how.label) v (length persons) inh
@@ -121,13 +122,14 @@ module _ (style : StyleParts) (sorting : Bool) (how : NamesStyleView) (inh : Inh
       (with_label style (label_on sorting false how.label) v (length persons) inh
       (if first then ts else ts ++> text_in inh how.delimiter)))
 
-  -- a list after what is written, unless it is left out
+  -- a content with a list after it, unless the list is left out
   abbrev pub with_list_if_any : Bool → List PersonView → NameVariable → Option NameForms → List Token → List Token
   with_list_if_any first persons v None ts = ts
   with_list_if_any first [] v (Some forms) ts = ts
   with_list_if_any first (p ∷ ps) v (Some forms) ts = with_labelled_list first (p ∷ ps) v forms ts
 
-  -- the lists from a place on, each with the forms at its place; `first` while none is written
+  -- the lists from a place on, each with the forms at its place; `first` is true while none is
+  -- written
   abbrev pub with_lists : Bool → ℕ → List NameForms → PersonLists → List Token → List Token
   with_lists first place forms [] ts = ts
   with_lists first place forms (l ∷ ls) ts =
@@ -135,11 +137,12 @@ module _ (style : StyleParts) (sorting : Bool) (how : NamesStyleView) (inh : Inh
       (with_list_if_any first l.0 l.1 (slice_get forms place) ts)
 
 -- ---- the node
--- A box of the node's display, in its formatting, around the affixes and what is between them: the
--- lists in their forms, or, if the form is the count, the number of names, whatever forms the
--- citation has. The box has the lists as its meta. After it the forms are kept (`names_state`).
+-- A box of the node's display, in its formatting, around the affixes. Between them are the lists in
+-- their forms, or, if the form is the count, the number of names, whatever forms the citation has.
+-- The meta of the box is the lists. The state after it keeps the forms of the first names, unless
+-- they are counted (`names_state`).
 
--- a names node writes how many names there are, or the names
+-- the content between the affixes: the number of names, or the names
 abbrev pub names_body : NameForm → StyleParts → Bool → CiteState → List NameVariable → NamesStyleView → PersonLists → Inherited → List Token
 names_body Count style sorting cite vs how ls inh = text_in inh (decimal (saturated_count (count_of how.options (not cite.is_first) ls)))
 names_body Short style sorting cite vs how ls inh = with_lists style sorting how inh true 0 (forms_in cite vs how.options ls).lists ls []
@@ -149,14 +152,14 @@ names_body Long style sorting cite vs how ls inh = with_lists style sorting how 
 abbrev pub lists_meta : PersonLists → Option Meta
 lists_meta ls = Some (of_names ls)
 
--- the box of a names node that has persons, around the affixed lists, in a style and a cite, for a
+-- the box of a names node that has persons, with the affixed lists, in a style and a cite, for a
 -- sort key or not
 abbrev pub names_content : StyleParts → Bool → CiteState → NamesNode → PersonLists → Inherited → List Token
 names_content style sorting cite n ls inh = elem_content n.dressing.display (lists_meta ls)
     (affixed_in (with_node_formatting n.dressing.formatting inh) n.dressing.affixes
     (names_body (names_style n inh.options).options.form style sorting cite n.variables (names_style n inh.options) ls (with_node_formatting n.dressing.formatting inh)))
 
--- the state after the node: the first names that are not counted keep their forms
+-- the state after the node: it keeps the forms of the first names that are not counted
 abbrev pub names_state : CiteState → NamesNode → PersonLists → Inherited → State → State
 names_state cite n ls inh s =
     with_first_forms_by (names_style n inh.options).options.form (forms_in cite n.variables (names_style n inh.options).options ls) s

@@ -1,16 +1,16 @@
--- The forms of a node's names, and when none is written (CSL 1.0.2, Name: `form`, `initialize`,
+-- The forms of a node's names, and whether a node is void (CSL 1.0.2, Name: `form`, `initialize`,
 -- `et-al-min` and those after it).
--- - The *default form* is the count if the options ask for it, else the short or the long one. It
---   has initials if the options set `initialize-with` and initialize is on (`default_form`). A name
---   has the default form, or none if it is left out, in a first cite or a later one (`form_in`,
---   `default_forms`).
--- - *The count* is the number of names of all lists that are not left out (`count_of`). The number
---   that is printed stops at 2^64 - 1.
+-- - The *default form* is the count if the options ask for it, else the short or the long form.
+--   These two have initials if initialize is on and the options set `initialize-with`
+--   (`default_form`). A name has the default form, or none if it is left out, in a first cite or a
+--   later one (`form_in`, `default_forms`).
+-- - *The count* is the number of names of all lists that are not left out (`count_of`). The printed
+--   number stops at 2^64 - 1.
 -- - A node is *void* (`writes_no_name`) if it has no persons. It is also void if each of its name
---   children, or the default one where it has none, leaves out all names of all lists: by its
---   options over those of the node alone, et-al-min and et-al-use-first are set, the latter is 0,
---   and each list has at least et-al-min persons. In a dry run these are the lists as they are
---   looked up.
+--   children, or the default one if it has none, hides all names: by its options over those of the
+--   node alone, et-al-min and et-al-use-first are set, the latter is 0, and each list has at least
+--   et-al-min persons. A last name that et-al-use-last keeps does not count. A dry run decides this
+--   by the lists as they are looked up.
 use Rattle.std.specs.Prelude.{ℕ, ◌+◌, Bool, false, not, ◌&&◌, ◌||◌, ◌==◌, nat_le, min, List, [], ◌∷◌, map, length, count_by, Option, Some, None, is_some, if◌then◌else◌}
 use Rattle.std.specs.List.{list_all, range_with_len}
 use Rattle.csl_style.specs.declared.names.NameForm.{NameForm}
@@ -24,7 +24,7 @@ use Rattle.csl_names.specs.NamesLists.{PersonLists, all_empty}
 
 -- ---- forms
 
--- given names are written by their initials
+-- whether given names are written by their initials
 abbrev pub is_initialized : CompleteOptions → Bool
 is_initialized o = o.initialize && is_some o.initialize_with
 
@@ -37,7 +37,7 @@ form_by Long initialized = if initialized then forms.LongInitialized else forms.
 abbrev pub default_form : CompleteOptions → DisambiguatedNameForm
 default_form o = form_by o.form (is_initialized o)
 
--- the form of the name at a place of a list of this length, in a first or a later cite; a name that
+-- the form of the name at a place of a list of `len` names, in a first or a later cite; a name that
 -- is left out has none
 abbrev pub form_in : CompleteOptions → Bool → ℕ → ℕ → Option DisambiguatedNameForm
 form_in o later len place = if is_suppressed o place len later then None else Some (default_form o)
@@ -50,22 +50,22 @@ default_forms o later ls = map (λ l. list_forms o later (length l.0)) ls
 
 -- ---- counts
 
--- the number of names of a list of this length that are not left out
+-- the number of names in a list of `len` that are not left out
 abbrev pub shown_count : CompleteOptions → Bool → ℕ → ℕ
 shown_count o later len = count_by (λ place. not (is_suppressed o place len later)) (range_with_len 0 len)
 
--- the number of names of all lists that are not left out
+-- the number of names in all lists that are not left out
 abbrev pub count_of : CompleteOptions → Bool → PersonLists → ℕ
 count_of o later [] = 0
 count_of o later (l ∷ ls) = shown_count o later (length l.0) + count_of o later ls
 
--- names that are counted stop at `usize::MAX`
+-- the number of counted names stops at `usize::MAX`
 abbrev pub saturated_count : ℕ → ℕ
 saturated_count n = min n 18446744073709551615
 
--- ---- when no name is written
+-- ---- void nodes
 
--- names are left out from the first on, in each list
+-- whether each list leaves out its names from the first on, by these two limits
 abbrev pub hides_all : Option ℕ → Option ℕ → PersonLists → Bool
 hides_all None first ls = false
 hides_all (Some min) None ls = false
@@ -74,7 +74,8 @@ hides_all (Some min) (Some first) ls = (first == 0) && list_all (λ l. nat_le mi
 abbrev pub name_hides : PartialOptions → PersonLists → NameNode → Bool
 name_hides own ls n = hides_all (apply_options n.options own).et_al_min (apply_options n.options own).et_al_use_first ls
 
--- each name child does, or the default one where there is none, by the options of the node alone
+-- whether each name child hides all names, or the default one if there is none, by the options of
+-- the node alone
 abbrev pub each_hides : PartialOptions → PersonLists → List NameNode → Bool
 each_hides own ls [] = hides_all own.et_al_min own.et_al_use_first ls
 each_hides own ls (n ∷ ns) = list_all (name_hides own ls) (n ∷ ns)

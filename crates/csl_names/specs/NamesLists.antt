@@ -1,10 +1,10 @@
 -- The lists of a names node (CSL 1.0.2, Names; Name Variables, `editortranslator`): persons for
--- each of its variables, in their order. A dry run looks for them silently and merges none
--- (`peeked_lists`). For printing each look counts for the next ones (`resolved_lists`), and
--- `lists_state` is the state after all of them. If the variables are the editors and the
--- translators alone, in either order, and the style has the long term for who is both
--- (`may_merge`), the lists that print are the editors and then the translators. Of these an empty
--- list is dropped, and two that show the same persons are one list of the variable of both
+-- each of its variables, in their order. A dry run looks the variables up silently and merges no
+-- lists (`peeked_lists`). For printing, each lookup may suppress its variable for the next ones
+-- (`resolved_lists`), and `lists_state` is the state after all of them. The lists for printing may
+-- merge if the variables are the editors and the translators alone, in either order, and the style
+-- has the long term for both (`may_merge`). They are then the editors before the translators: an
+-- empty list is dropped, and two lists of the same persons become one, with the variable for both
 -- (`merged_lists`).
 use Rattle.std.specs.Prelude.{Bool, true, false, ◌&&◌, ◌||◌, List, [], ◌∷◌, is_some, if◌then◌else◌}
 use Rattle.std.specs.List.{list_all}
@@ -38,16 +38,16 @@ all_empty ls = list_all (λ l. has_none l.0) ls
 abbrev pub same_variables : List NameVariable → List NameVariable → Bool
 same_variables = pointwise (sameb the_type)
 
--- the variables are the editors and the translators alone, in either order
+-- whether the variables are the editors and the translators alone, in either order
 abbrev pub is_pair : List NameVariable → Bool
 is_pair vs = same_variables vs (Editor ∷ Translator ∷ []) || same_variables vs (Translator ∷ Editor ∷ [])
 
--- editors and translators may be one list: the node has these two alone, and the style has a term
--- for who is both
+-- whether editors and translators may merge: the node has these two alone, and the style has a term
+-- for both
 abbrev pub may_merge : StyleParts → List NameVariable → Bool
 may_merge style vs = is_some (term_in style (terms.Name EditorTranslator) Long false) && is_pair vs
 
--- an empty list is dropped, and two of the same persons are one
+-- an empty list is dropped, and two lists of the same persons become one
 abbrev pub merged_lists : List PersonView → List PersonView → PersonLists
 merged_lists [] [] = []
 merged_lists [] (t ∷ ts) = (t ∷ ts, Translator) ∷ []
@@ -58,13 +58,13 @@ merged_lists (e ∷ es) (t ∷ ts) =
 -- ---- the lists of a node
 
 module _ (w : RenderInput) where
-  -- the list of each variable in a dry run, by silent looks: none are merged
+  -- the list of each variable in a dry run, by silent lookups: none are merged
   abbrev pub peeked_lists : State → List NameVariable → PersonLists
   peeked_lists s [] = []
   peeked_lists s (v ∷ vs) = (peek_names w s v, v) ∷ peeked_lists s vs
 
-  -- the list of each variable, by looks for printing, each of which may suppress its variable for
-  -- the next ones
+  -- the list of each variable, by lookups for printing; each one may suppress its variable for the
+  -- next ones
   abbrev pub each_resolved : State → List NameVariable → PersonLists
   each_resolved s [] = []
   each_resolved s (v ∷ vs) = (peek_names w s v, v) ∷ each_resolved (state_after_resolve (variable.Name v) s) vs

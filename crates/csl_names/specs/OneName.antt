@@ -1,10 +1,10 @@
 -- One name (CSL 1.0.2, Name; Name-part; `name-as-sort-order`, `demote-non-dropping-particle`,
 -- `initialize-with`, `sort-separator`) is a list of pieces (`one_name`). It depends on the form, on
--- whether the name is reversed, and on how it is written (`NameStyleView`): the two parts with
--- their formattings and affixes, the separator, the text after initials, whether these keep a
--- hyphen, whether a particle is demoted, and whether a sort key is made. `name_content` is the
--- content of these pieces alone, so its gaps see only this name. `part_style_view` and
--- `name_style_view` are the code's own: private contracts alone cite them.
+-- whether the name is reversed, and on the settings (`NameStyleView`): the two parts with their
+-- formattings and affixes, the separator, the text after initials, whether these keep a hyphen,
+-- whether a particle is demoted, and whether the name is in a sort key. `name_content` is the
+-- content of these pieces alone, so its gaps depend on this name only. `part_style_view` and
+-- `name_style_view` serve the code: only private contracts cite them.
 use Rattle.std.specs.Prelude.{ℕ, Bool, true, false, ◌||◌, List, [], ◌∷◌, ◌++◌, Option, Some, None, option_map, if◌then◌else◌}
 use Rattle.lit_model.specs.Person.{PersonView}
 use Rattle.lit_model.specs.Name.{is_institutional, is_cjk, name_particle, name_without_particle, name_without_article}
@@ -22,7 +22,7 @@ use Rattle.csl_names.specs.declared.part.PartStyle.{PartStyle}
 use Rattle.csl_names.specs.declared.name.NameStyle.{NameStyle}
 use Rattle.csl_names.specs.Piece.{Piece, word, gap, optional_word, spaced_word, append_pieces}
 
--- ---- how a name is written
+-- ---- settings of a name
 
 -- a part of a name: its formatting, and its affixes
 pub record PartStyleView : Type 0 where
@@ -37,7 +37,7 @@ part_style_view p = record {
 
 -- The two parts; the separator after a family name that comes first; the text after an initial, if
 -- given names are shortened; whether initials keep a hyphen; whether a particle is demoted; whether
--- a sort key is made.
+-- the name is in a sort key.
 pub record NameStyleView : Type 0 where
   pub given : PartStyleView
   pub family : PartStyleView
@@ -58,29 +58,29 @@ name_style_view s = record {
   sorting = s.sorting;
 }
 
--- ---- its words
+-- ---- words of a name
 -- A *part* is its prefix and a text, both in the part's formatting, and then its suffix outside of
 -- that. The *given block* is the given part's prefix, the first name, a gap and the person's
--- prefix, in the given part's formatting. The *first name* is the given name as it is. With
--- `initialize-with` it is its initials in the form `LongInitialized`, and in any other form the
--- name with its single letters marked.
+-- prefix, in the given part's formatting. The *first name* is the given name as it is, if there is
+-- no `initialize-with`. With it, the first name is the initials in the form `LongInitialized`, and
+-- in any other form the given name with that text after each word that is a single capital letter.
 
--- a text as a part of a name: the prefix and it in the part's formatting, the suffix outside
+-- a text as a part of a name: prefix and text in the part's formatting, the suffix outside
 abbrev pub part_text : PartStyleView → List ℕ → List Piece
 part_text part name =
     optional_word part.affixes.prefix part.formatting
     ++ (word name part.formatting ∷ optional_word part.affixes.suffix no_formatting)
 
--- the separator and a text, if there is one
+-- the separator and a text, if there is a text
 abbrev pub separated_word : List ℕ → Option (List ℕ) → List Piece
 separated_word separator None = []
 separated_word separator (Some bs) = word separator no_formatting ∷ word bs no_formatting ∷ []
 
--- the given name with its letters marked
+-- the given name, with a text after each word that is a single capital letter
 abbrev pub lettered_name : List ℕ → List ℕ → List ℕ
 lettered_name text given = lettered_words text (given_words given)
 
--- the initials in the one long form, in the others the given name with its letters marked
+-- the shortened given name: the initials in the form `LongInitialized`, else `lettered_name`
 abbrev pub initialized_given : List ℕ → Bool → DisambiguatedNameForm → List ℕ → List ℕ
 initialized_given text hyphen Count given = lettered_name text given
 initialized_given text hyphen ShortInitialized given = lettered_name text given
@@ -98,20 +98,20 @@ abbrev pub given_word : NameStyleView → DisambiguatedNameForm → PersonView �
 given_word how form p =
     optional_word (option_map (given_text how.initialize_with how.hyphen form) p.given_name) how.given.formatting
 
--- the given name and the person's prefix, in the given part's formatting
+-- the given part's prefix, the given name and the person's prefix, in the given part's formatting
 abbrev pub given_block : NameStyleView → DisambiguatedNameForm → PersonView → List Piece
 given_block how form p =
     optional_word how.given.affixes.prefix how.given.formatting
     ++ (given_word how form p ++ spaced_word p.prefix how.given.formatting)
 
--- the name as it comes first, and the demoted particle
+-- the family name that comes first, and the demoted particle
 abbrev pub leading_name : NameStyleView → PersonView → List ℕ
 leading_name how p = if how.demotes then name_without_particle p.name else p.name
 
 abbrev pub demoted_particle : NameStyleView → PersonView → Option (List ℕ)
 demoted_particle how p = if how.demotes then name_particle p.name else None
 
--- ---- its shapes
+-- ---- shapes of a name
 -- The first case that fits counts.
 -- - An institution in sorting: its name without article in the family part's formatting, without
 --   affixes. Any other institution: the family part of its name.
@@ -123,11 +123,11 @@ demoted_particle how p = if how.demotes then name_particle p.name else None
 --   suffix; then the separator and the suffix of the person.
 -- - Else: the given block and the given suffix, a gap, the family prefix and the name, the suffix
 --   of the person after a gap (and after the separator if it wants a comma), the family suffix.
--- A text that a person lacks takes along the gap and the separator before it. So without a given
--- name a demoted particle is dropped. The given part's affixes stay without a given name where that
--- would come first, but not where it would come second.
+-- If a person lacks a text, the gap and the separator before it are left out too. So without a
+-- given name a demoted particle is dropped. The given part's affixes stay without a given name if
+-- that would come first, but not if it would come second.
 
--- what follows a family name that comes first, where there is a given name
+-- the pieces after a family name that comes first, if there is a given name
 abbrev pub given_after_family : NameStyleView → DisambiguatedNameForm → PersonView → Option (List ℕ) → List Piece
 given_after_family how form p None = []
 given_after_family how form p (Some given) =
@@ -163,7 +163,7 @@ cjk_given how (Some given) = part_text how.given given
 abbrev pub cjk_name : NameStyleView → PersonView → List Piece
 cjk_name how p = part_text how.family p.name ++ cjk_given how p.given_name
 
--- an institution is sorted without its article
+-- an institution, in a sort key without its article
 abbrev pub institution : NameStyleView → PersonView → List Piece
 institution how p =
     if how.sorting then word (name_without_article p.name) how.family.formatting ∷ [] else part_text how.family p.name
@@ -179,6 +179,6 @@ one_name how form reversed p =
     if is_institutional p then institution how p
     else (if shows_given_name form then long_name how form reversed p else part_text how.family p.name)
 
--- the content of one name, in a place that inherits this: the gaps see this name alone
+-- the content of one name with these inherited values: the gaps depend on this name alone
 abbrev pub name_content : NameStyleView → DisambiguatedNameForm → Bool → PersonView → Inherited → List Token
 name_content how form reversed p inh = append_pieces inh (one_name how form reversed p) []

@@ -11,6 +11,6 @@ use Rattle.csl_entry.specs.Answers.{cow_view}
 abbrev pub list_of : Vec (Cow Person) Global × NameVariable → List PersonView × NameVariable
 list_of l = (map (cow_view person_view) l.0.items, l.1)
 
--- several of them
+-- several such lists
 abbrev pub lists_view : Vec (Vec (Cow Person) Global × NameVariable) Global → List (List PersonView × NameVariable)
 lists_view lists = map list_of lists.items

@@ -1,5 +1,5 @@
-//! What stands for the names that a list leaves out (CSL 1.0.2, Et-al; Name:
-//! delimiter-precedes-et-al, et-al-use-last).
+//! The end of a list that leaves names out: `et al.`, or an ellipsis and the last name (CSL 1.0.2,
+//! Et-al; Name: delimiter-precedes-et-al, et-al-use-last).
 
 ghost use Rattle.std.specs.Prelude.{◌≡◌, ◌-◌, map, length, slice_get};
 ghost use Rattle.std.specs.Cow.{cow_value};
@@ -30,8 +30,8 @@ fn is_all(order: Option<NameAsSortOrder>) -> bool
 }
 
 impl ListStyle<'_> {
-    /// Writes `et al.` behind so many names, of which so many are shown, where the style has a
-    /// text for it.
+    /// Writes `et al.` if the style has a text for it. There are `names` names before it, and
+    /// `shown` of them are shown.
     fn push_et_al<T>(
         self,
         ctx: &mut Context<'_, T>,
@@ -56,7 +56,7 @@ impl ListStyle<'_> {
         }
     }
 
-    /// The form of the last name, where that is to be kept.
+    /// The last form, if the list keeps its last name.
     fn last_form(self, forms: &[Option<DisambiguatedNameForm>]) -> Option<DisambiguatedNameForm>
         ensures { result ≡ last_form (list_style_view self.entry) forms.now }
     {
@@ -67,7 +67,7 @@ impl ListStyle<'_> {
         }
     }
 
-    /// Writes the last name behind an ellipsis.
+    /// Writes the delimiter, an ellipsis and the last name.
     fn push_kept_last<T>(
         self,
         ctx: &mut Context<'_, T>,
@@ -90,8 +90,8 @@ impl ListStyle<'_> {
         }
     }
 
-    /// Writes what stands behind the names of a list, of which that at the place `names` is the
-    /// first without a form.
+    /// Writes the end of a list that leaves names out. `names` is the place of the first name
+    /// without a form.
     pub(crate) fn push_cut_end<T>(
         self,
         ctx: &mut Context<'_, T>,

@@ -1,4 +1,4 @@
-//! Given names, whole or cut down (CSL 1.0.2, Name: initialize-with).
+//! Given names, in full or shortened (CSL 1.0.2, Name: initialize-with).
 
 ghost use Rattle.std.specs.Prelude.{◌≡◌, ◌∷◌, [], Some, IfOk, option_map, string_bytes};
 ghost use Rattle.lit_model.specs.Person.{person_view};
@@ -15,7 +15,7 @@ use csl_entry::DisambiguatedNameForm;
 use lit_model::{Memory, Person};
 use std::alloc::Global;
 
-/// The initials of a person.
+/// The initials of a person's given name.
 fn initials_of(alloc: Global, person: &Person, text: &str, hyphen: bool) -> Result<String, Memory>
     ensures { IfOk result (λ short. string_bytes short
         ≡ person_initials (Some text.now) hyphen (person_view person.now)) }
@@ -27,7 +27,7 @@ fn initials_of(alloc: Global, person: &Person, text: &str, hyphen: bool) -> Resu
     }
 }
 
-/// The given name of a person, with its letters marked.
+/// The given name of a person, with `text` after each word that is a single capital letter.
 fn lettered_name(alloc: Global, person: &Person, text: &str) -> Result<String, Memory>
     ensures { IfOk result (λ short. string_bytes short
         ≡ person_first_name (Some text.now) (person_view person.now)) }
@@ -39,8 +39,8 @@ fn lettered_name(alloc: Global, person: &Person, text: &str) -> Result<String, M
     }
 }
 
-/// The given name, cut down: to its initials in the one long form, in the others with its letters
-/// marked.
+/// The shortened given name: its initials in the form `LongInitialized`, else the name with `text`
+/// after each word that is a single capital letter.
 fn shorten(
     alloc: Global,
     person: &Person,
@@ -83,7 +83,7 @@ impl NameStyle<'_> {
         }
     }
 
-    /// Writes the given name, cut down.
+    /// Writes the shortened given name.
     fn push_short<T>(
         self,
         ctx: &mut Context<'_, T>,
@@ -103,8 +103,8 @@ impl NameStyle<'_> {
         push_word(ctx, short.as_str(), self.given.formatting)
     }
 
-    /// Writes the given name and what stands before the family name, in the given part's
-    /// formatting.
+    /// Writes the given part's prefix, the given name and, after a gap, the person's prefix, all in
+    /// the given part's formatting.
     pub(crate) fn push_given_block<T>(
         self,
         ctx: &mut Context<'_, T>,

@@ -1,4 +1,4 @@
-//! What stands before a name of a list (CSL 1.0.2, Name: and, delimiter,
+//! The separator before a name of a list (CSL 1.0.2, Name: and, delimiter,
 //! delimiter-precedes-last).
 
 ghost use Rattle.std.specs.Prelude.{◌≡◌, ◌<◌, option_map};
@@ -12,7 +12,7 @@ use crate::piece::{no_formatting, push_gap, push_word};
 use csl_context::{Context, RenderError};
 use csl_style::{DelimiterBehavior, NameAnd, NameAsSortOrder, OtherTerm, Style, Term, TermForm};
 
-/// Whether a delimiter stands behind so many names, of which so many are shown.
+/// Whether a delimiter follows `names` names if `shown` of them are shown.
 pub(crate) fn delimiter_precedes(
     behavior: DelimiterBehavior,
     order: Option<NameAsSortOrder>,
@@ -29,7 +29,7 @@ pub(crate) fn delimiter_precedes(
     }
 }
 
-/// The word before the last name, where there is to be one.
+/// The word before the last name, if there is an `and`. It is empty if the style lacks the term.
 fn and_word(style: &Style, and: Option<NameAnd>) -> Option<&str>
     ensures { option_map (λ t. t.now) result ≡ and_word style.now and }
 {
@@ -46,8 +46,8 @@ fn and_word(style: &Style, and: Option<NameAnd>) -> Option<&str>
 }
 
 impl ListStyle<'_> {
-    /// Writes what stands before the last name at a place: the word behind a delimiter or a
-    /// space, or the delimiter alone.
+    /// Writes the separator before the last name, which is at `place`: the delimiter or a space,
+    /// the word and a gap; or the delimiter alone if there is no word.
     fn push_last_join<T>(self, ctx: &mut Context<'_, T>, place: usize) -> Result<(), RenderError>
         ensures { Runs (with_pieces (last_name_separator (list_style_view self.entry) place
             (list_style_view self.entry).and_word)) result ctx.old ctx.new }
@@ -67,8 +67,8 @@ impl ListStyle<'_> {
         }
     }
 
-    /// Writes what stands before the name at a place: nothing before the first. `ends` is the
-    /// number of names, where all are shown.
+    /// Writes the separator before the name at `place`, and nothing before the first name. `ends`
+    /// is the number of names if all are shown.
     pub(crate) fn push_join<T>(
         self,
         ctx: &mut Context<'_, T>,

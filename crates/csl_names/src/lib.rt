@@ -1,5 +1,5 @@
-//! How persons are written (CSL 1.0.2, Names): one name, a list of names, or the lists of a names
-//! node, in a context that the caller lends.
+//! Writes persons into a context of the caller (CSL 1.0.2, Names): one name, a list of names, or
+//! the lists of a names node.
 #![tactic(auto)]
 
 mod et_al;

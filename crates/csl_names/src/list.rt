@@ -1,5 +1,5 @@
-//! A list of names (CSL 1.0.2, Name: delimiter, name-as-sort-order): the names that are shown,
-//! each behind what stands before it.
+//! A list of names (CSL 1.0.2, Name: delimiter, name-as-sort-order): the names that are shown, each
+//! after its separator.
 
 ghost use Rattle.std.specs.Prelude.{◌≡◌, map};
 ghost use Rattle.std.specs.Cow.{cow_value};
@@ -19,26 +19,26 @@ use csl_tree::ElemMeta;
 use lit_model::Person;
 use std::borrow::Cow;
 
-/// How a list of names is written, with the options weighed. The style is asked for a term only
-/// where that is written.
+/// The settings of a list of names, with all options resolved. A term is looked up in the style
+/// only when it is written.
 #[derive(Clone, Copy)]
 pub(crate) struct ListStyle<'n> {
     pub(crate) style: &'n Style,
     pub(crate) variable: NameVariable,
     pub(crate) name: NameStyle<'n>,
-    /// What stands between two names.
+    /// The text between two names.
     pub(crate) delimiter: &'n str,
-    /// Which word stands before the last name, where there is to be one.
+    /// The kind of word before the last name, if there is one.
     pub(crate) and: Option<NameAnd>,
-    /// When a delimiter stands before that word.
+    /// When a delimiter precedes that word.
     pub(crate) before_last: DelimiterBehavior,
-    /// When a delimiter stands before `et al.`.
+    /// When a delimiter precedes `et al.`.
     pub(crate) before_et_al: DelimiterBehavior,
-    /// Whether the last name is kept where others are left out.
+    /// Whether the last name is kept if others are left out.
     pub(crate) use_last: bool,
-    /// Which names begin with the family name.
+    /// The names that begin with the family name.
     pub(crate) order: Option<NameAsSortOrder>,
-    /// The term that stands for the names that are left out, as `et al.`.
+    /// The term that replaces the names left out, such as `et al.`.
     pub(crate) et_al: OtherTerm,
     pub(crate) et_al_formatting: Formatting,
 }
@@ -56,7 +56,7 @@ pub(crate) fn form_at(
     }
 }
 
-/// The place of the first name that is said to be left out.
+/// The place of the first absent form, if any.
 fn first_absent(forms: &[Option<DisambiguatedNameForm>]) -> Option<usize>
     ensures { result ≡ first_absent forms.now }
 {
@@ -94,7 +94,7 @@ impl ListStyle<'_> {
         Ok(())
     }
 
-    /// Writes the names up to the first without a form. `ends` is their number, where all are
+    /// Writes the names up to the first without a form. `ends` is the number of names if all are
     /// shown.
     fn push_names<T>(
         self,

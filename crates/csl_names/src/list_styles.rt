@@ -1,4 +1,4 @@
-//! A list of names by a style (CSL 1.0.2, Name, Et-al).
+//! The settings of a list of names, and the call that writes one (CSL 1.0.2, Name, Et-al).
 
 ghost use Rattle.std.specs.Prelude.{◌≡◌, map};
 ghost use Rattle.std.specs.Cow.{cow_value};
@@ -16,7 +16,7 @@ use csl_style::{EtAl, Name, NameOptions, NameVariable};
 use lit_model::Person;
 use std::borrow::Cow;
 
-/// How a list of names is written here.
+/// The settings of a list of names in this context.
 fn list_style<'n, 's: 'n, T>(
     ctx: &Context<'s, T>,
     name: &'n Name,
@@ -43,12 +43,13 @@ fn list_style<'n, 's: 'n, T>(
     }
 }
 
-/// Writes a list of names: those that have a form, each in an element of its own, with what
-/// stands between them and for those that are left out (CSL 1.0.2, Name, Et-al).
+/// Writes a list of names: those up to the first without a form, each in an element of its own,
+/// with separators. If the forms leave a name out, `et al.` or the last name may follow (CSL 1.0.2,
+/// Name, Et-al).
 ///
 /// # Errors
-/// [`RenderError::Memory`]: there was no memory left. The context has failed.
-/// [`RenderError::Failed`]: the context had failed.
+/// [`RenderError::Memory`]: out of memory. The context has failed.
+/// [`RenderError::Failed`]: the context had failed already.
 pub fn write_name_list<T>(
     ctx: &mut Context<'_, T>,
     name: &Name,

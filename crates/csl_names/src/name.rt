@@ -12,25 +12,25 @@ use csl_context::{Context, RenderError};
 use csl_entry::DisambiguatedNameForm;
 use lit_model::Person;
 
-/// How a name is written, with settings and sorting already weighed.
+/// The settings of a name, resolved for its style and for sorting.
 #[derive(Clone, Copy)]
 pub(crate) struct NameStyle<'s> {
     pub(crate) given: PartStyle<'s>,
     pub(crate) family: PartStyle<'s>,
-    /// What stands behind a family name that comes first.
+    /// The text after a family name that comes first.
     pub(crate) separator: &'s str,
-    /// What follows an initial, where given names are cut down.
+    /// The text after an initial, if given names are shortened.
     pub(crate) initialize_with: Option<&'s str>,
     /// Whether initials keep a hyphen.
     pub(crate) hyphen: bool,
-    /// Whether a particle goes behind a family name that comes first.
+    /// Whether the particle of a family name that comes first is demoted.
     pub(crate) demotes: bool,
     /// Whether the name is part of a sort key.
     pub(crate) sorting: bool,
 }
 
 impl NameStyle<'_> {
-    /// The particle that goes behind.
+    /// The demoted particle, if there is one.
     fn demoted_particle<'p>(self, person: &'p Person) -> Option<&'p str>
         ensures { option_map (λ t. t.now) result
             ≡ demoted_particle (name_style_view self.entry) (person_view person.now) }
@@ -42,7 +42,7 @@ impl NameStyle<'_> {
         }
     }
 
-    /// The family name as it comes first.
+    /// The family name that comes first, without a demoted particle.
     fn leading_name<'p>(self, person: &'p Person) -> &'p str
         ensures { result.now ≡ leading_name (name_style_view self.entry) (person_view person.now) }
     {
@@ -53,7 +53,8 @@ impl NameStyle<'_> {
         }
     }
 
-    /// Writes what follows a family name that comes first, where there is a given name.
+    /// Writes the given name after a family name that comes first, with separator, demoted particle
+    /// and given suffix. Writes nothing if there is no given name.
     fn push_given_after<T>(
         self,
         ctx: &mut Context<'_, T>,
@@ -91,7 +92,8 @@ impl NameStyle<'_> {
         push_separated(ctx, self.separator, person.suffix.as_deref())
     }
 
-    /// Writes the suffix of a person, behind the separator where it wants a comma.
+    /// Writes the suffix of a person after a gap. If it wants a comma, the separator is before the
+    /// gap.
     fn push_suffix_after<T>(
         self,
         ctx: &mut Context<'_, T>,
@@ -134,7 +136,7 @@ impl NameStyle<'_> {
         push_optional(ctx, self.family.suffix, no_formatting())
     }
 
-    /// Writes a name in a Chinese, Japanese or Korean script: no gap stands between its parts.
+    /// Writes a name in a Chinese, Japanese or Korean script, with no gap between its parts.
     fn push_cjk<T>(self, ctx: &mut Context<'_, T>, person: &Person) -> Result<(), RenderError>
         ensures { Runs (with_pieces (cjk_name (name_style_view self.entry)
             (person_view person.now)))
@@ -147,7 +149,7 @@ impl NameStyle<'_> {
         }
     }
 
-    /// Writes the name of an institution. It is sorted without its article.
+    /// Writes the name of an institution, in a sort key without article and affixes.
     fn push_institution<T>(
         self,
         ctx: &mut Context<'_, T>,
@@ -183,7 +185,7 @@ impl NameStyle<'_> {
         }
     }
 
-    /// Writes one name. Its gaps see all of what the innermost open part holds.
+    /// Writes one name. Its gaps depend on the whole text of the innermost open part.
     pub(crate) fn push_name<T>(
         self,
         ctx: &mut Context<'_, T>,

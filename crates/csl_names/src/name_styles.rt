@@ -1,4 +1,4 @@
-//! How a name is written by a style, and the call that writes one (CSL 1.0.2, Name; Name-part;
+//! The settings of a name, and the call that writes one (CSL 1.0.2, Name; Name-part;
 //! demote-non-dropping-particle; initialize-with-hyphen).
 
 ghost use Rattle.std.specs.Prelude.{◌≡◌};
@@ -17,7 +17,7 @@ use csl_entry::DisambiguatedNameForm;
 use csl_style::{DemoteNonDroppingParticle, Name, NameOptions, NamePartName};
 use lit_model::Person;
 
-/// How a part of a name is written.
+/// The formatting and the affixes of a part of a name.
 fn part_in(name: &Name, which: NamePartName) -> PartStyle<'_>
     ensures { part_style_view result ≡ part_in which (view_name name.now) }
 {
@@ -35,7 +35,7 @@ fn part_in(name: &Name, which: NamePartName) -> PartStyle<'_>
     }
 }
 
-/// Whether a particle goes behind a family name that comes first.
+/// Whether a particle is demoted, by the style's setting.
 fn demotes(setting: DemoteNonDroppingParticle, sorting: bool) -> bool
     ensures { result ≡ demotes setting sorting }
 {
@@ -46,7 +46,7 @@ fn demotes(setting: DemoteNonDroppingParticle, sorting: bool) -> bool
     }
 }
 
-/// How a name is written in a context.
+/// The settings of a name in this context.
 pub(crate) fn name_style<'n, T>(
     ctx: &Context<'_, T>,
     name: &'n Name,
@@ -69,11 +69,11 @@ pub(crate) fn name_style<'n, T>(
 }
 
 /// Writes one name: an institution, a name in a Chinese, Japanese or Korean script, or one whose
-/// family name or given name comes first. Spaces between its parts see this name alone.
+/// family name or given name comes first. Its gaps depend on this name alone.
 ///
 /// # Errors
-/// [`RenderError::Memory`]: there was no memory left. The context has failed.
-/// [`RenderError::Failed`]: the context had failed before.
+/// [`RenderError::Memory`]: out of memory. The context has failed.
+/// [`RenderError::Failed`]: the context had failed already.
 pub fn write_name<T>(
     ctx: &mut Context<'_, T>,
     name: &Name,

@@ -9,7 +9,7 @@ use crate::piece::{no_formatting, push_optional, push_word};
 use csl_context::{Context, RenderError};
 use csl_style::Formatting;
 
-/// How a part of a name is written.
+/// The formatting and the affixes of a part of a name.
 #[derive(Clone, Copy)]
 pub(crate) struct PartStyle<'s> {
     pub(crate) formatting: Formatting,
@@ -18,7 +18,7 @@ pub(crate) struct PartStyle<'s> {
 }
 
 impl PartStyle<'_> {
-    /// Writes a text as this part of a name: the suffix stands outside the part's formatting.
+    /// Writes a text as this part of a name. The suffix is outside the part's formatting.
     pub(crate) fn push_part<T>(
         self,
         ctx: &mut Context<'_, T>,
@@ -33,7 +33,7 @@ impl PartStyle<'_> {
     }
 }
 
-/// Writes a text behind the separator, if there is one.
+/// Writes the separator and a text, if there is a text.
 pub(crate) fn push_separated<T>(
     ctx: &mut Context<'_, T>,
     separator: &str,

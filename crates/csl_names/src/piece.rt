@@ -8,14 +8,14 @@ ghost use Rattle.csl_names.specs.Piece.{word, gap, with_pieces, optional_word, s
 use csl_context::{Context, RenderError};
 use csl_style::Formatting;
 
-/// The formatting that says nothing.
+/// The formatting that sets nothing.
 pub(crate) fn no_formatting() -> Formatting
     ensures { result ≡ no_formatting }
 {
     Formatting::default()
 }
 
-/// Writes a text in a formatting over that of the place.
+/// Writes a text in a formatting over the inherited one.
 pub(crate) fn push_word<T>(
     ctx: &mut Context<'_, T>,
     text: &str,
@@ -44,7 +44,7 @@ pub(crate) fn push_optional<T>(
     }
 }
 
-/// Writes a space, unless there is no text yet or white space ends it.
+/// Writes a space, unless there is no text yet or the text ends in white space.
 pub(crate) fn push_gap<T>(ctx: &mut Context<'_, T>, format: Formatting) -> Result<(), RenderError>
     ensures { Runs (with_pieces (gap format ∷ [])) result ctx.old ctx.new }
 {
@@ -54,7 +54,7 @@ pub(crate) fn push_gap<T>(ctx: &mut Context<'_, T>, format: Formatting) -> Resul
     Ok(())
 }
 
-/// Writes a text after a gap, if there is one.
+/// Writes a gap and a text, if there is a text.
 pub(crate) fn push_after_gap<T>(
     ctx: &mut Context<'_, T>,
     text: Option<&str>,

@@ -1,4 +1,4 @@
-//! The tests of `csl_names`. What is expected stands here as written out by hand.
+//! Tests of `csl_names`. The expected texts are written by hand.
 #![tactic(auto)]
 
 #[cfg(test)]

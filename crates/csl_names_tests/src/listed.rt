@@ -1,19 +1,19 @@
-//! Lists of persons, and how they are written, from words.
+//! Lists of persons, and the settings of such a list, from words.
 //!
 //! | Word | Meaning |
 //! |---|---|
 //! | `and`, `&` | the word before the last name: the term, an ampersand |
-//! | `last-always`, `last-never`, `last-inverted` | when a delimiter stands before that word |
-//! | `others-always`, `others-never`, `others-inverted` | when one stands before `et al.` |
+//! | `last-always`, `last-never`, `last-inverted` | when a delimiter precedes that word |
+//! | `others-always`, `others-never`, `others-inverted` | when one precedes `et al.` |
 //! | `first`, `all` | which names begin with the family name |
 //! | `use-last` | the last name is kept |
-//! | `sorting` | a sort key is made |
-//! | `italic` | `et al.` stands in italics |
+//! | `sorting` | the list is part of a sort key |
+//! | `italic` | `et al.` is in italics |
 //! | `no-text` | the term `et al.` is an empty text |
 //! | `no-terms` | the style has no terms |
 //!
-//! Persons are said one behind the other, with `; ` between them. Their forms are letters: `L` the
-//! whole name, `S` and `1` the short form and that of a count, and `.` none.
+//! A `; ` separates two persons. Their forms are letters: `L` is the whole name, `S` the short
+//! form, `1` the form of a count, and `.` no form.
 
 use crate::made::{made_style, person, put, says};
 use csl_entry::DisambiguatedNameForm;
@@ -26,7 +26,7 @@ use std::alloc::Global;
 use std::borrow::Cow;
 use std::test::Fail;
 
-/// When a delimiter precedes, by the first of three words that the row has.
+/// When a delimiter precedes, by the first of the three words that is among `words`.
 fn behavior(words: &str, always: &str, never: &str, inverted: &str) -> DelimiterBehavior {
     if says(words, always) {
         DelimiterBehavior::Always
@@ -72,7 +72,7 @@ pub(crate) fn options(words: &str) -> NameOptions<'static> {
     }
 }
 
-/// How `et al.` is written by these words.
+/// The settings of `et al.` by these words.
 pub(crate) fn et_al(words: &str) -> EtAl {
     let font_style = if says(words, "italic") {
         Some(FontStyle::Italic)
@@ -147,7 +147,7 @@ fn form(letter: char) -> Option<DisambiguatedNameForm> {
     }
 }
 
-/// The form that each letter says.
+/// The form for each letter.
 pub(crate) fn forms(
     alloc: Global,
     letters: &str,

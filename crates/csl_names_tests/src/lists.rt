@@ -1,4 +1,4 @@
-//! Lists of names, behind a text or not.
+//! Tests of lists of names, some of them after a text.
 
 use crate::listed::style_with_terms;
 use crate::written::{Asked, assert_written};
@@ -12,12 +12,13 @@ const TWO: &str = "f=Ferrante g=Elena; f=Warren g=Rosanna";
 
 const THREE: &str = "f=Ferrante g=Elena; f=Warren g=Rosanna; f=Kwan g=Kevin";
 
-/// How a list is written, the persons, their forms, and what is written.
+/// The settings of a list, the persons, their forms, and the content in words.
 type ListRow = (&'static str, &'static str, &'static str, &'static str);
 
 static ROWS: [ListRow; 44] = [
     ("", TWO, "LL", "[ Elena~Ferrante ]0 ,~ [ Rosanna~Warren ]1"),
-    // Before the last of two names stands a space, of three a delimiter, and the word.
+    // By default, a space and the word precede the last of two names, and a delimiter and the word
+    // the last of three.
     (
         "and",
         TWO,
@@ -49,7 +50,8 @@ static ROWS: [ListRow; 44] = [
         "SSS",
         "[ Ferrante ]0 ,~ [ Warren ]1 ~and~ [ Kwan ]2",
     ),
-    // Under `first` a delimiter stands behind the first name alone.
+    // `last-inverted` puts a delimiter after a name that begins with the family name. Under `first`
+    // this is the first name alone.
     (
         "and last-inverted first",
         TWO,
@@ -68,9 +70,9 @@ static ROWS: [ListRow; 44] = [
         "LLL",
         "[ Ferrante,~Elena ]0 ,~ [ Warren,~Rosanna ]1 ,~and~ [ Kwan,~Kevin ]2",
     ),
-    // A term that is missing writes nothing.
+    // A missing term writes nothing.
     ("and no-terms", TWO, "SS", "[ Ferrante ]0 ~ [ Warren ]1"),
-    // One name is shown: `et al.` stands behind a space.
+    // By default, a space precedes `et al.` after one name, and a delimiter after more.
     ("", THREE, "S..", "[ Ferrante ]0 ~et~al."),
     ("", THREE, "SS.", "[ Ferrante ]0 ,~ [ Warren ]1 ,~et~al."),
     ("and", THREE, "SS.", "[ Ferrante ]0 ,~ [ Warren ]1 ,~et~al."),
@@ -94,11 +96,12 @@ static ROWS: [ListRow; 44] = [
         "[ Ferrante,~Elena ]0 ,~ [ Rosanna~Warren ]1 ~et~al.",
     ),
     ("others-inverted", THREE, "S..", "[ Ferrante ]0 ~et~al."),
-    // No name is shown: nothing stands before `et al.`.
+    // If no name is shown, nothing precedes `et al.`, unless a delimiter always does.
     ("", THREE, "...", "et~al."),
     ("others-always", THREE, "...", ",~et~al."),
     ("others-inverted all", THREE, "...", "et~al."),
-    // The gap is in the formatting of `et al.`, the delimiter is not.
+    // The gap is in the formatting of `et al.`, the delimiter is not. Without the term, neither is
+    // written.
     ("italic", THREE, "S..", "[ Ferrante ]0 /~et~al."),
     (
         "italic",
@@ -107,13 +110,13 @@ static ROWS: [ListRow; 44] = [
         "[ Ferrante ]0 ,~ [ Warren ]1 ,~ /et~al.",
     ),
     ("no-terms", THREE, "S..", "[ Ferrante ]0"),
-    // Where it is an empty text, the delimiter and the gap are left.
+    // If the term is an empty text, the delimiter and the gap remain. A sort key has no `et al.`.
     ("no-text", THREE, "SS.", "[ Ferrante ]0 ,~ [ Warren ]1 ,~"),
     ("no-text", THREE, "S..", "[ Ferrante ]0 ~"),
     ("no-text italic", THREE, "S..", "[ Ferrante ]0 /~"),
     ("no-text", THREE, "...", ""),
     ("sorting", THREE, "S..", "[ Ferrante ]0"),
-    // The last name is kept where it has a form, with its own place.
+    // `use-last` keeps the last name if it has a form. The name has its own place.
     ("use-last", THREE, "S.S", "[ Ferrante ]0 ,~…~ [ Kwan ]2"),
     ("use-last", THREE, "S..", "[ Ferrante ]0 ~et~al."),
     ("", THREE, "S.S", "[ Ferrante ]0 ~et~al."),
@@ -148,7 +151,7 @@ static ROWS: [ListRow; 44] = [
     ),
     ("and", TWO, "S", "[ Ferrante ]0"),
     ("use-last", TWO, "", ""),
-    // What is not long is the family name.
+    // A form that is not long shows the family name alone.
     (
         "first",
         THREE,
@@ -157,7 +160,7 @@ static ROWS: [ListRow; 44] = [
     ),
 ];
 
-/// The gap before `et al.` looks at what stands before the list.
+/// A text, and the row of a list after it. The gap before `et al.` depends on that text too.
 static BEHIND: [(&str, ListRow); 3] = [
     ("by", ("", THREE, "...", "by~et~al.")),
     ("by ", ("", THREE, "...", "by~et~al.")),

@@ -1,21 +1,21 @@
 //! Persons, names and styles from words.
 //!
-//! | Word | Of a person |
+//! | Word | Meaning for a person |
 //! |---|---|
-//! | `f=a`, `g=a`, `p=a`, `s=a` | name, given name, what stands before the name, suffix |
-//! | `comma` | a comma stands before the suffix |
+//! | `f=a`, `g=a`, `p=a`, `s=a` | name, given name, prefix, suffix |
+//! | `comma` | a comma precedes the suffix |
 //!
-//! | Word | Of how it is written |
+//! | Word | Meaning for the writing of the name |
 //! |---|---|
-//! | `never`, `sort-only` | when a particle goes behind |
-//! | `no-hyphen` | initials lose it |
-//! | `sorting`, `reversed` | a sort key is made, the family name comes first |
-//! | `short`, `count`, `initialized` | the form, else the whole name |
-//! | `with=a`, `sep=a` | what follows an initial, and a family name that comes first |
-//! | `G<a`, `G>a`, `G/` | the given part's prefix and suffix, and that it is in italics |
-//! | `F<a`, `F>a`, `F/` | the same of the family part |
+//! | `never`, `sort-only` | when a particle is demoted |
+//! | `no-hyphen` | initials lose their hyphen |
+//! | `sorting`, `reversed` | the name is part of a sort key, the family name comes first |
+//! | `short`, `count`, `initialized` | the form; without these words, the whole name |
+//! | `with=a`, `sep=a` | the text after an initial, and after a family name that comes first |
+//! | `G<a`, `G>a`, `G/` | the prefix, the suffix and the italics of the given part |
+//! | `F<a`, `F>a`, `F/` | the prefix, the suffix and the italics of the family part |
 //!
-//! In a text `~` says a blank.
+//! In a text, `~` is a space.
 
 use csl_entry::DisambiguatedNameForm;
 use csl_style::{
@@ -31,7 +31,7 @@ pub(crate) fn put<T: Drop>(items: &mut Vec<T>, item: T) -> Result<(), Memory> {
     Ok(items.push(item)?)
 }
 
-/// The text of a word, with a blank for each `~`.
+/// The text of a word, with a space for each `~`.
 fn unblank(alloc: Global, word: &str) -> Result<String, Memory> {
     let mut text = String::new(alloc);
     for c in word.chars() {
@@ -40,7 +40,7 @@ fn unblank(alloc: Global, word: &str) -> Result<String, Memory> {
     Ok(text)
 }
 
-/// The text behind a mark, of the first word that begins with it.
+/// The text after a mark, in the first word that begins with it.
 fn text_of(alloc: Global, words: &str, mark: &str) -> Result<Option<String>, Memory> {
     for word in words.split(' ') {
         if let Some(text) = word.strip_prefix(mark) {
@@ -73,7 +73,7 @@ pub(crate) fn person(alloc: Global, words: &str) -> Result<Person, Fail> {
     Ok(state_rest(alloc, &mut person, words).and(Ok(person))?)
 }
 
-/// Says all but the name of the person.
+/// Sets the given name, the prefix and the suffix of the person.
 fn state_rest(alloc: Global, person: &mut Person, words: &str) -> Result<(), Memory> {
     person.given_name = text_of(alloc, words, "g=")?;
     person.prefix = text_of(alloc, words, "p=")?;
@@ -81,7 +81,7 @@ fn state_rest(alloc: Global, person: &mut Person, words: &str) -> Result<(), Mem
     Ok(())
 }
 
-/// The part of a name, by its marks.
+/// A part of a `cs:name`, by the marks of its prefix, suffix and italics.
 fn part(
     alloc: Global,
     words: &str,
@@ -105,7 +105,7 @@ fn part(
     })
 }
 
-/// The parts of a Name, by their marks.
+/// The parts of the `cs:name`, by their marks.
 fn parts(alloc: Global, words: &str) -> Result<Vec<NamePart>, Memory> {
     let mut parts = Vec::with_capacity(alloc, 2)?;
     put(
@@ -128,7 +128,7 @@ fn name_options(alloc: Global, words: &str) -> Result<InheritableNameOptions, Me
     Ok(options)
 }
 
-/// The Name that words describe.
+/// The `cs:name` that words describe.
 pub(crate) fn name(alloc: Global, words: &str) -> Result<Name, Memory> {
     let parts = parts(alloc, words)?;
     Ok(Name {
@@ -151,7 +151,7 @@ pub(crate) fn form(words: &str) -> DisambiguatedNameForm {
     }
 }
 
-/// When a particle goes behind, by these words.
+/// When a particle is demoted, by these words.
 fn demotion(words: &str) -> DemoteNonDroppingParticle {
     if says(words, "never") {
         DemoteNonDroppingParticle::Never

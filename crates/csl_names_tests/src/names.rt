@@ -1,4 +1,4 @@
-//! One name each, behind a text.
+//! Tests of single names, each after a text.
 
 use crate::made::style;
 use crate::written::{Asked, assert_written};
@@ -6,7 +6,7 @@ use std::alloc::Global;
 use std::process::Abort;
 use std::test::Fail;
 
-/// How a name is written, the person, and what is written behind a `=`.
+/// The settings of a name, the person, and the content in words, with a `=` before the name.
 type NameRow = (&'static str, &'static str, &'static str);
 
 static ROWS: [NameRow; 49] = [
@@ -38,13 +38,13 @@ static ROWS: [NameRow; 49] = [
     ("sorting", "f=van~Gogh g=Vincent", "=Gogh,~Vincent~van"),
     ("short", "f=van~Gogh g=Vincent", "=van~Gogh"),
     ("count reversed", "f=van~Gogh g=Vincent", "=van~Gogh"),
-    // without a given name the particle is dropped
+    // without a given name a demoted particle is dropped
     ("reversed", "f=van~Gogh s=Jr.", "=Gogh,~Jr."),
-    // words are cut at each blank, so an empty one counts
+    // a name is cut into words at each space, so a word may be empty
     ("reversed", "f=van~~Gogh g=Vincent", "=~Gogh,~Vincent~van"),
     ("reversed", "f=van~ g=Vincent", "=,~Vincent~van"),
     ("reversed", "f=van~der~Berg g=Jan", "=Berg,~Jan~van~der"),
-    // what stands before and behind a name
+    // the prefix and the suffix of a person
     (
         "",
         "f=Humboldt g=Alexander p=von",
@@ -81,7 +81,7 @@ static ROWS: [NameRow; 49] = [
         "f=King g=Martin~Luther s=Jr.",
         "=King;~Martin~Luther;~Jr.",
     ),
-    // an empty text is there
+    // an empty prefix or suffix counts as present
     ("reversed", "f=X g=K p=", "=X,~K~"),
     ("sorting", "f=The~Group p=", "=The~Group"),
     ("", "f=X g=K s=", "=K~X~"),
@@ -103,20 +103,20 @@ static ROWS: [NameRow; 49] = [
         "=Gross,~E.~P.",
     ),
     ("initialized", "f=van~Gogh g=Vincent", "=Vincent~van~Gogh"),
-    // letters of a name that is written out
+    // single letters in a given name that is written out
     ("with=.~", "f=Gross g=E~P", "=E.~P.~Gross"),
     ("with=.~", "f=Gross g=Eugene~P.", "=Eugene~P.~Gross"),
     // scripts without a gap
     ("", "f=毛 g=泽东", "=毛泽东"),
     ("reversed F<( G>)", "f=毛 g=泽东", "=(毛泽东)"),
     ("short", "f=毛 g=泽东", "=毛"),
-    // the mark of a long vowel is a letter, and of none of these scripts
+    // the mark of a long vowel is a letter, but of none of these scripts
     ("", "f=マーク g=一郎", "=一郎~マーク"),
     // institutions
     ("F<( F>)", "f=The~Group", "=(The~Group)"),
     ("F<( F>) sorting", "f=The~Group", "=Group"),
     ("sorting", "f=The", "=The"),
-    // parts: the suffix stands outside the formatting
+    // parts: the suffix is outside the formatting
     ("F/", "f=van~Gogh g=Vincent", "=Vincent~ /van~Gogh"),
     (
         "F/ F<( F>)",

@@ -1,5 +1,5 @@
-//! What was written, in words, with one space between them. In a text `~` says a blank, and `/`
-//! before it says italics. `[ a ]2` is an element around what `a` says, of the name at place 2.
+//! Contents in words, with one space between them. In a text, `~` is a space. A `/` before a text
+//! means italics. `[ a ]2` is the element of the name at place 2, with the content `a`.
 
 use csl_style::FontStyle;
 use csl_tree::{Elem, ElemChild, ElemChildren, ElemMeta, Formatted};
@@ -17,7 +17,7 @@ fn say_text(text: &Formatted, said: &mut String) -> Result<(), Memory> {
     Ok(())
 }
 
-/// Says an element, and the place of its name.
+/// Appends an element in words, with the place of its name.
 #[cycle(say)]
 fn say_elem(elem: &Elem, said: &mut String) -> Result<(), Memory> {
     said.push('[')?;
@@ -32,7 +32,7 @@ fn say_elem(elem: &Elem, said: &mut String) -> Result<(), Memory> {
     }
 }
 
-/// Says children, each behind a blank.
+/// Appends children in words, each after a space.
 #[cycle(say)]
 fn say_children(children: &ElemChildren, said: &mut String) -> Result<(), Memory> {
     for child in &children.0 {
@@ -46,7 +46,7 @@ fn say_children(children: &ElemChildren, said: &mut String) -> Result<(), Memory
     Ok(())
 }
 
-/// What was written, in words. What is neither text nor element is `?`.
+/// A content in words. A child that is neither a text nor an element is `?`.
 pub(crate) fn say(alloc: Global, children: &ElemChildren) -> Result<String, Memory> {
     let mut said = String::new(alloc);
     say_children(children, &mut said)?;

@@ -1,4 +1,4 @@
-//! What is written of a name or of a list of names, in words.
+//! The content of a name or of a list of names, in words.
 
 ghost use Rattle.std.specs.Prelude.{◌≡◌, OnOk};
 
@@ -17,20 +17,20 @@ use std::borrow::Cow;
 use std::process::Abort;
 use std::test::Fail;
 
-/// A name or a list that is to be written, in words.
+/// A name or a list of names to write, in words.
 #[derive(Clone, Copy)]
 pub(crate) struct Asked<'r> {
-    /// The text that is written before the names.
+    /// The text before the names.
     pub before: &'r str,
     /// The words for the style and the form of the names.
     pub words: &'r str,
-    /// The person or the persons that are written.
+    /// The person or the persons to write.
     pub who: &'r str,
     /// For a list, the form of each person.
     pub forms: Option<&'r str>,
 }
 
-/// The person or the list that is written.
+/// The person or the list to write.
 #[derive(Clone, Copy)]
 enum Who<'n> {
     One(&'n Person),
@@ -38,7 +38,7 @@ enum Who<'n> {
     List(&'n [Cow<'n, Person>], &'n [Option<DisambiguatedNameForm>]),
 }
 
-/// In which style and for which cite it is written.
+/// The style and the cite of a rendering.
 #[derive(Clone, Copy)]
 struct Place<'n> {
     style: &'n Style,
@@ -105,7 +105,7 @@ fn rendered(
     }
 }
 
-/// Describes what is written of a person or a list of persons at a place.
+/// Renders a person or a list of persons at a place. Returns the content in words.
 fn said(
     alloc: Global,
     place: Place<'_>,
@@ -119,7 +119,7 @@ fn said(
     Ok(said?)
 }
 
-/// Describes what is written of persons in the forms of a row.
+/// Renders persons in the forms of a row. Returns the content in words.
 fn in_forms(
     alloc: Global,
     place: Place<'_>,
@@ -132,7 +132,7 @@ fn in_forms(
     said(alloc, place, asked, name, Who::List(persons, &forms))
 }
 
-/// Describes what is written of the person or the list of a row.
+/// Renders the person or the list of a row. Returns the content in words.
 fn of_persons(
     alloc: Global,
     place: Place<'_>,
@@ -149,7 +149,7 @@ fn of_persons(
     said
 }
 
-/// Describes what is written of a row at a place.
+/// Renders a row at a place. Returns the content in words.
 fn at_place(alloc: Global, place: Place<'_>, asked: &Asked<'_>) -> Result<String, Fail> {
     let name = name(alloc, asked.words)?;
     let said = of_persons(alloc, place, asked, &name);
@@ -157,7 +157,7 @@ fn at_place(alloc: Global, place: Place<'_>, asked: &Asked<'_>) -> Result<String
     said
 }
 
-/// Describes what is written of a row in a style, for a first cite.
+/// Renders a row in a style, for a first cite. Returns the content in words.
 fn written(alloc: Global, style: &Style, asked: &Asked<'_>) -> Result<String, Fail> {
     let cite_props = CiteProperties::first(DisambiguateState::None);
     let place = Place {
@@ -169,7 +169,7 @@ fn written(alloc: Global, style: &Style, asked: &Asked<'_>) -> Result<String, Fa
     said
 }
 
-/// Asserts what is written in that style.
+/// Asserts the content of a row in a style, in words.
 pub(crate) fn assert_written(
     rt: &impl Abort,
     alloc: Global,

@@ -1,4 +1,4 @@
-//! In which form each name of a names node is written, which are left out, and when none is written
+//! The form of each name of a names node, the names that are left out, and whether the node is void
 //! (CSL 1.0.2, Name: form, initialize, et-al-min and those after it).
 
 ghost use Rattle.std.specs.Prelude.{◌≡◌, map, IfOk};
@@ -39,7 +39,7 @@ pub(crate) fn default_form(options: NameOptions<'_>) -> DisambiguatedNameForm
     }
 }
 
-/// The form of the name at a place of a list so long; a name that is left out has none.
+/// The form of the name at `place` in a list of `len` names. A name that is left out has none.
 fn form_in(
     options: NameOptions<'_>,
     later: bool,
@@ -55,7 +55,7 @@ fn form_in(
     }
 }
 
-/// The form of each name of a list so long.
+/// The form of each name in a list of `len` names.
 fn list_forms(
     alloc: Global,
     options: NameOptions<'_>,
@@ -89,7 +89,7 @@ pub(crate) fn default_forms(
     Ok(forms)
 }
 
-/// The number of names of a list so long that are not left out.
+/// The number of names in a list of `len` that are not left out.
 fn shown_count(options: NameOptions<'_>, later: bool, len: usize) -> usize
     ensures { result ≡ shown_count (complete_options options.entry) later len }
 {
@@ -98,7 +98,7 @@ fn shown_count(options: NameOptions<'_>, later: bool, len: usize) -> usize
         .count()
 }
 
-/// The names of all lists that are not left out, at most `usize::MAX`.
+/// The number of names in all lists that are not left out, at most `usize::MAX`.
 pub(crate) fn count_of(options: NameOptions<'_>, later: bool, lists: &[PersonList<'_>]) -> usize
     ensures { result ≡ saturated_count (count_of (complete_options options.entry) later
         (map list_of lists.now)) }
@@ -110,7 +110,7 @@ pub(crate) fn count_of(options: NameOptions<'_>, later: bool, lists: &[PersonLis
     count
 }
 
-/// Whether names are left out from the first on, in each list.
+/// Whether each list leaves out its names from the first on, by these two limits.
 fn hides_all(min: Option<u32>, first: Option<u32>, lists: &[PersonList<'_>]) -> bool
     ensures { result ≡ hides_all min first (map list_of lists.now) }
 {
@@ -125,7 +125,7 @@ fn hides_all(min: Option<u32>, first: Option<u32>, lists: &[PersonList<'_>]) -> 
     true
 }
 
-/// Whether a name hides all names, over the options of its node.
+/// Whether a name child hides all names, by its options over those of its node.
 fn name_hides(own: InheritedNameOptions<'_>, name: &Name, lists: &[PersonList<'_>]) -> bool
     ensures { result ≡ name_hides (inherited_options own.entry) (map list_of lists.now)
         (view_name name.now) }
@@ -134,7 +134,7 @@ fn name_hides(own: InheritedNameOptions<'_>, name: &Name, lists: &[PersonList<'_
     hides_all(options.et_al_min, options.et_al_use_first, lists)
 }
 
-/// Whether each name child hides all names, or the default one where there is none.
+/// Whether each name child hides all names. If there is none, the node's own options decide.
 fn each_hides(
     own: InheritedNameOptions<'_>,
     children: &[NamesChild],
@@ -158,7 +158,7 @@ fn each_hides(
     !is_alone || hides_all(own.et_al_min, own.et_al_use_first, lists)
 }
 
-/// Whether a names node writes no name of these lists, by its own options.
+/// Whether a names node is void: no list has a person, or its own options hide all names.
 pub fn writes_no_name(parts: NamesParts<'_>, lists: &[PersonList<'_>]) -> bool
     ensures { result ≡ writes_no_name (parts_node parts.entry) (map list_of lists.now) }
 {

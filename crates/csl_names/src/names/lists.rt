@@ -1,5 +1,5 @@
-//! The lists of persons of a names node, one for each of its variables (CSL 1.0.2, Names;
-//! Name Variables: editortranslator).
+//! The lists of persons of a names node, one for each variable or merged (CSL 1.0.2, Names; Name
+//! Variables: editortranslator).
 
 ghost use Rattle.std.specs.Prelude.{◌≡◌, [], ◌∷◌, ◌++◌, map, IfOk, OnOk};
 ghost use Rattle.lit_model.specs.Person.{person_view};
@@ -16,7 +16,7 @@ use lit_model::{Memory, Person};
 use std::alloc::Global;
 use std::borrow::Cow;
 
-/// The persons of a variable.
+/// The persons of a variable, and the variable.
 pub type PersonList<'a> = (Vec<Cow<'a, Person>>, NameVariable);
 
 /// Whether no list has a person.
@@ -31,7 +31,7 @@ pub fn all_empty(lists: &[PersonList<'_>]) -> bool
     true
 }
 
-/// Whether the variables are the editors and the translators alone.
+/// Whether the variables are the editors and the translators alone, in either order.
 fn is_pair(variables: &[NameVariable]) -> bool
     ensures { result ≡ is_pair variables.now }
 {
@@ -39,8 +39,8 @@ fn is_pair(variables: &[NameVariable]) -> bool
         || variables == [NameVariable::Translator, NameVariable::Editor].as_slice()
 }
 
-/// Whether the persons of these variables may be one list: editors and translators, where the style
-/// has a term for who is both.
+/// Whether the lists of these variables may merge: they are the editors and the translators alone,
+/// and the style has a term for both.
 fn may_merge<T>(ctx: &Context<'_, T>, variables: &[NameVariable]) -> bool
     ensures { result ≡ may_merge ctx.now.style variables.now }
 {
@@ -48,8 +48,8 @@ fn may_merge<T>(ctx: &Context<'_, T>, variables: &[NameVariable]) -> bool
     is_pair(variables) && ctx.term(both, TermForm::Long, false).is_some()
 }
 
-/// The lists of editors and translators: an empty one is dropped, and two of the same persons are
-/// one.
+/// The lists of editors and translators. An empty list is dropped, and two lists of the same
+/// persons become one.
 fn merged_lists<'a>(
     alloc: Global,
     editors: Vec<Cow<'a, Person>>,
@@ -92,7 +92,7 @@ fn add<'a>(
     Ok(())
 }
 
-/// A silent look.
+/// Looks up the persons of a variable silently.
 fn peek_names<'s, T: EntryLike>(
     ctx: &Context<'s, T>,
     variable: NameVariable,
@@ -106,7 +106,7 @@ fn peek_names<'s, T: EntryLike>(
     }
 }
 
-/// The list of each variable, by looks for printing.
+/// The list of each variable, by lookups for printing.
 fn each_resolved<'s, T: EntryLike>(
     ctx: &mut Context<'s, T>,
     variables: &[NameVariable],
@@ -126,11 +126,11 @@ fn each_resolved<'s, T: EntryLike>(
     Ok(lists)
 }
 
-/// The lists that a names node of these variables has in a dry run, that of each variable as it is
-/// looked up: editors and translators are not merged. The looks are silent.
+/// The lists of a names node with these variables in a dry run: one for each variable, by silent
+/// lookups. Editors and translators are not merged.
 ///
 /// # Errors
-/// [`Memory`]: there was no memory left, or the entry said so, or the context had failed.
+/// [`Memory`]: out of memory, here or in the entry, or the context had failed already.
 pub fn peeked_lists<'s, T: EntryLike>(
     ctx: &Context<'s, T>,
     variables: &[NameVariable],
@@ -146,11 +146,12 @@ pub fn peeked_lists<'s, T: EntryLike>(
     Ok(lists)
 }
 
-/// The lists that a names node of these variables prints. Each look may suppress its variable.
+/// The lists of a names node with these variables for printing. Each lookup may suppress its
+/// variable.
 ///
 /// # Errors
-/// [`RenderError::Memory`]: there was no memory left, or the entry said so. The context has failed.
-/// [`RenderError::Failed`]: the context had failed before.
+/// [`RenderError::Memory`]: out of memory, here or in the entry. The context has failed.
+/// [`RenderError::Failed`]: the context had failed already.
 pub fn resolved_lists<'s, T: EntryLike>(
     ctx: &mut Context<'s, T>,
     variables: &[NameVariable],

@@ -38,7 +38,7 @@ fn persons_of(alloc: Global, persons: &[Cow<'_, Person>]) -> Result<Vec<Person>,
     Ok(copies)
 }
 
-/// What the box of a names node says of it: its persons with their variables.
+/// The meta of a names node's box: the persons with their variables.
 fn lists_meta(alloc: Global, lists: &[PersonList<'_>]) -> Result<ElemMeta, Memory>
     ensures { IfOk result (λ meta. Some (meta_of meta)
         ≡ lists_meta (map list_of lists.now)) }
@@ -51,8 +51,8 @@ fn lists_meta(alloc: Global, lists: &[PersonList<'_>]) -> Result<ElemMeta, Memor
     Ok(ElemMeta::Names(copies))
 }
 
-/// How a names node writes its lists: by the name, which may be a missing one, and what is
-/// inherited.
+/// The settings for the lists of a names node. The last two arguments replace a name child and an
+/// Et-al that the node lacks.
 fn names_style<'n>(
     parts: NamesParts<'n>,
     inherited: InheritedNameOptions<'n>,
@@ -84,7 +84,7 @@ fn push_count<T>(ctx: &mut Context<'_, T>, count: usize) -> Result<(), RenderErr
     ctx.push_str(text.as_str())
 }
 
-/// Writes the lists, each name in its form. The first forms that are written are kept.
+/// Writes the lists, each name in its form. Keeps these forms if the state keeps none yet.
 fn push_all<T>(
     ctx: &mut Context<'_, T>,
     style: NamesStyle<'_>,
@@ -107,8 +107,8 @@ fn push_all<T>(
     Ok(())
 }
 
-/// Writes how many names there are, or the names, into a part in which nothing is written. Names
-/// that are not counted keep their forms, if they are the first.
+/// Writes the number of names, or the names, into an empty part. Keeps the forms of names that are
+/// not counted, if the state keeps none yet.
 fn push_body<T>(
     ctx: &mut Context<'_, T>,
     style: NamesStyle<'_>,
@@ -136,11 +136,11 @@ fn push_body<T>(
     }
 }
 
-/// Closes the box of a names node that has these lists.
+/// Closes a part as the box of a names node with these lists.
 ///
 /// # Errors
-/// [`RenderError::Memory`]: there was no memory left. The context has failed.
-/// [`RenderError::Failed`]: the context had failed before.
+/// [`RenderError::Memory`]: out of memory. The context has failed.
+/// [`RenderError::Failed`]: the context had failed already.
 pub fn commit_names<T>(
     ctx: &mut Context<'_, T>,
     mark: Mark,
@@ -156,13 +156,13 @@ pub fn commit_names<T>(
     ctx.commit_elem(mark, display, Some(meta))
 }
 
-/// Writes a names node that has persons: its box around the affixed lists, or, if its form is the
-/// count, the affixed number of names. The forms of the first names that are not counted are kept
-/// in the state.
+/// Writes the box of a names node that has persons. It holds the affixed lists or, if the form is
+/// the count, the affixed number of names. The state keeps the forms of the first names that are
+/// not counted.
 ///
 /// # Errors
-/// [`RenderError::Memory`]: there was no memory left. The context has failed.
-/// [`RenderError::Failed`]: the context had failed before.
+/// [`RenderError::Memory`]: out of memory. The context has failed.
+/// [`RenderError::Failed`]: the context had failed already.
 pub fn write_names<T>(
     ctx: &mut Context<'_, T>,
     parts: NamesParts<'_>,

@@ -18,18 +18,18 @@ use csl_style::{EtAl, Name, NameOptions, NameVariable, PlacedLabel, Term, Variab
 use lit_model::Person;
 use std::borrow::Cow;
 
-/// How the lists of a names node are written.
+/// The settings for the lists of a names node.
 #[derive(Clone, Copy)]
 pub(crate) struct NamesStyle<'n> {
     pub(crate) name: &'n Name,
     pub(crate) options: NameOptions<'n>,
     pub(crate) et_al: &'n EtAl,
     pub(crate) label: Option<PlacedLabel<'n>>,
-    /// What stands between two lists.
+    /// The text between two lists.
     pub(crate) delimiter: &'n str,
 }
 
-/// The label, where it stands on that side and no sort key is made.
+/// The label, if it is on that side of the names (`behind`: after them), and not in a sort key.
 fn label_on(
     label: Option<PlacedLabel<'_>>,
     sorting: bool,
@@ -50,7 +50,7 @@ fn label_on(
     }
 }
 
-/// Writes the affixed term of a label, of which the term alone loses its periods.
+/// Writes the affixed term of a label. The label's strip-periods applies to the term alone.
 fn push_term<T>(
     ctx: &mut Context<'_, T>,
     label: &VariablelessLabel,
@@ -70,7 +70,7 @@ fn push_term<T>(
 }
 
 impl NamesStyle<'_> {
-    /// Writes the label of a list, where it stands on that side.
+    /// Writes the label of a list, if it is on that side of the names.
     fn push_label<T>(
         self,
         ctx: &mut Context<'_, T>,
@@ -95,7 +95,7 @@ impl NamesStyle<'_> {
         }
     }
 
-    /// Writes the names of a list in the formatting of the name.
+    /// Writes the names of a list in the formatting of the name child.
     fn push_names<T>(
         self,
         ctx: &mut Context<'_, T>,
@@ -123,7 +123,7 @@ impl NamesStyle<'_> {
         Ok(())
     }
 
-    /// Writes a list: the delimiter, unless it is the first; label, names, label.
+    /// Writes a list: the delimiter, unless the list is the first; then label, names, label.
     #[tactic(auto, unfolding(crate::specs::NamesContent::with_labelled_list))]
     fn push_one<T>(
         self,
@@ -203,7 +203,7 @@ impl NamesStyle<'_> {
     }
 }
 
-/// The forms of the list at a place.
+/// The forms of the list at a place, if there are some.
 fn forms_at(
     forms: &[Vec<Option<DisambiguatedNameForm>>],
     place: usize,

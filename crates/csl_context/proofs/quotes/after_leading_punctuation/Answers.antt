@@ -4,7 +4,7 @@ use Rattle.std.proofs.lemmas.Str.Pattern.{strip_prefix_char}
 use Rattle.csl_context.specs.Quotes.{after_leading_punctuation}
 use Rattle.csl_context.proofs.quotes.after_leading_punctuation.Goals as goal
 
--- a text that begins with neither is as it was
+-- a text that begins with neither a comma nor a period is unchanged
 same : (bs : List ℕ) → ((rest : List ℕ) → bs ≢ 44 ∷ rest) → ((rest : List ℕ) → bs ≢ 46 ∷ rest) → bs ≡ after_leading_punctuation bs
 same [] h k = refl
 same (b ∷ bs) h k =

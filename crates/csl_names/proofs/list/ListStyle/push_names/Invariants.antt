@@ -6,7 +6,7 @@ use Rattle.csl_names.specs.NameList.{names_from}
 use Rattle.csl_names.specs.ListStyles.{list_style_view}
 use Rattle.csl_names.proofs.list.ListStyle.push_names.Given as goal
 
--- what the names from here on append to what is written is what all append
+-- the context so far, with the names from this place on, is the context with all names
 abbrev pub invariant-loop-person : goal.invariant-loop-person
 invariant-loop-person g l = record {
   sound : l.initial.ctx.failed ≡ false;

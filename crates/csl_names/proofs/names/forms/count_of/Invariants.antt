@@ -4,7 +4,7 @@ use Rattle.csl_names.specs.NamesForms.{count_of, saturated_count}
 use Rattle.csl_names.specs.PersonLists.{list_of}
 use Rattle.csl_names.proofs.names.forms.count_of.Given as goal
 
--- the count so far, which keeps to the limit, and the lists from here on give what all lists give
+-- the count so far is within the limit; with that of the remaining lists, it is the count of all
 abbrev pub invariant-loop-list : goal.invariant-loop-list
 invariant-loop-list l = record {
   kept : saturated_count l.count ≡ l.count;

@@ -6,7 +6,8 @@ use Rattle.csl_names.specs.NamesForms.{each_hides, name_hides}
 use Rattle.csl_names.specs.PersonLists.{list_of}
 use Rattle.csl_names.proofs.names.forms.each_hides.Given as goal
 
--- the children from here on answer what all do: where one was met, each of the rest does
+-- The result for the remaining children is that for all. After a name child, each of the remaining
+-- ones has to hide all names.
 abbrev pub invariant-loop-child : goal.invariant-loop-child
 invariant-loop-child l =
     let own = inherited_options l.own in

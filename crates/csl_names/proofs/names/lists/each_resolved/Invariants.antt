@@ -4,7 +4,7 @@ use Rattle.csl_names.specs.NamesLists.{each_resolved, state_after_resolve_all}
 use Rattle.csl_names.specs.PersonLists.{list_of}
 use Rattle.csl_names.proofs.names.lists.each_resolved.Given as goal
 
--- the lists so far and those of the variables from here on, in the state of now, are all lists
+-- the lists so far, with those of the remaining variables in the present state, are all lists
 abbrev pub invariant-loop-variable : goal.invariant-loop-variable
 invariant-loop-variable g l =
     let w = render_input g.T.EntryLike.answers l.initial.ctx in

@@ -4,7 +4,7 @@ use Rattle.csl_names.specs.NamesLists.{peeked_lists}
 use Rattle.csl_names.specs.PersonLists.{list_of}
 use Rattle.csl_names.proofs.names.lists.peeked_lists.Given as goal
 
--- the lists so far and those of the variables from here on are all lists
+-- the lists so far, with those of the remaining variables, are all lists
 abbrev pub invariant-loop-variable : goal.invariant-loop-variable
 invariant-loop-variable g l =
     let w = render_input g.T.EntryLike.answers l.ctx in

@@ -3,7 +3,7 @@ use Rattle.csl_names.specs.NamesContent.{with_lists, names_style_view}
 use Rattle.csl_names.specs.PersonLists.{list_of}
 use Rattle.csl_names.proofs.names.written.NamesStyle.push_lists.Given as goal
 
--- the lists from here on, behind what is written, give what all give
+-- the content so far, with the remaining lists, is the content with all lists
 abbrev pub invariant-loop-list : goal.invariant-loop-list
 invariant-loop-list g l = record {
   sound : l.initial.ctx.failed ≡ false;
