@@ -1,4 +1,4 @@
--- Numbers in as many digits compare by their bytes as they do by value.
+-- Numerals of equal length compare by their bytes as their numbers do by value.
 use Rattle.std.proofs.Common.{◌≡◌, ℕ, zero, suc, ◌+◌, ◌-◌, ◌/◌, ◌%◌, ◌^◌, ◌<◌, ◌≤◌, Bool, true, false, List, [], ◌∷◌, ◌++◌, length, replicate, refl, sym, ap, ◌∙◌, arith, append_assoc, nat_lt}
 use Rattle.std.specs.Cmp.Lexicographic.{slice_cmp}
 use Rattle.std.specs.declared.cmp.Ordering.{Ordering}
@@ -17,7 +17,7 @@ then_assoc Less y z = refl
 then_assoc Equal y z = refl
 then_assoc Greater y z = refl
 
--- where the fronts are as long, they decide first
+-- if the fronts have one length, they decide first
 pub cmp_append : (xs bs ys cs : List ℕ) → length xs ≡ length ys → slice_cmp nat_cmp (xs ++ bs) (ys ++ cs) ≡ ordering_then (slice_cmp nat_cmp xs ys) (slice_cmp nat_cmp bs cs)
 cmp_append [] bs [] cs e = refl
 cmp_append [] bs (y ∷ ys) cs e = grind (arith, e)
@@ -27,7 +27,7 @@ cmp_append (x ∷ xs) bs (y ∷ ys) cs e =
 
 -- ---- digits
 
--- the last digits of a number, so many
+-- the given number of last digits of a number
 abbrev pub last_digits : ℕ → ℕ → List ℕ
 last_digits zero n = []
 last_digits (suc w) n = last_digits w (n / 10) ++ (48 + n % 10) ∷ []
@@ -53,7 +53,7 @@ power_positive : (w : ℕ) → 1 ≤ 10 ^ w
 power_positive zero = omega arith
 power_positive (suc w) = omega (arith, power_positive w)
 
--- without zeros
+-- without leading zeros
 pub decimal_digits : (w n : ℕ) → 10 ^ w ≤ n → n < 10 ^ (suc w) → n < 2 ^ 64 → decimal n ≡ last_digits (suc w) n
 decimal_digits zero n low high fits =
     let small : n < 10 = omega (arith, high) in
@@ -65,7 +65,7 @@ decimal_digits (suc w) n low high fits =
     let rest : n / 10 < 2 ^ 64 = omega (arith, fits) in
     decimal_step n many fits ∙ ap (λ ds. ds ++ (48 + n % 10) ∷ []) (decimal_digits w (n / 10) from to rest)
 
--- ---- zeros before them
+-- ---- leading zeros
 
 all_zeros : (w : ℕ) → last_digits w 0 ≡ replicate w 48
 all_zeros zero = refl

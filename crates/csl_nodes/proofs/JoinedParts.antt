@@ -1,5 +1,5 @@
--- The parts of a date, as code goes through them: each is behind the delimiter once one has printed
--- something.
+-- The parts of a date, as the code renders them. The delimiter precedes each part with content but
+-- the first one.
 use Rattle.std.proofs.Common.{◌≡◌, ℕ, Bool, true, false, not, ◌&&◌, List, [], ◌∷◌, Option, Some, None, map, filter, unwrap_or, option_map, Bor, if◌then◌else◌, refl, ap, ◌∙◌}
 use Rattle.lit_model.specs.Date.{date_view}
 use Rattle.csl_style.specs.declared.date.Date.{Date}
@@ -18,7 +18,7 @@ use Rattle.csl_nodes.specs.declared.date_parts.DateValue.{DateValue}
 use Rattle.csl_nodes.specs.declared.date_parts.LocalizedDate.{LocalizedDate}
 use Rattle.csl_nodes.specs.Dates.{part_over, date_part_over, part_content, each_after_delimiter, joined_by, localized_node, own_parts, over_localized}
 
--- With no localized date the parts stay as they are.
+-- Without a localized date the parts are unchanged.
 as_they_are : (ps : List DatePartNode) → map (part_over []) ps ≡ ps
 as_they_are [] = refl
 as_they_are (p ∷ ps) = ap (λ qs. p ∷ qs) (as_they_are ps)
@@ -27,11 +27,11 @@ pub not_localized : (n : Date) (l : Option (Bor Date)) (ps qs : List DatePartNod
 not_localized n None ps qs h e = as_they_are ps ∙ e
 not_localized n (Some d) ps qs h e = cc
 
--- a part, behind the delimiter unless it is the first that prints something
+-- a part, after the delimiter unless it is the first one with content
 abbrev pub behind_delimiter : Inherited → Option (List ℕ) → Bool → List Token → List Token
 behind_delimiter inh delimiter first c = if first then c else between_in inh delimiter None c
 
--- parts that are still to come, the first or not of those that print something
+-- the remaining parts, with or without an earlier part that has content
 abbrev pub to_come : List Token → Bool → List (List Token) → List Token
 to_come delimiter true cs = joined_by delimiter cs
 to_come delimiter false cs = each_after_delimiter delimiter cs
@@ -51,18 +51,18 @@ one_to_come inh delimiter false (t ∷ ts) cs =
     join_assoc between ((t ∷ ts) ++> []) rest ∙ ap (λ c. between ++> (c ++> rest)) (join-none (t ∷ ts))
 
 module _ {T : Type 0} (answers : T → Answers) (written : LocalizedDate) (found : DateValue) where
-  -- the content of a part, in the context that it is written in
+  -- the content of a part in a context
   abbrev pub part_of : ContextView T → DatePart → List Token
   part_of now p = part_content (render_input answers now) (unwrap_or (localized_node written).parts YearMonthDay) found.suffix.now (date_view found.date.now) now.inherited (part_over (own_parts written) (view_date_part p))
 
-  -- the contents of these parts
+  -- the contents of parts
   abbrev pub contents_of : ContextView T → List DatePart → List (List Token)
   contents_of now ps = map (part_content (render_input answers now) (unwrap_or (localized_node written).parts YearMonthDay) found.suffix.now (date_view found.date.now) now.inherited) (map (part_over (own_parts written)) (map view_date_part ps))
 
-  -- what these parts make, the first or not of those that print something
+  -- the content of the remaining parts, with or without an earlier part that has content
   abbrev pub parts_of : ContextView T → Bool → List DatePart → List Token
   parts_of now first ps = to_come (text_in_if now.inherited (localized_node written).delimiter) first (filter has_children (contents_of now ps))
 
-  -- the context behind one more part
+  -- the context after one more part
   abbrev pub with_one_more : Bool → DatePart → ContextView T → ContextView T
   with_one_more first p now = with_content (λ inh. behind_delimiter inh (localized_node written).delimiter first (part_content (render_input answers now) (unwrap_or (localized_node written).parts YearMonthDay) found.suffix.now (date_view found.date.now) inh (part_over (own_parts written) (view_date_part p)))) now

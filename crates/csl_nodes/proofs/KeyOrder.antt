@@ -13,7 +13,7 @@ use Rattle.csl_nodes.proofs.DigitOrder.{cmp_append, last_digits, length_digits, 
 
 -- ---- months and days
 
--- the number of a month or a day, 0 where there is none
+-- the number of a month or a day, 0 if there is none
 abbrev pub place : Option ℕ → ℕ
 place None = 0
 place (Some n) = n + 1
@@ -66,7 +66,7 @@ same_sign m n = grind (arith, ints, nat_tests)
 turned_sign : (m n : ℕ) → m ≤ 2147483646 → n ≤ 2147483646 → nat_cmp (2147483646 - m) (2147483646 - n) ≡ int_cmp (negsuc m) (negsuc n)
 turned_sign m n h k = grind (arith, ints, nat_tests)
 
--- two keys of one sign, and what follows them
+-- two keys of one sign, and the bytes after them
 side_by_side : (w c m n : ℕ) (xs ys : List ℕ) → m < 10 ^ w → n < 10 ^ w → slice_cmp nat_cmp ((c ∷ last_digits w m) ++ xs) ((c ∷ last_digits w n) ++ ys) ≡ ordering_then (nat_cmp m n) (slice_cmp nat_cmp xs ys)
 side_by_side w c m n xs ys h k =
     let same : length (last_digits w m) ≡ length (last_digits w n) = length_digits w m ∙ sym (length_digits w n) in
@@ -108,7 +108,7 @@ key_order a b h k m n d e =
     ∙ ap (λ o. ordering_then o (slice_cmp nat_cmp (place_key a.day) (place_key b.day))) (place_order a.month b.month m n)
     ∙ ap (ordering_then (option_cmp nat_cmp a.month b.month)) (place_order a.day b.day d e))
 
--- a month or a day of the calendar has two digits
+-- a month or a day of the calendar has at most two digits
 pub on_calendar : (o : Option ℕ) (most : ℕ) → most ≤ 30 → ForSome o (λ n. n ≤ most) → place o < 100
 on_calendar None most h k = omega arith
 on_calendar (Some n) most h k =

@@ -1,4 +1,4 @@
--- A content of nothing leaves a context as it is.
+-- Appending the empty content leaves a context unchanged.
 use Rattle.std.proofs.Common.{◌≡◌, [], sym, ap}
 use Rattle.csl_tree.proofs.Joins.{join-none}
 use Rattle.csl_context.specs.ContextView.{ContextView}

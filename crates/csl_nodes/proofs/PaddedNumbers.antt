@@ -1,5 +1,5 @@
--- What a hole with zeros writes of a number, as `{:02}`: its digits, behind so many zeros as are
--- missing, and its sign before them.
+-- The text of a number in a hole with zeros, such as `{:02}`: the sign, the missing zeros, and the
+-- digits.
 use Rattle.std.proofs.Common.{◌≡◌, ℕ, ℤ, pos, negsuc, suc, ◌-◌, true, false, List, [], ◌∷◌, length, arith, append-nil, ap, ◌∙◌}
 use Rattle.std.specs.Fmt.{decimal, padded_integral, format_spec, styled_signed_decimal, char_count}
 use Rattle.std.specs.Int.{is_negative}
@@ -14,14 +14,14 @@ zeros_before width numeral =
     let missing : width - length numeral - 0 - 0 ≡ width - length numeral = omega arith in
     rw (missing, append-nil numeral)
 
--- behind a sign, which takes a place
+-- after a sign, which takes one place
 pub zeros_behind_sign : (width : ℕ) (numeral : List ℕ) → padded_integral (format_spec 32 0 4 (suc width) 18446744073709551615) true [] numeral ≡ 45 ∷ with_zeros width numeral
 unfolding padded_integral char_count
 zeros_behind_sign width numeral =
     let missing : suc width - length numeral - 1 - 0 ≡ width - length numeral = omega arith in
     rw (missing, append-nil numeral)
 
--- a number that may have one
+-- a number with or without a sign
 pub nine_places_shown : (n : ℤ) → styled_signed_decimal (format_spec 32 0 4 9 18446744073709551615) n ≡ nine_places n
 nine_places_shown (pos n) =
     let no_sign : is_negative (pos n) ≡ false = grind (arith, nat_tests) in

@@ -1,4 +1,4 @@
--- What is left behind a place, once the test there was read, and where there is none.
+-- The conditions from a place on: one is read there, or their sort ends there.
 use Rattle.std.proofs.Common.{◌≡◌, ℕ, ◌+◌, ◌<◌, suc, zero, Bool, List, [], ◌∷◌, ◌++◌, drop, length, Some, None, slice_get, refl, sym, ap, ◌∙◌, subst, arith, append-nil}
 use Rattle.csl_style.specs.declared.element.ChooseBranch.{ChooseBranch}
 use Rattle.csl_style.specs.declared.element.LayoutRenderingElement.TheFolds.{fold_out-ChooseBranch}
@@ -28,7 +28,7 @@ module _ (w : RenderInput) (s : State) (ts : Tests) where
   pub read_here : (p : BranchConditionPos) (i : ℕ) (b : Bool) → slice_get (conditions_at w s ts p) i ≡ Some b → conditions_from w s ts p i ≡ b ∷ conditions_from w s ts p (i + 1)
   read_here p i b e = ap (λ l. l ++ later_conditions w s ts p) (drop_here (conditions_at w s ts p) i b e)
 
-  -- what is left behind a sort is left from the next one on
+  -- the conditions after one sort are those from the next sort on
   behind_is : (p q : BranchConditionPos) → later_conditions w s ts p ≡ conditions_from w s ts q 0 → (r : BranchConditionPos) → Some q ≡ Some r → later_conditions w s ts p ≡ conditions_from w s ts r 0
   behind_is p q is r e = let same : q ≡ r = cc in subst (λ x. later_conditions w s ts p ≡ conditions_from w s ts x 0) same is
 
@@ -68,6 +68,6 @@ arms_fall arm.Variable r e = cc
 tests_out : (b : ChooseBranch) → tests_of b ≡ (view_branch b).tests
 tests_out b = rw (fold_out-ChooseBranch Node NamesChildView Node BranchView Node Node Nodes element_step child_step choose_step branch_step group_step names_step substitute_step b) refl
 
--- before anything is read, all of a branch is left
+-- before the first read, all conditions of a branch remain
 pub all_left : (w : RenderInput) (s : State) (b : ChooseBranch) → conditions_from w s (tests_of b) arm.Disambiguate 0 ≡ conditions w s (view_branch b).tests
 all_left w s b = ap (conditions w s) (tests_out b)

@@ -1,4 +1,4 @@
--- Whether some number is spelled by a text says whether one is read from it.
+-- A number is read from a text exactly if the text spells one.
 use Rattle.std.proofs.Common.{◌≡◌, ◌↔◌, ℕ, Bool, true, false, List, Option, Some, None, IsTrue, refl, ap, ◌∙◌}
 use Rattle.std.specs.Prelude.{is_some, chars}
 use Rattle.lit_model.specs.Chunks.{chunks_text}

@@ -1,6 +1,6 @@
 -- The box of a node without quotes (CSL 1.0.2, Formatting, Affixes, Display, Strip-periods): its
--- body in its affixes, in its formatting, with its display and meta. Periods are stripped in the
--- body alone.
+-- body in its affixes, in its formatting, with its display and meta. The node's own strip-periods
+-- applies to the body alone.
 use Rattle.std.specs.Prelude.{Bool, ◌||◌, List, Some}
 use Rattle.csl_style.specs.Dressing.{Dressing}
 use Rattle.csl_tree.specs.Content.{elem_content}
@@ -12,7 +12,7 @@ use Rattle.csl_nodes.specs.NumberOrPage.{number_text_view, shown_in}
 use Rattle.csl_nodes.specs.declared.dressing.Body.{Body}
 use Rattle.csl_nodes.specs.declared.dressing.Body.TheVariants as body
 
--- what the body inherits: its periods are stripped, those of the affixes are not
+-- the inherited values of the body; the node's own strip-periods applies here, not to the affixes
 abbrev pub in_plain : Dressing → Bool → Inherited → Inherited
 in_plain d strip inh = record (with_node_formatting d.formatting inh) { strip_periods = strip || inh.strip_periods }
 

@@ -1,7 +1,7 @@
 -- The tests of a branch (CSL 1.0.2, Choose) are one list of booleans, one for each test, in the
 -- order disambiguate, is-numeric, is-uncertain-date, locator, position, type, variable
 -- (`conditions`). A match combines them, and a choice takes the nodes of the first branch whose
--- match holds. Each look is silent, and in the long form.
+-- match holds. Each lookup is silent, and in the long form.
 use Rattle.std.specs.Prelude.{Bool, true, false, not, ◌==◌, List, [], ◌∷◌, ◌++◌, map, length, Option, Some, None, is_some, chars, if◌then◌else◌}
 use Rattle.std.specs.List.{list_all, list_any}
 use denote.Enum.Bare.{sameb}
@@ -34,17 +34,17 @@ use Rattle.csl_nodes.specs.declared.branch_conditions.BranchConditionPos.{Branch
 use Rattle.csl_nodes.specs.declared.branch_conditions.BranchConditionPos.TheVariants as arm
 
 -- ---- one test
--- - *disambiguate* compares the wanted boolean with whether the citation state asks to take such
+-- - *disambiguate* compares the wanted boolean with whether the citation state asks for such
 --   branches.
 -- - A standard variable *is numeric* if its text spells a number, and a number or pages are if they
---   were parsed. No date and no name is, nor what the caller writes. A date *is uncertain* if it is
---   found and approximate.
+--   were parsed. A date, a name and a place that the caller fills are not numeric. A date *is
+--   uncertain* if it is found and approximate.
 -- - *locator* holds if the cite points to a part of that kind, suppressed or not.
 -- - *position*: first if no cite of the entry comes before; subsequent if one does; ibid if the
 --   cite before is of the same entry, with the same locator or another; ibid with locator if the
---   cite has a locator that the one before did not have; near note as the citation state has it. In
+--   cite has a locator that the one before did not have; near note if the citation state has it. In
 --   a bibliography each is false.
--- - *type* is one of the entry's kinds.
+-- - *type* holds if it is one of the entry's kinds.
 -- - A *variable* is present if it is found: a text with a character that is not white space, names
 --   with a person.
 
@@ -60,7 +60,7 @@ abbrev pub is_typed : {V : Type 0} → MaybeView V → Bool
 is_typed (typed v) = true
 is_typed (text bs) = false
 
--- what the caller writes is no number
+-- a place that the caller fills is no number
 abbrev pub is_typed_result : ResultView → Bool
 is_typed_result (regular v) = is_typed v
 is_typed_result (transparent i) = false
@@ -76,7 +76,7 @@ is_numeric w s (variable.Date v) = false
 abbrev pub is_uncertain : RenderInput → State → DateVariable → Bool
 is_uncertain w s v = is_some_and (λ d. d.approximate) (peek_date w s v)
 
--- The cite points to a part of that kind. This is not a look, so a suppressed locator counts.
+-- The cite points to a part of that kind. This is not a lookup, so a suppressed locator counts.
 abbrev pub is_located : RenderInput → Locator → Bool
 is_located w kind = is_some_and (λ place. sameb the_locator place.kind kind) w.instance.cite.locator
 
@@ -108,7 +108,7 @@ is_positioned w p = is_positioned_in w.scope w.instance.cite p
 abbrev pub is_of_kind : RenderInput → Kind → Bool
 is_of_kind w kind = w.instance.answers.kinds kind
 
--- a text of white space is not there, nor is an empty list of names
+-- a text of white space is not present, nor is an empty list of names
 abbrev pub is_present : RenderInput → State → Variable → Bool
 is_present w s (variable.Standard v) = is_some_and (λ cs. not (is_white_space cs)) (peek_standard w s Long v)
 is_present w s (variable.Number v) = is_some (peek_number w s v)
@@ -116,7 +116,7 @@ is_present w s (variable.Page v) = is_some (peek_page w s v)
 is_present w s (variable.Name v) = not (length (peek_names w s v) == 0)
 is_present w s (variable.Date v) = is_some (peek_date w s v)
 
--- whether the cite takes the branches that ask for `disambiguate`, or does not, as wanted
+-- whether the citation state asks for branches with `disambiguate`, or does not, as wanted
 abbrev pub is_disambiguated : RenderInput → Bool → Bool
 is_disambiguated w true = should_disambiguate w.instance.cite.disambiguation
 is_disambiguated w false = not (should_disambiguate w.instance.cite.disambiguation)
@@ -142,7 +142,7 @@ conditions_at w s ts arm.Position = map (is_positioned w) (all_if ts.position)
 conditions_at w s ts arm.Type_ = map (is_of_kind w) (all_if ts.type_)
 conditions_at w s ts arm.Variable = map (is_present w s) (all_if ts.variable)
 
--- ---- one truth value for each test: those of a sort, and of all sorts behind it
+-- ---- one boolean for each test: those of a sort, and of all later sorts
 module _ (w : RenderInput) (s : State) (ts : Tests) where
   abbrev pub of_kinds : List Bool
   of_kinds = conditions_at w s ts arm.Type_ ++ conditions_at w s ts arm.Variable
@@ -163,20 +163,20 @@ module _ (w : RenderInput) (s : State) (ts : Tests) where
   conditions = conditions_at w s ts arm.Disambiguate ++ of_numbers
 
 -- ---- branches
--- The match takes all of the list, any, or none: all of an empty list holds, any of it does not,
--- none of it does. A choice *takes* the nodes of the first branch whose list satisfies its match,
--- else those of its `else`, if it has one.
+-- A match holds if all, any or none of the list is true. On an empty list all and none hold, and
+-- any does not. A choice *takes* the nodes of the first branch whose list satisfies its match, else
+-- those of its `else`, if it has one.
 
 abbrev pub satisfies : ChooseMatch → List Bool → Bool
 satisfies matched.All bs = list_all (λ b. b) bs
 satisfies matched.Any bs = list_any (λ b. b) bs
 satisfies matched.None bs = not (list_any (λ b. b) bs)
 
--- a branch with these tests is taken, where none before it is
+-- whether a branch with these tests is taken if no branch before it is
 unfoldable pub branch_matches : RenderInput → State → Tests → Bool
 branch_matches w s ts = satisfies ts.match_ (conditions w s ts)
 
--- the nodes of the first branch that is taken, else those for the other cases
+-- the nodes of the first branch whose match holds, else those of the `else`, if there is one
 abbrev pub chosen_nodes : RenderInput → State → Branches → Option Nodes
 chosen_nodes w s no_branches = None
 chosen_nodes w s (otherwise ns) = Some ns

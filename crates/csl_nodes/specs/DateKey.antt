@@ -1,10 +1,10 @@
 -- Sort keys of dates (CSL 1.0.2, Sorting): texts whose bytes are in the order of time. A year is
 -- `P` and its number in nine places. Before year 0 it is `N` and 2147483647 plus the year in nine
--- places, with the sign among them. The year suffix follows the year. A month and a day are two
--- digits, or `00` where there is none.
--- A key has year, month and day in this order, of the parts that it has (`keyed_parts`). For a date
--- with a form these are the ones that the node's own date-parts names, or all if it names none,
--- whatever the locale has. Else they are all for a variable, and the listed parts for a macro.
+-- places, the sign included. The year suffix follows the year. A month and a day are two digits, or
+-- `00` if there is none.
+-- A key has its parts in the order year, month, day (`keyed_parts`). With a form, its parts are the
+-- date-parts of the node, or all if the node sets none, whatever the locale has. Otherwise they are
+-- all for a variable, and the listed parts for a macro.
 -- *Time* compares year, month and day, with an absent one first.
 use Rattle.std.specs.Prelude.{◌≡◌, ℕ, ◌+◌, suc, Bool, true, false, List, [], ◌∷◌, ◌++◌, ℤ, pos, negsuc, ◌+ℤ◌, neg_ℤ, ◌≤ℤ◌, Option, Some, None, unwrap_or, codes, decimal}
 use Rattle.std.specs.Cmp.Lexicographic.{slice_cmp}
@@ -29,7 +29,7 @@ use Rattle.csl_nodes.specs.DateText.{two_digits, names_part}
 
 -- ---- numbers and years
 
--- nine places at least, the sign among them
+-- at least nine places, the sign included
 abbrev pub nine_places : ℤ → List ℕ
 nine_places (pos n) = with_zeros 9 (decimal n)
 nine_places (negsuc n) = hyphen_char ∷ with_zeros 8 (decimal (suc n))
@@ -40,7 +40,7 @@ abbrev pub year_key : ℤ → List ℕ
 year_key (pos n) = codes "P" ++ nine_places (pos n)
 year_key (negsuc n) = codes "N" ++ nine_places (pos 2147483647 +ℤ negsuc n)
 
--- a month or a day, and `00` for none, which comes before them
+-- a month or a day; none is `00`, which comes before all of them
 abbrev pub place_key : Option ℕ → List ℕ
 place_key None = codes "00"
 place_key (Some n) = two_digits (n + 1)
@@ -51,8 +51,7 @@ place_key (Some n) = two_digits (n + 1)
 abbrev pub lists_part : List DatePartNode → DatePartName → Bool
 lists_part ps name = list_any (λ p. sameb the_type p.name name) ps
 
--- the parts that a key has: with a form those that the date itself names, whatever the locale has;
--- else all for a variable, and for a macro those that the date lists
+-- whether the key of a node with this form has the part
 abbrev keyed_parts : Option DateForm → Sorting → DateNode → DatePartName → Bool
 keyed_parts (Some form) for n part = names_part (unwrap_or n.parts upto.YearMonthDay) part
 keyed_parts None sorting.Variable n part = true
@@ -79,14 +78,15 @@ sort_key n for suffix d = key_of (is_keyed n for) suffix d
 abbrev pub full_key : DateView → List ℕ
 full_key d = key_of (λ part. true) [] d
 
--- the years whose keys have one length before year 0, and one from there on
+-- the years whose keys all have one length before year 0, and all have one from year 0 on
 abbrev pub HasKeyYear : ℤ → Type 0
 HasKeyYear year = (neg_ℤ (pos 1147483647) ≤ℤ year) × (year ≤ℤ pos 999999999)
 
--- the order of dates by year, month and day, of which an absent one comes first
+-- the order of dates by year, month and day, with an absent one first
 abbrev pub time_order : DateView → DateView → Ordering
 time_order a b = ordering_then (int_cmp a.year b.year) (ordering_then (option_cmp nat_cmp a.month b.month) (option_cmp nat_cmp a.day b.day))
 
--- The bytes of a date's key are ordered against any other date's full key as the dates are in time.
+-- The key of a date compares by bytes with the full key of any other date as the two dates compare
+-- in time, if both have such a year.
 abbrev pub SortsByTime : List ℕ → Date → Type 0
 SortsByTime key d = (other : Date) → HasKeyYear d.year → HasKeyYear other.year → slice_cmp nat_cmp key (full_key (date_view other)) ≡ time_order (date_view d) (date_view other)

@@ -1,11 +1,11 @@
 -- The text of a part of a date, before suffix and affixes (CSL 1.0.2, Date; Date-part; Localized
 -- Date Formats; Ordinals; AD and BC; Seasons). Months and days count from 0 and print one higher;
 -- year 0 is the year before year 1. A form that a part does not know counts as none. A year is
--- always written, a month if year and month or the whole date are, and in any date that has a
--- season, a day only if the whole date is (`is_written`).
+-- always written. A month or a day is written if the date-parts include it, and a month also if the
+-- date has a season (`is_written`).
 -- - *Day*: its number; with leading zeros, in at least two digits. As an ordinal, the style's
---   ordinal follows, if any, in the gender of the month's term. If the first locale limits ordinals
---   to the first day, any other day is plain.
+--   ordinal suffix follows, if there is one, in the gender of the month's term. If the first locale
+--   limits ordinals to the first day, any other day is a plain number.
 -- - *Month*: its term, long unless the short one is requested. It is a number if the style lacks
 --   the term or the form is numeric; with leading zeros, in at least two digits. Without a month it
 --   is the short term of the season, or nothing.
@@ -45,7 +45,7 @@ names_part upto.Year Day = false
 names_part upto.Year Month = false
 names_part upto.Year Year = true
 
--- the year always; a month also of a date that has a season
+-- the year always; a month also if the date has a season
 abbrev pub is_written : DateParts → DateView → DatePartName → Bool
 is_written parts d Day = names_part parts Day
 is_written parts d Month = names_part parts Month || is_some d.season
@@ -53,7 +53,7 @@ is_written parts d Year = true
 
 -- ---- words of the style
 
--- a term that names no variable, of one
+-- a term that names no variable, in the singular
 abbrev pub word : StyleParts → OtherTerm → TermForm → Option (List ℕ)
 word style t form = term_in style (term.Other t) form false
 
@@ -70,7 +70,7 @@ ad_text style = unwrap_or (word style other.Ad term_form.Long) (codes " AD")
 abbrev pub bc_text : StyleParts → List ℕ
 bc_text style = unwrap_or (word style other.Bc term_form.Long) (codes " BC")
 
--- a year is written by its last two digits in the short form alone
+-- only the short form shortens a year to its last two digits
 abbrev pub is_short : Option DateAnyForm → Bool
 is_short None = false
 is_short (Some Numeric) = false
@@ -79,7 +79,7 @@ is_short (Some Ordinal) = false
 is_short (Some Long) = false
 is_short (Some Short) = true
 
--- a year from 1 on: in full with its era before 1000, from there on plainly or by its last two
+-- a year from 1 on: before 1000 in full with its era, else in full or, if `short`, its last two
 -- digits
 abbrev pub common_year : Bool → List ℕ → ℕ → List ℕ
 common_year short ad n = if nat_lt n 1000 then decimal n ++ ad else (if short then two_digits (n % 100) else decimal n)
@@ -113,14 +113,14 @@ abbrev pub season_text : StyleParts → Option Season → List ℕ
 season_text style None = []
 season_text style (Some s) = unwrap_or (word style (other.Season s) term_form.Short) []
 
--- a date without a month has its season instead
+-- a date without a month prints its season instead
 abbrev pub month_or_season : StyleParts → Option DateAnyForm → Option ℕ → Option Season → List ℕ
 month_or_season style form None season = season_text style season
 month_or_season style form (Some n) season = month_text style form n
 
 -- ---- days
 
--- the gender of what a month is called
+-- the gender of a month's term
 abbrev pub month_gender : StyleParts → Option ℕ → Option GrammarGender
 month_gender style None = None
 month_gender style (Some n) = gender_in style (term.Other (other.Month n))
@@ -150,7 +150,7 @@ day_if style form month (Some n) = day_text style form month n
 
 -- ---- a part
 
--- the text of a part; nothing where the date lacks it
+-- the text of a part; nothing if the date lacks it, and the season for a missing month
 unfoldable pub part_text : StyleParts → DatePartName → Option DateAnyForm → DateView → List ℕ
 part_text style Day form d = day_if style form d.month d.day
 part_text style Month form d = month_or_season style form d.month d.season

@@ -46,20 +46,19 @@ use Rattle.csl_style.specs.View.{view_date, view_date_part}
 use Rattle.csl_nodes.specs.declared.date_parts.LocalizedDate.{LocalizedDate}
 
 -- ---- dry runs
--- A date shows its variable, unless only another one is to be shown. Under the two forms for the
--- first date and the year suffix it shows any variable, even without one of its own, until a date
--- of the cite was rendered, even to nothing; from then on it shows none.
+-- A date shows its own variable, unless the special form shows only another one. Under the two
+-- forms for the first date and the year suffix it shows any variable, even without one of its own,
+-- until a date of the cite was rendered, even to nothing. After that it shows none.
 -- A date without a variable calls one and does not print. A date that does not show its own
--- variable does not print and has no flags. Any other date prints if its variable is found, which
--- is then called and not empty; else it only calls it. Whether any of its parts prints something
--- does not count.
+-- variable does not print and has no flags. Any other date prints if its variable is found. The
+-- variable is then called and not empty; otherwise it is only called. Whether any of the parts
+-- prints something does not count.
 
 abbrev pub is_own : Option DateVariable → Variable → Bool
 is_own None asked = false
 is_own (Some v) asked = same_variable (variable.Date v) asked
 
--- A date shows its own variable, unless only another one is to be shown. Under the two forms for
--- dates and for suffixes the first date of a cite shows every variable, and no later one shows any.
+-- whether a date of the variable `own` shows the variable `asked`
 abbrev pub date_shows_variable : Option SpecialForm → Bool → Option DateVariable → Variable → Bool
 date_shows_variable None first own asked = is_own own asked
 date_shows_variable (Some (VarOnly only)) first own asked = is_own own asked && is_own own only
@@ -67,7 +66,7 @@ date_shows_variable (Some OnlyFirstDate) first own asked = first
 date_shows_variable (Some OnlyYearSuffix) first own asked = first
 date_shows_variable (Some SuppressAuthor) first own asked = is_own own asked
 
--- no date was printed before
+-- no date was rendered before, even to nothing
 abbrev pub is_first : State → Bool
 is_first s = not s.first_date_seen
 
@@ -81,15 +80,15 @@ abbrev pub variable_info : RenderInput → State → Option DateVariable → Inf
 variable_info w s None = presence_info false
 variable_info w s (Some v) = if date_shows_own w s v then presence_info (is_some (peek_date w s v)) else no_info
 
--- the dry run of a date: its variable is called, unless it is not shown, and non-empty where it is
--- found
+-- the dry run of a date: its variable is called, unless the date does not show it, and not empty if
+-- it is found
 abbrev pub date_info : RenderInput → State → DateNode → Info
 date_info w s n = variable_info w s n.variable
 
 -- ---- the year suffix after the first year
--- The year of the first date that is printed has the *implicit year suffix* after it, inside its
+-- The year of the first date that is rendered has the *implicit year suffix* after it, inside its
 -- affixes: that of the cite, if the layout of the scope reaches no text of the year suffix. Under
--- the form for the suffix the parts are this suffix alone, without affixes.
+-- the form for the year suffix the parts are this suffix alone, without affixes.
 
 abbrev pub suffix_text : Option (List Chunk) → List ℕ
 suffix_text None = []
@@ -103,7 +102,7 @@ implicit_suffix w s =
 abbrev pub first_suffix : RenderInput → State → List ℕ
 first_suffix w s = if is_first s then implicit_suffix w s else []
 
--- the parts lose all but this suffix under the form that is for it
+-- under the form for the year suffix the parts lose all but this suffix
 abbrev pub is_suffix_alone : Option SpecialForm → Bool
 is_suffix_alone None = false
 is_suffix_alone (Some (VarOnly only)) = false
@@ -113,13 +112,14 @@ is_suffix_alone (Some SuppressAuthor) = false
 
 -- ---- a localized date with the node over it
 -- A date with a form is the style's localized date of that form with the node over it, and nothing
--- if the style has none. The localized date has the parts in order and the delimiter between them,
--- even none. The node's affixes and display stay. Its date-parts and its formatting are over those
--- of the localized date.
--- A part of the localized date takes, from the first part of the node that has its name, the form,
--- set or not, and the formatting over its own. Its affixes and stripping stay.
+-- if the style has none. The localized date gives the parts in order, and the delimiter between
+-- them or none. The node's affixes and display stay. Its date-parts and its formatting are over
+-- those of the localized date.
+-- The first part of the node with the same name overrides a part of the localized date. Its form
+-- replaces that of the part, set or not, and its formatting is over that of the part. The affixes
+-- and the stripping of the part stay.
 
--- the node's own part of that name
+-- the first of the node's own parts with that name
 abbrev pub own_part : List DatePartNode → DatePartName → Option DatePartNode
 own_part own name = find (λ p. sameb the_type p.name name) own
 
@@ -131,8 +131,7 @@ abbrev pub formatting_over : Option DatePartNode → partial.Formatting → part
 formatting_over None f = f
 formatting_over (Some own) f = apply_partial own.formatting f
 
--- A localized part takes from the node's own part of its name, if there is one, the form, set or
--- not, and the formatting over its own. Its affixes and stripping stay.
+-- a part of the localized date, with the node's own part of its name over it
 abbrev pub part_over : List DatePartNode → DatePartNode → DatePartNode
 part_over own p = record p {
   form = form_over (own_part own p.name) p.form;
@@ -158,9 +157,7 @@ whole_formatting own (Some l) = apply_partial own l.dressing.formatting
 abbrev pub dressing_over : Dressing → Option DateNode → Dressing
 dressing_over own l = record own { formatting = whole_formatting own.formatting l }
 
--- The localized date gives the parts in order and the delimiter between them; the node its affixes
--- and its place on the page. Which parts are written, and the formatting, are the node's over those
--- of the localized date.
+-- the node over its localized date, or the node alone if there is none
 abbrev pub date_over : DateNode → Option DateNode → DateNode
 date_over n l = record n {
   parts = parts_over n.parts l;
@@ -169,14 +166,14 @@ date_over n l = record n {
   dressing = dressing_over n.dressing l;
 }
 
--- the date as it is written: with a form it is the style's localized date under the node, or none
+-- the date as it is written: with a form the node over the style's localized date, or none
 abbrev pub localized_over : StyleParts → DateNode → Option DateForm → Option DateNode
 localized_over style n None = Some n
 localized_over style n (Some form) = option_map (λ l. date_over n (Some l)) (localized_date style form)
 
 -- ---- a part
--- A part is its text, in its affixes, in its formatting. Only a month loses periods, and its
--- affixes keep theirs.
+-- A part is its text, in its affixes, in its formatting. The own strip-periods of a part applies to
+-- a month alone, and not to the affixes.
 
 -- the suffix comes with the year
 abbrev pub suffix_with : DatePartName → List ℕ → List ℕ
@@ -184,18 +181,19 @@ suffix_with Day suffix = []
 suffix_with Month suffix = []
 suffix_with Year suffix = suffix
 
--- the text of a part: its value, unless only the suffix is written, and after a year its suffix
+-- the text of a part: its value, if it is written and not only the suffix is, and after a year the
+-- suffix
 abbrev pub part_value : StyleParts → Bool → DateParts → List ℕ → DateView → DatePartName → Option DateAnyForm → List ℕ
 part_value style alone parts suffix d name form =
     (if not alone && is_written parts d name then part_text style name form d else []) ++ suffix_with name suffix
 
--- a month alone loses its periods
+-- only a month can strip its periods
 abbrev pub is_stripped : DatePartName → Bool → Bool
 is_stripped Day strip = false
 is_stripped Month strip = strip
 is_stripped Year strip = false
 
--- the attributes of a part; it has no affixes where only the suffix is written
+-- the attributes of a part; it has no affixes if only the suffix is written
 abbrev pub part_dressing : Bool → DatePartNode → Dressing
 part_dressing alone p = record { formatting = p.formatting; affixes = if alone then no_affixes else p.affixes; display = None }
 
@@ -208,7 +206,7 @@ part_content w parts suffix d inh p =
 -- ---- the parts that print something, in order, with the delimiter between them, in the date's
 -- formatting
 
--- contents in a row, each behind a delimiter
+-- contents in a row, each after a delimiter
 abbrev pub each_after_delimiter : List Token → List (List Token) → List Token
 each_after_delimiter delimiter [] = []
 each_after_delimiter delimiter (c ∷ cs) = delimiter ++> (c ++> each_after_delimiter delimiter cs)
@@ -224,25 +222,25 @@ date_body w n suffix d inh =
     (filter has_children (map (part_content w (unwrap_or n.parts YearMonthDay) suffix d inh) n.date_part))
 
 -- ---- rendering
--- A date without a variable, or one that does not show it, is nothing. Any other date looks its
--- variable up for printing, and is nothing if it finds none. While sorting it is its sort key, one
--- text without box, affixes or formatting, and it is no printed date then. Else it is a box, in its
--- formatting, around its parts in its affixes, with the meta of a date. From then on a date was
--- printed, even to nothing.
+-- A date without a variable, or one that does not show it, renders nothing. Any other date looks
+-- its variable up for printing, and renders nothing if it finds none. While sorting it renders its
+-- sort key: one text without box, affixes or formatting of its own. Then it does not count as a
+-- rendered date. Otherwise its content is a box in its formatting, around its parts in its affixes,
+-- with the meta of a date. From then on a date counts as rendered, even to nothing.
 
--- the state after a date was printed, even to nothing
+-- the state after a date was rendered, even to nothing
 abbrev pub date_seen : State → State
 date_seen s = record s { first_date_seen = true }
 
 abbrev pub date_box : RenderInput → DateNode → List ℕ → DateView → Inherited → List Token
 date_box w n suffix d inh = plain_box n.dressing of_date inh (date_body w n suffix d (in_plain n.dressing false inh))
 
--- a date that prints; nothing where the style lacks the localized date
+-- the box of a date that was found; nothing if the style lacks the localized date
 abbrev pub printed_date : RenderInput → Option DateNode → DateView → Inherited → State → RenderOutput
 printed_date w None d inh s = render_output [] s
 printed_date w (Some n) d inh s = render_output (date_box w n (first_suffix w s) d inh) (date_seen s)
 
--- a sort key is one text without a box, and no date is printed
+-- a sort key is one text without a box, and does not count as a rendered date
 abbrev pub date_or_key : RenderInput → DateNode → Option Sorting → DateView → Inherited → State → RenderOutput
 date_or_key w n None d inh s = printed_date w (localized_over w.style n n.form) d inh s
 date_or_key w n (Some sorting) d inh s = render_output (text_in inh (sort_key n sorting (implicit_suffix w s) d)) s
@@ -251,7 +249,7 @@ abbrev pub resolved_date : RenderInput → DateNode → Option DateView → Inhe
 resolved_date w n None inh s = render_output [] s
 resolved_date w n (Some d) inh s = date_or_key w n w.instance.sorting d inh s
 
--- the variable is looked up for printing where the date shows it
+-- the variable is looked up for printing if the date shows it
 abbrev pub variable_output : RenderInput → DateNode → Option DateVariable → Inherited → State → RenderOutput
 variable_output w n None inh s = render_output [] s
 variable_output w n (Some v) inh s =
@@ -263,7 +261,7 @@ date_output w n inh s = variable_output w n n.variable inh s
 abbrev pub localized_node : LocalizedDate → DateNode
 localized_node d = date_over (view_date d.node.now) (option_map (λ l. view_date l.now) d.localized)
 
--- the node's parts that are over those of the localized date, if there is one
+-- the node's own parts if there is a localized date, which they override; else none
 abbrev pub over_localized : Date → Option (Bor Date) → List DatePartNode
 over_localized n None = []
 over_localized n (Some l) = map view_date_part n.date_part.items

@@ -1,15 +1,15 @@
 -- Labels (CSL 1.0.2, Label; Locators). A label has no flags and shows no variable.
--- - *Printing.* If only one number is to be shown, a label of any other variable does not print.
---   Otherwise, under the forms for one variable, the first date and the year suffix, each label
---   prints except that of a locator. Any other label prints if its variable and its term are found,
---   by a silent look.
--- - *Term.* It is the variable's; for a locator that of its kind, and none if the kind is the
---   citation's own. Beside pages it is in the plural if these are. Beside a number variable it is
---   always or never, if the label sets so, and else if the number is in the plural. So it is in the
---   singular beside a text or a place that the caller writes.
--- - *Rendering.* A label that prints, and finds its variable and its term, is a box without a
---   display, in its own formatting, around its term in its affixes. Periods are stripped in the
---   term alone.
+-- - *Printing.* If the special form shows one number variable alone, a label of any other variable
+--   does not print. Otherwise, under the forms for one variable, the first date and the year
+--   suffix, each label prints except that of a locator. Any other label prints if its variable and
+--   its term are found, by a silent lookup.
+-- - *Term.* It is the variable's. A locator has the term of its kind; the custom kind has none.
+--   Beside pages it is in the plural if the pages are. Beside a number variable it is always or
+--   never in the plural if the label sets so, and otherwise if the number is. In this last case it
+--   is in the singular beside a text or a place that the caller fills.
+-- - *Rendering.* A label that prints, and finds its variable and its term, renders a box without a
+--   display, in its own formatting, around its term in its affixes. Its own strip-periods applies
+--   to the term alone.
 use Rattle.std.specs.Prelude.{ℕ, Bool, true, false, not, ◌||◌, List, [], Option, Some, None, is_some, unwrap_or, if◌then◌else◌}
 use denote.Enum.Bare.{sameb}
 use Rattle.lit_model.specs.MaybeTyped.{MaybeView, typed, text}
@@ -45,12 +45,12 @@ use Rattle.csl_nodes.specs.Text.{RenderOutput, render_output, same_variable}
 
 -- ---- the term
 
--- the term of the kind of a locator, unless the kind is the citation's own
+-- the term of the kind of a locator; the custom kind has none
 abbrev pub kind_term : Option LocatorView → Option Term
 kind_term None = None
 kind_term (Some place) = if sameb the_locator place.kind Custom then None else Some (terms.Locator place.kind)
 
--- the term of a label: that of the locator's kind, or of any other variable
+-- the term of a label: that of the locator's kind, or that of any other variable
 abbrev pub label_term : CiteState → NumberOrPageVariable → Option Term
 label_term cite (number_or_page.Number v) = if sameb the_number v Locator then kind_term cite.locator else Some (terms.Number v)
 label_term cite (number_or_page.Page v) = Some (terms.Page v)
@@ -71,7 +71,7 @@ abbrev pub plural_page : MaybeView (List PartView) → Bool
 plural_page (typed parts) = plural_pages parts
 plural_page (text bs) = false
 
--- the plural beside a number variable, as the label sets it
+-- whether a label is in the plural beside a number variable
 abbrev pub plural_by : LabelPluralize → Bool → ResultView → Bool
 plural_by Contextual counts r = plural_number counts r
 plural_by Always counts r = true
@@ -81,7 +81,7 @@ abbrev pub is_plural : LabelPluralize → NumberOrPageVariable → NumberOrPageV
 is_plural asked v (number r) = plural_by asked (is_count v) r
 is_plural asked v (page pages) = plural_page pages
 
--- ---- the text, where the variable and the term are found
+-- ---- the text, if the variable and the term are found
 
 abbrev pub term_if : RenderInput → LabelNode → Option Term → Bool → Option (List ℕ)
 term_if w l None several = None
@@ -91,7 +91,7 @@ abbrev pub text_beside : RenderInput → NumberOrPageVariable → LabelNode → 
 text_beside w v l None = None
 text_beside w v l (Some found) = term_if w l (label_term w.instance.cite v) (is_plural l.plural v found)
 
--- the text of a label, by a silent look
+-- the text of a label, by a silent lookup
 abbrev pub label_text : RenderInput → State → NumberOrPageVariable → LabelNode → Option (List ℕ)
 label_text w s v l = text_beside w v l (peek_number_or_page w s v)
 
@@ -101,7 +101,7 @@ abbrev pub is_locator : NumberOrPageVariable → Bool
 is_locator (number_or_page.Number v) = sameb the_number v Locator
 is_locator (number_or_page.Page v) = false
 
--- the one variable to be shown is a number, and not the label's
+-- the only variable that the form shows is a number variable, and not the label's
 abbrev pub is_other_number : Variable → NumberOrPageVariable → Bool
 is_other_number (variable.Standard u) v = false
 is_other_number (variable.Number u) v = not (same_variable (variable.Number u) (variable_of v))
@@ -112,8 +112,7 @@ is_other_number (variable.Date u) v = false
 abbrev pub label_unless_locator : NumberOrPageVariable → Option Bool
 label_unless_locator v = if is_locator v then None else Some true
 
--- what a special form decides without a look: if only a number is to be shown, the label of any
--- other variable does not print; any other label prints, except that of a locator
+-- whether a label prints, if the special form decides it without a lookup
 abbrev pub label_by_special_form : Option SpecialForm → NumberOrPageVariable → Option Bool
 label_by_special_form None v = None
 label_by_special_form (Some (VarOnly only)) v = if is_other_number only v then Some false else label_unless_locator v
@@ -129,7 +128,7 @@ label_info w s v l = info_of (label_prints w s v l) no_usage_flags
 
 -- ---- rendering
 
--- a label has no place of its own on the page
+-- a label has no display
 abbrev pub label_dressing : LabelNode → Dressing
 label_dressing l = record { formatting = l.formatting; affixes = l.affixes; display = None }
 

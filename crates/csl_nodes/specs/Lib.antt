@@ -1,7 +1,6 @@
--- The definitions that the contracts of `csl_nodes` cite: what a node that holds no other nodes
--- returns in a dry run and renders. They are whole contents over nodes with no macro name left.
--- They read the input (style, scope and cite), the state, and, for contents, what the node
--- inherits.
+-- The definitions that the contracts of `csl_nodes` cite: the dry run and the whole content of each
+-- node that holds no other nodes. They depend on the input (style, scope and cite) and the state.
+-- Contents also depend on the inherited values.
 pub mod Usage
 pub mod Pages
 pub mod NumberOrPage

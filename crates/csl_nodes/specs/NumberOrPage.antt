@@ -1,9 +1,9 @@
 -- The answer to a number or page variable, as it prints (CSL 1.0.2, Text, `variable`; Number;
--- Number Variables). The place of a cite that the caller writes stays as it is.
--- - By a number node (`number_node_text`): a number in the node's form and gender, a text as it is,
---   pages in the format of the style.
--- - By a text node (`text_node_text`): a number in decimal, a text as it is, pages in the format of
---   the style, and a text in place of pages with an en dash for each hyphen.
+-- Number Variables). A place that the caller fills stays unchanged.
+-- - By a number node (`number_node_text`): a number in the node's form and gender, pages in the
+--   format of the style, a text unchanged.
+-- - By a text node (`text_node_text`): a number in decimal, pages in the format of the style, a
+--   text unchanged, and a text in place of pages with an en dash for each hyphen.
 use Rattle.std.specs.Prelude.{ℕ, List, Option, None, option_map, string_bytes}
 use Rattle.csl_common.specs.declared.ordinal.GrammarGender.{GrammarGender}
 use Rattle.csl_common.specs.declared.form.NumberForm.{NumberForm}
@@ -21,12 +21,12 @@ use Rattle.csl_nodes.specs.declared.number_or_page.NumberText.{NumberText}
 use Rattle.csl_nodes.specs.declared.number_or_page.NumberText.TheVariants as of_shown
 use Rattle.csl_nodes.specs.Pages.{pages_in_style, with_dashes}
 
--- Look, of a variable that holds a number or pages
+-- the lookup of a variable that holds a number or pages
 abbrev pub peek_number_or_page : RenderInput → State → NumberOrPageVariable → Option NumberOrPageView
 peek_number_or_page w s (number_or_page.Number v) = option_map number (peek_number w s v)
 peek_number_or_page w s (number_or_page.Page v) = option_map page (peek_page w s v)
 
--- a text, or the place of a cite that the caller writes
+-- a text, or a place that the caller fills for the cite of an index
 pub data NumberTextView : Type 0 where
   number_words : List ℕ → NumberTextView
   number_transparent : ℕ → NumberTextView
@@ -39,20 +39,20 @@ abbrev pub shown_in : Inherited → NumberTextView → List Token
 shown_in inh (number_words bs) = text_in inh bs
 shown_in inh (number_transparent index) = transparent_in inh index
 
--- the answer to a number variable: a number in a form, a text as it is, or the place of the caller
+-- an answer to a number variable: a number in a form, a text unchanged, or a place of the caller
 abbrev pub number_result_text : StyleParts → NumberForm → Option GrammarGender → ResultView → NumberTextView
 number_result_text style form gender (regular (typed n)) = number_words (number_text style form gender n)
 number_result_text style form gender (regular (text bs)) = number_words bs
 number_result_text style form gender (transparent index) = number_transparent index
 
--- an answer as a number node prints it: pages as the style writes them, and a text as it is
+-- an answer as a number node prints it: pages in the format of the style, and a text unchanged
 abbrev pub number_node_text : StyleParts → NumberForm → Option GrammarGender → NumberOrPageView → NumberTextView
 number_node_text style form gender (number r) = number_result_text style form gender r
 number_node_text style form gender (page (typed parts)) = number_words (pages_in_style style parts)
 number_node_text style form gender (page (text bs)) = number_words bs
 
--- an answer as a text node prints it: numbers in decimal, and a text in the place of pages with an
--- en dash for each hyphen
+-- an answer as a text node prints it: numbers in decimal, and a text in place of pages with an en
+-- dash for each hyphen
 abbrev pub text_node_text : StyleParts → NumberOrPageView → NumberTextView
 text_node_text style (number r) = number_result_text style Numeric None r
 text_node_text style (page (typed parts)) = number_words (pages_in_style style parts)

@@ -1,14 +1,15 @@
 -- Numbers (CSL 1.0.2, Number; Sorting).
--- - *Dry run.* A number shows its variable, unless only another one is to be shown. Under the two
---   forms for the first date and the year suffix a number of a locator shows any variable, and no
---   other number shows one. A number that shows its own variable prints if it finds that, which is
---   then called and not empty. Else it calls it and does not print.
--- - *Rendering.* A number that does not show its own variable is nothing. Else it looks it up for
---   printing. While sorting, a number or pages are their sort text, one text without box, affixes
---   or formatting of its own: each number in at least four places without prefix and suffix, pages
---   in full. Else it is a box, in its own formatting, around the answer in its affixes
---   (`number_node_text`), in the gender of the variable's term. The meta is that of a number, or of
---   a citation number.
+-- - *Dry run.* A number shows its own variable, unless the special form shows only another one.
+--   Under the two forms for the first date and the year suffix a number of the locator shows any
+--   variable, and any other number shows none. A number prints if it shows its own variable and
+--   finds it. The variable is then called and not empty. Any other number calls its variable and
+--   does not print.
+-- - *Rendering.* A number that does not show its own variable renders nothing. Any other number
+--   looks it up for printing. While sorting, a number or pages render their sort text: one text
+--   without box, affixes or formatting of its own. It has each number in at least four places,
+--   without prefix and suffix, and pages in full. Otherwise the content is a box in the node's
+--   formatting, around the answer in its affixes (`number_node_text`), in the gender of the
+--   variable's term. The meta is that of a number, or of a citation number.
 use Rattle.std.specs.Prelude.{ℕ, Bool, true, false, ◌&&◌, List, [], Option, Some, None, is_some, if◌then◌else◌}
 use denote.Enum.Bare.{sameb}
 use Rattle.lit_model.specs.MaybeTyped.{typed, text}
@@ -36,8 +37,7 @@ use Rattle.csl_nodes.specs.Text.{RenderOutput, render_output, same_variable, sur
 
 -- ---- dry runs
 
--- A number shows its own variable, unless only another one is to be shown. Under the two forms for
--- dates and for suffixes a number of a locator shows every variable, and any other shows none.
+-- whether a number of the variable `own` shows the variable `asked`
 abbrev pub is_shown : Option SpecialForm → Variable → Variable → Bool
 is_shown None own asked = same_variable own asked
 is_shown (Some (VarOnly only)) own asked = same_variable own asked && same_variable only own
@@ -51,7 +51,7 @@ number_shows w v n = is_shown w.instance.special (variable_of n.variable) v
 abbrev pub shows_own : RenderInput → NumberNode → Bool
 shows_own w n = number_shows w (variable_of n.variable) n
 
--- the dry run of a number: its variable is called, and non-empty where it is found
+-- the dry run of a number: its variable is called, and not empty if it is found
 abbrev pub presence_info : Bool → Info
 presence_info found = info_of found (usage_flags true found false false)
 
@@ -60,8 +60,8 @@ number_info w s n = presence_info (if shows_own w n then is_some (peek_number_or
 
 -- ---- rendering
 
--- the text by which a number or pages are sorted: each number in at least four places, without
--- prefix and suffix; pages in full
+-- the sort text of a number or pages: each number in at least four places, without prefix and
+-- suffix; pages in full
 abbrev pub sort_text : NumberOrPageView → Option (List ℕ)
 sort_text (number (regular (typed n))) = Some (value_text (integer_text true) n.value)
 sort_text (number (regular (text bs))) = None
@@ -69,7 +69,7 @@ sort_text (number (transparent index)) = None
 sort_text (page (typed parts)) = Some (pages_text parts)
 sort_text (page (text bs)) = None
 
--- only what is rendered to be sorted has one
+-- the sort text, if the cite is rendered for sorting
 abbrev pub sort_text_if : Option Sorting → NumberOrPageView → Option (List ℕ)
 sort_text_if None found = None
 sort_text_if (Some sorting) found = sort_text found
@@ -91,7 +91,7 @@ abbrev pub optional_number_content : RenderInput → NumberNode → Option Numbe
 optional_number_content w n None inh = []
 optional_number_content w n (Some found) inh = number_content w n found (sort_text_if w.instance.sorting found) inh
 
--- the variable is looked up for printing where the number shows it
+-- the variable is looked up for printing if the number shows it
 abbrev pub number_output : RenderInput → NumberNode → Inherited → State → RenderOutput
 number_output w n inh s = if shows_own w n
     then render_output (optional_number_content w n (peek_number_or_page w s n.variable) inh) (state_after_resolve (variable_of n.variable) s)

@@ -1,7 +1,7 @@
--- The conditions of a branch that an iterator has not read yet, and one reading of it: the next
--- condition, or an error, after which nothing is left.
--- `next_arm`, `after_first`, `after_deciding` and `ReadsAt` are the code's own: private
--- contracts alone cite them.
+-- The conditions of a branch that an iterator has not read yet, and one step of the iterator: the
+-- next condition, or an error, after which no condition remains.
+-- Only contracts of private functions cite `next_arm`, `after_first`, `after_deciding` and
+-- `ReadsAt`.
 use Rattle.std.specs.Prelude.{◌≡◌, ℕ, Bool, false, not, List, [], ◌∷◌, ◌++◌, drop, Option, Some, None, option_map, Result, MatchOption, MatchResult, if◌then◌else◌}
 use Rattle.csl_style.specs.Node.{Tests}
 use Rattle.csl_style.specs.declared.element.ChooseMatch.{ChooseMatch}
@@ -19,7 +19,7 @@ use Rattle.csl_nodes.specs.declared.branch_conditions.BranchConditionIter.{Branc
 
 -- ---- the sorts of tests
 
--- the sort of tests that comes after one
+-- the sort of tests after one
 abbrev pub next_arm : BranchConditionPos → Option BranchConditionPos
 next_arm arm.Disambiguate = Some arm.IsNumeric
 next_arm arm.IsNumeric = Some arm.IsUncertainDate
@@ -46,7 +46,7 @@ arm_index arm.Variable = 6
 abbrev pub arms_from : BranchConditionPos → List BranchConditionPos
 arms_from p = drop (arm_index p) all_but_last
 
--- ---- what is left behind a place: of one sort, and of those behind it
+-- ---- the remaining conditions from a place on: of its sort, and of all later sorts
 
 abbrev pub later_conditions : RenderInput → State → Tests → BranchConditionPos → List Bool
 later_conditions w s ts arm.Disambiguate = of_numbers w s ts
@@ -79,13 +79,13 @@ tests_of b = let branch = out-ChooseBranch b in record {
 abbrev pub context_of : {T : Type 0} → BranchConditionIter T → ContextView T
 context_of it = it.ctx.now
 
--- the conditions that are left to be read: none after an error
+-- the conditions that remain to be read: none after an error
 abbrev pub remaining_conditions : {T : Type 0} → (T → Answers) → BranchConditionIter T → List Bool
 remaining_conditions answers it =
     if it.ended then []
     else conditions_from (render_input answers (context_of it)) (context_of it).state (tests_of it.branch.now) it.pos it.index
 
--- the conditions after the first that passes the test; none where none passes
+-- the conditions after the first that passes the test; none if none passes
 abbrev pub after_first : (Bool → Bool) → List Bool → List Bool
 after_first p [] = []
 after_first p (b ∷ bs) = if p b then bs else after_first p bs
@@ -97,13 +97,13 @@ after_deciding matched.All bs = after_first not bs
 after_deciding matched.Any bs = after_first (λ b. b) bs
 after_deciding matched.None bs = after_first (λ b. b) bs
 
--- a test was read, where there is one at the place
+-- the result of reading a place: nothing if it has no test, else the test's boolean or an error
 abbrev pub ReadsAt : {T : Type 0} → ContextView T → Option Bool → Option (Result Bool RenderError) → Type 0
 ReadsAt now None r = r ≡ None
 ReadsAt now (Some b) r = MatchOption r ⊥ (λ x. MatchResult x (λ c. (now.failed ≡ false) × (c ≡ b)) (λ e. FailsSilently e now))
 
--- One reading returns the first condition that is left, or an error, after which nothing is left.
--- Where nothing is left, it returns None, now and later.
+-- One step returns the first remaining condition, or an error, after which no condition remains. If
+-- none remains, it returns `None`, now and later.
 abbrev pub ReadsNext : {T : Type 0} → (T → Answers) → BranchConditionIter T → Option (Result Bool RenderError) → BranchConditionIter T → Type 0
 ReadsNext answers s r t =
     (context_of t ≡ context_of s) × MatchOption r ((remaining_conditions answers s ≡ []) × (remaining_conditions answers t ≡ []))

@@ -1,4 +1,4 @@
--- What a text finds, from the value that the code holds.
+-- A resolved text of the code, as plain data.
 use Rattle.lit_model.specs.Text.{chunks}
 use Rattle.csl_entry.specs.Answers.{cow_view}
 use Rattle.csl_entry.specs.NumberResult.{number_or_page_view}

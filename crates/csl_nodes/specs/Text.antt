@@ -1,5 +1,5 @@
 -- Texts that call no macro (CSL 1.0.2, Text; Affixes; Quotes; Strip-periods; Appendix VI, Links):
--- what they find, their dry run, the variables that they show, their content and the state that
+-- how they resolve, their dry run, the variables that they show, their content and the state that
 -- they leave.
 use Rattle.std.specs.Prelude.{ℕ, Bool, true, false, not, ◌&&◌, ◌||◌, ◌==◌, List, [], ◌++◌, length, Option, Some, None, option_map, is_some, Result, codes, bytes_eq, if◌then◌else◌}
 use denote.Enum.Bare.{sameb}
@@ -45,7 +45,7 @@ pub record RenderOutput : Type 0 where
 abbrev pub render_output : List Token → State → RenderOutput
 render_output c s = record { content = c; state = s }
 
--- a content, and then what is made after it
+-- a content, and then a rendering after it
 abbrev pub then_output : List Token → RenderOutput → RenderOutput
 then_output c m = render_output (c ++> m.content) m.state
 
@@ -53,7 +53,7 @@ then_output c m = render_output (c ++> m.content) m.state
 abbrev pub with_output : {T : Type 0} → RenderOutput → ContextView T → ContextView T
 with_output m now = record now { inner = now.inner ++> m.content; state = m.state }
 
--- A call appends what is made of the input, of what is inherited and of the state, or it fails.
+-- A call appends the rendering `m` of the input, the inherited values and the state, or it fails.
 abbrev pub Appends : {R T : Type 0} → (T → Answers) → (RenderInput → Inherited → State → RenderOutput) → Result R RenderError → ContextView T → ContextView T → Type 0
 Appends answers m result old new = Runs (λ now. with_output (m (render_input answers now) now.inherited now.state) now) result old new
 
@@ -63,9 +63,9 @@ same_variable = eq-value.it
 abbrev pub is_standard : StandardVariable → StandardVariable → Bool
 is_standard u v = sameb the_standard v u
 
--- ---- what a special form leaves
+-- ---- texts under a special form
 
--- the two forms for dates and for suffixes leave the year suffix and the locator
+-- the two forms for the first date and the year suffix show only the year suffix and the locator
 abbrev pub survives_only_forms : Variable → Bool
 survives_only_forms (variable.Standard v) = is_standard standard.YearSuffix v
 survives_only_forms (variable.Number v) = sameb the_number v Locator
@@ -73,7 +73,7 @@ survives_only_forms (variable.Page v) = false
 survives_only_forms (variable.Name v) = false
 survives_only_forms (variable.Date v) = false
 
--- a text of the variable is left
+-- the form shows a text of the variable
 abbrev pub shows_variable : Option SpecialForm → Variable → Bool
 shows_variable None v = true
 shows_variable (Some (VarOnly u)) v = same_variable u v
@@ -81,7 +81,7 @@ shows_variable (Some OnlyFirstDate) v = survives_only_forms v
 shows_variable (Some OnlyYearSuffix) v = survives_only_forms v
 shows_variable (Some SuppressAuthor) v = true
 
--- a text of a term or of a value is left
+-- the form shows a text of a term or of a value
 abbrev pub shows_terms_and_values : Option SpecialForm → Bool
 shows_terms_and_values None = true
 shows_terms_and_values (Some (VarOnly u)) = false
@@ -89,7 +89,7 @@ shows_terms_and_values (Some OnlyFirstDate) = false
 shows_terms_and_values (Some OnlyYearSuffix) = false
 shows_terms_and_values (Some SuppressAuthor) = true
 
--- a text of a macro has its affixes, unless one variable alone is shown
+-- a text of a macro has its affixes, unless the form shows one variable alone
 abbrev pub shows_macro_affixes : Option SpecialForm → Bool
 shows_macro_affixes None = true
 shows_macro_affixes (Some (VarOnly u)) = false
@@ -97,14 +97,14 @@ shows_macro_affixes (Some OnlyFirstDate) = true
 shows_macro_affixes (Some OnlyYearSuffix) = true
 shows_macro_affixes (Some SuppressAuthor) = true
 
--- ---- what a text finds
--- A text finds the answer to its variable, the text of its term, or its value. Under the form for
--- one variable only a text of that variable finds anything. Under the two forms for the first date
--- and the year suffix only the year suffix and the locator do. A text of a name or a date variable
--- never finds anything.
+-- ---- resolved texts
+-- A text resolves to the answer to its variable, the text of its term, or its value. Under the form
+-- for one variable only a text of that variable resolves to anything. Under the two forms for the
+-- first date and the year suffix only the year suffix and the locator do. A text of a name or a
+-- date variable never resolves to anything.
 
 -- the answer to a standard variable, the answer to one that holds a number or pages, the text of a
--- term, the value that the style gives
+-- term, the value in the style
 pub data ResolvedText : Type 0 where
   standard_text : StandardVariable → List Chunk → ResolvedText
   number_result : NumberOrPageVariable → NumberOrPageView → ResolvedText
@@ -114,7 +114,7 @@ pub data ResolvedText : Type 0 where
 abbrev pub resolved_number : RenderInput → State → NumberOrPageVariable → Option ResolvedText
 resolved_number w s v = option_map (number_result v) (peek_number_or_page w s v)
 
--- A name or a date variable finds nothing.
+-- a name or a date variable resolves to nothing
 abbrev pub resolved_variable : RenderInput → State → LongShortForm → Variable → Option ResolvedText
 resolved_variable w s form (variable.Standard v) = option_map (standard_text v) (peek_standard w s form v)
 resolved_variable w s form (variable.Number v) = resolved_number w s (number_or_page.Number v)
@@ -131,12 +131,12 @@ resolved_text w s (of_term t form plural) = if shows_terms_and_values w.instance
 resolved_text w s (of_value bs) = if shows_terms_and_values w.instance.special then Some (value bs) else None
 
 -- ---- dry runs
--- Looks are silent. A text that finds nothing does not print. It still calls its variable, except
--- for the year suffix. A text that finds an answer calls it, and prints unless that is an empty
--- standard text. A term that is found prints, and a value that is not empty does; neither has
--- flags. A text shows its variable if it finds it.
+-- Lookups are silent. A text that resolves to nothing does not print. It still calls its variable,
+-- except for the year suffix. A text with an answer calls its variable, and prints unless the
+-- answer is an empty standard text. A term that is found prints, and so does a value that is not
+-- empty; neither has flags. A text shows its variable if it resolves to an answer.
 
--- a text calls its variable also where it finds nothing, but for the year suffix
+-- a text that resolves to nothing still calls its variable, except for the year suffix
 abbrev pub calls_variable : Variable → Bool
 calls_variable (variable.Standard v) = not (is_standard standard.YearSuffix v)
 calls_variable (variable.Number v) = true
@@ -169,9 +169,9 @@ abbrev pub target_shows : RenderInput → State → Variable → Target → Bool
 target_shows w s v t = is_some (resolved_text w s t) && is_of v t
 
 -- ---- links (CSL 1.0.2, Appendix VI, Links)
--- The answer to DOI, PMID or PMCID is a link to the address that a prefix and the answer make, and
--- the answer to URL is a link to itself. If the node's prefix is that of the address, it begins the
--- text of the link, and the node has no affixes.
+-- The answer to DOI, PMID or PMCID is a link to an address: a prefix, then the answer. The answer
+-- to URL is a link to itself. If the node's prefix is that of the address, it begins the text of
+-- the link, and the node has no affixes.
 
 abbrev pub doi_prefix : List ℕ
 doi_prefix = codes "https://doi.org/"
@@ -210,23 +210,23 @@ abbrev pub begins_link : TextDressing → StandardVariable → Bool
 begins_link d v = is_address_prefix (url_prefix v) d.dressing.affixes.prefix
 
 -- ---- rendering
--- A text that finds something is a box, in its own formatting, around its body in quotes and
--- affixes. Periods are stripped in the body alone. The body of a standard answer is its chunks, or
--- its link. For a number or page variable it is `text_node_text` of `NumberOrPage`. The box has the
--- meta of a text, a citation label or a citation number if a variable is printed, and none else. A
--- text of a variable, unless a name or a date, looks it up for printing, whatever it finds. If a
--- form leaves the variable out, there is no look.
+-- The content of a resolved text is a box in the text's formatting, around its body in quotes and
+-- affixes. The text's own strip-periods applies to the body alone. The body of a standard answer is
+-- its chunks, or its link. For a number or page variable it is `text_node_text` of `NumberOrPage`.
+-- The box of an answer has the meta of a text, a citation label or a citation number. The box of a
+-- term or a value has none. A text of a variable looks it up for printing, whatever it resolves to.
+-- There is no lookup for a name or a date variable, or if the special form does not show the text.
 
--- within quotes those inside are of the other kind
+-- quotes within quotes are of the other kind
 abbrev pub toggled_if : Bool → Bool → Bool
 toggled_if true depth = not depth
 toggled_if false depth = depth
 
--- a context on the other side of quotes, where there are any
+-- a context on the other side of quotes, if there are any
 abbrev pub with_quotes_toggled_if : {T : Type 0} → Bool → ContextView T → ContextView T
 with_quotes_toggled_if quotes now = record now { inherited = record now.inherited { in_quotes = toggled_if quotes now.inherited.in_quotes } }
 
--- what the body of a text inherits
+-- the inherited values of a text's body
 abbrev pub in_body : TextDressing → Inherited → Inherited
 in_body d inh = record inh {
   formatting = apply_formatting d.dressing.formatting inh.formatting;
@@ -234,7 +234,7 @@ in_body d inh = record inh {
   strip_periods = d.strip_periods || inh.strip_periods;
 }
 
--- a body in quotes, where the text has them
+-- a body in quotes, if the text has them
 abbrev pub in_quotes_if : Bool → StyleParts → Inherited → Option (List ℕ) → List Token → List Token
 in_quotes_if true style inh suffix c = quoted_content style inh suffix c
 in_quotes_if false style inh suffix c = c
@@ -257,7 +257,7 @@ text_box style a d meta inh c =
 abbrev pub no_affixes : AffixTexts
 no_affixes = record { prefix = None; suffix = None }
 
--- the affixes of a text: none where its prefix begins a link
+-- the affixes of a text: none if its prefix begins a link
 abbrev pub resolved_affixes : TextDressing → ResolvedText → AffixTexts
 resolved_affixes d (standard_text v cs) = if begins_link d v then no_affixes else d.dressing.affixes
 resolved_affixes d (number_result v n) = d.dressing.affixes
@@ -278,7 +278,7 @@ resolved_meta (number_result v n) = Some (numeral_meta v)
 resolved_meta (term bs) = None
 resolved_meta (value bs) = None
 
--- an answer with an address is a link to it, any other is its chunks
+-- the body of an answer: a link to its address if it has one, else its chunks
 abbrev pub answer_body : Option (List ℕ) → Bool → Inherited → List Chunk → List Token
 answer_body (Some p) begins inh cs = link_in inh (if begins then p ++ chunks_text cs else chunks_text cs) (p ++ chunks_text cs)
 answer_body None begins inh cs = chunks_in inh cs
@@ -301,7 +301,7 @@ state_after_text_resolve (variable.Page v) s = state_after_resolve (variable.Pag
 state_after_text_resolve (variable.Name v) s = s
 state_after_text_resolve (variable.Date v) s = s
 
--- a text of the variable that is left looks it up for printing, whatever is found
+-- a text that the form shows looks its variable up for printing, whatever it resolves to
 abbrev pub variable_state : RenderInput → Variable → State → State
 variable_state w v s = if shows_variable w.instance.special v then state_after_text_resolve v s else s
 

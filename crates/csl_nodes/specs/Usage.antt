@@ -3,16 +3,16 @@
 -- flags of children are joined by "or", but the group flag is set by a child that is itself a group
 -- and prints.
 -- The *rule* fails if variables are called and no other flag is set. A group prints if a child does
--- and the rule holds. The nodes of a macro and of a layout, and those that a choice takes, count no
--- group. A text of a macro prints if one of them does and the rule holds, and its macro flag is
--- just that.
+-- and the rule holds. The nodes of a macro, a layout and a substitute, and those that a choice
+-- takes, count no group. A text of a macro prints if one of the macro's nodes does and the rule
+-- holds. Its macro flag is whether it prints.
 use Rattle.std.specs.Prelude.{Bool, false, not, ◌&&◌, ◌||◌}
 use Rattle.csl_nodes.specs.declared.usage.UsageInfo.{UsageInfo}
 
 pub record UsageFlags : Type 0 where
   -- a variable is called
   pub has_vars : Bool
-  -- a variable that is called is not empty
+  -- a called variable is not empty
   pub has_non_empty_vars : Bool
   -- a text of a macro prints
   pub has_used_macros : Bool
@@ -38,7 +38,7 @@ merge_child parent child = usage_flags
     (parent.has_used_macros || child.has_used_macros)
     parent.has_non_empty_group
 
--- the group rule: it fails where variables are called and no other flag is set
+-- the group rule: it fails if variables are called and no other flag is set
 abbrev pub should_render_group : UsageFlags → Bool
 should_render_group f = not f.has_vars || (f.has_non_empty_vars || (f.has_used_macros || f.has_non_empty_group))
 
@@ -66,16 +66,16 @@ info_union a b = info_of (a.prints || b.prints) (usage_flags
 abbrev pub as_child_info : Bool → Info → Info
 as_child_info is_group i = info_of i.prints (usage_flags i.flags.has_vars i.flags.has_non_empty_vars i.flags.has_used_macros (is_group && i.prints))
 
--- a dry run without its group flag, for a macro, a layout and a choice
+-- a dry run without its group flag, for a macro, a layout, a choice and a substitute
 abbrev pub without_group_flag : Info → Info
 without_group_flag i = info_of i.prints (usage_flags i.flags.has_vars i.flags.has_non_empty_vars i.flags.has_used_macros false)
 
--- a group prints where a child does and the rule holds
+-- a group prints if a child does and the rule holds
 abbrev pub group_info : Info → Info
 group_info i = info_of (i.prints && should_render_group i.flags) i.flags
 
--- a text of a macro prints where one of its nodes does and the rule holds, and its macro flag is
--- whether it prints
+-- a text of a macro prints if one of the macro's nodes does and the rule holds, and its macro flag
+-- is whether it prints
 abbrev pub macro_info : Info → Info
 macro_info i = info_of (should_render_group i.flags && i.prints) (usage_flags i.flags.has_vars i.flags.has_non_empty_vars (should_render_group i.flags && i.prints) false)
 

@@ -1,5 +1,5 @@
-//! What stands around the body of a node that has no quotes (CSL 1.0.2, Formatting, Affixes,
-//! Display, Strip-periods).
+//! The box around the body of a node without quotes (CSL 1.0.2, Formatting, Affixes, Display,
+//! Strip-periods).
 
 ghost use Rattle.csl_style.specs.Dressing.{dressing_of};
 ghost use Rattle.csl_tree.specs.Tokens.{meta_of};
@@ -12,7 +12,7 @@ use csl_entry::EntryLike;
 use csl_style::{Affixes, Display, Formatting};
 use csl_tree::ElemMeta;
 
-/// What stands around the body of a node that has no quotes.
+/// The attributes of a node without quotes that apply to its box and its body.
 #[derive(Clone, Copy)]
 pub(crate) struct NodeDressing<'b> {
     pub(crate) formatting: Formatting,
@@ -21,7 +21,7 @@ pub(crate) struct NodeDressing<'b> {
     pub(crate) strip_periods: bool,
 }
 
-/// Appends the box of a node without quotes around a body.
+/// Appends the box of a node without quotes around its body.
 pub(crate) fn render_unquoted<'s, T: EntryLike>(
     ctx: &mut Context<'s, T>,
     around: NodeDressing<'_>,

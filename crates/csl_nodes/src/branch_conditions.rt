@@ -14,8 +14,8 @@ use csl_context::{Context, RenderError};
 use csl_entry::EntryLike;
 use csl_style::ChooseBranch;
 
-/// The sorts of tests of a branch, in the order in which they are read. As an iterator it gives
-/// itself and then each sort behind it but the last.
+/// The sorts of tests of a branch, in the order in which they are read. As an iterator it yields
+/// the sorts from itself on, without the last.
 #[derive(Clone, Copy, Debug, PartialEq, Eq, Drop)]
 pub enum BranchConditionPos {
     Disambiguate,
@@ -58,8 +58,8 @@ impl Iterator for BranchConditionPos {
     }
 }
 
-/// What the tests of a branch answer, one after another: a truth value for each. It ends after an
-/// error.
+/// An iterator that evaluates the tests of a branch one after another: a boolean for each. It ends
+/// after an error.
 #[derive(Drop)]
 pub struct BranchConditionIter<'a, 's, T> {
     branch: &'a ChooseBranch,
@@ -69,7 +69,7 @@ pub struct BranchConditionIter<'a, 's, T> {
     ended: bool,
 }
 
-/// One of the things that a branch asks, if there are so many.
+/// The item at `index` in a list of tests, if there is one.
 fn nth_item<A: Copy>(tests: &Option<Vec<A>>, index: usize) -> Option<A>
     ensures { result ≡ slice_get (all_if (option_map (λ v. v.items) tests.now)) index }
 {
@@ -80,7 +80,7 @@ fn nth_item<A: Copy>(tests: &Option<Vec<A>>, index: usize) -> Option<A>
 }
 
 impl<'a, 's, T: EntryLike> BranchConditionIter<'a, 's, T> {
-    /// All tests of a branch. Nothing is read yet.
+    /// An iterator over all tests of a branch. It has read nothing yet.
     pub fn from_branch(
         branch: &'a ChooseBranch,
         ctx: &'a Context<'s, T>,
@@ -99,7 +99,7 @@ impl<'a, 's, T: EntryLike> BranchConditionIter<'a, 's, T> {
         }
     }
 
-    /// What the test at the place answers, where there is one.
+    /// Evaluates the test at the current place, if there is one.
     fn read(&self) -> Option<Result<bool, RenderError>>
         ensures { ReadsAt self.now.ctx.now (slice_get (conditions_at
             (render_input T.answers self.now.ctx.now) self.now.ctx.now.state

@@ -1,4 +1,4 @@
-//! What one test of a branch answers (CSL 1.0.2, Choose), by silent looks.
+//! The single tests of a branch (CSL 1.0.2, Choose). Their lookups are silent.
 
 ghost use Rattle.std.specs.Prelude.{◌≡◌, false, IfOk, OnOk, IfErr};
 ghost use Rattle.lit_model.specs.Text.{chunks};
@@ -11,7 +11,7 @@ use csl_style::{DateVariable, Kind, Locator, Scope, TestPosition, Variable};
 use lit_model::{ChunkedString, LongShortForm, MaybeTyped, Memory, Numeric};
 use std::alloc::Global;
 
-/// Whether a text stands for a number.
+/// Whether a text spells a number.
 fn is_number(alloc: Global, text: &ChunkedString) -> Result<bool, Memory>
     ensures { IfOk result (λ holds. holds ≡ is_number (chunks text.now)) }
 {
@@ -19,7 +19,7 @@ fn is_number(alloc: Global, text: &ChunkedString) -> Result<bool, Memory>
     Ok(Numeric::is_spelled_by(text.as_str()))
 }
 
-/// Whether what the cite answers to the variable is a number. No name and no date is.
+/// Whether the cite's answer to the variable is numeric. No name and no date is.
 pub(crate) fn is_numeric<'s, T: EntryLike>(
     ctx: &Context<'s, T>,
     variable: Variable,
@@ -54,7 +54,7 @@ pub(crate) fn is_numeric<'s, T: EntryLike>(
     }
 }
 
-/// Whether the cite answers a date that is approximate.
+/// Whether the cite answers the variable with an approximate date.
 pub(crate) fn is_uncertain<'s, T: EntryLike>(
     ctx: &Context<'s, T>,
     variable: DateVariable,
@@ -71,7 +71,7 @@ pub(crate) fn is_uncertain<'s, T: EntryLike>(
     }
 }
 
-/// Whether the cite points to a part of that kind.
+/// Whether the cite points to a part of that kind. A suppressed locator counts.
 pub(crate) fn is_located<'s, T: EntryLike>(
     ctx: &Context<'s, T>,
     kind: Locator,
@@ -87,7 +87,7 @@ pub(crate) fn is_located<'s, T: EntryLike>(
     }
 }
 
-/// Whether the cite before is of the same entry.
+/// Whether the cite before this one is of the same entry.
 fn is_ibid(state: IbidState) -> bool
     ensures { result ≡ is_ibid state }
 {
@@ -98,7 +98,7 @@ fn is_ibid(state: IbidState) -> bool
     }
 }
 
-/// Whether the cite before is of the same entry and had not this cite's locator.
+/// Whether the cite before this one is of the same entry but did not have its locator.
 fn is_ibid_with_locator(state: IbidState) -> bool
     ensures { result ≡ is_ibid_with_locator state }
 {
@@ -148,8 +148,8 @@ pub(crate) fn is_of_kind<'s, T: EntryLike>(
     Ok(ctx.matches_entry_type(kind))
 }
 
-/// Whether the cite answers the variable: by more than white space, where it is a text, and by
-/// somebody, where it is names.
+/// Whether the cite answers the variable. A text of white space does not count, nor does an empty
+/// list of names.
 pub(crate) fn is_present<'s, T: EntryLike>(
     ctx: &Context<'s, T>,
     variable: Variable,
@@ -176,7 +176,7 @@ pub(crate) fn is_present<'s, T: EntryLike>(
     }
 }
 
-/// Whether the cite is to be told from others by the style, or is not, as is wanted.
+/// Whether `wanted` equals [`Context::should_disambiguate`].
 pub(crate) fn is_disambiguated<'s, T: EntryLike>(
     ctx: &Context<'s, T>,
     wanted: bool,

@@ -23,10 +23,10 @@ use csl_tree::ElemMeta;
 use lit_model::{Date as Given, Memory};
 use std::borrow::Cow;
 
-/// What a date says.
+/// The dry run of a date.
 ///
 /// # Errors
-/// [`Memory`]: there was no memory left, or the entry said so, or the context had failed.
+/// [`Memory`]: out of memory, here or in the entry, or the context had failed already.
 #[inline(never)]
 pub fn date_info<'s, T: EntryLike>(
     ctx: &Context<'s, T>,
@@ -45,7 +45,7 @@ pub fn date_info<'s, T: EntryLike>(
     Ok(presence_info(as_deref(&found).is_some()))
 }
 
-/// Whether a date shows the variable that is asked for.
+/// Whether a date shows the variable `asked`.
 pub fn date_shows<'s, T: EntryLike>(ctx: &Context<'s, T>, node: &Date, asked: Variable) -> bool
     ensures { result ≡ date_shows (render_input T.answers ctx.now) ctx.now.state asked
         (view_date node.now) }
@@ -54,11 +54,11 @@ pub fn date_shows<'s, T: EntryLike>(ctx: &Context<'s, T>, node: &Date, asked: Va
     is_shown(ctx.special_form(), first, node.variable, asked)
 }
 
-/// Appends a date, whose variable is looked up for printing where the date shows it.
+/// Renders a date, with a lookup for printing if the date shows its variable.
 ///
 /// # Errors
-/// [`RenderError::Memory`]: there was no memory left, or the entry said so. The context has failed.
-/// [`RenderError::Failed`]: the context had failed before.
+/// [`RenderError::Memory`]: out of memory, here or in the entry. The context has failed.
+/// [`RenderError::Failed`]: the context had failed already.
 #[inline(never)]
 pub fn render_date<'s, T: EntryLike>(
     ctx: &mut Context<'s, T>,
@@ -89,8 +89,8 @@ fn is_own(own: Option<DateVariable>, asked: Variable) -> bool
     }
 }
 
-/// Whether a date of a variable shows the one that is asked for. `first` says that no date was
-/// printed before.
+/// Whether a date of the variable `own` shows the variable `asked`. `first` means that no date was
+/// rendered before.
 fn is_shown(
     form: Option<SpecialForm>,
     first: bool,
@@ -116,7 +116,7 @@ fn date_shows_own<'s, T: EntryLike>(ctx: &Context<'s, T>, own: DateVariable) -> 
     is_shown(ctx.special_form(), first, Some(own), Variable::Date(own))
 }
 
-/// A silent look.
+/// Looks up a date variable silently.
 fn peek_date<'s, T: EntryLike>(
     ctx: &Context<'s, T>,
     variable: DateVariable,
@@ -169,8 +169,8 @@ fn render_box<'s, T: EntryLike>(
     Ok(())
 }
 
-/// Appends a date that was found: its sort key, where the cite is rendered to be sorted, else its
-/// box, unless it asks for a localized date that the style lacks.
+/// Renders a date that was found: its sort key while sorting, else its box. There is no box if the
+/// style lacks the localized date of its form.
 fn render_found<'s, T: EntryLike>(
     ctx: &mut Context<'s, T>,
     node: &Date,

@@ -11,7 +11,7 @@ use csl_style::{Date, DatePartName, DateParts};
 use lit_model::Memory;
 use std::alloc::Global;
 
-/// A number in nine places at least, the sign among them.
+/// A number in at least nine places, its sign included.
 fn nine_places(alloc: Global, number: i32) -> Result<String, Memory>
     ensures { IfOk result (λ s. string_bytes s ≡ nine_places number) }
 {
@@ -34,7 +34,7 @@ fn year_key(alloc: Global, year: i32) -> Result<String, Memory>
     }
 }
 
-/// The key of a month or a day, or that of none.
+/// The key of a month or a day, or `00` if there is none.
 fn place_key(alloc: Global, place: Option<u8>) -> Result<String, Memory>
     ensures { IfOk result (λ s. string_bytes s ≡ place_key place) }
 {
@@ -47,7 +47,7 @@ fn place_key(alloc: Global, place: Option<u8>) -> Result<String, Memory>
     }
 }
 
-/// Whether one of the parts of a date has that name.
+/// Whether a date lists a part with that name.
 fn lists_part(node: &Date, name: DatePartName) -> bool
     ensures { result ≡ lists_part (view_date node.now).date_part name }
 {
@@ -59,8 +59,8 @@ fn lists_part(node: &Date, name: DatePartName) -> bool
     false
 }
 
-/// Whether the key of a date has the part: with a form, those that the date names; else all of a
-/// variable, and of a macro those that it lists.
+/// Whether the sort key of a date has the part. With a form, a key has the date-parts of the node,
+/// or all if it sets none. Otherwise it has all for a variable, and the listed parts for a macro.
 fn is_keyed(node: &Date, sorting: Sorting, part: DatePartName) -> bool
     ensures { result ≡ is_keyed (view_date node.now) sorting part }
 {
@@ -73,7 +73,7 @@ fn is_keyed(node: &Date, sorting: Sorting, part: DatePartName) -> bool
     }
 }
 
-/// The key of a year with its suffix, where a key has it.
+/// The key of a year with its suffix, or an empty text if the sort key has no year.
 fn year_key_if(alloc: Global, has: bool, suffix: &str, year: i32) -> Result<String, Memory>
     ensures { IfOk result (λ s. string_bytes s ≡ key_if has (year_key year ++ suffix.now)) }
 {
@@ -85,7 +85,7 @@ fn year_key_if(alloc: Global, has: bool, suffix: &str, year: i32) -> Result<Stri
     Ok(key)
 }
 
-/// The key of a month or a day, where a key has it.
+/// The key of a month or a day, or an empty text if the sort key has no such part.
 fn place_key_if(alloc: Global, has: bool, place: Option<u8>) -> Result<String, Memory>
     ensures { IfOk result (λ s. string_bytes s ≡ key_if has (place_key place)) }
 {
@@ -96,7 +96,7 @@ fn place_key_if(alloc: Global, has: bool, place: Option<u8>) -> Result<String, M
     }
 }
 
-/// The sort key of a date, with the suffix behind its year.
+/// The sort key of a date, with the suffix after its year.
 #[tactic(auto, unfolding(crate::specs::DateKey::sort_key))]
 pub(crate) fn sort_key(
     alloc: Global,
@@ -118,11 +118,11 @@ pub(crate) fn sort_key(
     Ok(key)
 }
 
-/// The sort key of a date by all its parts. The bytes of two such keys are in the order of time, by
-/// year, month and day, of which an absent one comes first, for the years -1147483647 to 999999999.
+/// The sort key of a date with all its parts. For the years -1147483647 to 999999999, the bytes of
+/// two such keys are in the order of time: by year, month and day, an absent one first.
 ///
 /// # Errors
-/// [`Memory`]: there was no memory left.
+/// [`Memory`]: out of memory.
 pub fn full_sort_key(alloc: Global, date: &lit_model::Date) -> Result<String, Memory>
     ensures key { IfOk result (λ s. string_bytes s ≡ full_key (date_view date.now)) }
     ensures order { IfOk result (λ s. SortsByTime (string_bytes s) date.now) }

@@ -19,22 +19,21 @@ use csl_entry::EntryLike;
 use csl_style::{Affixes, Date, DateAnyForm, DatePart, DatePartName, DateParts, Formatting};
 use lit_model::{Date as Given, Memory};
 
-/// A date as it is written: the node and, where it asks for one, the localized date that it is
-/// over.
+/// A date as it is written: the node and, if it has a form, the localized date that it overrides.
 #[derive(Clone, Copy)]
 pub(crate) struct LocalizedDate<'d> {
     pub(crate) node: &'d Date,
     pub(crate) localized: Option<&'d Date>,
 }
 
-/// What is written: the date that the cite answers, and the suffix that comes with its year.
+/// The value of a date: the answer of the cite, and the suffix after its year.
 #[derive(Clone, Copy)]
 pub(crate) struct DateValue<'d> {
     pub(crate) date: &'d Given,
     pub(crate) suffix: &'d str,
 }
 
-/// The first of the parts with this name.
+/// The first part with this name.
 fn part_named(parts: &[DatePart], name: DatePartName) -> Option<&DatePart>
     ensures { option_map (λ part. view_date_part part.now) result
         ≡ own_part (map view_date_part parts.now) name }
@@ -48,7 +47,7 @@ fn part_named(parts: &[DatePart], name: DatePartName) -> Option<&DatePart>
 }
 
 impl<'d> LocalizedDate<'d> {
-    /// Which parts of a date are written: year, month and day, or fewer.
+    /// The date-parts of the node, else of the localized date, else year, month and day.
     fn parts(self) -> DateParts
         ensures { result ≡ unwrap_or (localized_node self.entry).parts YearMonthDay }
     {
@@ -62,7 +61,7 @@ impl<'d> LocalizedDate<'d> {
         }
     }
 
-    /// What stands between two parts that print something.
+    /// The delimiter between two parts that print something.
     fn delimiter(self) -> Option<&'d str>
         ensures { option_map (λ t. t.now) result ≡ (localized_node self.entry).delimiter }
     {
@@ -72,7 +71,7 @@ impl<'d> LocalizedDate<'d> {
         }
     }
 
-    /// The formatting of the whole.
+    /// The formatting of the whole date.
     pub(crate) fn formatting(self) -> Formatting
         ensures { result ≡ (localized_node self.entry).dressing.formatting }
     {
@@ -82,7 +81,7 @@ impl<'d> LocalizedDate<'d> {
         }
     }
 
-    /// The parts in order, over which those of the node are still to be put.
+    /// The parts in order, without the overrides by the node's own parts.
     fn date_part(self) -> &'d [DatePart]
         ensures { map (part_over (own_parts self.entry)) (map view_date_part result.now)
             ≡ (localized_node self.entry).date_part }
@@ -93,7 +92,7 @@ impl<'d> LocalizedDate<'d> {
         }
     }
 
-    /// The node's own part of that name, if it stands over one of a localized date.
+    /// The node's own part of that name, if there is a localized date to override.
     fn own_part(self, name: DatePartName) -> Option<&'d DatePart>
         ensures { option_map (λ part. view_date_part part.now) result
             ≡ own_part (own_parts self.entry) name }
@@ -105,7 +104,7 @@ impl<'d> LocalizedDate<'d> {
     }
 }
 
-/// The form of a part.
+/// The form of a part. An own part of the node replaces it, set or not.
 fn form_over(own: Option<&DatePart>, form: Option<DateAnyForm>) -> Option<DateAnyForm>
     ensures { result ≡ form_over (option_map (λ part. view_date_part part.now) own.entry) form }
 {
@@ -115,7 +114,7 @@ fn form_over(own: Option<&DatePart>, form: Option<DateAnyForm>) -> Option<DateAn
     }
 }
 
-/// The formatting of a part.
+/// The formatting of a part, with that of the node's own part over it.
 fn formatting_over(own: Option<&DatePart>, formatting: Formatting) -> Formatting
     ensures { result
         ≡ formatting_over (option_map (λ part. view_date_part part.now) own.entry) formatting }
@@ -126,7 +125,7 @@ fn formatting_over(own: Option<&DatePart>, formatting: Formatting) -> Formatting
     }
 }
 
-/// Whether a part loses its periods.
+/// Whether a part strips its periods. Only a month can.
 fn is_stripped(name: DatePartName, strip: bool) -> bool
     ensures { result ≡ is_stripped name strip }
 {
@@ -137,7 +136,7 @@ fn is_stripped(name: DatePartName, strip: bool) -> bool
     }
 }
 
-/// The suffix, if it comes with that part.
+/// The suffix if the part is the year, else an empty text.
 fn suffix_with(name: DatePartName, suffix: &str) -> &str
     ensures { result.now ≡ suffix_with name suffix.now }
 {
@@ -148,7 +147,8 @@ fn suffix_with(name: DatePartName, suffix: &str) -> &str
     }
 }
 
-/// What a part says.
+/// The text of a part: its value if it is written, then the suffix if it is the year. The form for
+/// the year suffix leaves out all values.
 fn part_value<T>(
     ctx: &Context<'_, T>,
     found: DateValue<'_>,
@@ -170,7 +170,7 @@ fn part_value<T>(
     Ok(text)
 }
 
-/// Appends a text in its affixes, without a box.
+/// Appends the text of a part in its formatting and affixes, without a box.
 fn write_part<'s, T: EntryLike>(
     ctx: &mut Context<'s, T>,
     around: NodeDressing<'_>,
@@ -191,7 +191,7 @@ fn write_part<'s, T: EntryLike>(
     Ok(())
 }
 
-/// Appends a part in its affixes.
+/// Renders a part. The form for the year suffix leaves out its affixes.
 fn render_part<'s, T: EntryLike>(
     ctx: &mut Context<'s, T>,
     written: LocalizedDate<'_>,
@@ -217,8 +217,8 @@ fn render_part<'s, T: EntryLike>(
     write_part(ctx, around, text.as_str())
 }
 
-/// Appends a part, behind the delimiter unless no part of the date was printed yet. It answers
-/// whether still none was.
+/// Renders a part, after the delimiter unless no part of the date has printed yet (`first`).
+/// Returns whether still none has.
 fn render_behind<'s, T: EntryLike>(
     ctx: &mut Context<'s, T>,
     written: LocalizedDate<'_>,
@@ -250,7 +250,7 @@ fn render_behind<'s, T: EntryLike>(
     Ok(false)
 }
 
-/// Appends the parts that print something, with the delimiter between them.
+/// Renders the parts, with the delimiter between those that print something.
 pub(crate) fn render_parts<'s, T: EntryLike>(
     ctx: &mut Context<'s, T>,
     written: LocalizedDate<'_>,

@@ -1,4 +1,4 @@
-//! The year suffix behind the first year (CSL 1.0.2, Disambiguation: disambiguate-add-year-suffix).
+//! The year suffix after the first year (CSL 1.0.2, Disambiguation: disambiguate-add-year-suffix).
 
 ghost use Rattle.std.specs.Prelude.{◌≡◌, string_bytes};
 ghost use Rattle.csl_context.specs.ContextView.{Runs, GivesBy, render_input, with_first_date};
@@ -10,7 +10,7 @@ use csl_entry::{EntryLike, SpecialForm};
 use csl_style::StandardVariable;
 use lit_model::{LongShortForm, Memory};
 
-/// Whether the parts of a date lose all but the suffix.
+/// Whether the parts of a date lose all but the year suffix.
 pub(crate) fn is_suffix_alone(form: Option<SpecialForm>) -> bool
     ensures { result ≡ is_suffix_alone form }
 {
@@ -23,8 +23,8 @@ pub(crate) fn is_suffix_alone(form: Option<SpecialForm>) -> bool
     }
 }
 
-/// The suffix that stands behind the first year: an empty text where the cite has none, and where
-/// the layout has a place of its own for it. The look is silent.
+/// The year suffix after the first year. It is empty if the cite has none, or if the layout has a
+/// text of it. The lookup is silent.
 pub(crate) fn implicit_suffix<'s, T: EntryLike>(ctx: &Context<'s, T>) -> Result<String, Memory>
     ensures { GivesBy string_bytes result
         (implicit_suffix (render_input T.answers ctx.now) ctx.now.state) }
@@ -34,15 +34,15 @@ pub(crate) fn implicit_suffix<'s, T: EntryLike>(ctx: &Context<'s, T>) -> Result<
         Some(found) => found,
         None => return Ok(String::new(alloc)),
     };
-    // The layout is walked only where there is a suffix.
+    // The layout is walked only if there is a suffix.
     if !ctx.style().renders_year_suffix_implicitly(ctx.scope()) {
         return Ok(String::new(alloc));
     }
     found.as_ref().to_text(alloc)
 }
 
-/// The suffix of a date that is printed now: that behind the first year where no date was printed
-/// before, else an empty text. From now on one was.
+/// The year suffix of a date that is rendered now: the implicit one if no date was rendered before,
+/// else an empty text. From now on a date counts as rendered.
 pub(crate) fn first_suffix<'s, T: EntryLike>(
     ctx: &mut Context<'s, T>,
 ) -> Result<String, RenderError>

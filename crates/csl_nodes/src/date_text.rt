@@ -1,5 +1,5 @@
 //! The texts of the parts of a date (CSL 1.0.2, Date; Date-part; Localized Date Formats; Ordinals;
-//! AD and BC; Seasons), before any affix.
+//! AD and BC; Seasons), without affixes.
 
 ghost use Rattle.std.specs.Prelude.{◌≡◌, ◌+◌, ◌++◌, ◌≤◌, IfOk, string_bytes, option_map, decimal};
 ghost use Rattle.lit_model.specs.Date.{date_view};
@@ -10,7 +10,7 @@ use csl_style::{DateAnyForm, DatePartName, DateParts, OtherTerm, Term, TermForm}
 use lit_model::{Date, GrammarGender, Memory, Season};
 use std::alloc::Global;
 
-/// Whether the parts of a date name this one.
+/// Whether these date-parts include the part.
 pub(crate) fn names_part(parts: DateParts, part: DatePartName) -> bool
     ensures { result ≡ names_part parts part }
 {
@@ -29,8 +29,8 @@ pub(crate) fn names_part(parts: DateParts, part: DatePartName) -> bool
     }
 }
 
-/// Whether a date shows the part where these are written: the year always, and a month also where
-/// the date has a season.
+/// Whether a part of a date is written: the year always, any other if the date-parts include it. A
+/// month is also written if the date has a season.
 pub(crate) fn is_written(parts: DateParts, date: &Date, part: DatePartName) -> bool
     ensures { result ≡ is_written parts (date_view date.now) part }
 {
@@ -41,14 +41,14 @@ pub(crate) fn is_written(parts: DateParts, date: &Date, part: DatePartName) -> b
     }
 }
 
-/// A term that names no variable, of one.
+/// A term that names no variable, in the singular.
 fn word<'s, T>(ctx: &Context<'s, T>, term: OtherTerm, form: TermForm) -> Option<&'s str>
     ensures { option_map (λ text. text.now) result ≡ word ctx.now.style term form }
 {
     ctx.term(Term::Other(term), form, false)
 }
 
-/// A number with two digits at least.
+/// A number in at least two digits.
 pub(crate) fn two_digits(alloc: Global, number: u32) -> Result<String, Memory>
     ensures { IfOk result (λ s. string_bytes s ≡ two_digits number) }
 {
@@ -56,7 +56,7 @@ pub(crate) fn two_digits(alloc: Global, number: u32) -> Result<String, Memory>
     Ok(text)
 }
 
-/// Whether a year is written by its last two digits.
+/// Whether the form shortens a year to its last two digits.
 fn is_short(form: Option<DateAnyForm>) -> bool
     ensures { result ≡ is_short form }
 {
@@ -70,7 +70,8 @@ fn is_short(form: Option<DateAnyForm>) -> bool
     }
 }
 
-/// A year from year 1 on, with its era where it needs one.
+/// A year from year 1 on: before 1000 with its era, else in full or, if `short`, its last two
+/// digits.
 fn common_year<T>(ctx: &Context<'_, T>, short: bool, year: u32) -> Result<String, Memory>
     ensures { IfOk result (λ s. string_bytes s ≡ common_year short (ad_text ctx.now.style) year) }
 {
@@ -86,7 +87,7 @@ fn common_year<T>(ctx: &Context<'_, T>, short: bool, year: u32) -> Result<String
     }
 }
 
-/// The year so many before year 1, with its era.
+/// The year `count` years before year 1, with its era.
 fn year_before<T>(ctx: &Context<'_, T>, count: u32) -> Result<String, Memory>
     ensures { IfOk result (λ s. string_bytes s ≡ decimal count ++ bc_text ctx.now.style) }
 {
@@ -108,13 +109,13 @@ fn year_text<T>(
         let text = common_year(ctx, is_short(form), distance)?;
         Ok(text)
     } else {
-        // Year 0 is the first before year 1.
+        // Year 0 is the first year before year 1.
         let text = year_before(ctx, distance + 1)?;
         Ok(text)
     }
 }
 
-/// A month by its term, else by its number.
+/// The term of a month, else its number.
 fn month_named<T>(ctx: &Context<'_, T>, form: TermForm, month: u8) -> Result<String, Memory>
     ensures { IfOk result (λ s. string_bytes s ≡ month_named ctx.now.style form month) }
 {
@@ -127,7 +128,7 @@ fn month_named<T>(ctx: &Context<'_, T>, form: TermForm, month: u8) -> Result<Str
     }
 }
 
-/// The number of a month or a day, which counts from 0.
+/// The number of a month or a day. The place counts from 0.
 fn number_text(alloc: Global, place: u8) -> Result<String, Memory>
     ensures { IfOk result (λ s. string_bytes s ≡ decimal (place + 1)) }
 {
@@ -154,7 +155,7 @@ fn month_text<T>(
     }
 }
 
-/// The short term of a season, or nothing.
+/// The short term of a season, or an empty text.
 fn season_text<T>(ctx: &Context<'_, T>, season: Option<Season>) -> Result<String, Memory>
     ensures { IfOk result (λ s. string_bytes s ≡ season_text ctx.now.style season) }
 {
@@ -166,7 +167,7 @@ fn season_text<T>(ctx: &Context<'_, T>, season: Option<Season>) -> Result<String
     Ok(text)
 }
 
-/// What a month prints: the month, else the season.
+/// The text of a month, else of the season.
 fn month_or_season<T>(
     ctx: &Context<'_, T>,
     form: Option<DateAnyForm>,
@@ -181,7 +182,7 @@ fn month_or_season<T>(
     }
 }
 
-/// The gender of what a month is called.
+/// The gender of a month's term.
 fn month_gender<T>(ctx: &Context<'_, T>, month: Option<u8>) -> Option<GrammarGender>
     ensures { result ≡ month_gender ctx.now.style month }
 {
@@ -191,7 +192,7 @@ fn month_gender<T>(ctx: &Context<'_, T>, month: Option<u8>) -> Option<GrammarGen
     }
 }
 
-/// What makes an ordinal of a number, or nothing.
+/// The suffix that makes a number an ordinal, or an empty text.
 fn ordinal_suffix<'s, T>(ctx: &Context<'s, T>, gender: Option<GrammarGender>, number: u8) -> &'s str
     ensures { result.now ≡ ordinal_suffix ctx.now.style gender number }
 {
@@ -200,7 +201,7 @@ fn ordinal_suffix<'s, T>(ctx: &Context<'s, T>, gender: Option<GrammarGender>, nu
         .unwrap_or("")
 }
 
-/// A day as an ordinal, which agrees with the month. A locale may limit ordinals to the first day.
+/// A day as an ordinal in the gender of the month. A locale may limit ordinals to the first day.
 fn ordinal_day<T>(ctx: &Context<'_, T>, month: Option<u8>, day: u8) -> Result<String, Memory>
     requires { day ≤ 30 }
     ensures { IfOk result (λ s. string_bytes s ≡ ordinal_day ctx.now.style month day) }
@@ -234,7 +235,7 @@ fn day_text<T>(
     }
 }
 
-/// What a day prints: nothing where the date has none.
+/// The text of a date's day, or an empty text if it has none.
 fn day_if<T>(ctx: &Context<'_, T>, form: Option<DateAnyForm>, date: &Date) -> Result<String, Memory>
     ensures { IfOk result (λ s. string_bytes s ≡ day_if ctx.now.style form
         (date_view date.now).month (date_view date.now).day) }
@@ -245,8 +246,8 @@ fn day_if<T>(ctx: &Context<'_, T>, form: Option<DateAnyForm>, date: &Date) -> Re
     }
 }
 
-/// What the value of a date's part prints in a form, before any affix: nothing where the date lacks
-/// what the part shows. A form that the part does not know counts as none.
+/// The text of a date's part in a form, without affixes. It is empty if the date lacks the part.
+/// The season replaces a missing month. A form that the part does not know counts as none.
 #[tactic(auto, unfolding(crate::specs::DateText::part_text))]
 pub(crate) fn part_text<T>(
     ctx: &Context<'_, T>,

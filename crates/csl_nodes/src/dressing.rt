@@ -1,5 +1,5 @@
-//! What stands around the body of a text (CSL 1.0.2, Formatting, Affixes, Display, Quotes,
-//! Strip-periods).
+//! The box, affixes and quotes around the body of a text (CSL 1.0.2, Formatting, Affixes, Display,
+//! Quotes, Strip-periods).
 
 ghost use Rattle.std.specs.Prelude.{◌≡◌, ◌+◌, length, IfOk};
 ghost use Rattle.csl_style.specs.Dressing.{affix_texts};
@@ -16,7 +16,7 @@ use csl_style::{Affixes, Text};
 use csl_tree::ElemMeta;
 use lit_model::ChunkedString;
 
-/// What stands inside the quotes and affixes of a text that calls no macro.
+/// The body of a number, a label or a text that calls no macro, inside affixes and quotes.
 #[derive(Clone, Copy)]
 pub(crate) enum Body<'b> {
     Str(&'b str),
@@ -25,11 +25,11 @@ pub(crate) enum Body<'b> {
     Number(&'b NumberText),
 }
 
-/// Opens the inside of quotes, or a part without quotes.
+/// Opens the inside of quotes if `quotes`, else a part without quotes.
 ///
 /// # Errors
-/// [`RenderError::Memory`]: there was no memory left. The context has failed.
-/// [`RenderError::Failed`]: the context had failed before.
+/// [`RenderError::Memory`]: out of memory. The context has failed.
+/// [`RenderError::Failed`]: the context had failed already.
 pub fn open_quotes<'s, T: EntryLike>(
     ctx: &mut Context<'s, T>,
     quotes: bool,
@@ -45,8 +45,8 @@ pub fn open_quotes<'s, T: EntryLike>(
     }
 }
 
-/// Closes the inside of quotes, or a part without quotes. It answers whether the front of the
-/// suffix went into them.
+/// Closes the inside of quotes, or a part without quotes. Returns whether the front of the suffix
+/// moved into the quotes.
 ///
 /// # Errors
 /// As [`open_quotes`].
@@ -88,7 +88,7 @@ pub(crate) fn write_body<'s, T: EntryLike>(
     }
 }
 
-/// Appends a text's box around a body.
+/// Appends the box of a text around its body.
 pub(crate) fn render_body<'s, T: EntryLike>(
     ctx: &mut Context<'s, T>,
     text: &Text,

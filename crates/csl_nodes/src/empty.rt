@@ -1,4 +1,4 @@
-//! What appends nothing.
+//! A call that appends nothing.
 
 ghost use Rattle.std.specs.Prelude.{[]};
 ghost use Rattle.csl_context.specs.ContextView.{Runs};
@@ -10,7 +10,7 @@ use csl_entry::EntryLike;
 /// Appends nothing.
 ///
 /// # Errors
-/// [`RenderError::Failed`]: the context had failed before.
+/// [`RenderError::Failed`]: the context had failed already.
 pub fn push_nothing<'s, T: EntryLike>(ctx: &mut Context<'s, T>) -> Result<(), RenderError>
     ensures { Runs (λ now. with_output (render_output [] now.state) now) result ctx.old ctx.new }
 {

@@ -21,10 +21,10 @@ use csl_style::{
 use csl_tree::ElemMeta;
 use lit_model::{MaybeTyped, Memory};
 
-/// What a label says.
+/// The dry run of a label.
 ///
 /// # Errors
-/// [`Memory`]: there was no memory left, or the entry said so, or the context had failed.
+/// [`Memory`]: out of memory, here or in the entry, or the context had failed already.
 #[inline(never)]
 pub fn label_info<'s, T: EntryLike>(
     ctx: &Context<'s, T>,
@@ -42,11 +42,11 @@ pub fn label_info<'s, T: EntryLike>(
     }
 }
 
-/// Appends a label, whose variable is looked up silently.
+/// Renders a label. The lookup of its variable is silent.
 ///
 /// # Errors
-/// [`RenderError::Memory`]: there was no memory left, or the entry said so. The context has failed.
-/// [`RenderError::Failed`]: the context had failed before.
+/// [`RenderError::Memory`]: out of memory, here or in the entry. The context has failed.
+/// [`RenderError::Failed`]: the context had failed already.
 #[inline(never)]
 pub fn render_label<'s, T: EntryLike>(
     ctx: &mut Context<'s, T>,
@@ -83,7 +83,7 @@ fn is_locator(variable: NumberOrPageVariable) -> bool
     }
 }
 
-/// Whether the first is a number, and another variable than the second.
+/// Whether `only` is a number variable other than `variable`.
 fn is_other_number(only: Variable, variable: NumberOrPageVariable) -> bool
     ensures { result ≡ is_other_number only variable }
 {
@@ -96,7 +96,7 @@ fn is_other_number(only: Variable, variable: NumberOrPageVariable) -> bool
     }
 }
 
-/// Any label but that of a locator stays.
+/// Decides that a label prints, but leaves the label of a locator undecided.
 fn label_unless_locator(variable: NumberOrPageVariable) -> Option<bool>
     ensures { result ≡ label_unless_locator variable }
 {
@@ -107,7 +107,7 @@ fn label_unless_locator(variable: NumberOrPageVariable) -> Option<bool>
     }
 }
 
-/// What a special form says of a label of the variable without a look.
+/// Whether a label of the variable prints, if the special form decides it without a lookup.
 fn label_by_special_form(form: Option<SpecialForm>, variable: NumberOrPageVariable) -> Option<bool>
     ensures { result ≡ label_by_special_form form variable }
 {
@@ -126,8 +126,8 @@ fn label_by_special_form(form: Option<SpecialForm>, variable: NumberOrPageVariab
     }
 }
 
-/// The term of a label of the variable: for a locator that of its kind, unless the kind is the
-/// citation's own.
+/// The term of a label of the variable. A locator has the term of its kind; the custom kind has
+/// none.
 fn label_term<T>(ctx: &Context<'_, T>, variable: NumberOrPageVariable) -> Option<Term>
     ensures { result ≡ label_term ctx.now.cite variable }
 {
@@ -165,8 +165,8 @@ fn plural_number(counts: bool, found: &NumberVariableResult<'_>) -> bool
     }
 }
 
-/// Whether a label is in the plural beside an answer. Beside pages it is where the pages are,
-/// whatever it asks for.
+/// Whether a label is in the plural beside an answer. Beside pages it is if the pages are, whatever
+/// the label sets.
 fn is_plural(label: &Label, found: &NumberOrPageVariableResult<'_>) -> bool
     ensures { result ≡ is_plural label.now.label.plural label.now.variable
         (number_or_page_view found.now) }
@@ -182,7 +182,7 @@ fn is_plural(label: &Label, found: &NumberOrPageVariableResult<'_>) -> bool
     }
 }
 
-/// The text of a label, where its variable and its term are found. The look is silent.
+/// The text of a label, if its variable and its term are found. The lookup is silent.
 fn label_text<'s, T: EntryLike>(
     ctx: &Context<'s, T>,
     label: &Label,

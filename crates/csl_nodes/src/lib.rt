@@ -1,8 +1,8 @@
-//! What the parts of a style that hold no other node make of a cite (CSL 1.0.2, Rendering
-//! Elements): texts of a variable, a term or a value, numbers, labels and dates, in a context that
-//! the caller lends; what a branch of a choice asks (Choose); what a dry run notes, and the group
-//! rule (Group). The larger calls are kept out of line (`inline(never)`): inside the callers, which
-//! call one another, their locals would take stack at each level of nesting.
+//! Rendering and dry runs of the nodes that hold no other node (CSL 1.0.2, Rendering Elements):
+//! texts of a variable, a term or a value, numbers, labels and dates. The caller lends the context.
+//! Also here are the tests of a branch (Choose), usage flags and the group rule (Group).
+//! The larger functions are kept out of line (`inline(never)`). Inside the callers, which call one
+//! another, their locals would take stack at each level of nesting.
 #![tactic(auto)]
 
 mod boxes;

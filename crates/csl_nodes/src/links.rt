@@ -10,7 +10,7 @@ use csl_style::{StandardVariable, Text};
 use lit_model::{ChunkedString, Memory};
 use std::alloc::Global;
 
-/// What stands before the answer to the variable in the address that it links to.
+/// The text before the answer to a DOI, PMID or PMCID in the address that it links to.
 pub(crate) fn url_prefix(variable: StandardVariable) -> Option<&'static str>
     ensures { option_map (λ prefix. prefix.now) result ≡ url_prefix variable }
 {
@@ -37,7 +37,7 @@ pub(crate) fn address_prefix(variable: StandardVariable) -> Option<&'static str>
     }
 }
 
-/// Whether the prefix of the text is that of the address: then it begins the text of the link.
+/// Whether the node's prefix is that of the address. It then begins the text of the link.
 pub(crate) fn begins_link(text: &Text, variable: StandardVariable) -> bool
     ensures { result ≡ begins_link (text_dressing text.now) variable }
 {
@@ -47,7 +47,7 @@ pub(crate) fn begins_link(text: &Text, variable: StandardVariable) -> bool
     }
 }
 
-/// An address: a prefix, and the answer behind it.
+/// An address: the prefix, then the answer.
 pub(crate) fn address(alloc: Global, prefix: &str, answer: &ChunkedString) -> Result<String, Memory>
     ensures { IfOk result (λ url. string_bytes url ≡ prefix.now ++ chunks_text (chunks answer.now)) }
 {

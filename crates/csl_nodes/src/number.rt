@@ -24,10 +24,10 @@ use csl_tree::ElemMeta;
 use lit_model::{MaybeTyped, Memory, Numeric};
 use std::alloc::Global;
 
-/// What a number says.
+/// The dry run of a number.
 ///
 /// # Errors
-/// [`Memory`]: there was no memory left, or the entry said so, or the context had failed.
+/// [`Memory`]: out of memory, here or in the entry, or the context had failed already.
 #[inline(never)]
 pub fn number_info<'s, T: EntryLike>(
     ctx: &Context<'s, T>,
@@ -44,7 +44,7 @@ pub fn number_info<'s, T: EntryLike>(
     Ok(presence_info(found.is_some()))
 }
 
-/// Whether a number shows the variable that is asked for.
+/// Whether a number shows the variable `asked`.
 pub fn number_shows<'s, T: EntryLike>(
     ctx: &Context<'s, T>,
     number: &Number,
@@ -56,11 +56,11 @@ pub fn number_shows<'s, T: EntryLike>(
     is_shown(ctx.special_form(), Variable::from(number.variable), asked)
 }
 
-/// Appends a number, whose variable is looked up for printing where the number shows it.
+/// Renders a number, with a lookup for printing if the number shows its variable.
 ///
 /// # Errors
-/// [`RenderError::Memory`]: there was no memory left, or the entry said so. The context has failed.
-/// [`RenderError::Failed`]: the context had failed before.
+/// [`RenderError::Memory`]: out of memory, here or in the entry. The context has failed.
+/// [`RenderError::Failed`]: the context had failed already.
 #[inline(never)]
 pub fn render_number<'s, T: EntryLike>(
     ctx: &mut Context<'s, T>,
@@ -79,7 +79,7 @@ pub fn render_number<'s, T: EntryLike>(
     }
 }
 
-/// Whether a number of a variable shows the one that is asked for.
+/// Whether a number of the variable `own` shows the variable `asked`.
 fn is_shown(form: Option<SpecialForm>, own: Variable, asked: Variable) -> bool
     ensures { result ≡ is_shown form own asked }
 {
@@ -92,14 +92,14 @@ fn is_shown(form: Option<SpecialForm>, own: Variable, asked: Variable) -> bool
     }
 }
 
-/// What a number says, by whether it finds its variable.
+/// The dry run of a number or a date, by whether its variable is found.
 pub(crate) fn presence_info(found: bool) -> (bool, UsageInfo)
     ensures { info_view result ≡ presence_info found }
 {
     (found, UsageInfo::of_variable(true, found))
 }
 
-/// The text by which a number is sorted.
+/// The sort text of a number.
 fn key_of(alloc: Global, number: &Numeric) -> Result<String, Memory>
     ensures { IfOk result (λ s. string_bytes s
         ≡ value_text (integer_text true) (value_view number.now.value)) }
@@ -111,8 +111,8 @@ fn key_of(alloc: Global, number: &Numeric) -> Result<String, Memory>
     }
 }
 
-/// The text by which an answer is sorted, where the cite is rendered to be sorted and the answer is
-/// a number or pages.
+/// The sort text of an answer, if the cite is rendered for sorting and the answer is a number or
+/// pages.
 fn sort_text_if<T>(
     ctx: &Context<'_, T>,
     found: &NumberOrPageVariableResult<'_>,
@@ -141,7 +141,7 @@ fn sort_text_if<T>(
     }
 }
 
-/// Which node a number of the variable is said to be.
+/// The meta of the box of a number of the variable.
 fn number_meta(variable: NumberOrPageVariable) -> ElemMeta
     ensures { meta_of result ≡ number_meta variable }
 {
@@ -157,7 +157,7 @@ fn number_meta(variable: NumberOrPageVariable) -> ElemMeta
     }
 }
 
-/// Appends the box of a number that has this answer.
+/// Appends the box of a number around its answer.
 fn render_box<'s, T: EntryLike>(
     ctx: &mut Context<'s, T>,
     number: &Number,
@@ -182,7 +182,7 @@ fn render_box<'s, T: EntryLike>(
     )
 }
 
-/// Appends a number that has this answer: its sort text as it is, or its box.
+/// Renders a number by its answer: its sort text if there is one, else its box.
 fn render_found<'s, T: EntryLike>(
     ctx: &mut Context<'s, T>,
     number: &Number,

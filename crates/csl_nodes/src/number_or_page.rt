@@ -1,5 +1,5 @@
-//! Answers to variables that hold numbers or pages, and what a text or a number prints of them
-//! (CSL 1.0.2, Number Variables; Text: variable; Number).
+//! Lookups of variables that hold numbers or pages, and their answers as a text or a number prints
+//! them (CSL 1.0.2, Number Variables; Text: variable; Number).
 
 ghost use Rattle.std.specs.Prelude.{◌≡◌, IfOk, option_map, string_bytes};
 ghost use Rattle.lit_model.specs.Numeric.{numeric_view};
@@ -15,16 +15,16 @@ use csl_entry::{EntryLike, NumberOrPageVariableResult, NumberVariableResult};
 use csl_style::NumberOrPageVariable;
 use lit_model::{GrammarGender, MaybeTyped, Memory, NumberForm, Numeric};
 
-/// What an answer prints.
+/// An answer as it prints.
 #[derive(Drop)]
 pub(crate) enum NumberText {
     /// A text.
     Text(String),
-    /// What the caller writes for the cite of that index.
+    /// A place that the caller fills, for the cite of that index.
     Transparent(usize),
 }
 
-/// A silent look.
+/// Looks up a number or page variable silently.
 pub(crate) fn peek_number_or_page<'s, T: EntryLike>(
     ctx: &Context<'s, T>,
     variable: NumberOrPageVariable,
@@ -46,7 +46,7 @@ pub(crate) fn peek_number_or_page<'s, T: EntryLike>(
     }
 }
 
-/// A look for printing.
+/// Looks up a number or page variable for printing.
 pub(crate) fn resolve_number_or_page<'s, T: EntryLike>(
     ctx: &mut Context<'s, T>,
     variable: NumberOrPageVariable,
@@ -84,7 +84,7 @@ fn number_text<T>(
     }
 }
 
-/// What is printed of an answer to a number variable: a number in a form, a text as it stands.
+/// An answer to a number variable as it prints: a number in the form, a text unchanged.
 fn number_result_text<T>(
     ctx: &Context<'_, T>,
     form: NumberForm,
@@ -107,7 +107,8 @@ fn number_result_text<T>(
     }
 }
 
-/// What a number prints of an answer: pages in the format of the style, a text as it stands.
+/// An answer as a number prints it: a number in the form, pages in the format of the style, a text
+/// unchanged.
 pub(crate) fn number_node_text<T>(
     ctx: &Context<'_, T>,
     form: NumberForm,
@@ -130,8 +131,8 @@ pub(crate) fn number_node_text<T>(
     }
 }
 
-/// What a text prints of an answer: numbers plainly, pages in the format of the style, a text in
-/// the place of pages with an en dash for each hyphen.
+/// An answer as a text prints it: a number in decimal, pages in the format of the style. A text in
+/// place of pages has an en dash for each hyphen.
 pub(crate) fn text_node_text<T>(
     ctx: &Context<'_, T>,
     found: &NumberOrPageVariableResult<'_>,

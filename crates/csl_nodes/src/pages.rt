@@ -13,8 +13,8 @@ use csl_style::{OtherTerm, PageRangeFormat, Term, TermForm};
 use lit_model::{Memory, Numeric, PageRanges, PageRangesPart};
 use std::alloc::Global;
 
-/// How many digits of the end of a range a format keeps, where it drops those that repeat. No style
-/// has a Chicago format.
+/// The least number of digits that a format keeps of the end of a range, if it drops repeated ones.
+/// No style has a Chicago format.
 fn kept_digits(format: Option<PageRangeFormat>) -> Option<usize>
     ensures { result ≡ kept_digits format }
 {
@@ -28,7 +28,7 @@ fn kept_digits(format: Option<PageRangeFormat>) -> Option<usize>
     }
 }
 
-/// Whether the text is ASCII digits alone.
+/// Whether each byte of the text is an ASCII digit.
 fn is_digits(text: &str) -> bool
     ensures value { result ≡ is_digits text.now }
     ensures ascii { result ≡ true → IsAscii text.now }
@@ -36,7 +36,7 @@ fn is_digits(text: &str) -> bool
     text.bytes().all(|b| b.is_ascii_digit())
 }
 
-/// The end of a range; one that is shorter than the start is completed from the start's front.
+/// The end of a range. If it is shorter than the start, the start's front completes it.
 fn completed_end(alloc: Global, from: &str, to: &str) -> Result<String, Memory>
     requires from { IsAscii from.now }
     requires to { IsAscii to.now }
@@ -50,8 +50,8 @@ fn completed_end(alloc: Global, from: &str, to: &str) -> Result<String, Memory>
     Ok(filled)
 }
 
-/// The end of a range that is as long as its start, without the front that repeats the start's. So
-/// many of its digits are kept.
+/// The end of a range that is as long as its start, without the front that repeats the start's. Its
+/// last `kept` digits always stay.
 fn abbreviated_end<'t>(from: &str, to: &'t str, kept: usize) -> &'t str
     requires ascii { IsAscii to.now }
     requires long { length from.now ≡ length to.now }
@@ -70,7 +70,7 @@ fn abbreviated_end<'t>(from: &str, to: &'t str, kept: usize) -> &'t str
     rest
 }
 
-/// Writes the end of a range.
+/// Appends the end of a range.
 fn push_end(
     alloc: Global,
     text: &mut String,
@@ -95,7 +95,7 @@ fn push_end(
     Ok(())
 }
 
-/// Writes a range.
+/// Appends a range.
 fn push_range(
     alloc: Global,
     text: &mut String,
@@ -115,7 +115,7 @@ fn push_range(
     push_end(alloc, text, kept, from.as_str(), to.as_str())
 }
 
-/// Writes a page, a range or what separates them.
+/// Appends a page, a range or a separator.
 fn push_part(
     alloc: Global,
     text: &mut String,
@@ -159,7 +159,7 @@ fn pages_in_format(
     Ok(text)
 }
 
-/// Pages as the style of the context writes them.
+/// Pages in the format of the context's style, with the style's delimiter in ranges.
 #[tactic(auto, unfolding(crate::specs::Pages::pages_in_style))]
 pub(crate) fn pages_in_style<T>(ctx: &Context<'_, T>, pages: &PageRanges) -> Result<String, Memory>
     ensures { IfOk result (λ s. string_bytes s

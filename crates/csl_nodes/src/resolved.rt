@@ -1,5 +1,5 @@
-//! What a text that calls no macro finds (CSL 1.0.2, Text: variable, term, value). No name and no
-//! date is found.
+//! Resolves texts that call no macro (CSL 1.0.2, Text: variable, term, value). Name and date
+//! variables resolve to nothing.
 
 ghost use Rattle.std.specs.Prelude.{◌≡◌, option_map};
 ghost use Rattle.lit_model.specs.Text.{chunks};
@@ -21,7 +21,7 @@ use csl_style::{NumberOrPageVariable, StandardVariable, Term, TermForm, Variable
 use lit_model::{ChunkedString, LongShortForm, Memory};
 use std::borrow::Cow;
 
-/// What a text finds.
+/// A resolved text.
 #[derive(Drop)]
 pub(crate) enum ResolvedText<'a> {
     /// The answer to a standard variable.
@@ -30,11 +30,11 @@ pub(crate) enum ResolvedText<'a> {
     Numeral(NumberOrPageVariable, NumberOrPageVariableResult<'a>),
     /// The text of a term.
     Term(&'a str),
-    /// The value that the style gives.
+    /// The value in the style.
     Value(&'a str),
 }
 
-/// A silent look.
+/// Looks up a standard variable silently.
 pub(crate) fn peek_standard<'s, T: EntryLike>(
     ctx: &Context<'s, T>,
     form: LongShortForm,
@@ -49,7 +49,7 @@ pub(crate) fn peek_standard<'s, T: EntryLike>(
     }
 }
 
-/// What a text of a variable that holds a number or pages finds by its answer.
+/// The resolved text for an answer to a variable that holds a number or pages.
 fn number_result<'a>(
     variable: NumberOrPageVariable,
     answer: Option<NumberOrPageVariableResult<'a>>,
@@ -63,7 +63,7 @@ fn number_result<'a>(
     }
 }
 
-/// What a text of the variable finds by a silent look.
+/// Resolves a text of the variable by a silent lookup.
 pub(crate) fn peek_text<'s, T: EntryLike>(
     ctx: &Context<'s, T>,
     form: LongShortForm,
@@ -92,7 +92,7 @@ pub(crate) fn peek_text<'s, T: EntryLike>(
     }
 }
 
-/// What a text of the variable finds by a look for printing.
+/// Resolves a text of the variable by a lookup for printing.
 pub(crate) fn resolve_text<'s, T: EntryLike>(
     ctx: &mut Context<'s, T>,
     form: LongShortForm,
@@ -125,7 +125,7 @@ pub(crate) fn resolve_text<'s, T: EntryLike>(
     }
 }
 
-/// What a text of the term finds.
+/// Resolves a text of the term.
 pub(crate) fn resolved_term<'s, T: EntryLike>(
     ctx: &Context<'s, T>,
     term: Term,
@@ -144,7 +144,7 @@ pub(crate) fn resolved_term<'s, T: EntryLike>(
     }
 }
 
-/// What a text of the value finds.
+/// Resolves a text of the value.
 pub(crate) fn resolved_value<'a, T: EntryLike>(
     ctx: &Context<'_, T>,
     value: &'a str,
@@ -159,7 +159,7 @@ pub(crate) fn resolved_value<'a, T: EntryLike>(
     }
 }
 
-/// What a text says by what it finds. `called` is whether one that finds nothing calls its
+/// The dry run of a resolved text. `called` is whether a text that resolves to nothing calls its
 /// variable.
 pub(crate) fn resolved_info(called: bool, found: &Option<ResolvedText<'_>>) -> (bool, UsageInfo)
     ensures { info_view result ≡ resolved_info called (option_map resolved_view found.now) }

@@ -1,4 +1,4 @@
-//! Which texts a special form of a cite leaves.
+//! The texts that a special form of a cite shows.
 
 ghost use Rattle.std.specs.Prelude.{◌≡◌};
 ghost use Rattle.csl_nodes.specs.Text.{survives_only_forms, shows_variable, shows_terms_and_values, shows_macro_affixes};
@@ -6,7 +6,7 @@ ghost use Rattle.csl_nodes.specs.Text.{survives_only_forms, shows_variable, show
 use csl_entry::SpecialForm;
 use csl_style::{NumberVariable, StandardVariable, Variable};
 
-/// Whether the forms for dates and for suffixes leave a text of the variable.
+/// Whether the forms for the first date and the year suffix show a text of the variable.
 pub(crate) fn survives_only_forms(variable: Variable) -> bool
     ensures { result ≡ survives_only_forms variable }
 {
@@ -19,7 +19,7 @@ pub(crate) fn survives_only_forms(variable: Variable) -> bool
     }
 }
 
-/// Whether a text of the variable is left.
+/// Whether the form shows a text of the variable.
 pub(crate) fn shows_variable(form: Option<SpecialForm>, variable: Variable) -> bool
     ensures { result ≡ shows_variable form variable }
 {
@@ -32,7 +32,7 @@ pub(crate) fn shows_variable(form: Option<SpecialForm>, variable: Variable) -> b
     }
 }
 
-/// Whether a text of a term or of a value is left.
+/// Whether the form shows a text of a term or of a value.
 pub(crate) fn shows_terms_and_values(form: Option<SpecialForm>) -> bool
     ensures { result ≡ shows_terms_and_values form }
 {
@@ -45,7 +45,7 @@ pub(crate) fn shows_terms_and_values(form: Option<SpecialForm>) -> bool
     }
 }
 
-/// Whether the affixes of a text of a macro are left.
+/// Whether the form shows the affixes of a text of a macro.
 pub fn shows_macro_affixes(form: Option<SpecialForm>) -> bool
     ensures { result ≡ shows_macro_affixes form }
 {

@@ -29,7 +29,7 @@ use csl_tree::ElemMeta;
 use lit_model::{ChunkedString, LongShortForm, Memory};
 use std::alloc::Global;
 
-/// Whether a text calls the variable where it finds nothing.
+/// Whether a text calls the variable even if it resolves to nothing.
 fn calls_variable(variable: Variable) -> bool
     ensures { result ≡ calls_variable variable }
 {
@@ -42,10 +42,10 @@ fn calls_variable(variable: Variable) -> bool
     }
 }
 
-/// What a text of a variable says.
+/// The dry run of a text of a variable.
 ///
 /// # Errors
-/// [`Memory`]: there was no memory left, or the entry said so, or the context had failed.
+/// [`Memory`]: out of memory, here or in the entry, or the context had failed already.
 #[inline(never)]
 pub fn variable_info<'s, T: EntryLike>(
     ctx: &Context<'s, T>,
@@ -59,7 +59,7 @@ pub fn variable_info<'s, T: EntryLike>(
     Ok(resolved_info(calls_variable(variable), &found))
 }
 
-/// Whether a text of a variable shows the variable that is asked for.
+/// Whether a text of `variable` shows the variable `asked`.
 ///
 /// # Errors
 /// As [`variable_info`].
@@ -77,7 +77,7 @@ pub fn variable_shows<'s, T: EntryLike>(
     Ok(found.is_some() && variable == asked)
 }
 
-/// What a text of a term says.
+/// The dry run of a text of a term.
 pub fn term_info<'s, T: EntryLike>(
     ctx: &Context<'s, T>,
     term: Term,
@@ -90,7 +90,7 @@ pub fn term_info<'s, T: EntryLike>(
     resolved_info(false, &resolved_term(ctx, term, form, plural))
 }
 
-/// What a text of a value says.
+/// The dry run of a text of a value.
 pub fn value_info<'s, T: EntryLike>(ctx: &Context<'s, T>, value: &str) -> (bool, UsageInfo)
     ensures { info_view result ≡ target_info (render_input T.answers ctx.now) ctx.now.state
         (of_value value.now) }
@@ -98,11 +98,11 @@ pub fn value_info<'s, T: EntryLike>(ctx: &Context<'s, T>, value: &str) -> (bool,
     resolved_info(false, &resolved_value(ctx, value))
 }
 
-/// Appends a text of a variable, which is looked up for printing.
+/// Renders a text of a variable. The lookup is for printing.
 ///
 /// # Errors
-/// [`RenderError::Memory`]: there was no memory left, or the entry said so. The context has failed.
-/// [`RenderError::Failed`]: the context had failed before.
+/// [`RenderError::Memory`]: out of memory, here or in the entry. The context has failed.
+/// [`RenderError::Failed`]: the context had failed already.
 #[inline(never)]
 pub fn render_variable<'s, T: EntryLike>(
     ctx: &mut Context<'s, T>,
@@ -119,11 +119,11 @@ pub fn render_variable<'s, T: EntryLike>(
     }
 }
 
-/// Appends a text of a term.
+/// Renders a text of a term.
 ///
 /// # Errors
-/// [`RenderError::Memory`]: there was no memory left. The context has failed.
-/// [`RenderError::Failed`]: the context had failed before.
+/// [`RenderError::Memory`]: out of memory. The context has failed.
+/// [`RenderError::Failed`]: the context had failed already.
 #[inline(never)]
 pub fn render_term<'s, T: EntryLike>(
     ctx: &mut Context<'s, T>,
@@ -141,7 +141,7 @@ pub fn render_term<'s, T: EntryLike>(
     }
 }
 
-/// Appends a text of a value.
+/// Renders a text of a value.
 ///
 /// # Errors
 /// As [`render_term`].
@@ -160,7 +160,7 @@ pub fn render_value<'s, T: EntryLike>(
     }
 }
 
-/// Which node a text of the variable is said to be.
+/// The meta of the box of a text of a standard variable.
 fn standard_meta(variable: StandardVariable) -> ElemMeta
     ensures { meta_of result ≡ standard_meta variable }
 {
@@ -171,7 +171,7 @@ fn standard_meta(variable: StandardVariable) -> ElemMeta
     }
 }
 
-/// Which node a text of the variable is said to be.
+/// The meta of the box of a text of a number or page variable.
 fn numeral_meta(variable: NumberOrPageVariable) -> ElemMeta
     ensures { meta_of result ≡ numeral_meta variable }
 {
@@ -187,7 +187,8 @@ fn numeral_meta(variable: NumberOrPageVariable) -> ElemMeta
     }
 }
 
-/// The address and the text of a link to an answer behind a prefix.
+/// The address and the text of a link. The address is the prefix, then the answer. The text is the
+/// address if `begins`, else the answer.
 fn linked(
     alloc: Global,
     prefix: &str,
@@ -208,8 +209,8 @@ fn linked(
     Ok((url, text))
 }
 
-/// Appends a text of a standard variable that has this answer: as a link, where the variable names
-/// an address, else as it stands.
+/// Renders a text of a standard variable by its answer: a link if the variable has an address, else
+/// the chunks of the answer.
 fn render_answer<'s, T: EntryLike>(
     ctx: &mut Context<'s, T>,
     text: &Text,
@@ -239,7 +240,7 @@ fn render_answer<'s, T: EntryLike>(
     render_body(ctx, text, affixes, meta, body)
 }
 
-/// Appends a text by what it finds.
+/// Renders a resolved text.
 pub(crate) fn render_found<'s, T: EntryLike>(
     ctx: &mut Context<'s, T>,
     text: &Text,

@@ -1,14 +1,14 @@
-//! What a dry run notes (CSL 1.0.2, Group).
+//! The usage flags of a dry run (CSL 1.0.2, Group).
 
 ghost use Rattle.std.specs.Prelude.{◌≡◌, true, false};
 ghost use Rattle.csl_nodes.specs.Usage.{merge_child, should_render_group, usage_flags, info_union, as_child_info, without_group_flag, group_info, macro_info, no_info, usage_flags_of, info_view};
 
-/// What a dry run notes of a node's variables, macros and groups.
+/// Usage flags: the use of variables, macros and groups in a node.
 #[derive(Clone, Copy, Default)]
 pub struct UsageInfo {
     /// A variable is called.
     pub has_vars: bool,
-    /// A variable that is called is not empty.
+    /// A called variable is not empty.
     pub has_non_empty_vars: bool,
     /// A text of a macro prints.
     pub has_used_macros: bool,
@@ -17,7 +17,7 @@ pub struct UsageInfo {
 }
 
 impl UsageInfo {
-    /// Whether a variable is called, and whether it is not empty.
+    /// The usage flags of a variable: whether it is called, and whether it is not empty.
     pub(crate) fn of_variable(called: bool, non_empty: bool) -> UsageInfo
         ensures { usage_flags_of result ≡ usage_flags called non_empty false false }
     {
@@ -29,7 +29,7 @@ impl UsageInfo {
         }
     }
 
-    /// Joins what a child notes to what its parent does, but for the group flag, which stays the
+    /// Joins the usage flags of a child with those of its parent. The group flag stays the
     /// parent's.
     pub fn merge_child(self, child: UsageInfo) -> UsageInfo
         ensures { usage_flags_of result ≡ merge_child (usage_flags_of self) (usage_flags_of child) }
@@ -42,8 +42,8 @@ impl UsageInfo {
         }
     }
 
-    /// The group rule (CSL 1.0.2, Group): a group is left out whose variables are called and are
-    /// all empty, unless a macro or a group in it prints.
+    /// The group rule (CSL 1.0.2, Group): a group is left out if it calls variables and all are
+    /// empty, unless a macro or a group in it prints.
     pub fn should_render_group(self) -> bool
         ensures { result ≡ should_render_group (usage_flags_of self) }
     {
@@ -54,14 +54,14 @@ impl UsageInfo {
     }
 }
 
-/// What a node says that prints nothing and calls no variable.
+/// The dry run of a node that prints nothing and calls no variable.
 pub fn no_info() -> (bool, UsageInfo)
     ensures { info_view result ≡ no_info }
 {
     (false, UsageInfo::default())
 }
 
-/// What is said so far, joined by what a child says.
+/// The dry run so far, joined with that of a child.
 #[tactic(auto, unfolding(crate::specs::Usage::info_union))]
 pub fn add_child_info(
     all: (bool, UsageInfo),
@@ -78,7 +78,8 @@ pub fn add_child_info(
     (all.0 || child.0, usage)
 }
 
-/// What the nodes of a layout or a macro say: no group among them is counted.
+/// A dry run without its group flag: a layout, a macro, a choice and a substitute count no group
+/// among their nodes.
 pub fn without_group_flag(said: (bool, UsageInfo)) -> (bool, UsageInfo)
     ensures { info_view result ≡ without_group_flag (info_view said) }
 {
@@ -87,7 +88,7 @@ pub fn without_group_flag(said: (bool, UsageInfo)) -> (bool, UsageInfo)
     (prints, usage)
 }
 
-/// What a group says, by what its children say.
+/// The dry run of a group, by that of its children.
 pub fn info_of_group(said: (bool, UsageInfo)) -> (bool, UsageInfo)
     ensures { info_view result ≡ group_info (info_view said) }
 {
@@ -95,7 +96,7 @@ pub fn info_of_group(said: (bool, UsageInfo)) -> (bool, UsageInfo)
     (prints && usage.should_render_group(), usage)
 }
 
-/// What a text of a macro says, by what the macro's nodes say.
+/// The dry run of a text of a macro, by that of the macro's nodes.
 pub fn info_of_macro(said: (bool, UsageInfo)) -> (bool, UsageInfo)
     ensures { info_view result ≡ macro_info (info_view said) }
 {

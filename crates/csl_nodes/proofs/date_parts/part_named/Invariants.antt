@@ -3,6 +3,6 @@ use Rattle.csl_style.specs.View.{view_date_part}
 use Rattle.csl_nodes.specs.Dates.{own_part}
 use Rattle.csl_nodes.proofs.date_parts.part_named.Given as goal
 
--- the rest has the same first part of that name
+-- the first part of that name among the remaining ones is the first among all
 abbrev pub invariant-loop-part : goal.invariant-loop-part
 invariant-loop-part l = own_part (map view_date_part (drop l.part-index l.parts)) l.name ≡ own_part (map view_date_part l.parts) l.name

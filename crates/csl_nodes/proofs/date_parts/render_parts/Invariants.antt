@@ -3,7 +3,7 @@ use Rattle.csl_tree.specs.Content.{◌++>◌}
 use Rattle.csl_nodes.proofs.JoinedParts.{parts_of}
 use Rattle.csl_nodes.proofs.date_parts.render_parts.Given as goal
 
--- what the rest would make, behind what is written so far, is what they all make
+-- the content so far, with the remaining parts, is the content with all parts
 abbrev pub invariant-loop-part : goal.invariant-loop-part
 invariant-loop-part g l =
     let made = parts_of g.T.EntryLike.answers l.written l.found l.fn.ctx in

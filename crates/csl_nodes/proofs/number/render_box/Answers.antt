@@ -10,7 +10,7 @@ use Rattle.csl_nodes.specs.Boxes.{in_plain, plain_box}
 use Rattle.csl_nodes.specs.Numbers.{number_meta}
 use Rattle.csl_nodes.proofs.number.render_box.Goals as goal
 
--- how a last call ends, in other words
+-- a call that changes a context by `f` changes an equal one by `h`, if both agree there
 ends_as : {T A : Type 0} (f h : ContextView T → ContextView T) (a old new : ContextView T) (r : Result A RenderError) → old ≡ a → f a ≡ h a → Runs f r old new → Runs h r a new
 ends_as f h a old new (Ok x) same e l = record { was_live = ap (λ now. now.failed) (sym same) ∙ l.was_live; becomes = l.becomes ∙ ap f same ∙ e }
 ends_as f h a old new (Err x) same e l = subst (λ b. FailsAs x b new) same l

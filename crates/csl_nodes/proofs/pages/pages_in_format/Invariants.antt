@@ -4,6 +4,6 @@ use Rattle.lit_model.specs.Page.{part_view}
 use Rattle.csl_nodes.specs.Pages.{part_text}
 use Rattle.csl_nodes.proofs.pages.pages_in_format.Given as goal
 
--- what is written, with what the rest gives, is what all give
+-- the text so far, with that of the remaining parts, is the text of all
 abbrev pub invariant-loop-part : goal.invariant-loop-part
 invariant-loop-part l = string_bytes l.text ++ flat_map (part_text l.kept l.delimiter) (map part_view (drop l.part-index l.part-items)) ≡ flat_map (part_text l.kept l.delimiter) (map part_view l.part-items)

@@ -3,7 +3,7 @@ use Rattle.csl_context.specs.ContextView.{render_input}
 use Rattle.csl_nodes.specs.RemainingConditions.{arms_from, conditions_from, tests_of}
 use Rattle.csl_nodes.proofs.branch_conditions.BranchConditionIterIterator.next.Given as goal
 
--- what is left is what was left
+-- the remaining conditions are unchanged
 abbrev pub invariant-loop-holds : goal.invariant-loop-holds
 invariant-loop-holds g l =
     let now = l.fn.self.ctx.now in
