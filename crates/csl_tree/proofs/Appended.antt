@@ -1,4 +1,4 @@
--- A content that ends in an item of a list, and what follows.
+-- A content that ends with the last item of a list, and a content appended to it.
 use Rattle.std.proofs.Common.{◌≡◌, ℕ, ◌+◌, ◌<◌, ◌≤◌, List, [], ◌∷◌, ◌++◌, length, get_or, take, set, refl, sym, ap, ◌∙◌, append_assoc, arith}
 use Rattle.std.specs.List.{flat_map}
 use Rattle.std.proofs.lemmas.Grind.{flat_map-append}
@@ -26,12 +26,12 @@ use Rattle.csl_tree.specs.declared.elem.ElemChild.TheFolds.{fold_out-ElemChild, 
 use Rattle.csl_tree.specs.declared.elem.ElemChild.TheVariants as variants
 use Rattle.std.proofs.lemmas.List.{take_more, take_more_set, take_all, append-nil, length-set}
 
--- what holds is so of whatever error a call hands on
+-- a claim that holds in any case holds if a call returns an error
 pub on_err : {T E P : Type 0} (r : Result T E) → P → OnErr r P
 on_err (Ok x) p = tt
 on_err (Err e) p = p
 
--- what stands before a content that is not empty stays as it is
+-- appending a content leaves the tokens before a non-empty end unchanged
 pub join_after : (p : List Token) (u : Token) (l b : List Token) → (p ++ u ∷ l) ++> b ≡ p ++ ((u ∷ l) ++> b)
 join_after [] u l b = refl
 join_after (t ∷ []) u l b = refl
@@ -40,7 +40,7 @@ join_after (t ∷ v ∷ p) u l b = ap (λ w. t ∷ w) (join_after (v ∷ p) u l 
 pub solid_last : (a : List Token) (s : Solid) (b : List Token) → (a ++ solid s ∷ []) ++> b ≡ (a ++ solid s ∷ []) ++ b
 solid_last a s b = join_after a (solid s) [] b ∙ sym (append_assoc a (solid s ∷ []) b)
 
--- the tokens of a child are not none
+-- a list that is not empty, as the tokens of each child are
 pub record Begins (l : List Token) : Type 0 where
   pub first : Token
   pub rest : List Token
@@ -59,7 +59,7 @@ child_begins k = let e = fold_out-ElemChild (List Token) (List Token) (List Toke
 pub elem_child : (e : elem.Elem) → child_tokens (variants.Elem e) ≡ elem_tokens e
 elem_child e = ap child_tokens (sym (variants.rolls-Elem e)) ∙ fold-roll-ElemChild (List Token) (List Token) (List Token) child_step elem_step children_step (Elem e)
 
--- what follows an element joins nothing
+-- a content after an element does not join it
 pub elem_apart : (e : elem.Elem) (b : List Token) → child_tokens (variants.Elem e) ++> b ≡ child_tokens (variants.Elem e) ++ b
 elem_apart e b = rw (elem_child e, elem_tokens_are e) (solid_last (solid (elem_start e.display (optional_meta e.meta)) ∷ tokens e.children) (elem_end e.display) b)
 
@@ -73,14 +73,14 @@ module _ {A B : Type 0} (f : A → List B) (xs : List A) (i : ℕ) (last : i + 1
   flat_map-set_last y =
       sym (ap (flat_map f) (take_all (i + 1) (set xs i y) (omega (arith, length-set {A = A})))) ∙ ap (flat_map f) (take_more_set xs i y (omega arith)) ∙ flat_map-append f (take i xs) (y ∷ []) ∙ ap (λ l. flat_map f (take i xs) ++ l) (append-nil (f y))
 
--- what begins with no text joins nothing
+-- a content that begins with a solid token does not join the content before it
 pub solid_next : (a : List Token) (s : Solid) (b : List Token) → a ++> (solid s ∷ b) ≡ a ++ solid s ∷ b
 solid_next [] s b = refl
 solid_next (text x f ∷ []) s b = refl
 solid_next (solid u ∷ []) s b = refl
 solid_next (t ∷ u ∷ a) s b = ap (λ l. t ∷ l) (solid_next (u ∷ a) s b)
 
--- what stands after the first token of the second content stays as it is
+-- only the first token of the second content can join; those after it are unchanged
 last_next : (t u : Token) (l r : List Token) → last_before t (u ∷ (l ++ r)) ≡ last_before t (u ∷ l) ++ r
 last_next (text x f) (text y g) l r = elim (same_formatting f g) as (λ s. cond s (text (x ++ y) f ∷ (l ++ r)) (text x f ∷ text y g ∷ (l ++ r)) ≡ cond s (text (x ++ y) f ∷ l) (text x f ∷ text y g ∷ l) ++ r) [ true ↦ refl | false ↦ refl ]
 last_next (text x f) (solid s) l r = refl
@@ -91,36 +91,36 @@ join_next [] u l r = refl
 join_next (t ∷ []) u l r = last_next t u l r
 join_next (t ∷ v ∷ a) u l r = ap (λ w. t ∷ w) (join_next (v ∷ a) u l r)
 
--- the last item of a list, of any items that have tokens
+-- the last item of a list, if each item has at least one token
 module _ {A : Type 0} (tokens_of : A → List Token) (begins : (a : A) → Begins (tokens_of a)) where
-  -- what follows joins the last item alone
+  -- an appended content joins only the last item
   pub join_item : (p : List Token) (k : A) (b : List Token) → (p ++ tokens_of k) ++> b ≡ p ++ (tokens_of k ++> b)
   join_item p k b = let h = begins k in rw h.is (join_after p h.first h.rest b)
 
-  -- it is another, which is the old one and a text that joined it
+  -- the new last item is the old one with a content appended
   pub last_joined : (xs : List A) (i : ℕ) (x y : A) (b : List Token) → i + 1 ≡ length xs → x ≡ get_or xs i x → tokens_of y ≡ tokens_of x ++> b → flat_map tokens_of (set xs i y) ≡ flat_map tokens_of xs ++> b
   last_joined xs i x y b h k e = rw (flat_map-set_last tokens_of xs i h y, flat_map-last tokens_of xs i h x k, e) (sym (join_item _ x b))
 
-  -- it shows what it did, and what follows does not join it
+  -- the new last item has the tokens of the old one, and the appended content does not join it
   pub last_apart : (xs ys : List A) (i : ℕ) (x y : A) (b : List Token) → i + 1 ≡ length xs → x ≡ get_or xs i x → ys ≡ set xs i y → tokens_of y ≡ tokens_of x → tokens_of x ++> b ≡ tokens_of x ++ b → flat_map tokens_of ys ++ b ≡ flat_map tokens_of xs ++> b
   last_apart xs ys i x y b h k s e a = rw (s, flat_map-set_last tokens_of xs i h y, flat_map-last tokens_of xs i h x k, e, join_item _ x b, a) (append_assoc (flat_map tokens_of (take i xs)) (tokens_of x) b)
 
-  -- it shows what it did
+  -- the new last item has the tokens of the old one
   pub last_kept : (xs ys : List A) (i : ℕ) (x y : A) → i + 1 ≡ length xs → x ≡ get_or xs i x → ys ≡ set xs i y → tokens_of y ≡ tokens_of x → flat_map tokens_of ys ≡ flat_map tokens_of xs
   last_kept xs ys i x y h k s e = rw (s, flat_map-set_last tokens_of xs i h y, flat_map-last tokens_of xs i h x k, e) refl
 
-  -- there is none
+  -- the list is empty
   pub none_apart : (xs ys : List A) (b : List Token) → ys ≡ xs → length xs ≤ 0 → flat_map tokens_of ys ++ b ≡ flat_map tokens_of xs ++> b
   none_apart [] ys b e h = rw e
   none_apart (x ∷ xs) ys b e h = absurd (omega arith)
 
-  -- one more, which begins with no text
+  -- one more item, which begins with a solid token
   pub solid_pushed : (xs ys : List A) (k : A) (s : Solid) (l : List Token) → ys ≡ xs ++ k ∷ [] → tokens_of k ≡ solid s ∷ l → flat_map tokens_of ys ≡ flat_map tokens_of xs ++> tokens_of k
   solid_pushed xs ys k s l e h =
       ap (flat_map tokens_of) e ∙ flat_map-append tokens_of xs (k ∷ []) ∙ ap (λ w. flat_map tokens_of xs ++ w) (append-nil (tokens_of k) ∙ h)
       ∙ sym (solid_next (flat_map tokens_of xs) s l) ∙ ap (λ w. flat_map tokens_of xs ++> w) (sym h)
 
-  -- some more, the first of which may join what is there
+  -- more items, the first of which may join the last one
   pub appended : (xs first_put all moved rest : List A) (k : A) → moved ≡ k ∷ rest → flat_map tokens_of first_put ≡ flat_map tokens_of xs ++> tokens_of k → all ≡ first_put ++ rest → flat_map tokens_of all ≡ flat_map tokens_of xs ++> flat_map tokens_of moved
   appended xs first_put all moved rest k m h e =
       let b = begins k in
@@ -129,7 +129,7 @@ module _ {A : Type 0} (tokens_of : A → List Token) (begins : (a : A) → Begin
 pub text_child : (f : Formatted) → child_tokens (variants.Text f) ≡ text (string_bytes f.text) f.formatting ∷ []
 text_child f = ap child_tokens (sym (variants.rolls-Text f)) ∙ fold-roll-ElemChild (List Token) (List Token) (List Token) child_step elem_step children_step (Text f)
 
--- some children, and then a text
+-- the tokens of children and of one more, which is a text
 pub pushed : (xs ys : List ElemChild) (s : String Global) (bs : List ℕ) (f : Formatting) → ys ≡ xs ++ variants.Text (record { text = s; formatting = f }) ∷ [] → string_bytes s ≡ bs → flat_map child_tokens ys ≡ flat_map child_tokens xs ++ text bs f ∷ []
 pushed xs ys s bs f e h =
     ap (flat_map child_tokens) e ∙ flat_map-append child_tokens xs (variants.Text (record { text = s; formatting = f }) ∷ [])
@@ -192,14 +192,14 @@ no_items (x ∷ xs) h = let b = some (x ∷ xs) (omega arith) in cc (b.is)
 pub items_none : (c : ElemChildren) → tokens c ≡ [] → length c.0.items ≡ 0
 items_none c h = no_items c.0.items (sym (tokens_out c) ∙ h)
 
--- an element stands as a child
+-- the content of an element is its tokens
 pub elem_shows : (e : elem.Elem) → child_content (variants.Elem e) ≡ child_tokens (variants.Elem e)
 elem_shows e = ap layer_content (outs-Elem e) ∙ sym (elem_child e ∙ elem_tokens_are e)
 
--- children that are not none, between two contents
+-- the content of at least one child, between two contents
 pub affixed_is : (p s : List Token) (c : ElemChildren) → 0 < length c.0.items → affixed_content p s (tokens c) ≡ p ++> (tokens c ++> s)
 affixed_is p s c h = let b = some c.0.items h in rw (tokens_out c ∙ b.is) refl
 
--- three contents, one after another, behind what was there
+-- three contents, appended to a content one after another
 pub joined_in_turn : (old p inner s a b new : List Token) → a ≡ p ++> inner → b ≡ a ++> s → new ≡ old ++> b → new ≡ old ++> (p ++> (inner ++> s))
 joined_in_turn old p inner s a b new e f g = g ∙ ap (λ l. old ++> l) (f ∙ ap (λ l. l ++> s) e ∙ join_assoc p inner s)

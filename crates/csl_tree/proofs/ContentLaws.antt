@@ -1,4 +1,4 @@
--- Laws of contents: their texts, their leaf text, and that they hold nothing empty.
+-- Laws of contents: joined texts, the leaf text, and `IsContent`.
 use Rattle.std.proofs.Common.{◌≡◌, ℕ, ◌<◌, length, arith, true, false, cond, List, [], ◌∷◌, ◌++◌, refl, sym, ap, subst, ◌∙◌, append_assoc}
 use Rattle.std.proofs.lemmas.Grind.{flat_map-append}
 use Rattle.std.proofs.lemmas.List.{append-nil}
@@ -12,7 +12,7 @@ use Rattle.csl_tree.proofs.Joins.{same_formatting-refl}
 use Rattle.csl_tree.proofs.Appended.{join_after}
 pub use Rattle.csl_tree.proofs.Joins.{join_assoc, join-none}
 
--- texts of one formatting that meet are the text of both
+-- two texts of one formatting, in a row, have the content of their joined text
 pub text_content-append : (x y : List ℕ) (f : Formatting) → text_content x f ++> text_content y f ≡ text_content (x ++ y) f
 text_content-append [] y f = refl
 text_content-append (b ∷ x) [] f = ap (λ l. text (b ∷ l) f ∷ []) (sym (append-nil x))
@@ -32,17 +32,17 @@ leaf_text-joined : (t : Token) (a b : List Token) → leaf_text (join_tokens t a
 leaf_text-joined t [] b = leaf_text-last_before t b
 leaf_text-joined t (u ∷ a) b = ap (λ l. token_text t ++ l) (leaf_text-joined u a b ∙ sym (append_assoc (token_text u) (leaf_text a) (leaf_text b)))
 
--- the leaf text of contents in a row is that of both
+-- the leaf text of two contents in a row is that of the first, then that of the second
 pub leaf_text-join : (a b : List Token) → leaf_text (a ++> b) ≡ leaf_text a ++ leaf_text b
 leaf_text-join [] b = refl
 leaf_text-join (t ∷ a) b = leaf_text-joined t a b ∙ sym (append_assoc (token_text t) (leaf_text a) (leaf_text b))
 
--- an element shows the leaf text inside it
+-- an element has the leaf text of its content
 pub leaf_text-boxed : (d : Option Display) (m : Option Meta) (c : List Token) → leaf_text (elem_content d m c) ≡ leaf_text c
 leaf_text-boxed d m [] = refl
 leaf_text-boxed d m (t ∷ c) = flat_map-append token_text (t ∷ c) (solid (elem_end d) ∷ []) ∙ append-nil (leaf_text (t ∷ c))
 
--- a content between two others shows the leaf text of all three
+-- a content between two others has the leaf text of all three, in order
 pub leaf_text-affixed : (p s c : List Token) → 0 < length c → leaf_text (affixed_content p s c) ≡ leaf_text p ++ (leaf_text c ++ leaf_text s)
 leaf_text-affixed p s [] h = absurd (omega (arith, h))
 leaf_text-affixed p s (t ∷ c) h = leaf_text-join p ((t ∷ c) ++> s) ∙ ap (λ l. leaf_text p ++ l) (leaf_text-join (t ∷ c) s)
@@ -63,7 +63,7 @@ pub IsContent-boxed : (d : Option Display) (m : Option Meta) (c : List Token) �
 IsContent-boxed d m [] h = nothing
 IsContent-boxed d m (t ∷ c) h = element_then d m t c [] h nothing
 
--- a text that is not empty, in front of a content
+-- a text that is not empty before a content
 before_content : (b : ℕ) (x : List ℕ) (f : Formatting) {c : List Token} → IsContent c → IsContent (text_before (b ∷ x) f c)
 before_content b x f nothing = text_then b x f [] nothing
 before_content b x f (text_then e y g c h) =
@@ -80,7 +80,7 @@ text_joined : (b : ℕ) (x : List ℕ) (f : Formatting) (a c : List Token) → I
 text_joined b x f [] c h = before_content b x f h
 text_joined b x f (t ∷ a) c h = text_then b x f (join_tokens t a c) h
 
--- what follows a token that joins nothing
+-- a solid token joins neither of the contents after it
 solid_joined : (s : Solid) (a c : List Token) → join_tokens (solid s) a c ≡ solid s ∷ (a ++> c)
 solid_joined s [] c = refl
 solid_joined s (t ∷ a) c = refl

@@ -11,7 +11,7 @@ use Rattle.csl_tree.specs.Escapes.{escape, escape_all, is_plain, is_reserved, st
 use Rattle.csl_tree.specs.Marks.{without, reference_at, byte_at, texts_found, as_text, entity_at, or_else}
 use Rattle.csl_tree.proofs.Fronts.{without-is}
 
--- bytes of which none is reserved
+-- bytes are plain if none of them is reserved
 pub all_plain : (bs : List ℕ) → ((i : ℕ) → i < length bs → is_reserved (get_or bs i 0) ≡ false) → list_all is_plain bs ≡ true
 all_plain [] h = refl
 all_plain (b ∷ bs) h =
@@ -74,7 +74,7 @@ reference_at-is bs c more h = elim (or_else-is _ _ _ h) [
   ]
 ]
 
--- ---- the first bytes of HTML tell the first byte of its text
+-- ---- the first bytes of HTML decide the first byte of its text
 
 pub byte_at-is : (bs : List ℕ) (c : ℕ) (more : List ℕ) → byte_at bs ≡ Some (c, more) → bs ≡ escape c ++ more
 byte_at-is [] c more h = absurd (cc h)
@@ -119,12 +119,12 @@ byte_at-escape b more =
 
 -- ---- the text that HTML begins with
 
--- no text begins here
+-- the bytes begin with no text
 pub no_byte : (bs : List ℕ) → starts_plain bs ≡ false → reference_at bs ≡ None → byte_at bs ≡ None
 no_byte [] h k = refl
 no_byte (b ∷ bs) h k = rw h k
 
--- of two texts, each before what begins with none
+-- two texts, each before a rest that begins with no text: equal HTML has equal texts and rests
 pub texts_tell : (xs bs x y : List ℕ) → byte_at x ≡ None → byte_at y ≡ None → escape_all xs ++ x ≡ escape_all bs ++ y → (xs ≡ bs) × (x ≡ y)
 texts_tell [] [] x y h k e = (refl, e)
 texts_tell [] (b ∷ bs) x y h k e =
@@ -179,7 +179,7 @@ texts_join html xs mid ys rest e f =
 
 -- ---- writing a text
 
--- a front, a byte, and a plain text after it
+-- the HTML of a front, a byte, and a plain text after it
 pub escaped_on : (front plain : List ℕ) (b : ℕ) → list_all is_plain plain ≡ true → escape_all front ++ (escape b ++ plain) ≡ escape_all (front ++ (b ∷ plain))
 escaped_on front plain b h = ap (λ (l : List ℕ). escape_all front ++ (escape b ++ l)) (sym (escaped-plain plain h)) ∙ sym (escaped-append front (b ∷ plain))
 

@@ -1,4 +1,4 @@
--- A flat list of contents that are being item by item.
+-- Laws of the contents of a flat list of items.
 use Rattle.std.proofs.Common.{◌≡◌, ◌≢◌, ℕ, ◌+◌, ◌-◌, ◌<◌, ◌≤◌, suc, zero, List, [], ◌∷◌, ◌++◌, length, get_or, take, drop, set, reverse, true, false, cond, length-drop, refl, sym, ap, ◌∙◌, append_assoc, arith}
 use Rattle.std.specs.List.{flat_map, remove}
 use Rattle.std.proofs.lemmas.List.{take_more, take_more_set, take_all, append-nil, length-set, reverse-append, get_or-set_other, take-append-drop, take-set-le, drop-set-lt, drop-set, at_drop_all}
@@ -20,7 +20,7 @@ use Rattle.csl_tree.specs.declared.flat_items.Item.TheVariants.{Child, Mark}
 use Rattle.csl_tree.specs.Flat.{OpenParts, only_root, with_tokens, open_part, close_into, close_part, affix_content}
 use Rattle.csl_tree.specs.FlatItems.{IsRun, IsLastPart, without_range, step, parts_from, open_parts, plain_step, plain_from, plain_inner, run_step, run_from, last_run_len, IsJoined, IsFresh, JoinsAs, Joins, IsSame, IsApartFrom, IsApart}
 
--- some items, and then others
+-- one list of items after another
 pub parts_append : (p : OpenParts) (xs ys : List Item) → parts_from p (xs ++ ys) ≡ parts_from (parts_from p xs) ys
 parts_append p [] ys = refl
 parts_append p (x ∷ xs) ys = parts_append (step p x) xs ys
@@ -33,7 +33,7 @@ pub run_append : (n : ℕ) (xs ys : List Item) → run_from n (xs ++ ys) ≡ run
 run_append n [] ys = refl
 run_append n (x ∷ xs) ys = run_append (run_step n x) xs ys
 
--- one item more
+-- one more item
 pub parts_pushed : (xs ys : List Item) (x : Item) → ys ≡ xs ++ x ∷ [] → open_parts ys ≡ step (open_parts xs) x
 parts_pushed xs ys x e = ap open_parts e ∙ parts_append only_root xs (x ∷ [])
 
@@ -43,7 +43,7 @@ plain_pushed xs ys x e = ap plain_inner e ∙ plain_append [] xs (x ∷ [])
 pub run_pushed : (xs ys : List Item) (x : Item) → ys ≡ xs ++ x ∷ [] → last_run_len ys ≡ run_step (last_run_len xs) x
 run_pushed xs ys x e = ap last_run_len e ∙ run_append 0 xs (x ∷ [])
 
--- the last of some items, and what stands before it
+-- the last item, and the items before it
 pub taken : (xs : List Item) (k i : ℕ) (x : Item) → k + 1 ≡ i → k < length xs → x ≡ get_or xs k x → take i xs ≡ take k xs ++ x ∷ []
 taken xs k i x e h g = ap (λ j. take j xs) (sym e) ∙ take_more xs k x h ∙ ap (λ y. take k xs ++ y ∷ []) (sym g)
 
@@ -70,7 +70,7 @@ pub joins_step : (x y z : Item) → Joins x y z → (p : OpenParts) → step p z
 joins_step x Mark z h p = absurd h
 joins_step x (Child b) z h p = joins_step_as x (child_tokens b) z h p
 
--- the last item is another
+-- the last item is replaced by an equal one, or by itself with a content appended
 pub replaced_last : (xs ys : List Item) (i : ℕ) (x y : Item) → i + 1 ≡ length xs → x ≡ get_or xs i x → ys ≡ set xs i y → IsSame x y → open_parts ys ≡ open_parts xs
 replaced_last xs ys i x y h e s f =
     parts_pushed (take i xs) ys y (s ∙ last_set xs i y h) ∙ same_step x y f (open_parts (take i xs)) ∙ sym (parts_pushed (take i xs) xs x (last_is xs i x h e))
@@ -79,7 +79,7 @@ pub joined_last : (xs ys : List Item) (i : ℕ) (x y : Item) (b : List Token) �
 joined_last xs ys i x y b h e s f =
     parts_pushed (take i xs) ys y (s ∙ last_set xs i y h) ∙ joins_step_as x b y f (open_parts (take i xs)) ∙ ap (with_tokens b) (sym (parts_pushed (take i xs) xs x (last_is xs i x h e)))
 
--- what is joined stays so with a text more
+-- joined items stay joined if another item joins the last one
 pub joined_now : (t : List Item) (x y z : Item) → IsJoined (t ++ x ∷ []) → Joins x y z → IsJoined (t ++ z ∷ [])
 joined_now t x Mark z j h = absurd h
 joined_now t Mark (Child b) z j h = absurd h
@@ -89,7 +89,7 @@ joined_now t (Child a) (Child b) (Child c) j h =
     plain_append [] t (Child c ∷ []) ∙ ap (λ (l : List Token). plain_inner t ++ l) h ∙ sym (join_item child_tokens child_begins (plain_inner t) a (child_tokens b)) ∙ ap (λ (l : List Token). l ++> child_tokens b) was
     ∙ join_assoc (open_parts t).inner (child_tokens a) (child_tokens b) ∙ ap (λ (l : List Token). (open_parts t).inner ++> l) (sym h) ∙ ap (λ (p : OpenParts). p.inner) (sym (parts_append only_root t (Child c ∷ [])))
 
--- and with an item more that stands apart
+-- joined items stay joined with one more item that does not join the last one
 pub apart_now : (t : List Item) (x y z : Item) → IsJoined (t ++ x ∷ []) → IsSame x z → IsApart z y → IsJoined (t ++ z ∷ y ∷ [])
 apart_now t x Mark z j s h = plain_append [] t (z ∷ Mark ∷ []) ∙ ap (λ (p : OpenParts). p.inner) (sym (parts_append only_root t (z ∷ Mark ∷ [])))
 apart_now t Mark (Child b) Mark j s h = plain_append [] t (Mark ∷ Child b ∷ []) ∙ ap (λ (p : OpenParts). p.inner) (sym (parts_append only_root t (Mark ∷ Child b ∷ [])))
@@ -101,7 +101,7 @@ apart_now t (Child a) (Child b) (Child c) j s h =
     plain_append [] t (Child c ∷ Child b ∷ []) ∙ append_assoc (plain_inner t) (child_tokens c) (child_tokens b) ∙ ap (λ (l : List Token). plain_inner t ++ l) (sym h)
     ∙ sym (join_item child_tokens child_begins (plain_inner t) c (child_tokens b)) ∙ ap (λ (l : List Token). l ++> child_tokens b) now ∙ ap (λ (p : OpenParts). p.inner) (sym (parts_append only_root t (Child c ∷ Child b ∷ [])))
 
--- the last item that is kept, and the next one behind a gap
+-- `x` is the last item before a gap, and `y` the first one after it
 module _ (xs : List Item) (k n : ℕ) (o : k < n) (h : n < length xs) (x y z m : Item) (ex : x ≡ get_or xs k x) (ey : y ≡ get_or xs n y) where
   kept_was : without_range xs k n ≡ take k xs ++ x ∷ y ∷ drop (suc n) xs
   kept_was =
@@ -154,28 +154,28 @@ module _ (xs : List Item) (k n : ℕ) (o : k < n) (h : n < length xs) (x y z m :
       ap (λ l. open_parts (l ++ drop n (set (set (set xs n m) k z) n y))) t ∙ ap (λ l. open_parts ((take k xs ++ z ∷ []) ++ l)) d
       ∙ ap open_parts (append_assoc (take k xs) (z ∷ []) (y ∷ drop (suc n) xs)) ∙ parts_append only_root (take k xs) (z ∷ y ∷ drop (suc n) xs) ∙ same_parts s
 
--- nothing is left behind
+-- no item is after the gap
 pub kept_all : (xs : List Item) (k n : ℕ) → length xs ≤ n → without_range xs k n ≡ take (k + 1) xs
 kept_all xs k n h = at_drop_all (λ l. take (k + 1) xs ++ l) xs n h ∙ append-nil (take (k + 1) xs)
 
--- what begins with no text stands apart
+-- a content that begins with a solid token does not join the item
 pub solid_apart : (x : Item) (b : List Token) (s : Solid) (l : List Token) → b ≡ solid s ∷ l → IsApartFrom x b
 solid_apart Mark b s l h = tt
 solid_apart (Child a) b s l h = rw h (solid_next (child_tokens a) s l)
 
--- nothing stands behind a mark
+-- after a mark, the innermost part has no content
 pub fresh_behind : (xs : List Item) (k i : ℕ) → k + 1 ≡ i → k < length xs → Mark ≡ get_or xs k Mark → IsFresh (take i xs)
 fresh_behind xs k i e h g =
     (plain_pushed (take k xs) (take i xs) Mark (taken xs k i Mark e h g), ap (λ (p : OpenParts). p.inner) (parts_pushed (take k xs) (take i xs) Mark (taken xs k i Mark e h g)))
 
--- a child before which one more is taken
+-- the number of children after the last mark, after a child and after a mark
 pub run_child : (xs : List Item) (k i : ℕ) (c : ElemChild) → k + 1 ≡ i → k < length xs → Child c ≡ get_or xs k (Child c) → last_run_len (take i xs) ≡ last_run_len (take k xs) + 1
 run_child xs k i c e h g = run_pushed (take k xs) (take i xs) (Child c) (taken xs k i (Child c) e h g)
 
 pub run_mark : (xs : List Item) (k i : ℕ) → k + 1 ≡ i → k < length xs → Mark ≡ get_or xs k Mark → last_run_len (take i xs) ≡ 0
 run_mark xs k i e h g = run_pushed (take k xs) (take i xs) Mark (taken xs k i Mark e h g)
 
--- an item more is joined where nothing stood
+-- if the innermost part has no content, the items are joined after one more item
 pub joined_first : (xs : List Item) (k i : ℕ) (x : Item) → k + 1 ≡ i → k < length xs → x ≡ get_or xs k x → IsFresh (take k xs) → IsJoined (take i xs)
 joined_first xs k i Mark e h g f = plain_pushed (take k xs) (take i xs) Mark (taken xs k i Mark e h g) ∙ ap (λ (p : OpenParts). p.inner) (sym (parts_pushed (take k xs) (take i xs) Mark (taken xs k i Mark e h g)))
 joined_first xs k i (Child c) e h g f =
@@ -201,7 +201,7 @@ popped_mark xs ys ks all e h = sym (h ∙ ap (λ (l : List Token). l ++ flat_map
 pub popped_part : (xs ys : List Item) → xs ≡ ys ++ Mark ∷ [] → (open_parts xs).outer ≡ (open_parts ys).inner ∷ (open_parts ys).outer
 popped_part xs ys e = ap (λ (p : OpenParts). p.outer) (parts_pushed ys xs Mark e)
 
--- the first of two, as it was before the second was lent
+-- an item before the one that was set is unchanged
 pub before_set : (xs : List Item) (i k : ℕ) (x m : Item) → k < i → x ≡ get_or (set xs i m) k x → x ≡ get_or xs k x
 before_set xs i k x m o h = let ne : k ≢ i = omega arith in h ∙ get_or-set_other xs i k m x ne
 
@@ -217,7 +217,7 @@ run_parts p [] h = ap (λ (l : List Token). record { inner = l; outer = p.outer 
 run_parts p (Child k ∷ xs) h = run_parts (with_tokens (child_tokens k) p) xs h ∙ ap (λ (l : List Token). record { inner = l; outer = p.outer }) (join_assoc p.inner (child_tokens k) (run_tokens xs))
 run_parts p (Mark ∷ xs) h = absurd h
 
--- one child more before others
+-- one more child before a run
 pub run_more : (xs : List Item) (k i : ℕ) (c : ElemChild) → k + 1 ≡ i → k < length xs → Child c ≡ get_or xs k (Child c) → IsRun (drop i xs) → IsRun (drop k xs)
 run_more xs k i c e h g r = let n : i ≡ suc k = omega arith in rw (drop-cons xs k (Child c) h, ← g) (rw n at r)
 
@@ -244,7 +244,7 @@ set-split [] i x h = absurd (omega arith)
 set-split (y ∷ xs) zero x h = refl
 set-split (y ∷ xs) (suc i) x h = ap (λ (l : List Item). y ∷ l) (set-split xs i x (omega arith))
 
--- items of which one is a mark, with children alone behind it
+-- items with a mark, and with children alone after it
 module _ (xs : List Item) (at : ℕ) (within : at < length xs) (mark : get_or xs at Mark ≡ Mark) (behind : IsRun (drop (suc at) xs)) where
   whole : xs ≡ take at xs ++ Mark ∷ drop (suc at) xs
   whole = sym (take-append-drop at xs) ∙ ap (λ l. take at xs ++ l) (drop-cons xs at Mark within ∙ ap (λ (x : Item). x ∷ drop (suc at) xs) mark)
@@ -255,7 +255,7 @@ module _ (xs : List Item) (at : ℕ) (within : at < length xs) (mark : get_or xs
   pub part_dropped : (open_parts xs).outer ≡ (open_parts (take at xs)).inner ∷ (open_parts (take at xs)).outer
   part_dropped = ap (λ (p : OpenParts). p.outer) part_is
 
-  -- another item in the place of the mark
+  -- a child replaces the mark
   pub part_set : (k : ElemChild) → open_parts (set xs at (Child k)) ≡ close_part (child_tokens k ++> (open_parts xs).inner) (open_parts xs)
   part_set k =
       let is : set xs at (Child k) ≡ take at xs ++ Child k ∷ drop (suc at) xs = set-split xs at (Child k) within in
@@ -263,14 +263,14 @@ module _ (xs : List Item) (at : ℕ) (within : at < length xs) (mark : get_or xs
       ∙ ap (λ (l : List Token). record { inner = l; outer = (open_parts (take at xs)).outer }) (join_assoc (open_parts (take at xs)).inner (child_tokens k) (run_tokens (drop (suc at) xs)))
       ∙ sym (ap (λ (p : OpenParts). close_part (child_tokens k ++> p.inner) p) part_is)
 
-  -- the mark is taken away
+  -- the mark is removed
   pub part_unmarked : open_parts (remove xs at) ≡ close_part (open_parts xs).inner (open_parts xs)
   part_unmarked =
       let is : remove xs at ≡ take at xs ++ drop (suc at) xs = refl in
       ap open_parts is ∙ parts_append only_root (take at xs) (drop (suc at) xs) ∙ run_parts (open_parts (take at xs)) (drop (suc at) xs) behind
       ∙ sym (ap (λ (p : OpenParts). close_part p.inner p) part_is)
 
--- what stands inside is not nothing
+-- the innermost part has content if there is an item after the mark
 pub part_some : (xs : List Item) (at : ℕ) (within : at < length xs) (mark : get_or xs at Mark ≡ Mark) (behind : IsRun (drop (suc at) xs)) → suc at < length xs → Begins (open_parts xs).inner
 part_some xs at within mark behind h = rw (part_is xs at within mark behind) (run-begins (drop (suc at) xs) behind (omega (arith, length-drop {A = Item})))
 
@@ -278,7 +278,7 @@ joined_more : (a : List Token) (t : Token) (b : List Token) → has_children (a 
 joined_more [] t b = refl
 joined_more (u ∷ a) t b = let h = joined-begins u a (t ∷ b) in rw h.is refl
 
--- the last item, or there is none
+-- whether the innermost part has children, by the last item
 pub ends_in_child : (xs : List Item) (i : ℕ) (k : ElemChild) → i + 1 ≡ length xs → Child k ≡ get_or xs i (Child k) → has_children (open_parts xs).inner ≡ true
 ends_in_child xs i k h e =
     let b = child_begins k in
@@ -287,7 +287,7 @@ ends_in_child xs i k h e =
 pub ends_in_mark : (xs : List Item) (i : ℕ) → i + 1 ≡ length xs → Mark ≡ get_or xs i Mark → has_children (open_parts xs).inner ≡ false
 ends_in_mark xs i h e = ap (λ (p : OpenParts). has_children p.inner) (parts_pushed (take i xs) xs Mark (last_is xs i Mark h e))
 
--- ---- how many are open
+-- ---- how many parts are open
 
 pub opened_within : (p : OpenParts) (xs : List Item) → length (parts_from p xs).outer ≤ length p.outer + length xs
 opened_within p [] = omega arith
@@ -305,7 +305,7 @@ closed_none old new c h e = sym (ap (λ (l : List Token). close_part l old) h �
 pub closed_some : (old taken new : OpenParts) (c : List Token) → old.outer ≡ taken.inner ∷ taken.outer → new ≡ with_tokens c taken → new ≡ close_part c old
 closed_some old taken new c e h = h ∙ sym (ap (close_into c old) e)
 
--- all items, and none behind them
+-- no item is after the last one
 drop_all : (xs : List Item) → IsRun (drop (length xs) xs)
 drop_all [] = tt
 drop_all (x ∷ xs) = drop_all xs
@@ -313,7 +313,7 @@ drop_all (x ∷ xs) = drop_all xs
 pub run_none : (xs : List Item) → (length xs ≤ length xs) × (last_run_len xs ≡ last_run_len (take (length xs) xs) + (length xs - length xs)) × IsRun (drop (length xs) xs)
 run_none xs = (omega arith, (let e : take (length xs) xs ≡ xs = take_all (length xs) xs (omega arith) in rw e (omega arith)), drop_all xs)
 
--- where a part is open, there is its mark
+-- if a part is open, there is its mark
 pub part_open : (xs : List Item) (n : ℕ) → IsLastPart xs n → 0 < length (open_parts xs).outer → n < length xs
 part_open xs n l h =
     let ne : n ≢ length xs = λ e. (let z : length xs - n ≡ 0 = omega arith in let r : IsRun xs = rw z at l.1 in let o = run_outer only_root xs r in absurd (omega (arith, ap length o, h))) in
@@ -346,7 +346,7 @@ spliced_parts i (o ∷ os) b a f h =
 pub spliced : (old mid new : OpenParts) (b a : List Token) → Begins old.inner → 0 < length old.outer → mid ≡ close_part (b ++> old.inner) old → new ≡ with_tokens a mid → new ≡ close_part (affixed_content b a old.inner) old
 spliced old mid new b a f h e g = g ∙ ap (with_tokens a) e ∙ spliced_parts old.inner old.outer b a f h
 
--- a text that is empty or absent writes nothing
+-- the content of an affix: nothing if its text is empty, else the text
 pub text_none : (p : OpenParts) (o : Option Formatted) (t : Formatted) → o ≡ Some t → length (string_bytes t.text) ≡ 0 → affix_content o ≡ []
 text_none p o t e h = rw e (text_content-none (string_bytes t.text) t.formatting h)
 

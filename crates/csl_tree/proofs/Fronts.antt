@@ -1,4 +1,4 @@
--- A text after a front.
+-- The rest of a text after a front.
 use Rattle.std.proofs.Common.{◌≡◌, inl, inr, ℕ, true, List, [], ◌∷◌, ◌++◌, drop, refl, sym, ap, ◌∙◌}
 use Rattle.std.specs.Prelude.{Option, Some, None, MatchOption, unwrap_or, ◌==◌}
 use Rattle.std.specs.Str.Pattern.{FindsTextPrefix, StripsPrefix}
@@ -7,12 +7,12 @@ use Rattle.std.proofs.lemmas.Bool.Decides.{eqb_tells}
 use denote.Ref.{Bor}
 use Rattle.csl_tree.specs.Marks.{without, after, rest_found}
 
--- a front, then any text
+-- the rest of a front and a text is the text
 pub without-append : (xs more : List ℕ) → without xs (xs ++ more) ≡ Some more
 without-append [] more = refl
 without-append (x ∷ xs) more = let same : (x == x) ≡ true = eq-eqb x x refl in rw same (without-append xs more)
 
--- the only text that is this after the front
+-- a text with a rest is the front, then the rest
 pub without-is : (xs bs more : List ℕ) → without xs bs ≡ Some more → bs ≡ xs ++ more
 without-is [] bs more h = cc
 without-is (x ∷ xs) [] more h = absurd (cc h)
@@ -22,7 +22,7 @@ without-is (x ∷ xs) (b ∷ bs) more h =
       | inr w ↦ let e : None ≡ Some more = rw w.0 at h in absurd (cc e)
     ]
 
--- what `strip_prefix` answers
+-- the result of `strip_prefix`
 pub stripped : (front bs : List ℕ) (r : Option (Bor (List ℕ))) → MatchOption r (FindsTextPrefix front bs None) (λ x. StripsPrefix (FindsTextPrefix front) bs x.now) → rest_found r ≡ without front bs
 stripped front bs None h =
     elim (without front bs) as (λ o. without front bs ≡ o → None ≡ o) [

@@ -16,7 +16,7 @@ use Rattle.csl_tree.specs.Formatting.{same_formatting, style_place, variant_plac
 use Rattle.csl_tree.specs.Tokens.{Token, text, solid}
 use Rattle.csl_tree.specs.Content.{text_before, last_before, join_tokens, ◌++>◌, text_content}
 
--- the value at a place
+-- the value with a number
 style_at : ℕ → FontStyle
 style_at zero = style.Normal
 style_at (suc n) = style.Italic
@@ -68,7 +68,7 @@ align_found align.Baseline = refl
 align_found align.Sup = refl
 align_found align.Sub = refl
 
--- values of one place are one
+-- two values with one number are equal
 at_one_place : {A : Type 0} (at : ℕ → A) (place : A → ℕ) (found : (a : A) → at (place a) ≡ a) (a b : A) → place a ≡ place b → a ≡ b
 at_one_place at place found a b h = sym (found a) ∙ ap at h ∙ found b
 
@@ -86,7 +86,7 @@ same_formatting-is f g h =
 pub same_formatting-refl : (f : Formatting) → same_formatting f f ≡ true
 same_formatting-refl f = grind (arith, common_steps)
 
--- texts of one formatting, in front of what follows, are one text in front of it
+-- two texts of one formatting, before a content, are one text before it
 pub text_before-same : (x y : List ℕ) (f : Formatting) (c : List Token) → same_formatting f f ≡ true → text_before (x ++ y) f c ≡ text_before x f (text_before y f c)
 text_before-same x y f [] e = rw e
 text_before-same x y f (text z h ∷ b) e =
@@ -96,14 +96,14 @@ text_before-same x y f (text z h ∷ b) e =
     ]
 text_before-same x y f (solid s ∷ b) e = rw e
 
--- a text of another formatting stands apart
+-- a text does not join a text of another formatting
 text_before-apart : (x y : List ℕ) (f g : Formatting) (c : List Token) → same_formatting f g ≡ false → text x f ∷ text_before y g c ≡ text_before x f (text_before y g c)
 text_before-apart x y f g [] h = rw h
 text_before-apart x y f g (text z k ∷ c) h =
     elim (same_formatting g k) as (λ s. text x f ∷ cond s (text (y ++ z) g ∷ c) (text y g ∷ text z k ∷ c) ≡ text_before x f (cond s (text (y ++ z) g ∷ c) (text y g ∷ text z k ∷ c))) [ true ↦ rw h | false ↦ rw h ]
 text_before-apart x y f g (solid s ∷ c) h = rw h
 
--- a text in front of a content, and that in front of another
+-- a text before two contents in a row
 text_before-joined : (x : List ℕ) (f : Formatting) (b c : List Token) → text_before x f b ++> c ≡ text_before x f (b ++> c)
 text_before-joined x f [] c = refl
 text_before-joined x f (solid s ∷ []) c = refl
@@ -121,7 +121,7 @@ last_before-joined (text x f) b c = text_before-joined x f b c
 last_before-joined (solid s) [] c = refl
 last_before-joined (solid s) (u ∷ b) c = refl
 
--- what begins with a token is not empty
+-- a first token stays before a content that is not empty
 text_before-cons : (t : Token) (x : List ℕ) (f : Formatting) (b c : List Token) → join_tokens t (text_before x f b) c ≡ t ∷ (text_before x f b ++> c)
 text_before-cons t x f [] c = refl
 text_before-cons t x f (text y g ∷ b) c = elim (same_formatting f g) as (λ s. join_tokens t (cond s (text (x ++ y) f ∷ b) (text x f ∷ text y g ∷ b)) c ≡ t ∷ (cond s (text (x ++ y) f ∷ b) (text x f ∷ text y g ∷ b) ++> c)) [ true ↦ refl | false ↦ refl ]

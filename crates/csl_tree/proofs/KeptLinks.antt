@@ -1,4 +1,4 @@
--- Trees whose links of addresses that are not allowed are texts.
+-- Trees in which links to addresses that are not allowed have become texts.
 use Rattle.std.proofs.Common.{◌≡◌, ◌<◌, ◌≤◌, ◌+◌, ℕ, suc, Bool, true, false, cond, List, [], ◌∷◌, ◌++◌, length, take, drop, get_or, set, length-append, Bor, String, Global, refl, sym, ap, ◌∙◌, arith}
 use Rattle.std.specs.Prelude.{Option, Some, unwrap_or}
 use Rattle.std.specs.List.{flat_map, list_all}
@@ -62,7 +62,7 @@ around_of k d w (Markup s) e c = cc
 around_of k d w (Link t u) e c = cc
 around_of k d w (Transparent n f) e c = cc
 
--- what holds of the children of an element holds of the element
+-- an element keeps the allowed links if its children do
 pub kept_inside : (allowed : List ℕ → Bool) (k : ElemChild) (d w : ElemChildren) → Some d ≡ children_of k → tree.tokens w ≡ kept_links allowed (tree.tokens d) → child_tokens (with_children k w) ≡ kept_links allowed (child_tokens k)
 kept_inside allowed k d w c e =
     let a = around_of k d w (out-ElemChild k) refl c in
@@ -79,9 +79,9 @@ given_inside g k d w c e =
     ∙ ap (λ l. g (solid (elem_start a.display a.meta)) ++ l) (flat_map-append g (tree.tokens w) end ∙ ap (λ l. l ++ flat_map g end) e ∙ sym (flat_map-append g (tree.tokens d) end))
     ∙ ap (flat_map g) (sym a.was)
 
--- ---- children, the first of which were visited
+-- ---- children, visited up to one of them
 
--- children after a loop: those in front were visited, the others not
+-- the children in the loop: the first `i` are visited, the others unchanged
 pub record Visited {F : Type 0} (step : F → Bor (List ℕ) → Bool → F → Type 0) (xs ys : List ElemChild) (i : ℕ) : Type 0 where
   pub done : List ElemChild
   pub count : length done ≡ i
@@ -101,7 +101,7 @@ get_next : {A : Type 0} (done rest : List A) (x d : A) → get_or (done ++ (x �
 get_next [] rest x d = refl
 get_next (y ∷ done) rest x d = get_next done rest x d
 
--- the next child, the tokens of a list and of one more
+-- the tokens of a list of children and of one more
 more_tokens : (ks : List ElemChild) (k : ElemChild) → flat_map child_tokens (ks ++ (k ∷ [])) ≡ flat_map child_tokens ks ++ child_tokens k
 more_tokens ks k = flat_map-append child_tokens ks (k ∷ []) ∙ ap (λ l. flat_map child_tokens ks ++ l) (append-nil (child_tokens k))
 
@@ -136,7 +136,7 @@ one_visited step xs ys i x new v l is kept leaves plains =
         ∙ sym (flat_map-append g (flat_map child_tokens front) (child_tokens o))
         ∙ ap (flat_map g) (sym old)
 
--- all were visited
+-- all children are visited
 module _ {F : Type 0} (step : F → Bor (List ℕ) → Bool → F → Type 0) (c : ElemChildren) (ys : List ElemChild) (i : ℕ) (v : Visited step c.0.items ys i) (l : length c.0.items ≤ i) (as_long : length ys ≡ c.0.len) where
   abbrev after : ElemChildren
   after = record { 0 = with_items c.0 ys }

@@ -1,4 +1,4 @@
--- The leaf text of every tree is UTF-8, and what its last character is.
+-- The leaf text of every tree is UTF-8. Its last character, child by child.
 use Rattle.std.proofs.Common.{◌≡◌, ℕ, ◌+◌, ◌<◌, ◌≤◌, true, false, List, [], ◌∷◌, ◌++◌, length, get_or, take, map, refl, sym, subst, ap, ◌∙◌, arith}
 use Rattle.std.specs.Prelude.{Option, Some, None, is_some, string_bytes}
 use Rattle.std.specs.List.{flat_map, last_or}
@@ -33,14 +33,14 @@ all_spell : (ks : List ((k : ElemChild) × ChildSpells k)) → IsUtf8 (leaf_of (
 all_spell [] = IsUtf8-nil
 all_spell (k ∷ ks) = subst IsUtf8 (sym (flat_map-append token_text (child_tokens k.0) (flat_map child_tokens (map (λ e. e.0) ks)))) (IsUtf8-append _ _ k.1 (all_spell ks))
 
--- a leaf alone
+-- the leaf text of a leaf alone
 one_spells : (bs : List ℕ) → IsUtf8 bs → IsUtf8 (bs ++ [])
 one_spells bs h = subst IsUtf8 (sym (append-nil bs)) h
 
 around_spells : (d : Option Display) (m : Option Meta) (inside : List Token) → IsUtf8 (leaf_text inside) → IsUtf8 (leaf_text (elem_around d m inside))
 around_spells d m inside h = subst IsUtf8 (sym (flat_map-append token_text inside (solid (elem_end d) ∷ []) ∙ append-nil (leaf_text inside))) h
 
--- one level whose parts are UTF-8
+-- one level of a tree whose parts are UTF-8
 child_layer : (y : ElemChild-F ((k : ElemChild) × ChildSpells k) ((e : elem.Elem) × ElemSpells e) ((c : ElemChildren) × ChildrenSpell c)) → ChildSpells (roll-ElemChild (map-ElemChild _ _ _ ElemChild elem.Elem ElemChildren (λ e. e.0) (λ e. e.0) (λ e. e.0) y))
 child_layer (Text t) = subst (λ (ts : List Token). IsUtf8 (leaf_text ts)) (sym (fold-roll-ElemChild (List Token) (List Token) (List Token) child_step elem_step children_step (Text t))) (one_spells (string_bytes t.text) (IsUtf8-string_bytes t.text))
 child_layer (Elem e) = subst (λ (ts : List Token). IsUtf8 (leaf_text ts)) (sym (fold-roll-ElemChild (List Token) (List Token) (List Token) child_step elem_step children_step (Elem e.0))) e.1
@@ -86,7 +86,7 @@ pub last_or-some : (o : Option ℕ) (x : List ℕ) (d : ℕ) → last_or None x 
 last_or-some o [] d h = cc
 last_or-some o (c ∷ x) d h = h
 
--- the text of one more child
+-- the last character after one more child
 pub one_more : (xs : List ElemChild) (i : ℕ) (x : ElemChild) → i < length xs → x ≡ get_or xs i x → last_char (leaf_of (take (i + 1) xs)) ≡ last_or (last_char (leaf_of (take i xs))) (chars (leaf_text (child_tokens x)))
 one_more xs i x h e =
     let k = get_or xs i x in
@@ -97,12 +97,12 @@ one_more xs i x h e =
     ∙ last_or-append None (chars (leaf_of (take i xs))) (chars (leaf_text (child_tokens k)))
     ∙ ap (λ (y : ElemChild). last_or (last_char (leaf_of (take i xs))) (chars (leaf_text (child_tokens y)))) (sym e)
 
--- a child with text
+-- after a child with text, the last character is the child's
 pub at_text : (xs : List ElemChild) (i j : ℕ) (x : ElemChild) (o : Option ℕ) → i ≡ j + 1 → j < length xs → x ≡ get_or xs j x → o ≡ last_char (leaf_text (child_tokens x)) → is_some o ≡ true → last_char (leaf_of (take i xs)) ≡ o
 at_text xs i j x None n h e is some = absurd (cc some)
 at_text xs i j x (Some d) n h e is some = ap (λ (k : ℕ). last_char (leaf_of (take k xs))) n ∙ one_more xs j x h e ∙ last_or-some (last_char (leaf_of (take j xs))) (chars (leaf_text (child_tokens x))) d (sym is)
 
--- a child without text
+-- after a child without text, the last character is unchanged
 pub past_none : (xs : List ElemChild) (i j : ℕ) (x : ElemChild) (o : Option ℕ) → i ≡ j + 1 → j < length xs → x ≡ get_or xs j x → o ≡ last_char (leaf_text (child_tokens x)) → is_some o ≡ false → last_char (leaf_of (take i xs)) ≡ last_char (leaf_of (take j xs))
 past_none xs i j x None n h e is none = ap (λ (k : ℕ). last_char (leaf_of (take k xs))) n ∙ one_more xs j x h e ∙ last_or-none (last_char (leaf_of (take j xs))) (chars (leaf_text (child_tokens x))) (sym is)
 past_none xs i j x (Some d) n h e is none = absurd (cc none)
@@ -114,6 +114,6 @@ take_none : {A : Type 0} (xs : List A) → take 0 xs ≡ []
 take_none [] = refl
 take_none (x ∷ xs) = refl
 
--- before the first child
+-- before the first child, there is no last character
 pub before_all : (xs : List ElemChild) (i : ℕ) → i ≤ 0 → last_char (leaf_of (take i xs)) ≡ None
 before_all xs i h = let zero : i ≡ 0 = omega (arith, h) in ap (λ (k : ℕ). last_char (leaf_of (take k xs))) zero ∙ ap (λ (ks : List ElemChild). last_char (leaf_of ks)) (take_none xs) ∙ last_char-none

@@ -1,4 +1,4 @@
--- Where a tree ends, and its last text there.
+-- The end of a tree, and its last text.
 use Rattle.std.proofs.Common.{◌≡◌, ℕ, ◌-◌, ◌<◌, suc, zero, true, false, List, [], ◌∷◌, length, map, get_or, refl, sym, ap, ◌∙◌, arith, slice_index_or, Option, Some, None, is_some, option_map, vec_len}
 use Rattle.std.specs.Prelude.{unwrap_or}
 use Rattle.std.specs.declared.vec.Vec.{Vec}
@@ -44,7 +44,7 @@ pathed [] = rw no_children refl
 pathed (x ∷ xs) =
     rw (length_map last_path_of_child (x ∷ xs)) (ap (before_path (length (x ∷ xs) - 1)) (get_or_map last_path_of_child (x ∷ xs) (length (x ∷ xs) - 1) no_child None (omega arith) ∙ path_of_child _))
 
--- the path goes to the last child, and on from there
+-- the path to the end goes to the last child, and on if that is an element
 path_out : (c : ElemChildren) → last_path c ≡ before_path (last c) (option_map last_path (children_of (child_at c (last c))))
 path_out c = fold_out-ElemChildren (Option (List ℕ)) (List ℕ) (List ℕ) child_path elem_path children_path c ∙ pathed c.0.items
 
@@ -84,7 +84,7 @@ some_child (x ∷ xs) h = omega arith
 pub has_child : (c : ElemChildren) → ends_in_elem c ≡ true → 0 < vec_len c.0
 has_child c h = let l = some_child c.0.items h in omega (arith, c.0.ok.0)
 
--- the last text stands where the tree ends
+-- the last text of children is that of the last child
 last_at : (ks : List ElemChild) → last_of (map last_text_of ks) ≡ layer_last (out-ElemChild (slice_index_or ks (length ks - 1) no_child))
 last_at [] = sym (ap layer_last (outs-Transparent _ _))
 last_at (k ∷ []) = last_child_out k
@@ -154,6 +154,6 @@ some_text : (xs : List ElemChild) → is_some (text_of_child (slice_index_or xs 
 some_text [] h = let n = no_text in cc
 some_text (x ∷ xs) h = omega arith
 
--- what ends in a text is not empty
+-- if the tree has a last text, there is a child at its end
 pub has_final : (s : ElemChildren) (v : Vec ElemChild Global) → v ≡ last_items s → is_some (last_text s) ≡ true → 0 < length v.items
 has_final s v is h = some_text v.items (ap (λ u. is_some (text_of_child (slice_index_or u.items (length u.items - 1) no_child))) is ∙ ap is_some (text_at_end s) ∙ h)

@@ -1,4 +1,4 @@
--- `==` of metas and texts compares what they say.
+-- `==` of metas, formattings and texts decides whether their views are equal.
 use Rattle.std.proofs.Common.{◌≡◌, ℕ, Bool, ◌&&◌, List, [], ◌∷◌, map, refl, ap, rules}
 use Rattle.std.specs.Prelude.{Vec, Option, Some, None, string_bytes}
 use Rattle.std.specs.Bool.{Decides}

@@ -1,4 +1,4 @@
--- The element that the path leads to is the first of names in preorder.
+-- The path leads to the first element of a `cs:names` in preorder.
 use Rattle.std.proofs.Common.{◌≡◌, ℕ, ◌+◌, ◌<◌, length, suc, Bool, true, false, List, [], ◌∷◌, map, refl, sym, ap, ◌∙◌, subst, arith, slice_index_or, Option, Some, None, is_some}
 use Rattle.std.specs.Prelude.{unwrap_or}
 use Rattle.std.specs.List.{flat_map, find}
@@ -26,7 +26,7 @@ found_in absent k = None
 found_in here k = elem_of k
 found_in (below p) k = elem_below (children_of k) p
 
--- in a child, and in children
+-- the first one in a child, and in children
 record FirstIn (k : ElemChild) : Type 0 where
   pub is : find is_names (child_preorder k) ≡ found_in (find_of_child k) k
   pub some : is_some (find is_names (child_preorder k)) ≡ is_found (find_of_child k)
@@ -70,7 +70,7 @@ or_some : {A : Type 0} (a b : Option A) → is_some a ≡ true → option_or a b
 or_some None b h = cc
 or_some (Some x) b h = refl
 
--- the first from some child on
+-- the first one among the children `ks`, which are those from `j` on
 record From (c : ElemChildren) (ks : List ElemChild) (j : ℕ) : Type 0 where
   pub is : find is_names (flat_map child_preorder ks) ≡ elem_at (first_found j (map find_of_child ks)) c
   pub some : is_some (find is_names (flat_map child_preorder ks)) ≡ is_some (first_found j (map find_of_child ks))
@@ -121,6 +121,6 @@ first_of = ind-ElemChildren FirstIn FirstInside FirstOf
     (λ x y is. subst (λ z. FirstInside (roll-Elem z)) is (elem_layer y))
     (λ x y is. subst (λ z. FirstOf (roll-ElemChildren z)) is (children_layer y))
 
--- the place of the first element of names holds the first of names in preorder
+-- the path leads to the first element of a `cs:names` in preorder
 pub first_is : (c : ElemChildren) → find is_names (preorder c) ≡ first_names c
 first_is c = (first_of c).is

@@ -1,4 +1,4 @@
--- Where the path to the first element of names leads.
+-- Where the path to the first element of a `cs:names` leads.
 use Rattle.std.proofs.Common.{◌≡◌, ℕ, ◌+◌, ◌<◌, suc, Bool, true, false, not, List, [], ◌∷◌, length, map, refl, sym, ap, ◌∙◌, arith, slice_index_or, Option, Some, None, is_some}
 use Rattle.std.specs.Prelude.{unwrap_or}
 use Rattle.std.specs.declared.vec.Vec.{Vec}
@@ -118,7 +118,7 @@ child_in c b =
 inner_is : (o : Option ElemChildren) (d e : ElemChildren) → Some d ≡ o → o ≡ Some e → d ≡ e
 inner_is o d e h k = ap (λ x. unwrap_or x d) (h ∙ k)
 
--- the path goes down to the children of that child
+-- the path goes on in the children of that child
 pub further : (c d : ElemChildren) (x : ElemChild) → x ≡ child_at c (names_index c) → Some d ≡ children_of x → names_below c ≡ true → names_path c ≡ names_index c ∷ names_path d
 further c d x is has e =
     let b = below_of c (names_find c) refl e in
@@ -181,7 +181,7 @@ below_when c k i (below p) r h e =
     let some : is_nested_path p ≡ true = ap (λ o. is_nested_path (paths o)) (sym n.found) ∙ find_more n.inner (ap is_some n.found) in
     sym (ap (λ o. is_nested_path (optional_parent_path o)) e ∙ levels_more i p some)
 
--- whether it is below the child at which it is found
+-- whether the element is below the child in which it is found
 pub below_is : (c : ElemChildren) (k : ElemChild) (i : ℕ) → i < length c.0.items → k ≡ slice_index_or c.0.items i k → is_found (find_of_child (child_at c i)) ≡ true → names_find c ≡ found_or i (find_of_child (child_at c i)) None → not (is_here (find_of_child k)) ≡ names_below c
 below_is c k i l is h e =
     let same : k ≡ child_at c i = walks.at_index c.0.items i i no_child refl l is in

@@ -1,4 +1,4 @@
--- The HTML of every tree and of every content is nested, and its texts joined are the leaf text.
+-- The HTML of every tree and of every content is nested, and its joined texts are the leaf text.
 use Rattle.std.proofs.Common.{◌≡◌, ℕ, true, false, cond, List, [], ◌∷◌, ◌++◌, map, refl, sym, subst, ◌∙◌, append_assoc}
 use Rattle.std.specs.Prelude.{Option, Some, None, string_bytes}
 use Rattle.std.specs.List.{flat_map}
@@ -21,7 +21,7 @@ use Rattle.csl_tree.specs.Tokens.{Token, Meta, text, solid, markup, link, transp
 use Rattle.csl_tree.specs.Html.{HtmlToken, div, span, anchor, start_tag, end_tag, characters, html_of_text, html_of, html, IsNested, nothing, text_then, element_then, characters_of, html_text, IsHtmlOf}
 use Rattle.csl_tree.specs.Writing.{text_in_format}
 
--- two nested lists in a row
+-- two nested lists in a row are nested
 pub nested_append : {a : List HtmlToken} (b : List HtmlToken) → IsNested a → IsNested b → IsNested (a ++ b)
 nested_append b nothing k = k
 nested_append b (text_then bs rest h) k = text_then bs (rest ++ b) (nested_append b h k)
@@ -35,7 +35,7 @@ nested_formatted bs f =
       | false ↦ element_then (span f) (characters bs ∷ []) [] (text_then bs [] nothing) nothing
     ]
 
--- nothing follows a token that is alone
+-- the HTML of a single token
 alone : (t : Token) → IsNested (html_of t) → IsNested (html (t ∷ []))
 alone t h = subst IsNested (sym (append-nil (html_of t))) h
 
@@ -62,7 +62,7 @@ text_nested bs f = alone (text bs f) (nested_formatted bs f)
 link_nested : (bs : List ℕ) (f : Formatting) (url : List ℕ) → IsNested (html (solid (link bs f url) ∷ []))
 link_nested bs f url = alone (solid (link bs f url)) (element_then (anchor url) (html_of_text bs f) [] (nested_formatted bs f) nothing)
 
--- one level whose parts are nested
+-- one level of a tree whose parts are nested
 child_layer : (y : ElemChild-F ((k : ElemChild) × NestedChild k) ((e : elem.Elem) × NestedElem e) ((c : ElemChildren) × NestedChildren c)) → NestedChild (roll-ElemChild (map-ElemChild _ _ _ ElemChild elem.Elem ElemChildren (λ e. e.0) (λ e. e.0) (λ e. e.0) y))
 child_layer (Text t) = subst (λ (ts : List Token). IsNested (html ts)) (sym (fold-roll-ElemChild (List Token) (List Token) (List Token) child_step elem_step children_step (Text t))) (text_nested (string_bytes t.text) t.formatting)
 child_layer (Elem e) = subst (λ (ts : List Token). IsNested (html ts)) (sym (fold-roll-ElemChild (List Token) (List Token) (List Token) child_step elem_step children_step (Elem e.0))) e.1
@@ -106,7 +106,7 @@ formatted_text bs f =
       | false ↦ append-nil bs
     ]
 
--- the texts of one token's HTML are its text
+-- the joined texts of one token's HTML are the token's text
 token_leaves : (t : Token) → html_text (html_of t) ≡ token_text t
 token_leaves (text bs f) = formatted_text bs f
 token_leaves (solid (markup bs)) = append-nil bs
@@ -117,7 +117,7 @@ token_leaves (solid (elem_start (Some d) m)) = refl
 token_leaves (solid (elem_end None)) = refl
 token_leaves (solid (elem_end (Some d))) = refl
 
--- the texts of the HTML are those of the leaves
+-- the joined texts of the HTML are the leaf text
 pub html_leaves : (ts : List Token) → html_text (html ts) ≡ leaf_text ts
 html_leaves [] = refl
 html_leaves (t ∷ ts) = flat_map-append characters_of (html_of t) (html ts) ∙ (λ i. token_leaves t i ++ html_leaves ts i)
@@ -135,7 +135,7 @@ nested_content (content.element_then (Some d) m t inside rest h k) =
     subst (λ (l : List HtmlToken). IsNested (start_tag (div d) ∷ l)) (sym (flat_map-append html_of (t ∷ inside) (solid (elem_end (Some d)) ∷ rest)))
     (element_then (div d) (html (t ∷ inside)) (html rest) (nested_content h) (nested_content k))
 
--- ---- what is written is HTML of the leaf text
+-- ---- the output is HTML of the leaf text
 
 pub tree_is_html : (c : ElemChildren) → IsHtmlOf (text_in_format Html (tokens c)) (leaf_text (tokens c))
 tree_is_html c = record { tokens = html (tokens c); nested = nested_children c; written = refl; texts = sym (html_leaves (tokens c)) }

@@ -85,7 +85,7 @@ nested_within o (element_then tag inside rest n k) =
 
 -- ---- pieces as tokens
 
--- the list ends these elements, innermost first, with nested lists between
+-- the list ends these elements, innermost first; nested lists are before and after each end tag
 abbrev Closes : List Tag → List HtmlToken → Type 0
 Closes [] hs = IsNested hs
 Closes (t ∷ tags) hs = (inside : List HtmlToken) × (rest : List HtmlToken) × IsNested inside × Closes tags rest × (hs ≡ inside ++ end_tag t ∷ rest)

@@ -1,5 +1,5 @@
--- Rounds in a row make a tree normal, and normal trees without empty texts are equal where their
--- styled values are.
+-- A tree is normal after one round for each of its nodes. Normal trees without empty texts are
+-- equal if their styled values are.
 use Rattle.std.proofs.Common.{◌≡◌, ℕ, zero, suc, ◌≤◌, Bool, true, false, not, ◌&&◌, cond, List, [], ◌∷◌, ◌++◌, ◌↔◌, refl, sym, ap, ◌∙◌, append_assoc, arith}
 use Rattle.std.specs.Prelude.{Option, Some, None}
 use Rattle.std.proofs.lemmas.List.{append-nil}
@@ -14,7 +14,7 @@ use Rattle.csl_tree.proofs.Joins.{same_formatting-refl, text_before-same}
 use Rattle.csl_tree.proofs.TreeTokens.{tokens_tell}
 use Rattle.csl_tree.proofs.Rounds.{nodes-round_behind, styled_kept, normal_unchanged, fewer}
 
--- ---- as many rounds as there are nodes
+-- ---- one round for each node
 
 normal_for_ever : (n : ℕ) (t : Tree) → is_normal t ≡ true → is_normal (simplify_times n t) ≡ true
 normal_for_ever zero t h = h
@@ -39,7 +39,7 @@ stays_for_ever : (n : ℕ) (t : Tree) → is_normal t ≡ true → simplify_time
 stays_for_ever zero t h = refl
 stays_for_ever (suc n) t h = ap (simplify_times n) (normal_unchanged t h) ∙ stays_for_ever n t h
 
--- more rounds than nodes are no more
+-- more rounds than nodes change nothing
 enough_alike : (n m : ℕ) (t : Tree) → node_count t ≤ n → node_count t ≤ m → simplify_times n t ≡ simplify_times m t
 enough_alike zero m t h k = sym (stays_for_ever m t (enough zero t h))
 enough_alike (suc n) zero t h k = stays_for_ever (suc n) t (enough zero t k)
@@ -55,7 +55,7 @@ normal_form-normal t h = stays_for_ever (node_count t) t h
 pub nodes-round : (t : Tree) → node_count (simplify_once t) ≤ node_count t
 nodes-round t = let h = nodes-round_behind empty_tree t in omega (arith, h)
 
--- a round first changes nothing
+-- one round first does not change the normal form
 pub normal_form-round : (t : Tree) → normal_form (simplify_once t) ≡ normal_form t
 normal_form-round t =
     let less = nodes-round t in
@@ -116,7 +116,7 @@ no_empty_ever : (n : ℕ) (t : Tree) → has_no_empty_text t ≡ true → has_no
 no_empty_ever zero t h = h
 no_empty_ever (suc n) t h = no_empty_ever n (simplify_once t) (no_empty-behind empty_tree t refl h)
 
--- ---- what a styled value is gathered to
+-- ---- the tokens of a styled value, with its texts joined
 
 abbrev gathered : List Token → List Token
 gathered [] = []
@@ -127,7 +127,7 @@ gathered-apart : (b : ℕ) (bs : List ℕ) (f : Formatting) (ts : List Token) �
 gathered-apart b [] f ts = refl
 gathered-apart b (c ∷ bs) f ts = ap (text_before (b ∷ []) f) (gathered-apart c bs f ts) ∙ sym (text_before-same (b ∷ []) (c ∷ bs) f (gathered ts) (same_formatting-refl f))
 
--- no text begins here
+-- the list does not begin with a text
 abbrev Solidly : List Token → Type 0
 Solidly [] = Unit {0}
 Solidly (text bs f ∷ l) = ⊥
@@ -176,13 +176,13 @@ gathered_tokens t n e = ap gathered (sym (append-nil (styled_value t))) ∙ gath
 pub styled_tells : (t u : Tree) → is_normal t ≡ true → is_normal u ≡ true → has_no_empty_text t ≡ true → has_no_empty_text u ≡ true → styled_value t ≡ styled_value u → t ≡ u
 styled_tells t u n k e i h = tokens_tell t u (sym (gathered_tokens t n e) ∙ ap gathered h ∙ gathered_tokens u k i)
 
--- two trees without empty texts end equal exactly if their styled values are
+-- the normal forms of trees without empty texts are equal exactly if the styled values are
 pub end_equal : (t u : Tree) → has_no_empty_text t ≡ true → has_no_empty_text u ≡ true → (normal_form t ≡ normal_form u) ↔ (styled_value t ≡ styled_value u)
 end_equal t u e i = (
   λ h. sym (rounds_kept (node_count t) t) ∙ ap styled_value h ∙ rounds_kept (node_count u) u,
   λ h. styled_tells (simplify_times (node_count t) t) (simplify_times (node_count u) u) (ends_normal t) (ends_normal u) (no_empty_ever (node_count t) t e) (no_empty_ever (node_count u) u i) (rounds_kept (node_count t) t ∙ h ∙ sym (rounds_kept (node_count u) u)),
 )
 
--- a normal tree that has the normal form of another is it
+-- a normal tree with the normal form of another tree is that normal form
 pub reached : (t u : Tree) → is_normal t ≡ true → normal_form t ≡ normal_form u → t ≡ normal_form u
 reached t u n h = sym (normal_form-normal t n) ∙ h

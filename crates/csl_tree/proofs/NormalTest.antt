@@ -1,4 +1,4 @@
--- Whether a tree is normal, told child by child.
+-- Whether a tree is normal, decided child by child.
 use Rattle.std.proofs.Common.{◌≡◌, ℕ, ◌+◌, ◌<◌, Bool, true, false, not, ◌&&◌, List, ◌∷◌, ◌≤◌, length, drop, get_or, refl, sym, ap, ◌∙◌, add-one, drop-cons, drop_of_length-le}
 use Rattle.std.specs.Prelude.{Option, Some, None}
 use Rattle.csl_tree.specs.declared.formatting.Formatting.{Formatting}
@@ -65,7 +65,7 @@ layer_stands (Transparent n f) = refl
 child_stands : (k : ElemChild) → is_empty_tree (child_tree k) ≡ false
 child_stands k = ap is_empty_tree (fold_out-ElemChild Tree Tree Tree child_level elem_level children_level k) ∙ layer_stands (out-ElemChild k)
 
--- one child and the rest
+-- one child, then the rest
 pub normal_next : (o : Option Formatting) (ks : List ElemChild) (i : ℕ) (k : ElemChild) → i < length ks → k ≡ get_or ks i k → is_normal_after o (row (drop i ks)) ≡ (is_normal_after o (child_tree k) && is_normal_after (last_formatting (child_tree k)) (row (drop (i + 1) ks)))
 normal_next o ks i k h e = ap (λ l. is_normal_after o (row l)) (drop-cons ks i k h ∙ (λ j. sym e j ∷ drop (sym (add-one i) j) ks)) ∙ normal_behind o (child_tree k) (row (drop (i + 1) ks)) (child_stands k)
 

@@ -1,11 +1,11 @@
--- Formattings over one another and over that of a place.
+-- Formattings applied to one another and to that of a place.
 use Rattle.std.proofs.Common.{◌≡◌}
 use Rattle.csl_style.specs.declared.formatting.Formatting as partial
 use Rattle.csl_style.specs.Formatting.{IsBoth}
 use Rattle.csl_tree.specs.declared.formatting.Formatting.{Formatting}
 use Rattle.csl_tree.specs.Formatting.{apply_formatting}
 
--- what is both over a place is the one over what the other is over it
+-- applying both to a place is applying `q` to it, then `p`
 pub over-both : (p q both : partial.Formatting) (f : Formatting) → IsBoth p q both → apply_formatting both f ≡ apply_formatting p (apply_formatting q f)
 over-both p q both f h =
     λ i. record {

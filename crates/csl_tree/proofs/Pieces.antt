@@ -1,4 +1,5 @@
--- The first bytes of HTML tell its first piece, so HTML is one list of pieces.
+-- The first bytes of HTML decide its first piece, so HTML has at most one list of pieces. Only the
+-- alignments none and baseline of a `span` are not distinguished.
 use Rattle.std.proofs.Common.{◌≡◌, ◌<◌, ◌⊎◌, inl, inr, ℕ, true, false, List, [], ◌∷◌, ◌++◌, length, get_or, refl, sym, ap, subst, ◌∙◌, append_assoc, length-append, arith, lit<}
 use Rattle.std.specs.Prelude.{Option, Some, None, not, ◌==◌, unwrap_or, option_and_then, codes, if◌then◌else◌}
 use Rattle.std.proofs.lemmas.Grind.{common_steps}
@@ -15,7 +16,7 @@ use Rattle.csl_tree.proofs.Tags.{div_at-start, span_at-start, end_at-bytes, anch
 
 -- ---- the sort of a piece
 
--- the second byte of a tag; no byte of a text follows a `<`
+-- the second byte of a tag, and 0 for a byte of a text, whose HTML has no `<`
 abbrev sort_of : Piece → ℕ
 sort_of (start_piece (div d)) = 100
 sort_of (start_piece (span f)) = 115
@@ -54,7 +55,7 @@ sort_is (byte_piece b) more = rw (escape_begins b more) refl
 one_sort : (s t : Piece) (x y : List ℕ) → piece_bytes s ++ x ≡ piece_bytes t ++ y → sort_of s ≡ sort_of t
 one_sort s t x y h = sym (sort_is s x) ∙ ap sort_at h ∙ sort_is t y
 
--- pieces that mean the same, as two formattings may be written the same
+-- pieces that mean the same: two formattings may have the same bytes
 abbrev pub Same : Piece → Piece → Type 0
 Same s t = ((w : List Element) → within_after w s ≡ within_after w t) × (piece_text s ≡ piece_text t)
 
@@ -111,7 +112,7 @@ and_then_same : (ts ss back : List Piece) → ((m : List Element) → within_aft
 and_then_same ts ss back h None = refl
 and_then_same ts ss back h (Some m) = h m
 
--- the second list goes on after the first
+-- the second list means the same as the first and further pieces
 pub record Follow (ss ts : List Piece) (x : List ℕ) : Type 0 where
   pub back : List Piece
   pub bytes : x ≡ pieces_bytes back
@@ -131,7 +132,7 @@ pieces_tell (s ∷ ss) (t ∷ ts) x h =
       texts = (λ i. sym p.0.1 i ++ rest.texts i) ∙ sym (append_assoc (piece_text s) (pieces_text ss) (pieces_text rest.back));
     }
 
--- ---- what the code answers
+-- ---- the results of the code
 
 pub no_piece : (html : List ℕ) → byte_at html ≡ None → BeginsNoStart html → None ≡ end_at html → BeginsNoPiece html
 no_piece html h k m (start_piece tag) more e = k tag more e

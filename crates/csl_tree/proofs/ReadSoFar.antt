@@ -1,4 +1,4 @@
--- What has been read of HTML, and what follows from it.
+-- Reading HTML: the pieces so far, and whether the bytes are HTML.
 use Rattle.std.proofs.Common.{◌≡◌, ◌<◌, ℕ, Bool, true, false, cond, List, [], ◌∷◌, ◌++◌, map, length, refl, sym, ap, subst, ◌∙◌, append_assoc, length-append, arith}
 use Rattle.std.specs.Prelude.{Option, Some, None, unwrap_or, option_and_then}
 use Rattle.std.proofs.lemmas.Grind.{flat_map-append}
@@ -13,7 +13,7 @@ use Rattle.csl_tree.proofs.Escaped.{text_shortens}
 use Rattle.csl_tree.proofs.Pieces.{piece_tells, piece_long, pieces_tell}
 use Rattle.csl_tree.proofs.Nests.{within-of_text, bytes-of_text, text-of_text, within-append, pieces, bytes-pieces, text-pieces, nested_within, html_from_pieces}
 
--- more pieces
+-- reading goes on by more pieces
 read_more : (html rest next : List ℕ) (w v : List Element) (leaves : List ℕ) (ss : List Piece) → IsReadTo html rest w leaves → rest ≡ pieces_bytes ss ++ next → within_after_all w ss ≡ Some v → IsReadTo html next v (leaves ++ pieces_text ss)
 read_more html rest next w v leaves ss r e t = record {
   pieces = r.pieces ++ ss;
@@ -28,7 +28,7 @@ one_piece s rest next e = e ∙ ap (λ (l : List ℕ). l ++ next) (sym (append-n
 one_within : (w v : List Element) (s : Piece) → within_after w s ≡ Some v → within_after_all w (s ∷ []) ≡ Some v
 one_within w v s h = ap (option_and_then (λ m. within_after_all m [])) h
 
--- the next tag or text, where it may stand there
+-- reading goes on by a mark that is allowed there
 pub read_mark : (html rest next : List ℕ) (w v : List Element) (leaves : List ℕ) (mark : Mark) → IsReadTo html rest w leaves → IsMark rest mark next → within_after_mark w mark ≡ Some v → IsReadTo html next v (leaves ++ mark_text mark)
 read_mark html rest next w v leaves (marks.Text text) r m t =
     let bs = text.now in
@@ -40,9 +40,9 @@ read_mark html rest next w v leaves (marks.Start e) r m t =
 read_mark html rest next w v leaves (marks.End e) r m t =
     read_more html rest next w v leaves (end_piece e ∷ []) r (one_piece (end_piece e) rest next m) (one_within w v (end_piece e) t)
 
--- ---- what is not HTML
+-- ---- bytes that are not HTML
 
--- what any other reading goes on with
+-- if all the bytes are HTML, the rest is pieces that end the open elements
 pub others : (html rest : List ℕ) (w : List Element) (leaves found : List ℕ) → IsReadTo html rest w leaves → IsHtmlOf html found → (back : List Piece) × (rest ≡ pieces_bytes back) × (within_after_all w back ≡ Some []) × (found ≡ leaves ++ pieces_text back)
 others html rest w leaves found r h =
     let ts = pieces h.tokens in
@@ -59,7 +59,7 @@ refuse_piece w s next (b ∷ back) n e t =
     let p = piece_tells s b next (pieces_bytes back) e in
     cc (sym (ap (option_and_then (λ m. within_after_all m back)) (sym (p.0.0 w) ∙ n)) ∙ t)
 
--- an end tag that is not that of the innermost element
+-- an end tag that does not end the innermost element
 pub refuse_mark : (html rest next : List ℕ) (w : List Element) (leaves : List ℕ) (mark : Mark) → IsReadTo html rest w leaves → IsMark rest mark next → within_after_mark w mark ≡ None → IsNotHtml html
 refuse_mark html rest next w leaves (marks.Text text) r m t found h = cc t
 refuse_mark html rest next w leaves (marks.Start e) r m t found h = cc t
@@ -71,13 +71,13 @@ refuse_back : (rest : List ℕ) (w : List Element) (back : List Piece) → Begin
 refuse_back rest w [] b k e t = k e (ap (λ (o : Option (List Element)). unwrap_or o w) t)
 refuse_back rest w (s ∷ back) b k e t = b s (pieces_bytes back) e
 
--- no tag or text follows, and the text does not end, or not all elements did
+-- the rest begins with no piece, and bytes or open elements are left
 pub refuse_rest : (html rest : List ℕ) (w : List Element) (leaves : List ℕ) → IsReadTo html rest w leaves → BeginsNoPiece rest → (rest ≡ [] → w ≡ [] → ⊥) → IsNotHtml html
 refuse_rest html rest w leaves r b k found h =
     let o = others html rest w leaves found r h in
     refuse_back rest w o.0 b k o.1 o.2
 
--- ---- what is
+-- ---- bytes that are HTML
 
 pub read_all : (html rest : List ℕ) (w : List Element) (leaves : List ℕ) → IsReadTo html rest w leaves → rest ≡ [] → w ≡ [] → IsHtmlOf html leaves
 read_all html rest w leaves r e f =
@@ -102,7 +102,7 @@ mark_shortens rest next (marks.Text text) m = text_shortens rest text.now next m
 mark_shortens rest next (marks.Start e) m = omega (arith, piece_long (start_piece m.0), ap length m.2, length-append (piece_bytes (start_piece m.0)) next)
 mark_shortens rest next (marks.End e) m = omega (arith, piece_long (end_piece e), ap length m, length-append (piece_bytes (end_piece e)) next)
 
--- where the mark may stand, and where it may not
+-- the mark is allowed, or it is not
 pub fits : (b : Bool) (v : List Element) (t : Option (List Element)) → t ≡ cond b (Some v) None → b ≡ true → t ≡ Some v
 fits true v t e h = e
 fits false v t e h = absurd (cc h)

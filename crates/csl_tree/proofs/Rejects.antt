@@ -1,4 +1,4 @@
--- What a closure answers at the items of a list, from its answer at one that was read.
+-- The results of a predicate for the items of a list, from its result for the item that was read.
 use Rattle.std.proofs.Common.{◌≡◌, ℕ, ◌+◌, ◌<◌, ◌≤◌, Bool, false, List, length, get_or, Bor, inl, inr, subst, arith}
 use Rattle.std.specs.Fn.{Shared, FnReturnsAt}
 use Rattle.std.proofs.lemmas.List.{get_or_read}

@@ -1,4 +1,4 @@
--- What is left of a tree when an element was taken out.
+-- A tree without its first element that has a meta.
 use Rattle.std.proofs.Common.{◌≡◌, ℕ, ◌+◌, ◌<◌, suc, zero, arith, true, false, ◌||◌, List, [], ◌∷◌, ◌++◌, Option, Some, None, length, get_or, set, take, drop, refl, sym, ap, ◌∙◌, subst, append_assoc, add-one, drop-cons}
 use Rattle.std.specs.Prelude.{Vec, option_map, option_copied, is_some, is_none, unwrap_or, IfSome, IfNone}
 use Rattle.std.specs.Borrow.{Bor}
@@ -28,7 +28,7 @@ use Rattle.csl_tree.proofs.Trees.{elem_tokens_are}
 use Rattle.csl_tree.proofs.Appended.{elem_child}
 use Rattle.csl_tree.proofs.Searches.{layer_preorder, child_out, find_turn}
 
--- a child in its place, and another there
+-- a list around one item, and with another item there
 pub split_at : {A B : Type 0} (f : A → List B) (xs : List A) (i : ℕ) (x : A) → i < length xs → x ≡ get_or xs i x → flat_map f xs ≡ flat_map f (take i xs) ++ (f x ++ flat_map f (drop (i + 1) xs))
 split_at f xs i x h is =
     let rest : drop i xs ≡ get_or xs i x ∷ drop (i + 1) xs = rw (add-one, drop-cons xs i x) refl in
@@ -38,13 +38,13 @@ pub split_set : {A B : Type 0} (f : A → List B) (xs : List A) (i : ℕ) (y : A
 split_set f xs i y h =
     ap (flat_map f) (set_split xs i y h) ∙ flat_map-append f (take i xs) (y ∷ drop (suc i) xs) ∙ ap (λ n. flat_map f (take i xs) ++ (f y ++ flat_map f (drop n xs))) (sym (add-one i))
 
--- the same item written back changes nothing
+-- writing an item back changes nothing
 pub same_item : {A : Type 0} (v : Vec A Global) (i : ℕ) (x : A) → x ≡ get_or v.items i x → with_item v i x ≡ v
 same_item v i x is =
     let e : set v.items i x ≡ v.items = ap (set v.items i) is ∙ set-get_or v.items i x in
     λ j. record { ptr = v.ptr; len = v.len; cap = v.cap; alloc = v.alloc; items = e j; ok = (is_prop→PathP (λ k. v.len ≡ length (e k)) (λ k. ℕ_set v.len (length (e k))) (with_item v i x).ok.0 v.ok.0 j, v.ok.1); small = v.small }
 
--- what was taken out of a part was taken out of the whole
+-- a removal from a part is a removal from the whole
 pub taken_inside : (p a t b s : List Token) → HasNoMeta p → MetaRemoved a t b → MetaRemoved (p ++ (a ++ s)) t (p ++ (b ++ s))
 taken_inside p a t b s none o = record {
   before = p ++ o.before;
@@ -72,7 +72,7 @@ or_none : {A B : Type 0} (f : A → B) (a b : Option A) → None ≡ option_map 
 or_none f None b e = refl
 or_none f (Some x) b e = cc
 
--- the first with a meta among the children from one on
+-- the first element with a meta among the children from a place on
 module _ (ks : List ElemChild) (i : ℕ) (k : ElemChild) (h : i < length ks) (is : k ≡ get_or ks i k) where
   abbrev from : ℕ → Option elem.Elem
   from n = find has_meta (flat_map child_preorder (drop n ks))
@@ -100,7 +100,7 @@ module _ (ks : List ElemChild) (i : ℕ) (k : ElemChild) (h : i < length ks) (is
   abbrev later : List Token
   later = flat_map child_tokens (drop (i + 1) ks)
 
-  -- the child itself, or what is inside it
+  -- the child itself is removed, or an element inside it
   pub taken_here : HasNoMeta (front i) → MetaRemoved (flat_map child_tokens ks) (child_tokens k) (flat_map child_tokens (remove ks i))
   taken_here n = record {
     before = front i;
@@ -140,7 +140,7 @@ module _ (e : elem.Elem) (h : has_meta e ≡ false) where
 abbrev pub children_of_vec : Vec ElemChild Global → ElemChildren
 children_of_vec v = record { 0 = v }
 
--- what is no element holds none
+-- a child that is no element contains no element with a meta
 layer_none : (x : ElemChild-F ElemChild elem.Elem ElemChildren) → None ≡ layer_elem x → None ≡ option_map variants.Elem (find has_meta (layer_preorder x))
 layer_none (Text t) h = refl
 layer_none (Elem e) h = cc
@@ -172,7 +172,7 @@ pub some_children : (k : ElemChild) (o : Option elem.Elem) → o ≡ elem_of k �
 some_children k None e h = cc
 some_children k (Some d) e h = layer_some (out-ElemChild k) d e
 
--- an element of which nothing is noted, and its children
+-- an element without a meta, and its children
 module _ (k : ElemChild) (d : ElemChildren) where
   record Around (w : ElemChildren) : Type 0 where
     pub display : Option Display

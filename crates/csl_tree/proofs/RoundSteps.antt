@@ -1,4 +1,4 @@
--- A round by steps: what each child puts behind what stands before it.
+-- A round step by step: the tree after each child.
 use Rattle.std.proofs.Common.{◌≡◌, ℕ, Bool, true, false, cond, List, [], ◌∷◌, ◌++◌, ◌↔◌, ◌<◌, ◌≤◌, length, drop, refl, sym, ap, subst, ◌∙◌, append_assoc, drop_of_length-le, arith}
 use Rattle.std.specs.Prelude.{Option, Some, None, IsTrue, string_bytes, if◌then◌else◌}
 use Rattle.std.specs.Bool.{OnFalse}
@@ -23,7 +23,7 @@ use Rattle.csl_tree.proofs.Appended.{join_after}
 use Rattle.csl_tree.proofs.TreeTokens.{tree_out, elem_tree_out, child_tokens_are, tokens_are, row_tokens, tokens_tell}
 use Rattle.csl_tree.proofs.Rounds.{⊕-nothing, ⊕-assoc, stands_for-itself, stands_for-inside, styled_kept, normal_unchanged, fewer}
 
--- ---- the tokens of a text behind a tree
+-- ---- the tokens of a text after a tree
 
 solid_first : (s : Solid) (a b : List Token) → (solid s ∷ a) ++> b ≡ solid s ∷ (a ++> b)
 solid_first s [] b = refl
@@ -87,7 +87,7 @@ link_leaf f u = record { leaf = _; is = ap child_tree (sym (variants.rolls-Link 
 pub transparent_leaf : (n : ℕ) (f : Formatting) → IsLeaf (variants.Transparent n f)
 transparent_leaf n f = record { leaf = _; is = ap child_tree (sym (variants.rolls-Transparent n f)) ∙ fold-roll-ElemChild Tree Tree Tree child_level elem_level children_level (Transparent n f) }
 
--- a text that may have joined the last child
+-- a text, which may join the last child
 pub text_put : (xs ys : List ElemChild) (f : Formatted) (bs : List ℕ) → bs ≡ string_bytes f.text → flat_map child_tokens ys ≡ flat_map child_tokens xs ++> text bs f.formatting ∷ [] → row ys ≡ simplify_once_after (row xs) (child_tree (variants.Text f))
 text_put xs ys f bs e h =
     tokens_tell (row ys) (with_text (row xs) bs f.formatting) (sym (row_tokens ys) ∙ h ∙ ap (λ l. l ++> text bs f.formatting ∷ []) (row_tokens xs) ∙ sym (tokens_of-with_text (row xs) bs f.formatting))
@@ -100,7 +100,7 @@ leaf_put xs ys k copy l e h =
     ap row e ∙ row-append xs (copy ∷ []) ∙ ap (λ t. row xs ⊕ t) (⊕-nothing (child_tree copy) ∙ same_child copy k h ∙ l.is)
     ∙ sym (ap (simplify_once_after (row xs)) l.is)
 
--- the test of an element says whether it is plain
+-- the test of the code decides whether an element is plain
 pub plain_is : (d : Option Display) (m : Option Meta) (b : Bool) → (IsTrue b ↔ (d ≡ None) × (m ≡ None)) → is_plain d m ≡ b
 plain_is None None b h = sym (h.1 (refl, refl))
 plain_is None (Some m) true h = absurd (cc ((h.0 refl).1))
@@ -127,9 +127,9 @@ elem_put xs ys e new p h k =
 pub all_put : (b : Tree) (ks : List ElemChild) (i : ℕ) (r : Tree) → length ks ≤ i → simplify_once_after b (row (drop i ks)) ≡ r → b ≡ r
 all_put b ks i r h e = ap (λ l. simplify_once_after b (row l)) (sym (drop_of_length-le ks h)) ∙ e
 
--- ---- what is so of a round
+-- ---- the properties of a round
 
--- what is so of what a round left in the place of some children
+-- children and the children after a round: the same styled value; equal if normal, else fewer nodes
 pub record Rounded (old new : Tree) : Type 0 where
   pub kept : styled_value new ≡ styled_value old
   pub normal : (new ≡ old) ↔ IsTrue (is_normal old)
@@ -148,7 +148,7 @@ rounded t = let told = unchanged_or_fewer t (is_normal t) refl in record { kept 
 pub is_rounded : (t u : Tree) → u ≡ simplify_once t → Rounded t u
 is_rounded t u h = subst (λ v. Rounded t v) (sym h) (rounded t)
 
--- the same of an element
+-- an element and the element with a round inside
 pub record RoundedInside (e new : elem.Elem) : Type 0 where
   pub round : elem_tree new ≡ with_inside e (simplify_once (tree_inside e))
   pub kept : styled_value (elem_tree new) ≡ styled_value (elem_tree e)

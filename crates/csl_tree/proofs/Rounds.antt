@@ -1,4 +1,4 @@
--- A round keeps the styled value, leaves a normal tree as it is, and any other with fewer nodes.
+-- A round keeps the styled value. A normal tree is unchanged, and any other has fewer nodes.
 use Rattle.std.proofs.Common.{◌≡◌, ℕ, ◌+◌, ◌<◌, ◌≤◌, Bool, true, false, not, ◌&&◌, ◌||◌, cond, List, [], ◌∷◌, ◌++◌, refl, sym, ap, ◌∙◌, append_assoc, arith}
 use Rattle.std.specs.Prelude.{Option, Some, None, if◌then◌else◌}
 use Rattle.std.proofs.lemmas.List.{append-nil, map-append}
@@ -58,7 +58,7 @@ styled-stands_for None None inside rounded h = refl
 styled-stands_for None (Some m) inside rounded h = append-nil (elem_around None (Some m) (styled_value rounded)) ∙ ap (elem_around None (Some m)) h
 styled-stands_for (Some d) m inside rounded h = append-nil (elem_around (Some d) m (styled_value rounded)) ∙ ap (elem_around (Some d) m) h
 
--- what a node gives behind what stands before, and then the rest
+-- the tokens before a node, its own, and then the rest
 in_turn : (b t : List Token) (x y : List Token) → x ≡ b ++ y → x ++ t ≡ b ++ (y ++ t)
 in_turn b t x y h = ap (λ l. l ++ t) h ∙ append_assoc b y t
 
@@ -74,9 +74,9 @@ styled-round_behind b (element_then d m inside t) =
 pub styled_kept : (t : Tree) → styled_value (simplify_once t) ≡ styled_value t
 styled_kept t = styled-round_behind empty_tree t
 
--- ---- where a text joins
+-- ---- whether a text joins
 
--- the last node is a text, and one of this formatting joins it
+-- the last node is a text of this formatting
 abbrev ends_with : Tree → Formatting → Bool
 ends_with empty_tree f = false
 ends_with (text_then cs g t) f = if is_empty_tree t then same_formatting g f else ends_with t f
@@ -89,7 +89,7 @@ something (text_then cs g t) u h = refl
 something (leaf_then l t) u h = refl
 something (element_then d m inside t) u h = refl
 
--- what ends a tree ends what stands before it too
+-- two trees in a row end as the second, if that is not empty
 ends_with-⊕ : (t u : Tree) (f : Formatting) → is_empty_tree u ≡ false → ends_with (t ⊕ u) f ≡ ends_with u f
 ends_with-⊕ empty_tree u f h = refl
 ends_with-⊕ (text_then cs g t) u f h = ap (λ b. cond b (same_formatting g f) (ends_with (t ⊕ u) f)) (something t u h) ∙ ends_with-⊕ t u f h
@@ -120,14 +120,14 @@ nodes-⊕ (text_then cs g t) u = let h = nodes-⊕ t u in omega (arith, h)
 nodes-⊕ (leaf_then l t) u = let h = nodes-⊕ t u in omega (arith, h)
 nodes-⊕ (element_then d m inside t) u = let h = nodes-⊕ t u in omega (arith, h)
 
--- the first node of the second joins the last of the first
+-- the first node of the second tree joins the last of the first
 abbrev meets : Tree → Tree → Bool
 meets b empty_tree = false
 meets b (text_then bs f t) = ends_with b f
 meets b (leaf_then l t) = false
 meets b (element_then d m inside t) = false
 
--- nothing stands before
+-- no node is before the tree
 meets-nothing : (t : Tree) → meets empty_tree t ≡ false
 meets-nothing empty_tree = refl
 meets-nothing (text_then bs f t) = refl
@@ -152,7 +152,7 @@ meets-element b c k inner (text_then cs g t) = ends_with-⊕ b (element_then c k
 meets-element b c k inner (leaf_then l t) = refl
 meets-element b c k inner (element_then d m inside t) = refl
 
--- ---- a normal tree stays as it is
+-- ---- a normal tree is unchanged
 
 first_false : (p q : Bool) → (not p && q) ≡ true → p ≡ false
 first_false true q h = absurd (cc h)
@@ -166,7 +166,7 @@ first_true : (p q : Bool) → (p && q) ≡ true → p ≡ true
 first_true true q h = refl
 first_true false q h = h
 
--- an element that is not plain stands for itself
+-- an element that is not plain stays, and a plain one is replaced by the tree inside
 pub stands_for-itself : (d : Option Display) (m : Option Meta) (inside rounded : Tree) → is_plain d m ≡ false → simplified_elem d m inside rounded ≡ element_then d m rounded empty_tree
 stands_for-itself d m inside rounded h = ap (λ p. cond p inside (element_then d m rounded empty_tree)) h
 
@@ -189,7 +189,7 @@ normal_stays b (element_then d m inside t) h n =
 pub normal_unchanged : (t : Tree) → is_normal t ≡ true → simplify_once t ≡ t
 normal_unchanged t n = normal_stays empty_tree t (meets-nothing t) n
 
--- ---- any other tree has fewer nodes then
+-- ---- any other tree has fewer nodes after a round
 
 nodes-with_text : (t : Tree) (bs : List ℕ) (f : Formatting) → node_count (with_text t bs f) ≤ node_count t + 1
 nodes-with_text t bs f =
@@ -215,7 +215,7 @@ nodes-round_behind b (element_then d m inside t) =
     let k = nodes-stands_for d m inside (simplify_once_after empty_tree inside) within in
     omega (arith, h, e, k)
 
--- it meets what stands before, or is not normal
+-- the tree joins the tree before it, or is not normal
 abbrev unfinished : Tree → Tree → Bool
 unfinished b t = meets b t || not (is_normal t)
 

@@ -1,4 +1,4 @@
--- The preorder of a tree, and the first along it.
+-- The preorder of a tree, and the first element in it that passes a test.
 use Rattle.std.proofs.Common.{◌≡◌, ℕ, ◌+◌, ◌<◌, Bool, true, false, List, [], ◌∷◌, Option, Some, None, length, get_or, drop, map, refl, sym, ap, ◌∙◌, add-one, drop-cons, inl, inr, suc, arith}
 use Rattle.std.specs.List.{find}
 use Rattle.std.specs.Prelude.{flat_map, ◌-◌, slice_get}
@@ -41,7 +41,7 @@ layer_rolled (Markup s) = para-roll-ElemChild Walk Walk Walk child_walk elem_wal
 layer_rolled (Link t u) = para-roll-ElemChild Walk Walk Walk child_walk elem_walk children_walk (Link t u)
 layer_rolled (Transparent n f) = para-roll-ElemChild Walk Walk Walk child_walk elem_walk children_walk (Transparent n f)
 
--- an element stands before what is inside it
+-- the preorder of a child: an element is before the elements inside it
 pub child_out : (k : ElemChild) → child_preorder k ≡ layer_preorder (out-ElemChild k)
 child_out k = ap child_preorder (sym (roll-out-ElemChild k)) ∙ layer_rolled (out-ElemChild k)
 
@@ -67,20 +67,20 @@ module _ (p : elem.Elem → Bool) where
   abbrev turn : List elem.Elem → List ElemChild → Option elem.Elem
   turn here later = option_or (find p here) (find p (flat_map child_preorder later))
 
-  -- the first in a child, and then in those after it
+  -- the first one in a child, else in those after it
   pub find_turn : (ks : List ElemChild) (i : ℕ) (k : ElemChild) → i < length ks → k ≡ get_or ks i k → find p (flat_map child_preorder (drop i ks)) ≡ turn (layer_preorder (out-ElemChild k)) (drop (i + 1) ks)
   find_turn ks i k h is =
       let one : find p (flat_map child_preorder (drop i ks)) ≡ turn (child_preorder (get_or ks i k)) (drop (i + 1) ks) = rw (add-one, drop-cons ks i k) (find-append p (child_preorder (get_or ks i k)) _) in
       one ∙ ap (λ d. turn (child_preorder d) (drop (i + 1) ks)) (sym is) ∙ ap (λ l. turn l (drop (i + 1) ks)) (child_out k)
 
-  -- at an element, and at what is none
+  -- a child that is an element, and one that is not
   pub elem_turn : (ks : List ElemChild) (i : ℕ) (k : ElemChild) (e : elem.Elem) → i < length ks → k ≡ get_or ks i k → Some e ≡ elem_of k → find p (flat_map child_preorder (drop i ks)) ≡ turn (e ∷ preorder (elem.out-Elem e).children) (drop (i + 1) ks)
   elem_turn ks i k e h is one = find_turn ks i k h is ∙ ap (λ l. turn l (drop (i + 1) ks)) (elem_layer (out-ElemChild k) e one)
 
   pub other_turn : (ks : List ElemChild) (i : ℕ) (k : ElemChild) → i < length ks → k ≡ get_or ks i k → None ≡ elem_of k → find p (flat_map child_preorder (drop i ks)) ≡ find p (flat_map child_preorder (drop (i + 1) ks))
   other_turn ks i k h is none = find_turn ks i k h is ∙ ap (λ l. turn l (drop (i + 1) ks)) (other_layer (out-ElemChild k) none)
 
--- what a test decides has its first where the test has it
+-- the first item that passes a test is the first one with the property that the test decides
 module _ {A : Type 0} (p : A → Bool) (P : A → Type 0) (d : (x : A) → Decides (p x) (P x)) where
   is_first_or : (x : A) (xs : List A) (b : Bool) → p x ≡ b → IsFirst P xs (find p xs) → IsFirst P (x ∷ xs) (find p (x ∷ xs))
   is_first_or x xs true e h = rw e (inl ((d x).0 e, refl))
@@ -113,7 +113,7 @@ last_child_out k = fold_out-ElemChild last_steps last_steps last_steps child_las
 pub last_out : (c : ElemChildren) → last_text c ≡ last_of (map last_text_of c.0.items)
 last_out c = fold_out-ElemChildren last_steps last_steps last_steps child_last elem_last children_last c
 
--- what the last child, if there is one, has for its last text
+-- the last text of the last child, if there is one
 abbrev pub last_in : Option ElemChild → Option Formatted
 last_in None = None
 last_in (Some k) = layer_last (out-ElemChild k)
@@ -129,7 +129,7 @@ last_at (k ∷ j ∷ ks) = last_at (j ∷ ks) ∙ ap last_in (further (j ∷ ks)
         let last : length (k ∷ js) - 1 ≡ suc n = omega (arith, h) in
         ap (slice_get js) before ∙ sym (ap (slice_get (k ∷ js)) last)
 
--- the last text is that of what is last among the children
+-- the last text of a tree is that of its last child
 pub last_is : (c : ElemChildren) (ks : List ElemChild) (o : Option ElemChild) → ks ≡ c.0.items → o ≡ slice_get ks (length ks - 1) → last_text c ≡ last_in o
 last_is c ks o h is = last_out c ∙ ap (λ l. last_of (map last_text_of l)) (sym h) ∙ last_at ks ∙ ap last_in (sym is)
 

@@ -1,4 +1,4 @@
--- The first bytes of HTML tell the tag that it begins with.
+-- The start tag or end tag that HTML begins with, and the rest after it.
 use Rattle.std.proofs.Common.{◌≡◌, ◌⊎◌, inl, inr, ℕ, List, ◌++◌, refl, sym, ap, ◌∙◌, append_assoc}
 use Rattle.std.specs.Prelude.{Option, Some, None, unwrap_or, option_and_then, codes}
 use Rattle.csl_style.specs.declared.formatting.Display.{Display}
@@ -22,7 +22,7 @@ use Rattle.csl_tree.specs.Marks.{end_bytes, without, after, or_else, entity_at, 
 use Rattle.csl_tree.proofs.Fronts.{without-append, without-is}
 use Rattle.csl_tree.proofs.Escaped.{or_else-is, named-is, texts_tell}
 
--- what ends a start tag
+-- the end of a start tag, then the rest
 abbrev Closing : List ℕ → List ℕ
 Closing more = codes "\">" ++ more
 
@@ -87,7 +87,7 @@ after_css-css f more =
     ∙ ap after_align (after-variant f.font_variant f.vertical_align more)
     ∙ after-align f.vertical_align more
 
--- a declaration, or none, and the rest
+-- a declaration or none, then the rest
 after-is : (front bs : List ℕ) → (bs ≡ front ++ after front bs) ⊎ (bs ≡ after front bs)
 after-is front bs =
     elim (without front bs) as (λ o. without front bs ≡ o → (bs ≡ front ++ unwrap_or o bs) ⊎ (bs ≡ unwrap_or o bs)) [
@@ -205,7 +205,7 @@ span_at-is bs more h =
           (c.0, without-is (codes "<span style=\"") bs rest e ∙ ap (λ (l : List ℕ). codes "<span style=\"" ++ l) (c.1 ∙ ap (λ (l : List ℕ). css c.0 ++ l) (without-is (codes "\">") (after_css rest) more k)) ∙ sym (span-split c.0 more))
     ] refl h
 
--- ---- what the code answers
+-- ---- the results of the code
 
 pub div_found : (html rest : List ℕ) → Some rest ≡ div_at html → IsStart html element.Div rest
 div_found html rest h = let d = div_at-is html rest (sym h) in (div d.0, refl, d.1)

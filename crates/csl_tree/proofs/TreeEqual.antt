@@ -1,4 +1,4 @@
--- `==` of two trees, two elements and two children: true exactly where their tokens are equal.
+-- `==` of two trees, two elements and two children: true exactly if their tokens are equal.
 use Rattle.std.proofs.Common.{◌≡◌, ℕ, Bool, true, false, List, [], ◌∷◌, map, refl, sym, ap, subst, ◌∙◌, rules}
 use Rattle.std.specs.Prelude.{◌==◌}
 use Rattle.std.specs.Bool.{Decides}
@@ -24,7 +24,7 @@ use Rattle.csl_tree.proofs.MetaEqual.{formatting_decides, formatted_same, metas_
 use Rattle.csl_tree.proofs.TreeStep.{Held, same_child, child_out, elem_out, children_out}
 use Rattle.csl_tree.proofs.TreeTokens.{tree_out, elem_tree_out, child_tokens_are, elem_tokens_agree, tokens_are, tokens_tell}
 
--- ---- nodes in a row tell each node
+-- ---- nodes in a row determine each node
 
 head_of : Tree → Tree
 head_of empty_tree = empty_tree
@@ -44,7 +44,7 @@ is_element (text_then bs f t) = false
 is_element (leaf_then l t) = false
 is_element (element_then d m inside t) = true
 
--- one node, so what follows it is told from it
+-- the tree is one node: in a row with any tree, it is the head, and that tree is the rest
 abbrev IsOne : Tree → Type 0
 IsOne t = (u : Tree) → (head_of (t ⊕ u) ≡ t) × ((rest_of (t ⊕ u) ≡ u) × (is_empty_tree (t ⊕ u) ≡ false))
 
@@ -66,7 +66,7 @@ one_level (Transparent i f) = λ u. (refl, (refl, refl))
 one_child : (k : ElemChild) → IsOne (child_tree k)
 one_child k = subst IsOne (sym (child_tree_out k)) (one_level (out-ElemChild k))
 
--- ---- what is known of the parts
+-- ---- the claims for the parts
 
 abbrev ChildTells : ElemChild → Type 0
 ChildTells k = (l : ElemChild) → Decides (eq_child.it k l) (child_tree k ≡ child_tree l)
@@ -117,7 +117,7 @@ levels_decide (Transparent i f) (Markup b) told = apart (λ h. cc h)
 levels_decide (Transparent i f) (Link b other) told = apart (λ h. cc h)
 levels_decide (Transparent i f) (Transparent j g) told = through _ (both _ _ (index_decides i j) (formatting_decides f g)) (λ h k. leaf_then (transparent (h.0 k) (h.1 k)) empty_tree) (λ h. (cc h, cc h))
 
--- ---- one level whose parts tell
+-- ---- one level, from the claims for its parts
 
 child_told : (x : ElemChild-F ElemChild elem.Elem ElemChildren) → Held ElemTells x → ChildTells (roll-ElemChild x)
 child_told x told l =
@@ -152,7 +152,7 @@ children_told c told d = subst (λ q. Decides q (tree c ≡ tree d)) (sym (child
     (λ h. tree_out c ∙ h ∙ sym (tree_out d))
     (λ h. sym (tree_out c) ∙ h ∙ tree_out d))
 
--- ---- of every tree
+-- ---- every tree
 
 child_layer : (y : ElemChild-F ((k : ElemChild) × ChildTells k) ((e : elem.Elem) × ElemTells e) ((c : ElemChildren) × ChildrenTell c)) → Held ElemTells (map-ElemChild _ _ _ ElemChild elem.Elem ElemChildren (λ e. e.0) (λ e. e.0) (λ e. e.0) y)
 child_layer (Text t) = tt

@@ -1,4 +1,4 @@
--- `==` of two trees, by one level: that of the fields, and of the children one by one.
+-- `==` of two trees, one level at a time: the fields, and the children one by one.
 use Rattle.std.proofs.Common.{◌≡◌, ℕ, ◌<◌, ◌≤◌, Bool, true, false, ◌&&◌, List, [], ◌∷◌, refl, sym, ap, subst, ◌∙◌}
 use Rattle.std.specs.Prelude.{string_bytes, ◌==◌}
 use Rattle.std.specs.Option.{option_eq}
@@ -26,7 +26,7 @@ use Rattle.csl_tree.specs.declared.elem.ElemChild.TheVariants.{Text, Elem', Mark
 use Rattle.csl_tree.specs.declared.elem.Elem.{Elem}
 use Rattle.csl_tree.specs.declared.elem.ElemChildren.{ElemChildren}
 
--- ---- what a tree holds is less deep
+-- ---- the parts of a tree are less deep
 
 each_listed : (I : Type 0) (X : I → Type 0) (P : (j : I) → X j → Type 0) (i : I) (m : Count) (ys : One.Row (X i) m) → All I X P (repeat I i m []) (onto I i X m ys [] tt) → EachOf (P i) (listed m ys)
 each_listed I X P i none_left ys all = tt
@@ -42,7 +42,7 @@ elem_less : (e : Elem) (n : ℕ) → block.the_depth block.member-Elem e ≤ n �
 unfolding block.the_depth denote.Hole.Carrier.out
 elem_less e n p = (depth_falls block.the_members block.the_sigs block.the_carrier block.member-Elem e n p).0
 
--- the element that a child is, if it is one, has the property
+-- if a child is an element, the element has the property
 abbrev pub Held : (Elem → Type 0) → ElemChild-F ElemChild Elem ElemChildren → Type 0
 Held P (open_child.Text t) = Unit {0}
 Held P (open_child.Elem e) = P e
@@ -60,11 +60,11 @@ child_less (Transparent i f) n p = tt
 
 -- ---- one level
 
--- each field of two elements, and whether their children are the same
+-- whether the fields of two elements are equal, given whether their children are
 abbrev pub same_fields : Elem → Elem → Bool → Bool
 same_fields a b children = children && (option_eq eq_display.it a.display b.display && option_eq eq_meta.it a.meta b.meta)
 
--- two children of one variant, and whether the elements that they are are the same
+-- whether two children are equal, given the comparison of elements
 abbrev pub same_child : (Elem → Elem → Bool) → ElemChild-F ElemChild Elem ElemChildren → ElemChild-F ElemChild Elem ElemChildren → Bool
 same_child r (open_child.Text a) (open_child.Text b) = eq_formatted.it a b
 same_child r (open_child.Elem a) (open_child.Elem b) = r a b
@@ -120,7 +120,7 @@ child_agrees r t P agree (open_child.Markup a) y p q = refl
 child_agrees r t P agree (open_child.Link a url) y p q = refl
 child_agrees r t P agree (open_child.Transparent i f) y p q = refl
 
--- one level asks only of trees that are less deep
+-- one level compares only trees that are less deep
 step_local : Local block.the_members block.the_family block.the_depth Bool true the_step
 step_local r t n agree block.member-ElemChild a b p q =
     child_step r a b

@@ -1,4 +1,4 @@
--- A tree and its tokens: the tokens are those of the tree, and no two trees have the same.
+-- A tree and its tokens: the tokens are those of the tree, and no two trees have the same tokens.
 use Rattle.std.proofs.Common.{◌≡◌, List, [], ◌∷◌, ◌++◌, map, refl, sym, ap, subst, ◌∙◌, append_assoc}
 use Rattle.std.specs.Prelude.{Option}
 use Rattle.std.specs.List.{flat_map}
@@ -39,7 +39,7 @@ all_agree : (ks : List ((k : ElemChild) × ChildAgrees k)) → flat_map child_to
 all_agree [] = refl
 all_agree (k ∷ ks) = (λ i. k.1 i ++ all_agree ks i) ∙ sym (tokens_of-⊕ (child_tree k.0) (row (map (λ e. e.0) ks)))
 
--- one level whose parts agree
+-- one level of a tree whose parts agree
 child_layer : (y : ElemChild-F ((k : ElemChild) × ChildAgrees k) ((e : elem.Elem) × ElemAgrees e) ((c : ElemChildren) × ChildrenAgree c)) → ChildAgrees (roll-ElemChild (map-ElemChild _ _ _ ElemChild elem.Elem ElemChildren (λ e. e.0) (λ e. e.0) (λ e. e.0) y))
 child_layer (Text t) = fold-roll-ElemChild (List Token) (List Token) (List Token) child_step elem_step children_step (Text t) ∙ sym (ap tokens_of (fold-roll-ElemChild Tree Tree Tree child_level elem_level children_level (Text t)))
 child_layer (Elem e) = fold-roll-ElemChild (List Token) (List Token) (List Token) child_step elem_step children_step (Elem e.0) ∙ e.1 ∙ sym (ap tokens_of (fold-roll-ElemChild Tree Tree Tree child_level elem_level children_level (Elem e.0)))
@@ -85,7 +85,7 @@ row_tokens (k ∷ ks) = (λ i. child_tokens_are k i ++ row_tokens ks i) ∙ sym 
 
 -- ---- no two trees have the same tokens
 
--- no node begins here: there is nothing, or an element ends
+-- the list begins with no node: it is empty, or an element ends there
 abbrev Ends : List Token → Type 0
 Ends [] = Unit {0}
 Ends (text bs f ∷ l) = ⊥
@@ -116,7 +116,7 @@ same_leaf (transparent n f) (markup cs) h = cc h
 same_leaf (transparent n f) (link cs g url) h = cc h
 same_leaf (transparent n f) (transparent k g) h = cc h
 
--- the tokens of an element, and what follows it
+-- the tokens of an element, and the tokens after it
 element_tokens : (d : Option Display) (m : Option Meta) (inside t : Tree) (r : List Token) → tokens_of (element_then d m inside t) ++ r ≡ solid (elem_start d m) ∷ (tokens_of inside ++ solid (elem_end d) ∷ (tokens_of t ++ r))
 element_tokens d m inside t r = ap (λ l. solid (elem_start d m) ∷ l) (append_assoc (tokens_of inside ++ solid (elem_end d) ∷ []) (tokens_of t) r ∙ append_assoc (tokens_of inside) (solid (elem_end d) ∷ []) (tokens_of t ++ r))
 

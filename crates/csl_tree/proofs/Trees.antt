@@ -16,7 +16,7 @@ pub flat_map-flat_map : {A B C : Type 0} (f : B → List C) (g : A → List B) (
 flat_map-flat_map f g [] = refl
 flat_map-flat_map f g (x ∷ xs) = flat_map-append f (g x) (flat_map g xs) ∙ ap (λ l. flat_map f (g x) ++ l) (flat_map-flat_map f g xs)
 
--- what each token of children gives is what each child gives
+-- the bytes for the tokens of a tree are those for the tokens of each child, in order
 pub tokens_give : (f : Token → List ℕ) (c : ElemChildren) → flat_map f (tokens c) ≡ flat_map (λ k. flat_map f (child_tokens k)) c.0.items
 tokens_give f c = ap (flat_map f) (tokens_out c) ∙ flat_map-flat_map f child_tokens c.0.items
 

@@ -1,5 +1,5 @@
--- A walk down a tree, from children to those of one of them: where its path leads, and what is lent
--- there.
+-- A walk down a tree, from children to the children of one of them: where its path leads, and the
+-- tree with other children there.
 use Rattle.std.proofs.Common.{◌≡◌, ℕ, ◌<◌, suc, zero, Bool, true, false, List, [], ◌∷◌, length, get_or, refl, sym, ap, ◌∙◌, arith, slice_index_or, Some}
 use Rattle.std.specs.Prelude.{unwrap_or}
 use Rattle.std.specs.declared.vec.Vec.{Vec}
@@ -19,7 +19,7 @@ at_index xs i j d {x} e h is = is ∙ get_or_default xs i x d h ∙ ap (λ k. ge
 abbrev pub made : Vec ElemChild Global → ElemChildren
 made v = record { 0 = v }
 
--- the walk goes on into one child, and its path does
+-- the path follows the walk: on in one child, or it stops
 module _ (path : ElemChildren → List ℕ) (goes_on : ElemChildren → Bool) (next : ElemChildren → ℕ)
     (further : (c d : ElemChildren) (x : ElemChild) → x ≡ child_at c (next c) → Some d ≡ children_of x → goes_on c ≡ true → path c ≡ next c ∷ path d)
     (stops : (c : ElemChildren) → goes_on c ≡ false → path c ≡ []) where

@@ -3,7 +3,7 @@ use Rattle.csl_tree.specs.Tokens.{last_char}
 use Rattle.csl_tree.proofs.LastChars.{leaf_of}
 use Rattle.csl_tree.proofs.elem.+ends.Given as goal
 
--- the text ends as that of the children before this one
+-- the last character of all children is that of the first `i`
 abbrev pub invariant-ElemChildren::last_char-loop-i : goal.invariant-ElemChildren::last_char-loop-i
 invariant-ElemChildren::last_char-loop-i l = record {
   within : l.i ≤ length l.self.0.items;

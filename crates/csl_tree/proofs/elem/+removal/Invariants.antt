@@ -4,7 +4,7 @@ use Rattle.csl_tree.specs.Tokens.{child_tokens}
 use Rattle.csl_tree.specs.Search.{preorder, child_preorder, has_meta, HasNoMeta}
 use Rattle.csl_tree.proofs.elem.+removal.Given as goal
 
--- nothing has changed, and nothing is noted of the elements in the children before this one
+-- nothing has changed, and no element in the children before this one has a meta
 abbrev pub invariant-ElemChildren::remove_any_meta-loop-i : goal.invariant-ElemChildren::remove_any_meta-loop-i
 invariant-ElemChildren::remove_any_meta-loop-i l =
     (l.self ≡ l.fn.self)

@@ -2,7 +2,7 @@ use Rattle.std.proofs.Common.{◌≡◌, ◌+◌, ◌-◌, ◌<◌, ◌≤◌, l
 use Rattle.csl_tree.specs.FlatItems.{open_parts, without_range, IsJoined}
 use Rattle.csl_tree.proofs.flat_items.join_texts.Given as goal
 
--- the items up to the last that is kept, and those from the next one on, are all
+-- the kept items are joined; with those from the next one on, they have the contents of all
 abbrev pub invariant-loop-next : goal.invariant-loop-next
 invariant-loop-next l = record {
   order : l.last < l.next;

@@ -2,7 +2,7 @@ use Rattle.std.proofs.Common.{◌≡◌, ◌≤◌, length, take}
 use Rattle.csl_tree.proofs.FlatTexts.{end_of}
 use Rattle.csl_tree.proofs.flat_items.last_char.Given as goal
 
--- the text ends as that of the items before this one
+-- the last character of all items is that of the first `i`
 abbrev pub invariant-loop-i : goal.invariant-loop-i
 invariant-loop-i l = record {
   within : l.i ≤ length l.items;

@@ -4,7 +4,7 @@ use denote.Shadow.{shadow}
 use Rattle.csl_tree.specs.Escapes.{escape_all}
 use Rattle.csl_tree.proofs.marks.after_text.Given as goal
 
--- a text, then the rest
+-- a text in HTML, then the rest
 abbrev pub invariant-loop-next : goal.invariant-loop-next
 invariant-loop-next l = shadow (Utf8 l.rest) × ((bs : List ℕ) × (l.html ≡ escape_all bs ++ l.rest))
 

@@ -1,5 +1,5 @@
--- `names_items_mut` lends the children that end the tree, and the tree follows them: by recursion
--- on the length of the path.
+-- `names_items_mut` returns a mutable reference to the children at the end of `names_path`, and the
+-- tree follows it. The proof is by induction on the length of the path.
 use Rattle.std.proofs.Common.{◌≡◌, ℕ, ◌<◌, Bool, true, false, List, [], ◌∷◌, length, refl, sym, ap, ◌∙◌, MutBor, IsTrue, is_some, Some}
 use mathlib.Core.Path.{subst}
 use seplogic.Ra.Ura.{Ura}
@@ -79,7 +79,7 @@ V = items_row
 abbrev stayed : Stays f.ended.signature.params f.ended.kept
 stayed = (stay_dropped (RefMutOf (0 ∷ []) tt (plain (λ _. R)) (λ _. tt)) no, tt)
 
--- the result v of a call that ends its part is known to be v', which is what is stored
+-- a result v that is known to be v' may be stored as v', in a call that ends its part
 settles_as : {M : Type 1} {𝓤 : Ura M} {𝓛 : Logic 𝓤} {G : Type 0} {Γ : List (Item 𝓤)} → G → {E : Env 𝓤 𝓛.H} {d : Place} {v v' : Val} {q : Post 𝓤 𝓛.H} → v ≡ v' → Step G 𝓛 Γ (settles E d v' q) Γ (settles E d v q)
 settles_as t {E} {d} {v} {v'} {q} e = regoal t (λ (p : Val). settles E d p q) e refl
 
@@ -119,7 +119,7 @@ module _ {M : Type 1} {𝓤 : Ura M} (𝓛 : Logic 𝓤) (mem : Memory → SProp
       suffices ! _ (ends_at 𝓛 f.ended stayed (f.clauses 𝓛 mem ret) bound (vptr x.ref_ptr.0 x.ref_ptr.1) x (tt, tt) (tt, tt)) $
       nothing ! $ nothing ! $ fjoin ! $ join ! $ nothing ! $ move ! (2 ∷ 0 ∷ []) $ join ! $ join ! $ frame ! $ says ! is $ done !
 
-  -- what the triple of each call binds outside
+  -- the contract of each call, as a triple
   abbrev F : Contract 𝓤
   F = triple_of 𝓛 f.signature (f.spec 𝓛 mem ret)
 
@@ -154,7 +154,7 @@ module _ {M : Type 1} {𝓤 : Ura M} (𝓛 : Logic 𝓤) (mem : Memory → SProp
         qed 𝓛 ((‵ (flft κ q) ⊛ ‵ ftrue) ∷ ‵ (owns (MutRef (named 0) κ R ∷ []) (self, tt) (vptr b o ∷ [], tt)) ∷ []) ∵ split ! $ move ! (2 ∷ []) $ fsplit ! $ keep ! (0 ∷ 2 ∷ []) $
         enter ! C Λ code.names_items_mut-function (vptr b o ∷ []) _ $ alloc_all ! (λ l. pass_all ! refl ((tt, tt), tt) $
         let En : Env 𝓤 H = env code.names_items_mut-function.locals l in
-        -- the test borrows the reference, which comes back as it was
+        -- the test borrows the reference and returns it unchanged
         sets ! (addr ! (through ! refl (stop !))) refl (tt, tt) $
         lft_new ! tt (λ α. move ! (1 ∷ 2 ∷ []) $
         use2 𝓛 (later (some (λ (δ : GName). Ref (α ∷ []) (record self { ghost_name = δ }) ⊛ ‵ (LentAgain R κ (α ∷ []) q γ b o δ h))))
