@@ -1,5 +1,5 @@
--- The term that a row of the English locale says: its form, its text for one, and that for several
--- where it differs. English has no gender (CSL 1.0.2, Terms).
+-- The term of a row of the English locale: its form, its singular, and its plural if that differs.
+-- English has no gender (CSL 1.0.2, Terms).
 use Rattle.std.specs.Prelude.{ℕ, List, Option, None, option_map}
 use Rattle.std.specs.Borrow.{Bor}
 use Rattle.csl_style.specs.declared.term.Term.{Term}

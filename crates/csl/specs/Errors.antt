@@ -1,6 +1,6 @@
--- The one error above those of the crates: what each of theirs becomes, and the text of each. Being
--- out of memory is the same error whoever says so. A context fails only where memory ran out, so a
--- failed one says so too.
+-- The one error type for all crates: what each of their errors becomes, and the text of each. Out
+-- of memory is the same error for all of them. A context fails only if memory runs out, so the
+-- error of a failed context becomes `Memory` too.
 use Rattle.std.specs.Prelude.{ℕ, List, codes}
 use Rattle.csl_style.specs.Style.{refusal_text}
 use Rattle.csl_style.specs.declared.style.error.StyleError.{StyleError}

@@ -1,4 +1,4 @@
-//! One error above those of the crates.
+//! One error type for the errors of all crates.
 
 ghost use Rattle.std.specs.Prelude.{◌≡◌, Some};
 ghost use Rattle.csl.specs.Errors.{error_text, of_html, of_numeric, of_style};
@@ -11,19 +11,19 @@ use lit_model::{Memory as OutOfMemory, NumericError};
 use std::alloc::{AllocError, AllocFailed};
 use std::{error, fmt};
 
-/// Why a call failed, whichever it was.
+/// Why a call failed, in any crate.
 #[derive(Debug, Drop)]
 pub enum Error {
-    /// Out of memory, in a call or in an entry that it asked.
+    /// Out of memory, in a call or in an entry.
     Memory,
-    /// A text is no number, or no pages.
+    /// A text does not parse as a number, or as pages.
     NotNumeric,
     /// A text is not HTML as `write_buf` writes it.
     NotHtml,
-    /// A date is not on the calendar. No call returns it: it is for a caller whose `Date::new`
-    /// returned `None`.
+    /// A date is not on the calendar. No call returns this error: it is for a caller whose
+    /// `Date::new` returned `None`.
     NoSuchDay,
-    /// A style is rejected, for a macro or its page format.
+    /// A style is rejected, for a cyclic macro or for its page format.
     Style(StyleError),
     /// A writer refused a text. A `String` does so if memory runs out.
     Refused,

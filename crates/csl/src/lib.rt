@@ -1,9 +1,9 @@
 //! Sulleqti as one crate to import from: cites and reference lists by CSL 1.0.2.
 //!
-//! A style and its locale are values: nodes, options and terms are in [`style`], a work and its
+//! A style and its locale are values. Nodes, options and terms are in [`style`], a work and its
 //! parts in [`literature`], the output tree in [`tree`]. [`cite`] and [`bibliography_entry`] render
-//! an entry of any type that implements [`EntryLike`]; [`english`] is a locale to begin with;
-//! [`Error`] takes in all that the calls answer. `docs/CALLING.md` has a whole program.
+//! an entry of any type that implements [`EntryLike`]. [`english`] returns a locale to begin with.
+//! The errors of all calls convert into [`Error`]. `docs/CALLING.md` has a whole program.
 #![tactic(auto)]
 
 mod error;

@@ -1,4 +1,4 @@
-//! The locale of English (CSL 1.0.2, Locale).
+//! The English locale (CSL 1.0.2, Locale).
 
 ghost use Rattle.std.specs.Prelude.{◌≡◌, false, true, IfOk, map};
 ghost use Rattle.csl_style.specs.Locale.{term_view};
@@ -12,7 +12,7 @@ use csl_style::{
 use lit_model::Memory;
 use std::alloc::Global;
 
-/// What stands after a number, and the words for the first ten.
+/// The ordinal suffixes, and the words for the first ten ordinals.
 static ORDINALS: [(OrdinalSlot, &str); 17] = [
     (OrdinalSlot::Default, "th"),
     (OrdinalSlot::Two(1), "st"),
@@ -63,7 +63,7 @@ fn terms(alloc: Global) -> Result<Vec<TermEntry>, Memory> {
     Ok(terms)
 }
 
-/// The ordinals, of no gender.
+/// The ordinals. They have no gender.
 fn ordinals(alloc: Global) -> Result<Vec<OrdinalTerm>, Memory> {
     let mut ordinals = Vec::new(alloc);
     for row in &ORDINALS {
@@ -77,7 +77,7 @@ fn ordinals(alloc: Global) -> Result<Vec<OrdinalTerm>, Memory> {
     Ok(ordinals)
 }
 
-/// The date in numbers, as 1/5/2026.
+/// The date format in numbers, as 1/5/2026.
 fn numeric_date(alloc: Global) -> Result<Date, Memory> {
     let delimiter = String::from_str(alloc, "/")?;
     let month = DatePart {
@@ -98,7 +98,7 @@ fn numeric_date(alloc: Global) -> Result<Date, Memory> {
     })
 }
 
-/// The date in words, as January 5, 2026.
+/// The date format in words, as January 5, 2026.
 fn text_date(alloc: Global) -> Result<Date, Memory> {
     let month = DatePart {
         affixes: Affixes::behind(alloc, " ")?,
@@ -121,9 +121,10 @@ fn text_date(alloc: Global) -> Result<Date, Memory> {
     })
 }
 
-/// The locale of English: each term in the long form, and in the short, verb and symbol forms that
-/// English has (CSL 1.0.2, Terms; Appendix II), ordinals to `tenth` (Ordinals), and both localized
-/// dates (Localized Date Formats). Commas and periods go before a closing quote.
+/// Returns the English locale. It has each term in the long form, and in the short, verb and symbol
+/// forms that English has (CSL 1.0.2, Terms; Appendix II). It has ordinal suffixes, ordinal words
+/// up to `tenth` (Ordinals), and both localized dates (Localized Date Formats). Commas and periods
+/// go before a closing quote.
 ///
 /// # Errors
 /// [`Memory`]: out of memory.

@@ -12,5 +12,5 @@ pub(crate) use numbers::NUMBERS;
 pub(crate) use other::OTHER;
 pub(crate) use people::PEOPLE;
 
-/// A term, its form, its text for one, and that for several where it differs.
+/// A term, its form, its singular, and its plural if that differs.
 pub(crate) type Row = (Term, TermForm, &'static str, Option<&'static str>);

@@ -1,4 +1,4 @@
-//! A cite, and an entry of the bibliography, through this crate alone.
+//! Tests of a cite and of a bibliography entry, through `csl` alone.
 
 use crate::asserted::assert_text;
 use csl::literature::{Entry, EntryType, FormatString};
@@ -18,7 +18,7 @@ fn aeon(alloc: Global) -> Result<Entry, Error> {
     Ok(entry)
 }
 
-/// The title in quotes for a cite, and with a period after it in the bibliography.
+/// A style with the title in quotes in a cite, and with a period after it in the bibliography.
 fn titles(alloc: Global) -> Result<Style, Error> {
     let quoted = Text {
         quotes: true,
@@ -60,7 +60,7 @@ fn listed(alloc: Global, style: &Style, entry: &Entry) -> Result<String, Error> 
     }
 }
 
-/// Both texts of the entry.
+/// The texts of the cite and of the bibliography entry.
 fn texts(alloc: Global) -> Result<Vec<String>, Error> {
     let style = titles(alloc)?;
     let entry = aeon(alloc)?;

@@ -1,4 +1,4 @@
-//! The localized dates of English, rendered (CSL 1.0.2, Localized Date Formats).
+//! Tests of the localized dates of English (CSL 1.0.2, Localized Date Formats).
 
 use crate::asserted::assert_text;
 use csl::literature::{Date as Day, Entry, EntryType};
@@ -8,10 +8,10 @@ use std::alloc::Global;
 use std::process::Abort;
 use std::test::Fail;
 
-/// A form, what is known of a day (month and day count from 0), and its text.
+/// A form, the year, month and day of a date (month and day count from 0), and the expected text.
 type Row = (DateForm, i32, Option<u8>, Option<u8>, &'static str);
 
-/// Each form of a whole date, of a month and of a year. The comma is the day's, so that a month
+/// Each form of a whole date, of a month and of a year. The comma belongs to the day, so a month
 /// alone has none.
 static DATES: [Row; 9] = [
     (DateForm::Numeric, 2026, Some(0), Some(4), "1/5/2026"),
@@ -43,7 +43,7 @@ fn style(alloc: Global, form: DateForm) -> Result<Style, Error> {
     Ok(Style::new(alloc, settings, Vec::new(alloc), citation, None, locales)?)
 }
 
-/// A day on the calendar.
+/// A date on the calendar: a day, a month or a year.
 fn day(year: i32, month: Option<u8>, day: Option<u8>) -> Result<Day, Error> {
     match Day::new(year, month, day, None, false) {
         Some(date) => Ok(date),
@@ -51,7 +51,7 @@ fn day(year: i32, month: Option<u8>, day: Option<u8>) -> Result<Day, Error> {
     }
 }
 
-/// The cite of an entry of this day.
+/// The plain text of the cite of an entry with this date.
 fn cited(alloc: Global, &(form, year, month, in_month, _): &Row) -> Result<String, Error> {
     let issued = day(year, month, in_month)?;
     let style = style(alloc, form)?;

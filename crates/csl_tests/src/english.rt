@@ -1,4 +1,4 @@
-//! Each term that there is, the ordinals and the dates of English.
+//! Tests of the English locale: every term, the ordinals, the dates and the settings.
 
 use crate::asserted::{assert_same, assert_text};
 use csl::literature::Season;
@@ -61,7 +61,7 @@ static NUMBERS: [NumberVariable; 17] = [
     NumberVariable::Volume,
 ];
 
-/// All but the custom one, which has no name of its own.
+/// All locators but the custom one, which has no term.
 static LOCATORS: [Locator; 27] = [
     Locator::Act,
     Locator::Appendix,
@@ -143,7 +143,7 @@ static OTHERS: [OtherTerm; 48] = [
     OtherTerm::Version,
 ];
 
-/// A number, what stands after it, and the word for it where it is at most ten.
+/// A number, its ordinal suffix, and its ordinal word if it is at most ten.
 static ORDINALS: [(i32, &str, &str); 16] = [
     (1, "st", "first"),
     (2, "nd", "second"),
@@ -163,7 +163,7 @@ static ORDINALS: [(i32, &str, &str); 16] = [
     (122, "nd", ""),
 ];
 
-/// A style of nothing but the locale.
+/// A style with only the English locale.
 pub(crate) fn style(alloc: Global) -> Result<Style, Error> {
     let locales = vec![in alloc; english(alloc)?]?;
     let citation = Layout::new(Vec::new(alloc));
@@ -171,7 +171,7 @@ pub(crate) fn style(alloc: Global) -> Result<Style, Error> {
     Ok(Style::new(alloc, settings, Vec::new(alloc), citation, None, locales)?)
 }
 
-/// The term has a text in the long form, and one for several.
+/// Asserts that the term has a singular and a plural in the long form.
 fn assert_known(rt: &impl Abort, style: &Style, term: Term) {
     let one = style.term(term, TermForm::Long, false);
     let several = style.term(term, TermForm::Long, true);
@@ -214,7 +214,7 @@ fn each_term_has_a_long_form(rt: HostRuntime) -> Result<(), Fail> {
     Ok(())
 }
 
-/// What stands after a number, and the word for it.
+/// Asserts the ordinal suffix and the ordinal word, if any, of a number.
 fn assert_ordinal(rt: &impl Abort, style: &Style, &(number, suffix, word): &(i32, &str, &str)) {
     assert_text(rt, style.ordinals().suffix(number, None), Some(suffix));
     let wanted = if word.is_empty() { None } else { Some(word) };
@@ -231,7 +231,8 @@ fn ordinals_and_words_for_the_first_ten(rt: HostRuntime) -> Result<(), Fail> {
     Ok(())
 }
 
-/// Both localized dates are there, and punctuation goes into quotes.
+/// Asserts that both localized dates exist, that punctuation goes into quotes, and that day
+/// ordinals are not limited.
 fn assert_settings(rt: &impl Abort, style: &Style) {
     let numeric = style.localized_date(DateForm::Numeric).is_some();
     let text = style.localized_date(DateForm::Text).is_some();

@@ -1,4 +1,4 @@
-//! What each error of the crates becomes, and its text.
+//! Tests of the conversion of the crates' errors into [`Error`], and of its texts.
 
 use crate::asserted::assert_text;
 use csl::literature::NumericError;
@@ -13,7 +13,7 @@ fn cyclic(alloc: Global) -> Result<Error, Memory> {
     Ok(Error::from(StyleError::CyclicMacro(String::from_str(alloc, "a")?)))
 }
 
-/// The text of an error that a crate's error became.
+/// Asserts the text of an error.
 fn assert_text_of(rt: &impl Abort, alloc: Global, error: Error, wanted: &str) -> Result<(), Fail> {
     let text = format!(in alloc; "{error}")?;
     assert_text(rt, Some(text.as_str()), Some(wanted));

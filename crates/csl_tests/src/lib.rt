@@ -1,4 +1,4 @@
-//! The tests of `csl`: its locale, its error, and a cite through it alone.
+//! Tests of `csl`: its locale, its error, and a cite through it alone.
 #![tactic(auto)]
 
 #[cfg(test)]

@@ -1,4 +1,4 @@
-//! The terms of English, each asked once.
+//! Tests of the terms of English. A row is one term in one form.
 
 use crate::asserted::assert_text;
 use crate::english::style;
@@ -18,10 +18,10 @@ use numbers::NUMBERS;
 use other::OTHER;
 use people::PEOPLE;
 
-/// A term, its form, and what it is called where there is one and where there are several.
+/// A term, its form, its singular and its plural.
 pub(crate) type Row = (Term, TermForm, &'static str, &'static str);
 
-/// The text of a term for one, and that for several.
+/// Asserts the singular and the plural of a term.
 fn assert_term(rt: &impl Abort, style: &Style, &(term, form, one, several): &Row) {
     assert_text(rt, style.term(term, form, false), Some(one));
     assert_text(rt, style.term(term, form, true), Some(several));

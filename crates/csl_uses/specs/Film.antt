@@ -1,4 +1,4 @@
--- A film of the examples: its answers to a style, and the one that is made.
+-- The films of the examples: the answers of a film, and the film `Metropolis`.
 use Rattle.std.specs.Prelude.{◌≡◌, ℕ, pos, List, [], ◌∷◌, Option, Some, None, Bool, true, false, codes}
 use Rattle.csl.specs.Literature.Chunks.{chunks_text}
 use Rattle.csl.specs.Literature.Date.{DateView, date_view}

@@ -1,4 +1,4 @@
--- The definitions that the contracts of `csl_uses` cite: what its examples make.
+-- The definitions that the contracts of `csl_uses` cite: its entries, and its cites.
 pub mod Book
 pub mod Cite
 pub mod Film

@@ -1,4 +1,4 @@
--- A web page of the examples, as an entry: its answers to a style; and a line of a numbered list.
+-- The web pages of the examples: the answers of a page, and its line in a numbered list.
 use Rattle.std.specs.Prelude.{ℕ, List, [], ◌∷◌, Option, Some, None, Bool, true, false, option_map, unwrap_or}
 use Rattle.csl.specs.Literature.Person.{PersonView, person_view}
 use Rattle.csl.specs.Literature.Text.{Chunk, chunks}
@@ -41,11 +41,11 @@ answers_of page = record {
 
 -- ---- the list
 
--- the state of a first cite of this citation number
+-- the state of a first cite with this citation number
 abbrev pub numbered_cite : ℕ → CiteState
 numbered_cite number = record (first_cite no_disambiguation) { citation_number = number }
 
--- the content of an entry in the bibliography, nothing where the style has none
+-- the content of an entry in the bibliography, empty if the style has none
 abbrev pub numbered_line : StyleParts → ℕ → Answers → List Token
 numbered_line style number answers =
     unwrap_or (option_map (λ layout. (whole_cite style Bibliography (numbered_cite number) answers layout).content) style.bibliography) []

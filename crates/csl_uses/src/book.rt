@@ -1,4 +1,4 @@
-//! An entry that is made field by field, and its label.
+//! An entry that is built field by field, and its label.
 
 ghost use Rattle.std.specs.Prelude.{◌≡◌, IfOk, string_bytes};
 ghost use Rattle.csl.specs.Entry.CitationLabel.{label};
@@ -8,12 +8,12 @@ use csl::literature::{Date, Entry, EntryType, FormatString, Numeric, Person, Pub
 use csl::{Alphanumerical, Error, Memory};
 use std::alloc::Global;
 
-/// `The C Programming Language`, of which some fields are set and the others stay absent.
+/// The book `The C Programming Language`. Some fields are set, the others stay absent.
 ///
 /// # Errors
-/// [`Error::Memory`]: there was no memory left.
+/// [`Error::Memory`]: out of memory.
 /// [`Error::NoSuchDay`]: the date is not on the calendar.
-/// [`Error::NotNumeric`]: the count of pages is no number.
+/// [`Error::NotNumeric`]: the number of pages is not a number.
 pub fn the_c_book(alloc: Global) -> Result<Entry, Error>
     ensures { IfOk result IsTheCBook }
 {
@@ -41,7 +41,7 @@ pub fn the_c_book(alloc: Global) -> Result<Entry, Error>
 /// The label of an entry, with up to three letters of one name.
 ///
 /// # Errors
-/// [`Memory`]: there was no memory left.
+/// [`Memory`]: out of memory.
 pub fn book_label(alloc: Global, book: &Entry) -> Result<String, Memory>
     ensures { IfOk result (λ made. string_bytes made ≡ label 3 book.now) }
 {

@@ -1,4 +1,4 @@
-//! A style of one's own, and what it makes of an entry of any type: a cite, a cite of a page, and
+//! A style that is built as a value, and an entry of any type in it: a cite, a cite of a page, and
 //! a line of the bibliography.
 
 ghost use Rattle.std.specs.Prelude.{◌≡◌, IfOk, option_map};
@@ -22,7 +22,7 @@ use std::alloc::Global;
 /// A book of three authors.
 ///
 /// # Errors
-/// [`Error::Memory`]: there was no memory left.
+/// [`Error::Memory`]: out of memory.
 pub fn the_compilers_book(alloc: Global) -> Result<Entry, Error> {
     let aho = Person::new(alloc, "Aho", "Alfred V.")?;
     let sethi = Person::new(alloc, "Sethi", "Ravi")?;
@@ -36,8 +36,8 @@ pub fn the_compilers_book(alloc: Global) -> Result<Entry, Error> {
     Ok(book)
 }
 
-/// How names are written: of three or more the first and `et al.`, in cites the family names
-/// alone, and in the bibliography the first of them with the family name first.
+/// The options for names. Of three or more names the style writes the first and `et al.` Cites have
+/// the family names alone. In the bibliography the first person's family name comes first.
 fn settings() -> StyleSettings {
     let names = InheritableNameOptions {
         and: Some(NameAnd::Text),
@@ -61,7 +61,7 @@ fn settings() -> StyleSettings {
     }
 }
 
-/// The macro `creators`: the authors, or where there are none the directors.
+/// The macro `creators`: the authors, or the directors if there are none.
 fn creators(alloc: Global) -> Result<CslMacro, Error> {
     let directors = vec![in alloc; NameVariable::Director]?;
     let directors = vec![in alloc; Names::new(alloc, directors).into()]?;
@@ -82,7 +82,7 @@ fn creators(alloc: Global) -> Result<CslMacro, Error> {
     Ok(CslMacro::new(alloc, "creators", children)?)
 }
 
-/// The year of issue, or where no date is known `n.d.`.
+/// The year of issue, or `n.d.` if no date is known.
 fn year(alloc: Global) -> Result<LayoutRenderingElement, Error> {
     let parts = vec![in alloc; DatePart::new(DatePartName::Year)]?;
     let date = vec![in alloc; Date::new(DateVariable::Issued, parts).into()]?;
@@ -125,7 +125,7 @@ fn title(alloc: Global) -> Result<LayoutRenderingElement, Error> {
     Ok(choice.into())
 }
 
-/// What a cite points at, with its label, as `p. 5`. Without a locator it is left out.
+/// The locator of a cite with its label, as `p. 5`. It is left out if the cite has none.
 fn locator(alloc: Global) -> Result<LayoutRenderingElement, Error> {
     let label = Label::short(NumberVariable::Locator.into());
     let text = Text::variable(NumberVariable::Locator.into());
@@ -163,7 +163,7 @@ fn bibliography(alloc: Global) -> Result<Layout, Error> {
 /// A style as a parsed style file would be: settings, a macro, two layouts and a locale.
 ///
 /// # Errors
-/// [`Error::Memory`]: there was no memory left.
+/// [`Error::Memory`]: out of memory.
 /// [`Error::Style`]: the style is rejected.
 pub fn house_style(alloc: Global) -> Result<Style, Error> {
     let macros = vec![in alloc; creators(alloc)?]?;
@@ -180,10 +180,10 @@ pub fn house_style(alloc: Global) -> Result<Style, Error> {
     )?)
 }
 
-/// The cite of an entry that no cite stands before.
+/// The first cite of an entry.
 ///
 /// # Errors
-/// [`Error::Memory`]: there was no memory left, or the entry said so.
+/// [`Error::Memory`]: out of memory, here or in the entry.
 pub fn cite<T: EntryLike>(alloc: Global, style: &Style, entry: &T) -> Result<ElemChildren, Error>
     ensures { IfOk result (λ content. tokens content ≡ cite_content style.now (T.answers entry.now)) }
 {
@@ -195,7 +195,7 @@ pub fn cite<T: EntryLike>(alloc: Global, style: &Style, entry: &T) -> Result<Ele
 /// The cite of a page of an entry.
 ///
 /// # Errors
-/// [`Error::Memory`]: there was no memory left, or the entry said so.
+/// [`Error::Memory`]: out of memory, here or in the entry.
 pub fn page_cite<T: EntryLike>(
     alloc: Global,
     style: &Style,
@@ -221,7 +221,7 @@ pub fn page_cite<T: EntryLike>(
 /// The line of an entry in the bibliography, if the style has one.
 ///
 /// # Errors
-/// [`Error::Memory`]: there was no memory left, or the entry said so.
+/// [`Error::Memory`]: out of memory, here or in the entry.
 pub fn bibliography_line<T: EntryLike>(
     alloc: Global,
     style: &Style,

@@ -1,4 +1,4 @@
-//! A type of one's own as an entry: what it answers is said once, in `specs/Film.antt`.
+//! A caller's own type as an entry. Its answers are defined once, in `specs/Film.antt`.
 
 ghost use Rattle.std.specs.Prelude.{◌≡◌, IfOk, string_bytes};
 ghost use Rattle.csl_uses.specs.Film.{IsMetropolis, answers_of, title_of};
@@ -13,16 +13,16 @@ use csl::{EntryLike, Error, Memory};
 use std::alloc::Global;
 use std::borrow::{Cow, CowStr};
 
-/// A film, as a catalogue of films holds it.
+/// A film in a catalogue.
 #[derive(Drop)]
 pub struct Film {
-    /// What the catalogue finds it by.
+    /// The key in the catalogue.
     pub key: String,
     /// The title.
     pub title: ChunkedString,
-    /// Who directed it.
+    /// The director.
     pub director: Person,
-    /// When it was first shown.
+    /// The date of the first showing.
     pub shown: Date,
 }
 
@@ -102,10 +102,10 @@ impl EntryLike for Film {
     }
 }
 
-/// `Metropolis`.
+/// The film `Metropolis`.
 ///
 /// # Errors
-/// [`Error::Memory`]: there was no memory left.
+/// [`Error::Memory`]: out of memory.
 /// [`Error::NoSuchDay`]: the date is not on the calendar.
 pub fn metropolis(alloc: Global) -> Result<Film, Error>
     ensures { IfOk result IsMetropolis }
@@ -120,10 +120,10 @@ pub fn metropolis(alloc: Global) -> Result<Film, Error>
     })
 }
 
-/// The title of an entry of any type, its pieces joined; empty where it has none.
+/// The title of an entry of any type, with its pieces joined. It is empty if the entry has none.
 ///
 /// # Errors
-/// [`Memory`]: there was no memory left.
+/// [`Memory`]: out of memory.
 pub fn title_of<T: EntryLike>(alloc: Global, entry: &T) -> Result<String, Memory>
     ensures { IfOk result (λ title. string_bytes title ≡ title_of (T.answers entry.now)) }
 {

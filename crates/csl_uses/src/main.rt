@@ -1,13 +1,13 @@
-//! The program `csl_uses`: uses of the crate `csl`, each to be read and copied.
+//! The program `csl_uses`: examples of the crate `csl`, to read and copy.
 //!
-//! - `book`: an entry that is made field by field, and its label;
-//! - `film`: a type of one's own as an entry;
-//! - `cite`: a style that is made as a value, and the cites and the bibliography that it makes;
-//! - `namesakes`: cites that are told apart by more of their names;
-//! - `pair`: two entries of two types that a style cannot tell apart;
+//! - `book`: an entry that is built field by field, and its label;
+//! - `film`: a caller's own type as an entry;
+//! - `cite`: a style that is built as a value, its cites and its bibliography;
+//! - `namesakes`: cites that are disambiguated by more of their names;
+//! - `pair`: two entries of two types, and whether they are alike for a style;
 //! - `page`: a reference list as a whole web page.
 //!
-//! `csl_uses` prints what each of them makes, and `csl_uses page` the web page alone.
+//! `csl_uses` prints the output of each, and `csl_uses page` the web page alone.
 #![tactic(auto)]
 
 mod book;
@@ -30,10 +30,10 @@ pub enum UseError {
     /// A call of `csl` failed.
     #[error("{0}")]
     Csl(#[from] Error),
-    /// A stream refused a text, or the words could not be read.
+    /// A stream refused a text, or the arguments could not be read.
     #[error("{0}")]
     Stream(#[from] io::Error),
-    /// The program knows no other words.
+    /// The program does not know these arguments.
     #[error("csl_uses, or csl_uses page")]
     Words,
 }
@@ -83,12 +83,12 @@ fn show_styled(
     show_cites(rt, style, film)?;
     let compilers = cite::the_compilers_book(rt.alloc())?;
     let shown = show_cites(rt, style, &compilers);
-    // Dropped by name, and not by its scope, an entry costs the prover little (`docs/PROOFS.md`).
+    // An entry dropped by name, not by its scope, costs the prover little (`docs/PROOFS.md`).
     drop(compilers);
     shown
 }
 
-/// Prints the cites of a book by a Miller, and of one by a Miller of this given name.
+/// Prints the disambiguated cites of this book and of one by a Miller with this given name.
 fn show_beside(
     rt: &(impl Print + AllocGlobal),
     style: &Style,
@@ -103,7 +103,7 @@ fn show_beside(
     Ok(())
 }
 
-/// Prints cites that an initial tells apart, and cites that a given name tells apart.
+/// Prints cites that an initial disambiguates, and cites that need the given name.
 fn show_millers(rt: &(impl Print + AllocGlobal), style: &Style) -> Result<(), UseError> {
     let book = namesakes::book_by_miller(rt.alloc(), "Anna")?;
     let by_initial = show_beside(rt, style, &book, "Berta");
@@ -113,7 +113,7 @@ fn show_millers(rt: &(impl Print + AllocGlobal), style: &Style) -> Result<(), Us
     by_name
 }
 
-/// Prints cites that are told apart.
+/// Prints the disambiguated cites of namesakes.
 fn show_namesakes(rt: &(impl Print + AllocGlobal)) -> Result<(), UseError> {
     let style = namesakes::short_style(rt.alloc())?;
     let shown = show_millers(rt, &style);
@@ -137,7 +137,7 @@ fn show_pair<T: EntryLike, U: EntryLike>(
     Ok(())
 }
 
-/// Prints whether a style tells the film from the novel.
+/// Prints the cites of the film and the novel, and whether the two are alike for the style.
 fn show_likeness(
     rt: &(impl Print + AllocGlobal),
     style: &Style,
@@ -149,7 +149,7 @@ fn show_likeness(
     shown
 }
 
-/// Prints whether a style that names the title alone tells the film from the novel.
+/// Prints the cites of the film and the novel by their titles, and whether the two are alike then.
 fn show_titles(rt: &(impl Print + AllocGlobal), film: &Film) -> Result<(), UseError> {
     let style = pair::title_style(rt.alloc())?;
     let shown = show_likeness(rt, &style, film);
@@ -167,7 +167,7 @@ fn show_page(rt: &(impl Print + AllocGlobal)) -> Result<(), UseError> {
     Ok(())
 }
 
-/// Prints what each use makes, where the style of one's own is this one.
+/// Prints the output of each example, with this style, book and film.
 fn show_uses(
     rt: &(impl Print + AllocGlobal),
     style: &Style,
@@ -182,7 +182,7 @@ fn show_uses(
     show_page(rt)
 }
 
-/// Prints what each use makes of the film and of this book.
+/// Prints the output of each example, with this book.
 fn show_book(rt: &(impl Print + AllocGlobal), book: &Entry) -> Result<(), UseError> {
     let film = film::metropolis(rt.alloc())?;
     let style = cite::house_style(rt.alloc())?;
@@ -191,7 +191,7 @@ fn show_book(rt: &(impl Print + AllocGlobal), book: &Entry) -> Result<(), UseErr
     shown
 }
 
-/// Prints what each use makes.
+/// Prints the output of each example.
 fn show_all(rt: &(impl Print + AllocGlobal)) -> Result<(), UseError> {
     let book = book::the_c_book(rt.alloc())?;
     let shown = show_book(rt, &book);
@@ -199,7 +199,7 @@ fn show_all(rt: &(impl Print + AllocGlobal)) -> Result<(), UseError> {
     shown
 }
 
-/// Prints what the words ask for.
+/// Prints the output that the arguments ask for.
 fn run(rt: &(impl Env + Print + AllocGlobal)) -> Result<(), UseError> {
     let mut words = env::args(rt)?;
     let _name = words.next();

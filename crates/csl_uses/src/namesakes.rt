@@ -1,4 +1,4 @@
-//! Two persons of one family name: the cites of their works are told apart by their given names.
+//! Two persons with one family name. The cites of their works are disambiguated by given names.
 
 ghost use Rattle.std.specs.Prelude.{◌≡◌, IfOk, string_bytes};
 ghost use Rattle.csl.specs.Style.declared.style.settings.Scope.TheVariants as scopes;
@@ -18,10 +18,10 @@ use csl::{
 };
 use std::alloc::Global;
 
-/// A book of 2014 by a Miller of this given name, which is its key.
+/// A book of 2014 by a Miller with this given name. The given name is also the book's key.
 ///
 /// # Errors
-/// [`Error::Memory`]: there was no memory left.
+/// [`Error::Memory`]: out of memory.
 pub fn book_by_miller(alloc: Global, given_name: &str) -> Result<Entry, Error> {
     let authors = vec![in alloc; Person::new(alloc, "Miller", given_name)?]?;
     let mut book = Entry::new(alloc, given_name, EntryType::Book)?;
@@ -30,7 +30,7 @@ pub fn book_by_miller(alloc: Global, given_name: &str) -> Result<Entry, Error> {
     Ok(book)
 }
 
-/// The family names of the authors. Where a given name is shown too, it is first an initial.
+/// The family names of the authors. Disambiguation adds the given name, first as an initial.
 fn short_names(alloc: Global) -> Result<LayoutRenderingElement, Error> {
     let authors = vec![in alloc; NameVariable::Author]?;
     let initial = String::from_str(alloc, ". ")?;
@@ -64,11 +64,11 @@ fn names_and_year(alloc: Global) -> Result<LayoutRenderingElement, Error> {
     Ok(cite.into())
 }
 
-/// A style that cites as `(Miller, 2014)`, or once that has to be told apart as `(A. Miller, 2014)`
-/// and `(Anna Miller, 2014)`.
+/// A style that cites as `(Miller, 2014)`. Disambiguated cites are `(A. Miller, 2014)` and
+/// `(Anna Miller, 2014)`.
 ///
 /// # Errors
-/// [`Error::Memory`]: there was no memory left.
+/// [`Error::Memory`]: out of memory.
 /// [`Error::Style`]: the style is rejected.
 pub fn short_style(alloc: Global) -> Result<Style, Error> {
     let citation = vec![in alloc; names_and_year(alloc)?]?;
@@ -84,16 +84,16 @@ pub fn short_style(alloc: Global) -> Result<Style, Error> {
     )?)
 }
 
-/// The text of a cite, and the forms in which it shows the names that it printed first.
+/// The text of a cite, and the forms of the names that it printed first.
 #[derive(Drop)]
 pub struct Cite {
     /// The text.
     pub text: String,
-    /// The forms of the names, where it printed any.
+    /// The forms of the names, if it printed any.
     pub names: Option<NameDisambiguationProperties>,
 }
 
-/// The cite of an entry, told apart so.
+/// The cite of an entry with this disambiguation.
 fn cite_by<T: EntryLike>(
     alloc: Global,
     style: &Style,
@@ -112,8 +112,8 @@ fn cite_by<T: EntryLike>(
     })
 }
 
-/// The cite once more, where the first author shows more of the name, if there is more to show:
-/// first the initials, and then the given name.
+/// The cite with more of the first author's name, if there is more: first the initials, then the
+/// given name.
 fn fuller_cite<T: EntryLike>(
     alloc: Global,
     style: &Style,
@@ -131,11 +131,11 @@ fn fuller_cite<T: EntryLike>(
     cite_by(alloc, style, entry, told_apart)
 }
 
-/// The cites of two entries. Where they are the same, both show more of their first author's name,
-/// in two steps at most.
+/// The cites of two entries. If they are equal, both show more of their first author's name, in at
+/// most two steps.
 ///
 /// # Errors
-/// [`Error::Memory`]: there was no memory left, or an entry said so.
+/// [`Error::Memory`]: out of memory, here or in an entry.
 pub fn cites_apart<T: EntryLike, U: EntryLike>(
     alloc: Global,
     style: &Style,

@@ -19,8 +19,7 @@ use csl::{
 use std::alloc::Global;
 use std::borrow::{Cow, CowStr};
 
-/// What stands before the list. In a flex box floats do not count, so each number stands beside
-/// its entry.
+/// The page before the list. A flex box ignores floats, so each number is beside its entry.
 const HEAD: &str = r#"<!doctype html>
 <html lang="en">
 <head>
@@ -34,15 +33,15 @@ const HEAD: &str = r#"<!doctype html>
 <h1>References</h1>
 "#;
 
-/// What stands behind the list.
+/// The page after the list.
 const TAIL: &str = "</body>\n</html>\n";
 
 /// A web page as somebody described it: its title and its address may be any text.
 #[derive(Drop)]
 pub struct WebPage {
-    /// What it is cited by.
+    /// The key that it is cited by.
     pub key: String,
-    /// Who wrote it.
+    /// The author.
     pub author: Person,
     /// The title.
     pub title: ChunkedString,
@@ -123,7 +122,7 @@ impl EntryLike for WebPage {
     }
 }
 
-/// A web page of this author, title and address, which is cited by its address.
+/// A web page with this author, title and address. The address is also its key.
 fn web_page(alloc: Global, author: Person, title: &str, address: &str) -> Result<WebPage, Error> {
     let key = String::from_str(alloc, address)?;
     let title = ChunkedString::plain(alloc, title)?;
@@ -139,7 +138,7 @@ fn web_page(alloc: Global, author: Person, title: &str, address: &str) -> Result
 /// Three web pages. The title of the second is a script, and so is the address of the third.
 ///
 /// # Errors
-/// [`Error::Memory`]: there was no memory left.
+/// [`Error::Memory`]: out of memory.
 pub fn web_pages(alloc: Global) -> Result<Vec<WebPage>, Error> {
     let mut pages = Vec::with_capacity(alloc, 3)?;
 
@@ -191,7 +190,7 @@ fn description(alloc: Global) -> Result<LayoutRenderingElement, Error> {
 /// A style of numbers: `[1]` in a cite, and before each line of the bibliography.
 ///
 /// # Errors
-/// [`Error::Memory`]: there was no memory left.
+/// [`Error::Memory`]: out of memory.
 /// [`Error::Style`]: the style is rejected.
 pub fn number_style(alloc: Global) -> Result<Style, Error> {
     let citation = vec![in alloc; number(alloc)?]?;
@@ -208,8 +207,8 @@ pub fn number_style(alloc: Global) -> Result<Style, Error> {
     )?)
 }
 
-/// The content, where a link stays a link only if it leads to `http` or `https`. If memory runs
-/// out, it may become its text too.
+/// The content, with each link that leads to neither `http` nor `https` replaced by its text. If
+/// memory runs out, other links may be replaced too.
 fn with_web_links(alloc: Global, rendered: ElemChildren) -> ElemChildren
     ensures { leaf_text (tokens result) ≡ leaf_text (tokens rendered) }
 {
@@ -251,7 +250,7 @@ fn list_line<T: EntryLike>(
 /// A whole page of HTML: the bibliography of these entries in their order, numbered from 1.
 ///
 /// # Errors
-/// [`Error::Memory`]: there was no memory left, or an entry said so.
+/// [`Error::Memory`]: out of memory, here or in an entry.
 /// [`Error::NotNumeric`]: there are more entries than citation numbers.
 pub fn page<T: EntryLike>(alloc: Global, style: &Style, entries: &[T]) -> Result<String, Error> {
     let mut html = String::from_str(alloc, HEAD)?;

@@ -1,4 +1,4 @@
-//! Two entries of any two types that a style may not tell apart.
+//! Two entries of any two types, and whether they are alike for a style.
 
 ghost use Rattle.std.specs.Prelude.{◌≡◌, true, IfOk, string_bytes};
 ghost use Rattle.std.specs.Bool.{Decides};
@@ -19,7 +19,7 @@ use std::alloc::Global;
 /// The novel `Metropolis`.
 ///
 /// # Errors
-/// [`Error::Memory`]: there was no memory left.
+/// [`Error::Memory`]: out of memory.
 pub fn the_novel(alloc: Global) -> Result<Entry, Error> {
     let authors = vec![in alloc; Person::new(alloc, "von Harbou", "Thea")?]?;
     let title = FormatString::plain(alloc, "Metropolis")?;
@@ -32,7 +32,7 @@ pub fn the_novel(alloc: Global) -> Result<Entry, Error> {
 /// A style that cites by the title alone, in italics.
 ///
 /// # Errors
-/// [`Error::Memory`]: there was no memory left.
+/// [`Error::Memory`]: out of memory.
 /// [`Error::Style`]: the style is rejected.
 pub fn title_style(alloc: Global) -> Result<Style, Error> {
     let title = Text {
@@ -45,11 +45,12 @@ pub fn title_style(alloc: Global) -> Result<Style, Error> {
     Ok(Style::new(alloc, settings, macros, citation, None, locales)?)
 }
 
-/// The cites of two entries, and whether both answer alike all that the citation layout and the
-/// macros it reaches name. Where they do, whoever has rendered the one need not render the other.
+/// The cites of two entries, and whether the entries answer alike on all that the citation layout
+/// and the macros it reaches name. Cites of alike entries are equal, so a caller that has one need
+/// not render the other.
 ///
 /// # Errors
-/// [`Error::Memory`]: there was no memory left, or an entry said so.
+/// [`Error::Memory`]: out of memory, here or in an entry.
 pub fn pair_of<T: EntryLike, U: EntryLike>(
     alloc: Global,
     style: &Style,

@@ -3,7 +3,7 @@
 use crate::words::Row;
 use csl_style::{Locator, Term, TermForm};
 
-/// What locators are called. A custom one has no name of its own.
+/// The terms for locators. A custom locator has no term.
 pub(crate) static LOCATORS: [Row; 54] = [
     (
         Term::Locator(Locator::Act),

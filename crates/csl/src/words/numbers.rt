@@ -3,7 +3,7 @@
 use crate::words::Row;
 use csl_style::{NumberVariable, PageVariable, Term, TermForm};
 
-/// What numbers and pages are called.
+/// The terms for variables that hold a number or pages.
 pub(crate) static NUMBERS: [Row; 37] = [
     (
         Term::Number(NumberVariable::ChapterNumber),

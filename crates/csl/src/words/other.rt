@@ -1,10 +1,10 @@
-//! Words that stand in sentences, quotes, months and seasons (CSL 1.0.2, Appendix II: Terms).
+//! Words in sentences, quotes, months and seasons (CSL 1.0.2, Appendix II: Terms).
 
 use crate::words::Row;
 use csl_style::{OtherTerm, Term, TermForm};
 use lit_model::Season;
 
-/// The terms that name no variable.
+/// The terms that name neither a variable nor a locator.
 pub(crate) static OTHER: [Row; 65] = [
     (Term::Other(OtherTerm::And), TermForm::Long, "and", None),
     (Term::Other(OtherTerm::And), TermForm::Symbol, "&", None),

@@ -3,7 +3,7 @@
 use crate::words::Row;
 use csl_style::{NameVariable, Term, TermForm};
 
-/// What persons are called.
+/// The terms for the roles of persons.
 pub(crate) static PEOPLE: [Row; 93] = [
     (
         Term::Name(NameVariable::Author),

@@ -1,4 +1,4 @@
-//! The labels of locators that are asked, and their texts.
+//! The terms for locators, and their expected texts.
 
 use crate::terms::Row;
 use csl::style::{Locator, Term, TermForm};

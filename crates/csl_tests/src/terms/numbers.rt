@@ -1,4 +1,4 @@
-//! The labels of numbers and pages that are asked, and their texts.
+//! The terms for numbers and pages, and their expected texts.
 
 use crate::terms::Row;
 use csl::style::{NumberVariable, PageVariable, Term, TermForm};

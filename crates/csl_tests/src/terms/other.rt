@@ -1,4 +1,4 @@
-//! The words, quotes, months and seasons that are asked, and their texts.
+//! The terms for words, quotes, months and seasons, and their expected texts.
 
 use crate::terms::Row;
 use csl::literature::Season;

@@ -1,4 +1,4 @@
-//! The roles of persons that are asked, and their texts.
+//! The terms for the roles of persons, and their expected texts.
 
 use crate::terms::Row;
 use csl::style::{NameVariable, Term, TermForm};
