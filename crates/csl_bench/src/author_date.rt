@@ -1,4 +1,4 @@
-//! Works over author-date styles that the program makes itself, with their locale.
+//! Benchmarks of author-date styles that the program makes itself, with their locale.
 
 use crate::cite::article_size;
 use crate::error::WorkError;
@@ -12,7 +12,7 @@ use csl_style::{
 use lit_model::Memory;
 use std::alloc::Global;
 
-/// A term that no layout here writes.
+/// A term that no layout here uses.
 fn unused_term(alloc: Global) -> Result<TermEntry, Memory> {
     Ok(TermEntry {
         term: Term::Other(OtherTerm::Accessed),
@@ -23,7 +23,7 @@ fn unused_term(alloc: Global) -> Result<TermEntry, Memory> {
     })
 }
 
-/// The text for several of a term, copied.
+/// Copies a term's text for several.
 fn copied_multiple(entry: &TermEntry) -> Result<Option<String>, Memory> {
     match &entry.multiple {
         Some(several) => Ok(Some(several.clone()?)),
@@ -31,7 +31,7 @@ fn copied_multiple(entry: &TermEntry) -> Result<Option<String>, Memory> {
     }
 }
 
-/// A term, copied.
+/// Copies a term.
 fn copied_term(entry: &TermEntry) -> Result<TermEntry, Memory> {
     let multiple = copied_multiple(entry)?;
     Ok(TermEntry {
@@ -43,7 +43,7 @@ fn copied_term(entry: &TermEntry) -> Result<TermEntry, Memory> {
     })
 }
 
-/// The terms of the locales, behind as many others as `size`.
+/// `size` unused terms, then the terms of the locales.
 fn terms_behind(alloc: Global, size: usize, locales: &[Locale]) -> Result<Vec<TermEntry>, Memory> {
     let mut terms = Vec::new(alloc);
     for _ in 0..size {
@@ -57,7 +57,7 @@ fn terms_behind(alloc: Global, size: usize, locales: &[Locale]) -> Result<Vec<Te
     Ok(terms)
 }
 
-/// One locale without ordinals, with the terms of the locales behind as many others as `size`.
+/// A list of one locale without ordinals: `size` unused terms, then the terms of the locales.
 fn locale_behind(alloc: Global, size: usize, locales: &[Locale]) -> Result<Vec<Locale>, Memory> {
     let terms = terms_behind(alloc, size, locales)?;
     let locale = Locale {
@@ -70,8 +70,8 @@ fn locale_behind(alloc: Global, size: usize, locales: &[Locale]) -> Result<Vec<L
     one_item(alloc, locale)
 }
 
-/// A style of these macros and of a layout of one node, with the terms of another style behind as
-/// many others as `size`.
+/// A style of these macros and of a citation layout of one node. Its locale has `size` unused
+/// terms, then the terms of another style.
 pub fn with_terms(
     alloc: Global,
     macros: Vec<CslMacro>,
@@ -85,7 +85,7 @@ pub fn with_terms(
     Ok(Style::new(alloc, settings, macros, citation, None, locales)?)
 }
 
-/// Parentheses.
+/// Affixes that are parentheses.
 fn parentheses(alloc: Global) -> Result<Affixes, Memory> {
     let prefix = String::from_str(alloc, "(")?;
     let suffix = String::from_str(alloc, ")")?;
@@ -95,7 +95,7 @@ fn parentheses(alloc: Global) -> Result<Affixes, Memory> {
     })
 }
 
-/// The authors' family names and the year, as `author-date` has them.
+/// The authors' family names and the year, as in the built-in style `author-date`.
 fn author_date(alloc: Global) -> Result<LayoutRenderingElement, Memory> {
     let written = one_item(alloc, name(alloc, Some(NameForm::Short), None))?;
     let mut children = one_item(alloc, names(alloc, NameVariable::Author, written)?)?;
@@ -105,8 +105,8 @@ fn author_date(alloc: Global) -> Result<LayoutRenderingElement, Memory> {
     Ok(group(children, Some(comma), affixes))
 }
 
-/// Cites an article of one author by the family name and the year, with the terms of a style behind
-/// as many others as `size`, and counts the bytes of the plain text.
+/// Cites an article of one author by the family name and the year, and counts the bytes of the
+/// plain text. The locale has `size` unused terms, then the terms of `english`.
 fn cited_size(alloc: Global, english: &Style, size: usize) -> Result<usize, WorkError> {
     let macros = Vec::new(alloc);
     let style = with_terms(alloc, macros, author_date(alloc)?, english, size)?;
@@ -115,8 +115,8 @@ fn cited_size(alloc: Global, english: &Style, size: usize) -> Result<usize, Work
     bytes
 }
 
-/// Cites an article of one author by the family name and the year, in English with as many more
-/// terms as `size`, and counts the bytes of the plain text.
+/// Cites an article of one author by the family name and the year, in English with `size` unused
+/// terms more, and counts the bytes of the plain text.
 pub fn terms(alloc: Global, size: usize) -> Result<usize, WorkError> {
     let english = BuiltInStyle::AuthorDate.style(alloc)?;
     let bytes = cited_size(alloc, &english, size);

@@ -1,5 +1,5 @@
-//! A work over the bibliography of an author-date style, as large styles have it: twenty macros,
-//! up to twelve nodes in one another, with choices and substitutes.
+//! A benchmark of the bibliography of an author-date style, as in large styles: twenty macros,
+//! nodes nested up to fifteen deep with the macros expanded, choices and substitutes.
 
 use crate::author_date::with_terms;
 use crate::error::WorkError;
@@ -16,7 +16,7 @@ use csl_style::{
 use lit_model::{Entry, LongShortForm, Memory, NumberForm};
 use std::alloc::Global;
 
-/// A node that holds no other.
+/// A node without children.
 enum Part {
     Text(Variable),
     Quoted(Variable),
@@ -27,20 +27,20 @@ enum Part {
     Year(DateVariable),
 }
 
-/// What holds the parts of a macro.
+/// The node that holds the parts of a macro.
 enum Holder {
     /// A group with this delimiter.
     Group(&'static str),
-    /// A choice, by whether there is the variable.
+    /// A choice by whether the entry has the variable.
     Given(Variable),
-    /// A choice, by whether the entry is of the kind.
+    /// A choice by whether the entry is of the kind.
     Kind(Kind),
-    /// The persons of a variable. The parts are their substitute.
+    /// The names of the variable. The parts are their substitute.
     Names(NameVariable),
 }
 
-/// A macro of one node: its name, what the node is, its parts, and those that are printed where a
-/// choice does not choose them.
+/// A macro of one node: its name, the node, the node's parts, and the parts that a choice renders
+/// otherwise.
 struct Row {
     name: &'static str,
     holder: Holder,
@@ -207,7 +207,7 @@ fn quoted(var: Variable) -> LayoutRenderingElement {
     text(TextTarget::Variable { var, form }, true)
 }
 
-/// A number.
+/// A number in numeric form.
 fn number(variable: NumberVariable) -> LayoutRenderingElement {
     LayoutRenderingElement::Number(Number {
         variable: NumberOrPageVariable::Number(variable),
@@ -248,7 +248,7 @@ fn node(alloc: Global, part: &Part) -> Result<LayoutRenderingElement, Memory> {
     }
 }
 
-/// The nodes of some parts.
+/// The nodes of the parts.
 fn nodes(alloc: Global, parts: &[Part]) -> Result<Vec<LayoutRenderingElement>, Memory> {
     let mut nodes = Vec::new(alloc);
     for part in parts {
@@ -257,7 +257,7 @@ fn nodes(alloc: Global, parts: &[Part]) -> Result<Vec<LayoutRenderingElement>, M
     Ok(nodes)
 }
 
-/// A choice of one branch, by a variable or a kind.
+/// A choice: a branch by variables or kinds, the branches of `else_if`, and the `cs:else` nodes.
 fn choice(
     variable: Option<Vec<Variable>>,
     type_: Option<Vec<Kind>>,
@@ -282,7 +282,7 @@ fn choice(
     })
 }
 
-/// The persons of a variable, the first with the family name first, and their substitute.
+/// The names of a variable, the first with the family name first, and their substitute.
 fn persons(
     alloc: Global,
     variable: NameVariable,
@@ -293,7 +293,7 @@ fn persons(
     names(alloc, variable, children)
 }
 
-/// The node of a macro.
+/// The node of a row's macro.
 fn held(alloc: Global, row: &Row) -> Result<LayoutRenderingElement, Memory> {
     let parts = nodes(alloc, row.parts)?;
     let otherwise = nodes(alloc, row.otherwise)?;
@@ -315,7 +315,7 @@ fn held(alloc: Global, row: &Row) -> Result<LayoutRenderingElement, Memory> {
     }
 }
 
-/// A macro.
+/// The macro of a row.
 fn csl_macro(alloc: Global, row: &Row) -> Result<CslMacro, Memory> {
     let children = one_item(alloc, held(alloc, row)?)?;
     Ok(CslMacro {
@@ -324,7 +324,7 @@ fn csl_macro(alloc: Global, row: &Row) -> Result<CslMacro, Memory> {
     })
 }
 
-/// The macros.
+/// All macros of the style.
 fn macros(alloc: Global) -> Result<Vec<CslMacro>, Memory> {
     let rows: &[Row] = &MACROS;
     let mut macros = Vec::new(alloc);
@@ -334,7 +334,7 @@ fn macros(alloc: Global) -> Result<Vec<CslMacro>, Memory> {
     Ok(macros)
 }
 
-/// The style, with the terms of another.
+/// The style, with the terms of another style.
 fn style(alloc: Global, english: &Style) -> Result<Style, WorkError> {
     let macros = macros(alloc)?;
     let entry = macro_text(String::from_str(alloc, "entry")?);
@@ -363,8 +363,8 @@ fn article_sizes(alloc: Global, style: &Style, size: usize) -> Result<usize, Wor
     bytes
 }
 
-/// Cites an article of a journal `size` times in the style, with the terms of another, and counts
-/// the bytes of the plain texts.
+/// Cites an article of a journal `size` times in the style with the terms of another style, and
+/// counts the bytes of the plain texts.
 fn sizes_with_terms(alloc: Global, english: &Style, size: usize) -> Result<usize, WorkError> {
     let style = style(alloc, english)?;
     let bytes = article_sizes(alloc, &style, size);

@@ -1,4 +1,4 @@
-//! Works over the built-in styles.
+//! Benchmarks of the built-in styles.
 
 use crate::error::WorkError;
 use crate::literature::authors;
@@ -8,7 +8,7 @@ use csl_style::Style;
 use lit_model::Entry;
 use std::alloc::Global;
 
-/// An article of a journal, by so many authors.
+/// An article of a journal, by `size` authors.
 fn article_by(alloc: Global, size: usize) -> Result<Entry, WorkError> {
     let authors = authors(alloc, size)?;
     let mut article = BuiltIn::QuantizedVortex.entry(alloc)?;
@@ -16,7 +16,7 @@ fn article_by(alloc: Global, size: usize) -> Result<Entry, WorkError> {
     Ok(article)
 }
 
-/// Cites it, and counts the bytes of the plain text.
+/// Cites an article of `size` authors, and counts the bytes of the plain text.
 pub fn article_size(alloc: Global, style: &Style, size: usize) -> Result<usize, WorkError> {
     let article = article_by(alloc, size)?;
     let bytes = text_size(alloc, style, &article);
@@ -24,7 +24,7 @@ pub fn article_size(alloc: Global, style: &Style, size: usize) -> Result<usize, 
     bytes
 }
 
-/// Cites it in a built-in style, and counts the bytes of the plain text.
+/// Cites an article of `size` authors in a built-in style, and counts the bytes of the plain text.
 fn cited_size(alloc: Global, style: BuiltInStyle, size: usize) -> Result<usize, WorkError> {
     let style = style.style(alloc)?;
     let bytes = article_size(alloc, &style, size);
@@ -32,12 +32,12 @@ fn cited_size(alloc: Global, style: BuiltInStyle, size: usize) -> Result<usize, 
     bytes
 }
 
-/// Cites an article of so many authors by their family names and the year.
+/// Cites an article of `size` authors by their family names and the year.
 pub fn cite(alloc: Global, size: usize) -> Result<usize, WorkError> {
     cited_size(alloc, BuiltInStyle::AuthorDate, size)
 }
 
-/// Cites an article of so many authors as a list of references does.
+/// Cites an article of `size` authors by a full reference.
 pub fn reference(alloc: Global, size: usize) -> Result<usize, WorkError> {
     cited_size(alloc, BuiltInStyle::Reference, size)
 }

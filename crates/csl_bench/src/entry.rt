@@ -1,4 +1,4 @@
-//! Works over what an entry answers.
+//! Benchmarks of the answers and labels of an entry.
 
 use crate::style::{one_item, put};
 use csl_entry::{Alphanumerical, EntryLike};
@@ -129,7 +129,7 @@ fn text(alloc: Global, text: &str) -> Result<FormatString, Memory> {
     })
 }
 
-/// As many persons of one name as `size`.
+/// `size` persons of the same name.
 fn persons(alloc: Global, size: usize) -> Result<Vec<Person>, Memory> {
     let mut persons = Vec::new(alloc);
     for _ in 0..size {
@@ -147,7 +147,7 @@ fn persons(alloc: Global, size: usize) -> Result<Vec<Person>, Memory> {
     Ok(persons)
 }
 
-/// A periodical with a title and a volume, alone in a list.
+/// A list of one periodical, with a title and a volume.
 fn journals(alloc: Global) -> Result<Vec<Entry>, Memory> {
     let mut journals = one_item(alloc, Entry::new(alloc, "journal", EntryType::Periodical)?)?;
     if let Some(journal) = journals.last_mut() {
@@ -157,14 +157,14 @@ fn journals(alloc: Global) -> Result<Vec<Entry>, Memory> {
     Ok(journals)
 }
 
-/// A group of as many translators as `size`.
+/// A list of one group of `size` translators.
 fn translators(alloc: Global, size: usize) -> Result<Vec<PersonsWithRoles>, Memory> {
     let names = persons(alloc, size)?;
     let role = PersonRole::Translator;
     one_item(alloc, PersonsWithRoles { names, role })
 }
 
-/// Says of an article who made it, and where and when it came out.
+/// Sets the title, authors, translators, date and journal of an article.
 fn state(alloc: Global, article: &mut Entry, size: usize) -> Result<(), Memory> {
     article.title = Some(text(alloc, "Vortices")?);
     article.authors = Some(persons(alloc, size)?);
@@ -174,13 +174,13 @@ fn state(alloc: Global, article: &mut Entry, size: usize) -> Result<(), Memory> 
     Ok(())
 }
 
-/// An article of a journal, with so many authors and translators.
+/// An article of a journal, with `size` authors and `size` translators.
 pub fn article(alloc: Global, size: usize) -> Result<Entry, Memory> {
     let mut article = Entry::new(alloc, "article", EntryType::Article)?;
     state(alloc, &mut article, size).and(Ok(article))
 }
 
-/// How many number variables have an answer.
+/// Counts the number variables that an entry answers.
 fn numbers<T: EntryLike>(alloc: Global, entry: &T) -> Result<usize, Memory> {
     let variables: &[NumberVariable] = &NUMBERS;
     let mut found: usize = 0;
@@ -192,7 +192,7 @@ fn numbers<T: EntryLike>(alloc: Global, entry: &T) -> Result<usize, Memory> {
     Ok(found)
 }
 
-/// How many page and date variables have an answer.
+/// Counts the page and date variables that an entry answers.
 fn pages_and_dates<T: EntryLike>(alloc: Global, entry: &T) -> Result<usize, Memory> {
     let variables: &[DateVariable] = &DATES;
     let pages = entry.resolve_page_variable(alloc, PageVariable::Page)?;
@@ -205,7 +205,7 @@ fn pages_and_dates<T: EntryLike>(alloc: Global, entry: &T) -> Result<usize, Memo
     Ok(found)
 }
 
-/// How many standard variables have an answer in a form.
+/// Counts the standard variables that an entry answers in a form.
 fn texts<T: EntryLike>(alloc: Global, entry: &T, form: LongShortForm) -> Result<usize, Memory> {
     let variables: &[StandardVariable] = &TEXTS;
     let mut found: usize = 0;
@@ -220,7 +220,7 @@ fn texts<T: EntryLike>(alloc: Global, entry: &T, form: LongShortForm) -> Result<
     Ok(found)
 }
 
-/// How many persons all name variables answer.
+/// Counts the persons that an entry answers to all name variables.
 fn names<T: EntryLike>(alloc: Global, entry: &T) -> Result<usize, Memory> {
     let variables: &[NameVariable] = &NAMES;
     let mut found: usize = 0;
@@ -231,7 +231,7 @@ fn names<T: EntryLike>(alloc: Global, entry: &T) -> Result<usize, Memory> {
     Ok(found)
 }
 
-/// Asks an entry for every variable, each text in both forms, and counts the answers.
+/// Looks up every variable of an entry, the standard ones in both forms, and counts the answers.
 fn answer_count<T: EntryLike>(alloc: Global, entry: &T) -> Result<usize, Memory> {
     let numbers = numbers(alloc, entry)?;
     let dated = pages_and_dates(alloc, entry)?;
@@ -247,7 +247,8 @@ fn answer_count<T: EntryLike>(alloc: Global, entry: &T) -> Result<usize, Memory>
     )
 }
 
-/// Asks an article with many authors and translators for every variable, and counts the answers.
+/// Looks up every variable of an article with `size` authors and `size` translators, and counts the
+/// answers.
 pub fn answers(alloc: Global, size: usize) -> Result<usize, Memory> {
     let entry = article(alloc, size)?;
     let count = answer_count(alloc, &entry);
@@ -255,13 +256,13 @@ pub fn answers(alloc: Global, size: usize) -> Result<usize, Memory> {
     count
 }
 
-/// How many bytes the label of an entry has.
+/// Counts the bytes of the label of an entry.
 fn label_size(alloc: Global, entry: &Entry) -> Result<usize, Memory> {
     let label = Alphanumerical::new().citation(alloc, entry)?;
     Ok(label.len())
 }
 
-/// Labels an entry so many times, and counts the bytes of the labels.
+/// Labels an entry `size` times, and counts the bytes of the labels.
 fn label_sizes(alloc: Global, entry: &Entry, size: usize) -> Result<usize, Memory> {
     let mut bytes: usize = 0;
     for _ in 0..size {
@@ -270,7 +271,7 @@ fn label_sizes(alloc: Global, entry: &Entry, size: usize) -> Result<usize, Memor
     Ok(bytes)
 }
 
-/// Labels an article of four authors many times, and counts the bytes of the labels.
+/// Labels an article of four authors `size` times, and counts the bytes of the labels.
 pub fn labels(alloc: Global, size: usize) -> Result<usize, Memory> {
     let entry = article(alloc, 4)?;
     let bytes = label_sizes(alloc, &entry, size);

@@ -1,4 +1,4 @@
-//! Why a measured work failed.
+//! The reasons why a benchmark fails.
 
 use csl_context::RenderError;
 use csl_style::StyleError;
@@ -7,17 +7,17 @@ use lit_model::{Memory, NumericError};
 use std::alloc::AllocError;
 use std::fmt;
 
-/// Why a measured work failed.
+/// The reason why a benchmark failed.
 #[derive(Clone, Copy)]
 pub enum WorkError {
     /// Out of memory.
     Memory,
-    /// Something else than the work needs was asked or answered.
+    /// An argument or a result is not as the benchmark needs it.
     Unexpected(&'static str),
 }
 
 impl WorkError {
-    /// What is wrong, in words.
+    /// The reason in words.
     pub fn reason(self) -> &'static str {
         match self {
             WorkError::Memory => "out of memory",
@@ -38,7 +38,7 @@ impl From<AllocError> for WorkError {
     }
 }
 
-/// A text refuses a write only if memory runs out.
+/// Writing to a string fails only if memory runs out.
 impl From<fmt::Error> for WorkError {
     fn from(_error: fmt::Error) -> WorkError {
         WorkError::Memory

@@ -1,4 +1,4 @@
-//! Works over HTML.
+//! Benchmarks of HTML.
 
 use crate::error::WorkError;
 use crate::style::put;
@@ -7,13 +7,13 @@ use csl_tree::{BufWriteFormat, ElemChildren, leaf_text_of_html};
 use lit_model::Memory;
 use std::alloc::Global;
 
-/// A text with each reserved character of HTML.
+/// A text with every reserved character of HTML.
 const RESERVED: &str = "a<b & \"c\">";
 
-/// A text of the same length without any.
+/// A text of the same length without reserved characters.
 const PLAIN: &str = "a-b - .c._";
 
-/// A tree of so many copies of a text.
+/// A tree of `size` copies of a text.
 fn copies(alloc: Global, words: &str, size: usize) -> Result<ElemChildren, Memory> {
     let mut children = Vec::new(alloc);
     for _ in 0..size {
@@ -22,7 +22,7 @@ fn copies(alloc: Global, words: &str, size: usize) -> Result<ElemChildren, Memor
     Ok(ElemChildren(children))
 }
 
-/// The HTML of so many copies of a text.
+/// The HTML of `size` copies of a text.
 fn html_of(alloc: Global, words: &str, size: usize) -> Result<String, WorkError> {
     let children = copies(alloc, words, size)?;
     let mut html = String::new(alloc);

@@ -1,12 +1,12 @@
-//! Works over the literature model. Each makes its input by repeating a unit, and does one call
-//! on it.
+//! Benchmarks of the literature model. Each repeats a unit to make its input, and makes one call on
+//! it.
 
 use crate::error::WorkError;
 use crate::style::put;
 use lit_model::{Entry, EntryType, Memory, Numeric, NumericValue, PageRanges, Person};
 use std::alloc::Global;
 
-/// A text of so many units, and its end.
+/// A text of `size` units and an end.
 fn repetition(alloc: Global, unit: &str, size: usize, end: &str) -> Result<String, Memory> {
     let mut text = String::new(alloc);
     for _ in 0..size {
@@ -16,7 +16,7 @@ fn repetition(alloc: Global, unit: &str, size: usize, end: &str) -> Result<Strin
     Ok(text)
 }
 
-/// Reads a list of numbers, and counts them.
+/// Parses a list of numbers, and counts them.
 pub fn numeric(alloc: Global, size: usize) -> Result<usize, WorkError> {
     let text = repetition(alloc, "17, ", size, "4")?;
     let numeric = Numeric::parse(alloc, text.as_str())?;
@@ -26,13 +26,13 @@ pub fn numeric(alloc: Global, size: usize) -> Result<usize, WorkError> {
     }
 }
 
-/// Many page ranges, and a page.
+/// `size` page ranges and one page, parsed.
 pub fn page_ranges(alloc: Global, size: usize) -> Result<PageRanges, WorkError> {
     let text = repetition(alloc, "321-328, ", size, "7")?;
     Ok(PageRanges::parse(alloc, text.as_str())?)
 }
 
-/// Reads a list of page ranges, and counts its parts.
+/// Parses a list of page ranges, and counts its parts.
 pub fn pages(alloc: Global, size: usize) -> Result<usize, WorkError> {
     let pages = page_ranges(alloc, size)?;
     Ok(pages.ranges.len())
@@ -74,7 +74,7 @@ fn author(alloc: Global) -> Result<Person, Memory> {
     Ok(person(name, given_name))
 }
 
-/// As many authors of one name as `size`.
+/// `size` authors of the same name.
 pub fn authors(alloc: Global, size: usize) -> Result<Vec<Person>, Memory> {
     let mut authors = Vec::new(alloc);
     for _ in 0..size {
@@ -83,7 +83,7 @@ pub fn authors(alloc: Global, size: usize) -> Result<Vec<Person>, Memory> {
     Ok(authors)
 }
 
-/// An entry with many authors.
+/// An entry with `size` authors.
 fn entry(alloc: Global, size: usize) -> Result<Entry, Memory> {
     let authors = authors(alloc, size)?;
     let mut entry = Entry::new(alloc, "crazy-rich", EntryType::Book)?;
@@ -105,7 +105,7 @@ fn authors_of_copy(alloc: Global, entry: &Entry) -> Result<usize, Memory> {
     Ok(count)
 }
 
-/// Copies an entry with many authors, and counts those of the copy.
+/// Copies an entry with many authors, and counts the authors of the copy.
 pub fn clone_entry(alloc: Global, size: usize) -> Result<usize, Memory> {
     let entry = entry(alloc, size)?;
     let count = authors_of_copy(alloc, &entry);

@@ -1,8 +1,8 @@
-//! The program `csl_bench`: it does a work of a given size, for whoever counts its instructions.
+//! The program `csl_bench`: it runs a benchmark, called a work, at a given size, so that
+//! `tools/speed` can count its instructions.
 //!
-//! `csl_bench WORK N` does the work once, N times as large as its unit, and prints a checksum of
-//! the answer, never a time. Without words it does each work once, in a small size but for
-//! the chain of parents, which is deep.
+//! `csl_bench WORK N` runs the work once, on N of its units, and prints a checksum of the result,
+//! never a time. Without words it runs each work once, at a small size.
 #![tactic(auto)]
 
 mod author_date;
@@ -25,10 +25,10 @@ use std::env;
 use std::process::ExitCode;
 use std::rt::Env;
 
-/// The size of a work that is done without words.
+/// The size of a work if the program has no words.
 const SMALL: usize = 10;
 
-/// The works, by name, and the size in which each is done without words.
+/// The works by name, each with its size if the program has no words.
 static WORKS: [(&'static str, usize); 30] = [
     ("numeric", SMALL),
     ("pages", SMALL),
@@ -62,7 +62,7 @@ static WORKS: [(&'static str, usize); 30] = [
     ("doubling_size", SMALL),
 ];
 
-/// Does a work, and answers its checksum.
+/// Runs a work, and returns its checksum.
 fn checksum(alloc: Global, work: &str, size: usize) -> Result<usize, WorkError> {
     match work {
         "numeric" => literature::numeric(alloc, size),
@@ -107,7 +107,7 @@ fn report(rt: &(impl Print + AllocGlobal), work: &str, size: usize) -> Result<()
     }
 }
 
-/// Does each work once.
+/// Runs each work once, and prints its checksum.
 fn report_all(rt: &(impl Print + AllocGlobal)) -> Result<(), WorkError> {
     let works: &[(&'static str, usize)] = &WORKS;
     for (work, size) in works {
@@ -137,7 +137,7 @@ fn main(rt: HostRuntime) -> ExitCode {
     match run(&rt) {
         Ok(()) => ExitCode::SUCCESS,
         Err(error) => {
-            // Where even this can't be said, the status says it.
+            // If this line cannot be printed, the status still reports the failure.
             let _ = rt.eprintln(error.reason());
             ExitCode::FAILURE
         }

@@ -1,4 +1,4 @@
-//! Works over layouts whose nodes hold one another, many deep.
+//! Benchmarks of layouts with deeply nested nodes.
 
 use crate::entry::article;
 use crate::error::WorkError;
@@ -12,7 +12,7 @@ use csl_style::{
 use lit_model::Memory;
 use std::alloc::Global;
 
-/// The largest size of a layout that is asked for: above that of each published style.
+/// The limit of a layout's expanded size: above the size of each published style.
 const MOST: u64 = 16_384;
 
 /// Renders the citation layout of a style for an article of one author, and counts the bytes of
@@ -37,7 +37,7 @@ fn nested_size(
     bytes
 }
 
-/// As many groups in one another as `size`, a title in the innermost.
+/// `size` nested groups, with a title in the innermost.
 fn nested_groups(alloc: Global, size: usize) -> Result<Vec<LayoutRenderingElement>, Memory> {
     let mut nodes = one_item(alloc, title())?;
     for _ in 0..size {
@@ -46,13 +46,12 @@ fn nested_groups(alloc: Global, size: usize) -> Result<Vec<LayoutRenderingElemen
     Ok(nodes)
 }
 
-/// Renders a title in as many groups as `size`, and counts the bytes of the plain text.
+/// Renders a title in `size` nested groups, and counts the bytes of the plain text.
 pub fn groups(alloc: Global, size: usize) -> Result<usize, WorkError> {
     nested_size(alloc, Vec::new(alloc), nested_groups(alloc, size)?)
 }
 
-/// Renders a chain of as many macros as `size`, the last of which has the title, and counts the
-/// bytes of the plain text.
+/// Renders a chain of `size` macros, the last with a title, and counts the bytes of the plain text.
 pub fn macros(alloc: Global, size: usize) -> Result<usize, WorkError> {
     let title = Variable::Standard(StandardVariable::Title);
     let macros = linked(alloc, size, 1, title)?;
@@ -60,7 +59,7 @@ pub fn macros(alloc: Global, size: usize) -> Result<usize, WorkError> {
     nested_size(alloc, macros, one_item(alloc, first)?)
 }
 
-/// The authors, in as many substitutes of editors as `size`.
+/// The authors, in `size` nested substitutes of editors.
 fn nested_names(alloc: Global, size: usize) -> Result<Vec<LayoutRenderingElement>, Memory> {
     let authors = names(alloc, NameVariable::Author, Vec::new(alloc))?;
     let mut nodes = one_item(alloc, authors)?;
@@ -71,20 +70,20 @@ fn nested_names(alloc: Global, size: usize) -> Result<Vec<LayoutRenderingElement
     Ok(nodes)
 }
 
-/// Renders the author of an article without editors, in as many substitutes of editors as `size`,
-/// and counts the bytes of the plain text.
+/// Renders the author of an article without editors, in `size` nested substitutes of editors, and
+/// counts the bytes of the plain text.
 pub fn substitutes(alloc: Global, size: usize) -> Result<usize, WorkError> {
     nested_size(alloc, Vec::new(alloc), nested_names(alloc, size)?)
 }
 
-/// How large the citation layout of a style is with each macro in the place of its name, or 0
-/// where it is larger than [`MOST`].
+/// The size of a style's citation layout with each macro expanded, or 0 if it is larger than
+/// [`MOST`].
 fn expanded_size(style: &Style) -> u64 {
     style.expanded_size(style.citation(), MOST).unwrap_or(0)
 }
 
-/// A style of as many macros as `size`, each of which holds the next twice, the last twice a genre,
-/// which no entry here has. Its layout calls the first.
+/// A style of `size` macros. Each calls the next twice. The last has two texts of the genre, which
+/// no entry here has. The citation layout calls the first macro.
 fn doubling_style(alloc: Global, size: usize) -> Result<Style, WorkError> {
     let genre = Variable::Standard(StandardVariable::Genre);
     let macros = linked(alloc, size, 2, genre)?;
@@ -92,8 +91,8 @@ fn doubling_style(alloc: Global, size: usize) -> Result<Style, WorkError> {
     with_layout(alloc, StyleSettings::default(), macros, layout(first))
 }
 
-/// Renders a layout of as many macros as `size`, each of which holds the next twice, and counts the
-/// bytes of the plain text: none, since the last has a genre, which no entry here has.
+/// Renders a layout of `size` macros, each of which calls the next twice, and counts the bytes of
+/// the plain text. There are none: the last macro has only the genre, which no entry here has.
 pub fn doubling(alloc: Global, size: usize) -> Result<usize, WorkError> {
     let style = doubling_style(alloc, size)?;
     let bytes = size_for_one(alloc, &style);
@@ -101,8 +100,8 @@ pub fn doubling(alloc: Global, size: usize) -> Result<usize, WorkError> {
     bytes
 }
 
-/// Asks how large a layout of as many macros as `size` is, each of which holds the next twice.
-/// Nothing is rendered.
+/// The expanded size of a layout of `size` macros, each of which calls the next twice. Nothing is
+/// rendered.
 pub fn doubling_size(alloc: Global, size: usize) -> Result<usize, WorkError> {
     let style = doubling_style(alloc, size)?;
     let expanded = expanded_size(&style);

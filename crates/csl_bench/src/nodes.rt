@@ -1,4 +1,4 @@
-//! Nodes of layouts, with nothing around what they hold.
+//! Constructors of layout nodes without formatting.
 
 use crate::style::one_item;
 use csl_style::{
@@ -27,7 +27,7 @@ pub fn variable_text(var: Variable) -> LayoutRenderingElement {
     text(TextTarget::Variable { var, form }, false)
 }
 
-/// A text of the macro of this name.
+/// A text that calls the macro with this name.
 pub fn macro_text(name: String) -> LayoutRenderingElement {
     text(TextTarget::Macro { name }, false)
 }
@@ -37,7 +37,7 @@ pub fn title() -> LayoutRenderingElement {
     variable_text(Variable::Standard(StandardVariable::Title))
 }
 
-/// A group.
+/// A group with this delimiter and these affixes.
 pub fn group(
     children: Vec<LayoutRenderingElement>,
     delimiter: Option<String>,
@@ -52,12 +52,12 @@ pub fn group(
     })
 }
 
-/// A group with nothing between its nodes.
+/// A group without a delimiter and affixes.
 pub fn bare_group(children: Vec<LayoutRenderingElement>) -> LayoutRenderingElement {
     group(children, None, Affixes::default())
 }
 
-/// How names are written: with the word `and` before the last.
+/// A `cs:name` with the word `and` before the last name.
 pub fn name(alloc: Global, form: Option<NameForm>, order: Option<NameAsSortOrder>) -> NamesChild {
     NamesChild::Name(Name {
         options: InheritableNameOptions {
@@ -71,12 +71,12 @@ pub fn name(alloc: Global, form: Option<NameForm>, order: Option<NameAsSortOrder
     })
 }
 
-/// What stands in the place of names.
+/// A `cs:substitute`.
 pub fn substitute(children: Vec<LayoutRenderingElement>) -> NamesChild {
     NamesChild::Substitute(Substitute { children })
 }
 
-/// The persons of a variable, written by these children.
+/// A `cs:names` of one variable, with these children.
 pub fn names(
     alloc: Global,
     variable: NameVariable,

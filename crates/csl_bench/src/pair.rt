@@ -1,4 +1,4 @@
-//! Works over what a layout names, and over two entries.
+//! Benchmarks of the variables and kinds that a layout names, and of cites of two entries.
 
 use crate::entry::article;
 use crate::error::WorkError;
@@ -10,7 +10,8 @@ use csl_style::{Style, named_by};
 use lit_model::Memory;
 use std::alloc::Global;
 
-/// Collects what the citation layout of a style names, and counts the texts among it.
+/// Collects the variables and kinds that the citation layout of a style names, and counts the
+/// standard variables.
 fn named_count(alloc: Global, style: &Style) -> Result<usize, Memory> {
     let named = named_by(alloc, style, style.citation())?;
     let count = named.standards.len();
@@ -18,7 +19,8 @@ fn named_count(alloc: Global, style: &Style) -> Result<usize, Memory> {
     Ok(count)
 }
 
-/// Collects what groups of a title and texts of a macro name, and counts the texts among it.
+/// Collects the variables and kinds that groups of a title and texts of a macro name, and counts
+/// the standard variables.
 pub fn named(alloc: Global, size: usize) -> Result<usize, WorkError> {
     let style = style(alloc, size)?;
     let count = named_count(alloc, &style);
@@ -37,7 +39,7 @@ fn paired<T: EntryLike>(
     cite_pair(alloc, style, &cite_props, left, right)
 }
 
-/// How many bytes the HTML of both has.
+/// Counts the bytes of the HTML of both entries.
 fn html_size(pair: &Pair) -> usize {
     pair.left_html.len().saturating_add(pair.right_html.len())
 }
@@ -55,7 +57,8 @@ fn byte_count<T: EntryLike>(
     Ok(bytes)
 }
 
-/// Renders the citation layout of a style for an article beside itself, and counts the bytes.
+/// Renders the citation layout of a style for a pair of the same article, and counts the bytes of
+/// the HTML.
 fn byte_count_for_one(alloc: Global, style: &Style) -> Result<usize, WorkError> {
     let article = article(alloc, 1)?;
     let bytes = byte_count(alloc, style, &article, &article);
@@ -63,7 +66,8 @@ fn byte_count_for_one(alloc: Global, style: &Style) -> Result<usize, WorkError> 
     Ok(bytes?)
 }
 
-/// Renders groups of a title and texts of a macro for an article beside itself.
+/// Renders groups of a title and texts of a macro for a pair of the same article, and counts the
+/// bytes of the HTML.
 pub fn pair(alloc: Global, size: usize) -> Result<usize, WorkError> {
     let style = style(alloc, size)?;
     let bytes = byte_count_for_one(alloc, &style);

@@ -1,4 +1,4 @@
-//! Works over the nodes of a style.
+//! Benchmarks of rendering.
 
 use crate::entry::article;
 use crate::error::WorkError;
@@ -18,12 +18,12 @@ use std::alloc::Global;
 /// The name of the one macro.
 const MACRO: &str = "title";
 
-/// A text of the macro.
+/// A text that calls the macro [`MACRO`].
 fn call(alloc: Global) -> Result<LayoutRenderingElement, Memory> {
     Ok(macro_text(String::from_str(alloc, MACRO)?))
 }
 
-/// So many groups, with a text of the macro behind each.
+/// `size` groups of a title, with a text of the macro after each.
 fn nodes(alloc: Global, size: usize) -> Result<Vec<LayoutRenderingElement>, Memory> {
     let mut nodes = Vec::new(alloc);
     for _ in 0..size {
@@ -33,21 +33,21 @@ fn nodes(alloc: Global, size: usize) -> Result<Vec<LayoutRenderingElement>, Memo
     Ok(nodes)
 }
 
-/// The macro of a title.
+/// The macro, of a title.
 fn title_macro(alloc: Global) -> Result<CslMacro, Memory> {
     let name = String::from_str(alloc, MACRO)?;
     let children = one_item(alloc, title())?;
     Ok(CslMacro { name, children })
 }
 
-/// A style of one macro, whose layout has so many groups and texts of the macro.
+/// A style of one macro, with `size` groups and texts of the macro in its citation layout.
 pub fn style(alloc: Global, size: usize) -> Result<Style, WorkError> {
     let citation = layout(nodes(alloc, size)?);
     let macros = one_item(alloc, title_macro(alloc)?)?;
     with_layout(alloc, StyleSettings::default(), macros, citation)
 }
 
-/// Cites an entry for the first time.
+/// Renders the first cite of an entry.
 fn rendered<T: EntryLike>(
     alloc: Global,
     style: &Style,
@@ -79,7 +79,8 @@ fn child_count(alloc: Global, style: &Style, article: &Entry) -> Result<usize, W
     Ok(count)
 }
 
-/// The number of children that the style makes of an article of one author.
+/// Renders the citation layout of a style for an article of one author, and counts the children of
+/// the content.
 fn child_count_for_one(alloc: Global, style: &Style) -> Result<usize, WorkError> {
     let article = article(alloc, 1)?;
     let count = child_count(alloc, style, &article);
@@ -87,8 +88,8 @@ fn child_count_for_one(alloc: Global, style: &Style) -> Result<usize, WorkError>
     count
 }
 
-/// Renders groups of a title and texts of a macro for one article, and counts the children of the
-/// content.
+/// Renders `size` groups of a title and texts of a macro for an article, and counts the children of
+/// the content.
 pub fn render(alloc: Global, size: usize) -> Result<usize, WorkError> {
     let style = style(alloc, size)?;
     let count = child_count_for_one(alloc, &style);
@@ -96,7 +97,7 @@ pub fn render(alloc: Global, size: usize) -> Result<usize, WorkError> {
     count
 }
 
-/// A style that writes pages in the minimal format, and nothing else.
+/// A style that renders only pages, in the minimal format.
 fn paged(alloc: Global) -> Result<Style, WorkError> {
     let pages = variable_text(Variable::Page(PageVariable::Page));
     let citation = layout(one_item(alloc, pages)?);
@@ -105,7 +106,7 @@ fn paged(alloc: Global) -> Result<Style, WorkError> {
     with_layout(alloc, settings, Vec::new(alloc), citation)
 }
 
-/// An article on many page ranges.
+/// An article with `size` page ranges and one page.
 fn on_pages(alloc: Global, size: usize) -> Result<Entry, WorkError> {
     let ranges = page_ranges(alloc, size)?;
     let mut article = article(alloc, 1)?;
@@ -113,7 +114,7 @@ fn on_pages(alloc: Global, size: usize) -> Result<Entry, WorkError> {
     Ok(article)
 }
 
-/// Renders an article on many page ranges, and counts the bytes of the plain text.
+/// Renders a style for an article with `size` page ranges, and counts the bytes of the plain text.
 fn size_of_pages(alloc: Global, style: &Style, size: usize) -> Result<usize, WorkError> {
     let article = on_pages(alloc, size)?;
     let bytes = text_size(alloc, style, &article);
@@ -121,7 +122,7 @@ fn size_of_pages(alloc: Global, style: &Style, size: usize) -> Result<usize, Wor
     bytes
 }
 
-/// Renders many page ranges of an article, and counts the bytes of the plain text.
+/// Renders the pages of an article with `size` page ranges, and counts the bytes of the plain text.
 pub fn pages_rendered(alloc: Global, size: usize) -> Result<usize, WorkError> {
     let style = paged(alloc)?;
     let bytes = size_of_pages(alloc, &style, size);

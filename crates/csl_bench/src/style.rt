@@ -1,4 +1,4 @@
-//! Works over the macros of a style.
+//! Benchmarks of the macros of a style.
 
 use crate::error::WorkError;
 use crate::nodes::{macro_text, variable_text};
@@ -8,12 +8,12 @@ use csl_style::{
 use lit_model::Memory;
 use std::alloc::Global;
 
-/// The name of the macro of a number.
+/// The name of the macro with this number.
 pub fn name(alloc: Global, number: usize) -> Result<String, Memory> {
     Ok(format!(in alloc; "macro {number}")?)
 }
 
-/// The macro of a number, which calls those from a first number up to an end.
+/// The macro with this number. It calls the macros with the numbers from `first` to before `end`.
 fn calls(alloc: Global, number: usize, first: usize, end: usize) -> Result<CslMacro, Memory> {
     let mut children = Vec::new(alloc);
     for called in first..end {
@@ -32,7 +32,7 @@ pub fn one_item<T: Drop>(alloc: Global, item: T) -> Result<Vec<T>, Memory> {
     Ok(items)
 }
 
-/// Puts an item behind the others.
+/// Appends an item.
 pub fn put<T: Drop>(items: &mut Vec<T>, item: T) -> Result<(), Memory> {
     Ok(items.push(item)?)
 }
@@ -46,7 +46,7 @@ pub fn layout(elements: Vec<LayoutRenderingElement>) -> Layout {
     }
 }
 
-/// A style of the macros and of a layout of the citation.
+/// A style of these settings, macros and citation layout, without locales.
 pub fn with_layout(
     alloc: Global,
     settings: StyleSettings,
@@ -66,7 +66,7 @@ fn macro_count(alloc: Global, macros: Vec<CslMacro>) -> Result<usize, WorkError>
     Ok(count)
 }
 
-/// So many macros, each of which calls those behind it up to a distance.
+/// `size` macros. Each calls the next `reach` macros, up to the last macro.
 fn macros(alloc: Global, size: usize, reach: usize) -> Result<Vec<CslMacro>, Memory> {
     let mut macros = Vec::new(alloc);
     for number in 0..size {
@@ -76,8 +76,8 @@ fn macros(alloc: Global, size: usize, reach: usize) -> Result<Vec<CslMacro>, Mem
     Ok(macros)
 }
 
-/// The macro of a number below `size`, which holds a text of the next macro as many times as
-/// `times`; the last one holds a text of a variable so.
+/// The macro with this number, out of `size` macros. It calls the next macro `times` times. The
+/// last macro has `times` texts of a variable instead.
 fn link(
     alloc: Global,
     number: usize,
@@ -100,8 +100,8 @@ fn link(
     })
 }
 
-/// As many macros as `size`, each of which holds a text of the next as many times as `times`; the
-/// last one holds a text of a variable so.
+/// `size` macros, each of which calls the next `times` times. The last has `times` texts of a
+/// variable instead.
 pub fn linked(
     alloc: Global,
     size: usize,

@@ -1,4 +1,4 @@
-//! Works over the tree of content.
+//! Benchmarks of stacks and of the tree of content.
 
 use crate::style::put;
 use csl_style::Display;
@@ -9,7 +9,7 @@ use lit_model::Memory;
 use std::alloc::Global;
 use std::num::NonZeroUsize;
 
-/// A stack of the numbers up to so many.
+/// A stack of 0 and of the numbers below `size`.
 fn numbers(alloc: Global, size: usize) -> Result<NonEmptyStack<usize>, Memory> {
     let mut stack = NonEmptyStack::new(alloc, 0)?;
     for i in 0..size {
@@ -20,7 +20,7 @@ fn numbers(alloc: Global, size: usize) -> Result<NonEmptyStack<usize>, Memory> {
     Ok(stack)
 }
 
-/// The sum of a stack's items.
+/// Adds up a stack's items.
 fn total(stack: &NonEmptyStack<usize>) -> usize {
     let mut sum: usize = 0;
     for item in stack.iter() {
@@ -29,7 +29,8 @@ fn total(stack: &NonEmptyStack<usize>) -> usize {
     sum
 }
 
-/// Fills a stack, takes half of it and one more, and adds up what is left and how many were taken.
+/// Fills a stack, takes its upper half and one item more, and adds up the remaining items and the
+/// number of taken ones.
 pub fn stack(alloc: Global, size: usize) -> Result<usize, Memory> {
     let mut stack = numbers(alloc, size)?;
     let mut taken = 0;
@@ -43,7 +44,7 @@ pub fn stack(alloc: Global, size: usize) -> Result<usize, Memory> {
     Ok(total(&stack).wrapping_add(taken))
 }
 
-/// Takes the last item of a full stack and puts it back, as often as there are items.
+/// Fills a stack, takes its last item and puts it back `size` times, and adds up the items.
 pub fn drain(alloc: Global, size: usize) -> Result<usize, Memory> {
     let mut stack = numbers(alloc, size)?;
     for _ in 0..size {
@@ -58,7 +59,7 @@ pub fn drain(alloc: Global, size: usize) -> Result<usize, Memory> {
     Ok(total(&stack))
 }
 
-/// A text in no formatting.
+/// A text in the default formatting.
 pub fn text(alloc: Global, text: &str) -> Result<ElemChild, Memory> {
     let text = String::from_str(alloc, text)?;
     Ok(ElemChild::Text(Formatting::default().add_text(text)))
@@ -80,7 +81,7 @@ fn elem(children: Vec<ElemChild>, display: Option<Display>) -> ElemChild {
     })
 }
 
-/// A tree of so many blocks, with an element that shows nothing of its own before each.
+/// A tree of `size` blocks, with an element without display and meta before each.
 fn wide(alloc: Global, size: usize) -> Result<ElemChildren, Memory> {
     let mut children = Vec::new(alloc);
     for _ in 0..size {
@@ -90,7 +91,7 @@ fn wide(alloc: Global, size: usize) -> Result<ElemChildren, Memory> {
     Ok(ElemChildren(children))
 }
 
-/// A tree of so many blocks, each in the next.
+/// A tree of `size` nested blocks, with two texts before each and in the innermost.
 fn deep(alloc: Global, size: usize) -> Result<ElemChildren, Memory> {
     let mut children = texts(alloc)?;
     for _ in 0..size {
@@ -101,25 +102,25 @@ fn deep(alloc: Global, size: usize) -> Result<ElemChildren, Memory> {
     Ok(ElemChildren(children))
 }
 
-/// One round of simplification, and how many children and bytes of text it leaves.
+/// Simplifies children by one round, and adds up the remaining children and bytes of text.
 fn simplified_size(alloc: Global, children: &ElemChildren) -> Result<usize, Memory> {
     let left = simplify_children(alloc, children)?;
     Ok(left.str_len().wrapping_add(left.0.len()))
 }
 
-/// Simplifies a wide tree once.
+/// Simplifies a wide tree by one round.
 pub fn simplify(alloc: Global, size: usize) -> Result<usize, Memory> {
     let children = wide(alloc, size)?;
     simplified_size(alloc, &children)
 }
 
-/// Simplifies a deep tree once.
+/// Simplifies a deep tree by one round.
 pub fn simplify_deep(alloc: Global, size: usize) -> Result<usize, Memory> {
     let children = deep(alloc, size)?;
     simplified_size(alloc, &children)
 }
 
-/// An element that a date made.
+/// An element of two texts, marked as the content of a date.
 fn date(alloc: Global) -> Result<ElemChild, Memory> {
     Ok(ElemChild::Elem(Elem {
         children: ElemChildren(texts(alloc)?),
@@ -128,8 +129,8 @@ fn date(alloc: Global) -> Result<ElemChild, Memory> {
     }))
 }
 
-/// How many bytes of text the searches find: the date, no names, the last text, and the date once
-/// more, which is taken out.
+/// Counts the bytes of text that four searches find: the date, no names, the last text, and the
+/// date again, which is removed.
 fn found_size(children: &mut ElemChildren) -> usize {
     let mut sum: usize = 0;
     if let Some(date) = children.find_meta(&ElemMeta::Date) {
@@ -147,7 +148,7 @@ fn found_size(children: &mut ElemChildren) -> usize {
     sum
 }
 
-/// Searches a wide tree for what stands at its end.
+/// Searches a wide tree for the date at its end, and counts the bytes found and left.
 pub fn search(alloc: Global, size: usize) -> Result<usize, Memory> {
     let mut children = wide(alloc, size)?;
     put(&mut children.0, date(alloc)?)?;
@@ -155,7 +156,7 @@ pub fn search(alloc: Global, size: usize) -> Result<usize, Memory> {
     Ok(sum.wrapping_add(children.str_len()))
 }
 
-/// Searches a deep tree for what stands at its end.
+/// Searches a deep tree for the date at its end, and counts the bytes found and left.
 pub fn search_deep(alloc: Global, size: usize) -> Result<usize, Memory> {
     let mut children = deep(alloc, size)?;
     put(&mut children.0, date(alloc)?)?;

@@ -1,6 +1,7 @@
-//! The program `csl_cite`: it prints what a built-in style makes of an entry.
+//! The program `csl_cite`: it prints the cite of a title or of a built-in entry, the label of such
+//! an entry, whether it is of a kind, or the leaf text of HTML.
 //!
-//! All of its work is [`csl_cli::run::run_into`], over any two sinks; `main` hands it the
+//! [`csl_cli::run::run_into`] does all of its work, over any two sinks. `main` passes it the
 //! arguments and the standard streams.
 #![tactic(auto)]
 
@@ -21,8 +22,8 @@ fn arguments(rt: &(impl Env + AllocGlobal)) -> io::Result<Vec<String>> {
     Ok(words.collect(rt.alloc())?)
 }
 
-/// Says why there are no arguments, and returns the status for it: 4 where standard error refuses
-/// the text.
+/// Prints why there are no arguments, and returns the status: 3 if memory ran out, 2 otherwise, but
+/// 4 if standard error refuses the line.
 fn without_arguments(rt: &impl Eprint, error: &io::Error) -> u8 {
     let (line, status) = if error.kind() == ErrorKind::OutOfMemory {
         ("out of memory", 3)

@@ -1,4 +1,4 @@
--- A kind's name names it, and nothing else does.
+-- A text names a kind exactly if it is the kind's name.
 use Rattle.std.proofs.Common.{◌≡◌, ℕ, Bool, true, false, List, [], ◌∷◌, refl, sym, ap, ◌∙◌}
 use Rattle.std.specs.Prelude.{Option, Some, None, IfSome, find, if◌then◌else◌, ◌↔◌}
 use Rattle.std.specs.Str.{bytes_eq}
@@ -8,7 +8,7 @@ use Rattle.csl_style.specs.declared.taxonomy.Kind.{Kind}
 use Rattle.csl_style.specs.declared.taxonomy.Kind.TheVariants as kinds
 use Rattle.csl_cli.specs.Command.{all_kinds, named_kind}
 
--- what is found passes the test
+-- the item that is found passes the test
 first_or : {X : Type 0} (p : X → Bool) (x : X) (o : Option X) (b : Bool) → p x ≡ b → IfSome o (λ y. p y ≡ true) → IfSome (if b then Some x else o) (λ y. p y ≡ true)
 first_or p x o true e h = e
 first_or p x o false e h = h
@@ -70,7 +70,7 @@ by_no_name : (name : List ℕ) (o : Option Kind) → ((kind : Kind) → (None �
 by_no_name name None h passes = refl
 by_no_name name (Some kind) h passes = (h kind).1 ((bytes_eq-Decides name (name_of kind)).0 passes)
 
--- what answers by the names is what the list of kinds gives
+-- an option that is a kind exactly if the text is its name is the kind that the text names
 pub kind_by_name : (name : List ℕ) (o : Option Kind) → ((kind : Kind) → (o ≡ Some kind) ↔ (name ≡ name_of kind)) → o ≡ named_kind name
 kind_by_name name (Some kind) h = sym (ap named_kind ((h kind).0 refl) ∙ by_its_name kind)
 kind_by_name name None h = by_no_name name (named_kind name) h (found_passes (λ kind. bytes_eq name (name_of kind)) all_kinds)

@@ -1,4 +1,4 @@
--- A lent writer took a line, if there was one, where the writer that it was lent to took it.
+-- If a line was written through a mutable reference to a writer, the writer took that line.
 use Rattle.std.proofs.Common.{◌≡◌, ℕ, List, MutBor}
 use Rattle.std.specs.Prelude.{Option, Some, None, IsSomeAnd}
 use Rattle.csl_common.proofs.Writes.{PassedOn, passed_back}

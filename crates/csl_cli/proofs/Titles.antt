@@ -1,5 +1,5 @@
--- The cite of a title in the style of titles is written as the text of that title. The group of the
--- style prints where the title is not empty.
+-- The cite of a title in the style of titles is the text of that title. The group of the style
+-- prints if the title is not empty.
 use Rattle.std.proofs.Common.{◌≡◌, ℕ, Bool, true, false, not, ◌==◌, List, [], ◌∷◌, ◌++◌, length, Some, None, refl, ap, ◌∙◌, if◌then◌else◌, arith}
 use Rattle.std.proofs.lemmas.Grind.{common_steps}
 use Rattle.std.specs.Prelude.{codes}
@@ -28,7 +28,7 @@ use Rattle.csl_samples.specs.Title as built
 use Rattle.csl_samples.specs.Title.{title_answers, title_layout}
 use Rattle.csl_cli.specs.Content.{IsTitleContent, title_text}
 
--- a first cite of a title
+-- the input of a first cite of a title
 abbrev title_input : StyleParts → List ℕ → RenderInput
 title_input style title =
     cite_input style Citation (first_cite no_disambiguation) None None (title_answers (in_one_piece title))
@@ -41,7 +41,7 @@ made_by style title layout =
 not_empty : (b : ℕ) (bs : List ℕ) → (length (b ∷ bs) == 0) ≡ false
 not_empty b bs = grind (arith, common_steps)
 
--- the same content, by whether the title is empty
+-- that content, for an empty title and for any other
 module _ (style : StyleParts) (title : List ℕ) where
   abbrev in_world : RenderInput
   in_world = title_input style title

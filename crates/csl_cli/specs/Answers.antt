@@ -1,6 +1,6 @@
--- What the program writes for its words: the text of a title or the content of a cite, in a format,
--- the label with three letters, `true` or `false`, or the leaf text, and a newline. A missing word,
--- an unknown word and a text that is not HTML are refused, with a line of their own.
+-- The program's output for its words. The answer is the text of a title or the content of a cite,
+-- in a format; a label; `true` or `false`; or a leaf text. A newline follows it. A missing word, an
+-- unknown word and a text that is not HTML each get a line of complaint instead.
 use Rattle.std.specs.Prelude.{◌≡◌, ◌⊎◌, ℕ, Bool, true, false, List, ◌++◌, Option, Some, None, IsSomeAnd, codes, string_bytes}
 use Rattle.std.specs.Fmt.{WritesInCalls}
 use Rattle.csl_tree.specs.Html.{IsHtmlOf, IsNotHtml}
@@ -22,9 +22,9 @@ abbrev pub truth_text : Bool → List ℕ
 truth_text true = codes "true"
 truth_text false = codes "false"
 
--- The text answers the words: the text of the title; the cite of the built-in entry in the style of
--- the command, as it is written; the label of the built-in entry, with three letters; whether that
--- entry is of the kind; the leaf text of the HTML.
+-- The text answers the words: it is the text of the title; the written content of the cite of the
+-- built-in entry, in the style of the command; the label of the built-in entry; whether that entry
+-- is of the kind; or the leaf text of the HTML.
 abbrev pub IsAnswer : CommandView → List ℕ → Type 0
 IsAnswer (title_in title format) text = text ≡ title_text title format
 IsAnswer (cite_in entry style format) text = (content : List Token) × IsEntryContent entry style content × (text ≡ text_in_format format content)
@@ -34,13 +34,13 @@ IsAnswer (leaf_of html) text = IsHtmlOf html text
 IsAnswer missing text = ⊥
 IsAnswer (unknown word) text = ⊥
 
--- the text that an answer of the code writes
+-- the text that the code writes for an answer
 abbrev pub answer_text : Answer → List ℕ
 answer_text (Content content format) = text_in_format format (tokens content)
 answer_text (Text text) = string_bytes text
 answer_text (Truth truth) = truth_text truth
 
--- the complaint about words that were refused, without the newline
+-- the complaint about words that are not a command, without the newline
 abbrev pub complaint : CommandView → Option (List ℕ)
 complaint (title_in title format) = None
 complaint (cite_in entry style format) = None
@@ -50,7 +50,7 @@ complaint (leaf_of html) = None
 complaint missing = Some (codes "missing word")
 complaint (unknown word) = Some (codes "unknown: " ++ word)
 
--- the words ask for the leaf text of what is not HTML
+-- the words ask for the leaf text of a text that is not HTML
 abbrev pub IsRefused : CommandView → Type 0
 IsRefused (title_in title format) = ⊥
 IsRefused (cite_in entry style format) = ⊥
@@ -68,12 +68,12 @@ HasNoAnswer verdict = (text : List ℕ) → IsAnswer verdict text → ⊥
 abbrev pub not_html : List ℕ
 not_html = codes "not html"
 
--- the complaint where memory ran out, without the newline
+-- the complaint if memory ran out, without the newline
 abbrev pub out_of_memory : List ℕ
 out_of_memory = codes "out of memory"
 
--- ---- what a writer took that takes a text by `gives`: a line, the answer, what is said of words
--- that were refused
+-- ---- A writer went from `old` to `new` by calls. For each call, `gives` relates the old writer,
+-- the text and the new writer. Together the calls wrote a line, the answer, or the complaint.
 
 abbrev pub TakesLine : {W : Type 0} → (W → List ℕ → W → Type 0) → W → List ℕ → W → Type 0
 TakesLine gives old text new = WritesInCalls gives old (line text) new
@@ -84,7 +84,7 @@ Replies gives verdict old new = (text : List ℕ) × IsAnswer verdict text × Ta
 abbrev pub Complains : {W : Type 0} → (W → List ℕ → W → Type 0) → CommandView → W → W → Type 0
 Complains gives verdict old new = IsSomeAnd (complaint verdict) (λ text. TakesLine gives old text new)
 
--- where neither of two writers had refused a text, one of them has now
+-- if neither of two writers had refused a text before, one of them has refused one now
 abbrev pub OneRefuses : {W F : Type 0} → (W → Bool) → W → W → (F → Bool) → F → F → Type 0
 OneRefuses out_refused out out_after fault_refused fault fault_after =
     out_refused out ≡ false → fault_refused fault ≡ false → (out_refused out_after ≡ true) ⊎ (fault_refused fault_after ≡ true)

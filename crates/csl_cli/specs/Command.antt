@@ -1,12 +1,12 @@
--- The words of the program, read from the left. No words ask for the title `Nature` in HTML.
+-- The words of the program, read from the left. No words at all mean the title `Nature` in HTML.
 -- - `title`, a text, and `plain` or `html`: that title in that format.
 -- - `cite`, a key, the name of a style, and `plain` or `html`: a cite of that built-in entry in
 --   that built-in style.
 -- - `label` and a key: the label of that built-in entry.
 -- - `kind`, a key and the name of a kind: whether that built-in entry is of that kind.
 -- - `leaf` and a text: the leaf text of that HTML.
--- A word that is not expected at its place, or that follows the last one, is unknown. Where a word
--- is expected and none is left, one is missing.
+-- A word that is not expected at its place, or that follows the last one, is unknown. If a word is
+-- expected and none is left, a word is missing.
 use Rattle.std.specs.Prelude.{ℕ, List, [], ◌∷◌, Option, Some, None, find, map, Result, Ok, Err, String, codes, string_bytes, if◌then◌else◌}
 use Rattle.std.specs.Str.{bytes_eq}
 use Rattle.std.specs.declared.alloc.Global.{Global}
@@ -24,9 +24,9 @@ use Rattle.csl_cli.specs.declared.command.Command.TheVariants as commands
 use Rattle.csl_cli.specs.declared.command.WordsError.{WordsError}
 use Rattle.csl_cli.specs.declared.command.WordsError.TheVariants.{Missing, Unknown}
 
--- What the words ask for: a title in a format, a cite of an entry by a style in a format, the label
--- of an entry, whether an entry is of a kind, the leaf text of HTML. Or a word is missing, or
--- unknown.
+-- The verdict on the words. It is a command: a title in a format, a cite of an entry by a style in
+-- a format, the label of an entry, whether an entry is of a kind, or the leaf text of HTML. Or a
+-- word is missing or unknown.
 pub data CommandView : Type 0 where
   title_in : List ℕ → BufWriteFormat → CommandView
   cite_in : BuiltIn → BuiltInStyle → BufWriteFormat → CommandView
@@ -36,42 +36,42 @@ pub data CommandView : Type 0 where
   missing : CommandView
   unknown : List ℕ → CommandView
 
--- a verdict after which no word may follow
+-- the verdict if no word follows; otherwise the next word is unknown
 abbrev pub when_last : CommandView → List (List ℕ) → CommandView
 when_last v [] = v
 when_last v (word ∷ words) = unknown word
 
--- what a word names, else it is unknown
+-- the verdict `next` on the thing that a word names; if it names nothing, the word is unknown
 abbrev pub or_unknown : {T : Type 0} → List ℕ → Option T → (T → CommandView) → CommandView
 or_unknown word None next = unknown word
 or_unknown word (Some x) next = next x
 
--- the format of a name
+-- the format with this name
 abbrev pub named_format : List ℕ → Option BufWriteFormat
 named_format name = if bytes_eq name (codes "plain") then Some Plain else (if bytes_eq name (codes "html") then Some Html else None)
 
--- the words after `title`: the title and its format
+-- the verdict on the words after `title`: the title and its format
 abbrev pub parse_title : List (List ℕ) → CommandView
 parse_title [] = missing
 parse_title (title ∷ []) = missing
 parse_title (title ∷ name ∷ words) = or_unknown name (named_format name) (λ format. when_last (title_in title format) words)
 
--- the word after an entry and a style: the format
+-- the verdict on the words after `cite`, an entry and a style: the format
 abbrev pub cite_verdict_in : BuiltIn → BuiltInStyle → List (List ℕ) → CommandView
 cite_verdict_in entry style [] = missing
 cite_verdict_in entry style (name ∷ words) = or_unknown name (named_format name) (λ format. when_last (cite_in entry style format) words)
 
--- the words after an entry: the style and the format
+-- the verdict on the words after `cite` and an entry: the style and the format
 abbrev pub cite_verdict_of : BuiltIn → List (List ℕ) → CommandView
 cite_verdict_of entry [] = missing
 cite_verdict_of entry (name ∷ words) = or_unknown name (named_style name) (λ style. cite_verdict_in entry style words)
 
--- the words after `cite`: the entry, the style and the format
+-- the verdict on the words after `cite`: the entry, the style and the format
 abbrev pub parse_cite : List (List ℕ) → CommandView
 parse_cite [] = missing
 parse_cite (key ∷ words) = or_unknown key (named_built_in key) (λ entry. cite_verdict_of entry words)
 
--- the words after `label`: the entry
+-- the verdict on the words after `label`: the entry
 abbrev pub parse_label : List (List ℕ) → CommandView
 parse_label [] = missing
 parse_label (key ∷ words) = or_unknown key (named_built_in key) (λ entry. when_last (label_of entry) words)
@@ -89,22 +89,22 @@ all_kinds =
 abbrev pub named_kind : List ℕ → Option Kind
 named_kind name = find (λ kind. bytes_eq name (name_of kind)) all_kinds
 
--- the word after an entry: the kind
+-- the verdict on the words after `kind` and an entry: the kind
 abbrev pub kind_verdict_of : BuiltIn → List (List ℕ) → CommandView
 kind_verdict_of entry [] = missing
 kind_verdict_of entry (name ∷ words) = or_unknown name (named_kind name) (λ kind. when_last (kind_of entry kind) words)
 
--- the words after `kind`: the entry and the kind
+-- the verdict on the words after `kind`: the entry and the kind
 abbrev pub parse_kind : List (List ℕ) → CommandView
 parse_kind [] = missing
 parse_kind (key ∷ words) = or_unknown key (named_built_in key) (λ entry. kind_verdict_of entry words)
 
--- the words after `leaf`: the HTML
+-- the verdict on the words after `leaf`: the HTML
 abbrev pub leaf_verdict : List (List ℕ) → CommandView
 leaf_verdict [] = missing
 leaf_verdict (html ∷ words) = when_last (leaf_of html) words
 
--- what the words ask for; no words ask for the title `Nature` in HTML
+-- the verdict on all words; no words at all mean the title `Nature` in HTML
 abbrev pub verdict_on : List (List ℕ) → CommandView
 verdict_on [] = title_in (codes "Nature") Html
 verdict_on (name ∷ words) =
@@ -114,7 +114,7 @@ verdict_on (name ∷ words) =
     else (if bytes_eq name (codes "kind") then parse_kind words
     else (if bytes_eq name (codes "leaf") then leaf_verdict words else unknown name))))
 
--- the verdict of an error, and of the result that the code returns
+-- the verdicts for values of the code: an error, a command, and the result of parsing
 abbrev pub refusal : WordsError → CommandView
 refusal Missing = missing
 refusal (Unknown word) = unknown word.now
@@ -130,6 +130,6 @@ abbrev pub command_view : Result Command WordsError → CommandView
 command_view (Ok command) = command_verdict command
 command_view (Err error) = refusal error
 
--- what the program takes its words to ask for
+-- the verdict on the program's words
 abbrev pub parse_words : List (String Global) → CommandView
 parse_words words = verdict_on (map string_bytes words)

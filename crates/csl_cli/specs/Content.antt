@@ -1,10 +1,10 @@
--- The cite of `title` is the first cite of an entry that has this title, in one normal chunk, and
--- no other answers, in the style of titles (`IsTitleContent`). The cite of `cite` is the first cite
--- of a built-in entry, by its answers, in a built-in style (`IsEntryContent`). The content is what
--- `csl_render` defines for it (`cite_content`).
+-- The command `title` renders the first cite of an entry, in the style of titles
+-- (`IsTitleContent`). The entry answers only this title, in one normal chunk. The command `cite`
+-- renders the first cite of a built-in entry, by its answers, in a built-in style
+-- (`IsEntryContent`). `csl_render` defines the content (`cite_content`).
 -- The cite of a title is written as `(Title: `, the title and `)` (`title_text`). In HTML the title
--- is escaped and stands in a span that declares italics. Where the title is empty the group around
--- it does not print, and nothing is written.
+-- is escaped, in a span that declares italics. If the title is empty, the group around it does not
+-- print, and nothing is written.
 use Rattle.std.specs.Prelude.{◌≡◌, ℕ, List, [], ◌∷◌, ◌++◌, codes}
 use Rattle.csl_style.specs.Style.{StyleParts}
 use Rattle.csl_tree.specs.Escapes.{escape_all}
@@ -21,7 +21,7 @@ use Rattle.csl_samples.specs.Title.{CitesTitles, title_answers}
 use Rattle.csl_samples.specs.declared.entries.BuiltIn.{BuiltIn}
 use Rattle.csl_samples.specs.declared.styles.BuiltInStyle.{BuiltInStyle}
 
--- the content of the first cite of an entry that has this title alone, in the style of titles
+-- the content of the first cite of an entry with only this title, in the style of titles
 abbrev pub IsTitleContent : List ℕ → List Token → Type 0
 IsTitleContent title content = (style : StyleParts) × CitesTitles style × (content ≡ cite_content style (title_answers (in_one_piece title)))
 

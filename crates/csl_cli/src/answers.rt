@@ -1,4 +1,4 @@
-//! The answers to words that were understood.
+//! The answers to parsed commands.
 
 ghost use Rattle.std.specs.Prelude.{◌≡◌, ◌⊎◌, true, OnOk, OnErr, Err, IfOk, IsErrOf};
 ghost use Rattle.csl_cli.specs.Answers.{IsAnswer, IsRefused, TakesLine, answer_text, truth_text};
@@ -11,10 +11,10 @@ use csl_tree::{BufWriteFormat, ElemChildren, HtmlError, leaf_text_of_html};
 use std::alloc::Global;
 use std::fmt;
 
-/// An answer, whole before anything of it is written.
+/// A complete answer, before any of it is written.
 #[derive(Drop)]
 pub enum Answer {
-    /// A content, to be written in a format.
+    /// Content, and the format to write it in.
     Content(ElemChildren, BufWriteFormat),
     /// A text.
     Text(String),
@@ -25,7 +25,7 @@ pub enum Answer {
 /// The answer to a command.
 ///
 /// # Errors
-/// - [`HtmlError::NotHtml`]: the command is for the leaf text of what is not HTML.
+/// - [`HtmlError::NotHtml`]: the command asks for the leaf text of a text that is not HTML.
 /// - [`HtmlError::Memory`]: out of memory.
 #[tactic(auto, using(crate::proofs::Titles::title_is_written))]
 pub fn answer_to(alloc: Global, command: Command<'_>) -> Result<Answer, HtmlError>

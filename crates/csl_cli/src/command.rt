@@ -1,4 +1,4 @@
-//! The words that the program is called with.
+//! Parsing of the words, which are the program's command-line arguments.
 
 ghost use Rattle.std.specs.Prelude.{◌≡◌, map, string_bytes};
 ghost use Rattle.csl_cli.specs.Command.{parse_words, named_format, named_kind, command_view};
@@ -9,7 +9,7 @@ use csl_samples::{BuiltIn, BuiltInStyle};
 use csl_style::Kind;
 use csl_tree::BufWriteFormat;
 
-/// What the words ask for.
+/// A parsed command.
 #[derive(Clone, Copy)]
 pub enum Command<'a> {
     /// A title, written in a format.
@@ -34,16 +34,16 @@ pub enum Command<'a> {
     Leaf(&'a str),
 }
 
-/// Why the words were refused.
+/// The reason why the words are not a command.
 #[derive(Clone, Copy)]
 pub enum WordsError<'a> {
-    /// A word is missing at their end.
+    /// The words end where another one is expected.
     Missing,
-    /// This word stands where another is expected, or where none is.
+    /// This word is not expected at its place.
     Unknown(&'a str),
 }
 
-/// What the words ask for, read from the left. No words ask for the title `Nature` in HTML.
+/// Parses the words from the left. No words at all mean the title `Nature` in HTML.
 pub fn command_of(words: &[String]) -> Result<Command<'_>, WordsError<'_>>
     ensures { command_view result ≡ parse_words words.now }
 {
@@ -63,7 +63,7 @@ pub fn command_of(words: &[String]) -> Result<Command<'_>, WordsError<'_>>
     }
 }
 
-/// What the words after `title` ask for.
+/// Parses the words after `title`.
 fn title_command(words: &[String]) -> Result<Command<'_>, WordsError<'_>>
     ensures { command_view result ≡ parse_title (map string_bytes words.now) }
 {
@@ -82,7 +82,7 @@ fn title_command(words: &[String]) -> Result<Command<'_>, WordsError<'_>>
     }
 }
 
-/// The format of a name, if there is one.
+/// The format with this name, if there is one.
 fn format_of_name(name: &str) -> Option<BufWriteFormat>
     ensures { result ≡ named_format name.now }
 {
@@ -93,7 +93,7 @@ fn format_of_name(name: &str) -> Option<BufWriteFormat>
     }
 }
 
-/// What the words after `cite` ask for.
+/// Parses the words after `cite`.
 fn cite_command(words: &[String]) -> Result<Command<'_>, WordsError<'_>>
     ensures { command_view result ≡ parse_cite (map string_bytes words.now) }
 {
@@ -106,7 +106,7 @@ fn cite_command(words: &[String]) -> Result<Command<'_>, WordsError<'_>>
     }
 }
 
-/// What the words after `cite` and an entry ask for.
+/// Parses the words after `cite` and an entry.
 fn cite_command_of(entry: BuiltIn, words: &[String]) -> Result<Command<'_>, WordsError<'_>>
     ensures { command_view result ≡ cite_verdict_of entry (map string_bytes words.now) }
 {
@@ -119,7 +119,7 @@ fn cite_command_of(entry: BuiltIn, words: &[String]) -> Result<Command<'_>, Word
     }
 }
 
-/// What the words after `cite`, an entry and a style ask for.
+/// Parses the words after `cite`, an entry and a style.
 fn cite_command_in(
     entry: BuiltIn,
     style: BuiltInStyle,
@@ -143,7 +143,7 @@ fn cite_command_in(
     }
 }
 
-/// What the words after `label` ask for.
+/// Parses the words after `label`.
 fn label_command(words: &[String]) -> Result<Command<'_>, WordsError<'_>>
     ensures { command_view result ≡ parse_label (map string_bytes words.now) }
 {
@@ -159,7 +159,7 @@ fn label_command(words: &[String]) -> Result<Command<'_>, WordsError<'_>>
     }
 }
 
-/// What the words after `kind` ask for.
+/// Parses the words after `kind`.
 fn kind_command(words: &[String]) -> Result<Command<'_>, WordsError<'_>>
     ensures { command_view result ≡ parse_kind (map string_bytes words.now) }
 {
@@ -172,7 +172,7 @@ fn kind_command(words: &[String]) -> Result<Command<'_>, WordsError<'_>>
     }
 }
 
-/// What the words after `kind` and an entry ask for.
+/// Parses the words after `kind` and an entry.
 fn kind_command_of(entry: BuiltIn, words: &[String]) -> Result<Command<'_>, WordsError<'_>>
     ensures { command_view result ≡ kind_verdict_of entry (map string_bytes words.now) }
 {
@@ -188,14 +188,14 @@ fn kind_command_of(entry: BuiltIn, words: &[String]) -> Result<Command<'_>, Word
     }
 }
 
-/// The kind of a name, if there is one.
+/// The kind with this name, if there is one.
 fn kind_of_name(name: &str) -> Option<Kind>
     ensures { result ≡ named_kind name.now }
 {
     Kind::from_name(name)
 }
 
-/// What the words after `leaf` ask for.
+/// Parses the words after `leaf`.
 fn leaf_command(words: &[String]) -> Result<Command<'_>, WordsError<'_>>
     ensures { command_view result ≡ leaf_verdict (map string_bytes words.now) }
 {

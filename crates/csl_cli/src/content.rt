@@ -1,4 +1,4 @@
-//! What a built-in style makes of a cite.
+//! The content of cites in the built-in styles and in the style of titles.
 
 ghost use Rattle.std.specs.Prelude.{◌≡◌, IfOk};
 ghost use Rattle.csl_tree.specs.Tokens.{tokens};
@@ -14,7 +14,7 @@ use csl_tree::ElemChildren;
 use lit_model::{ChunkedString, Memory};
 use std::alloc::Global;
 
-/// What a style makes of the first cite of an entry.
+/// Renders the first cite of an entry in a style.
 fn first_cite<T: EntryLike>(
     alloc: Global,
     style: &Style,
@@ -28,10 +28,10 @@ fn first_cite<T: EntryLike>(
     Ok(made)
 }
 
-/// What the built-in style makes of a title.
+/// The content of the first cite of an entry with only this title, in the style of titles.
 ///
 /// # Errors
-/// [`Memory`]: there was no memory left.
+/// [`Memory`]: out of memory.
 pub fn title_content(alloc: Global, title: &str) -> Result<ElemChildren, Memory>
     ensures { IfOk result (λ content. IsTitleContent title.now (tokens content)) }
 {
@@ -41,15 +41,15 @@ pub fn title_content(alloc: Global, title: &str) -> Result<ElemChildren, Memory>
     drop(style);
     match made {
         Ok(made) => Ok(made.content),
-        // The one error of a cite is that memory is missing.
+        // A cite fails only if memory runs out.
         Err(_) => Err(Memory),
     }
 }
 
-/// What a built-in style makes of a built-in entry.
+/// The content of the first cite of a built-in entry, in a built-in style.
 ///
 /// # Errors
-/// [`Memory`]: there was no memory left.
+/// [`Memory`]: out of memory.
 pub fn entry_content(
     alloc: Global,
     entry: BuiltIn,
@@ -64,7 +64,7 @@ pub fn entry_content(
     drop(parts);
     match made {
         Ok(made) => Ok(made.content),
-        // The one error of a cite is that memory is missing.
+        // A cite fails only if memory runs out.
         Err(_) => Err(Memory),
     }
 }

@@ -1,5 +1,5 @@
-//! What the program answers to the words that it is called with: all of its work is [`run::run`],
-//! over any two writers.
+//! The work of the program `csl_cite` as a library. [`run::run`] does all of it, over any two
+//! writers.
 #![tactic(auto)]
 
 mod answers;

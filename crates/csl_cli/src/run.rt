@@ -12,7 +12,7 @@ use csl_tree::HtmlError;
 use std::alloc::Global;
 use std::fmt;
 
-/// Writes why the words were refused, and a newline.
+/// Writes why the words are not a command, and a newline.
 #[tactic(auto, using(csl_common::proofs::Writes::three_writes))]
 fn write_error<S: Sink>(error: WordsError<'_>, sink: &mut S) -> fmt::Result
     ensures ok { OnOk result (Complains S.write_str_gives (refusal error.entry) sink.old sink.new) }
@@ -30,21 +30,21 @@ fn write_error<S: Sink>(error: WordsError<'_>, sink: &mut S) -> fmt::Result
     }
 }
 
-/// The status where a text was handed over, and 4 where it was refused.
+/// The given status if the writer took the text, and 4 if it refused it.
 fn status_of(written: fmt::Result, status: u8) -> u8
     ensures { result ≡ (if is_ok written then status else 4) }
 {
     if written.is_ok() { status } else { 4 }
 }
 
-/// Does what the words ask for, over two sinks, and answers the program's status:
-/// - 0: the answer and a newline were written to `out`, and `fault` is as it was;
-/// - 2: the words are refused, `fault` took a line that says why, and `out` is as it was;
-/// - 3: memory ran out, `fault` took a line that says so, and `out` is as it was;
-/// - 4: a sink refused a text; what the sinks hold then is left open, but where the words have no
-///   answer `out` is as it was;
-/// - 5: the words ask for the leaf text of what is not HTML, `fault` took a line that says so, and
-///   `out` is as it was. Out of memory may come first.
+/// Runs the command in the words, over two sinks, and returns the program's status:
+/// - 0: `out` took the answer and a newline, and `fault` is unchanged;
+/// - 2: the words are not a command, `fault` took a line with the reason, and `out` is unchanged;
+/// - 3: memory ran out, `fault` took the line `out of memory`, and `out` is unchanged;
+/// - 4: a sink refused a text. The contents of the sinks are unspecified, but if the words have no
+///   answer, `out` is unchanged;
+/// - 5: the words ask for the leaf text of a text that is not HTML, `fault` took the line
+///   `not html`, and `out` is unchanged. For such words the status may also be 3 or 4.
 pub fn run_into<S: Sink, F: Sink>(alloc: Global, words: &[String], out: &mut S, fault: &mut F) -> u8
     ensures zero { result ≡ 0 → Replies S.write_str_gives (parse_words words.now) out.old out.new }
     ensures zero_fault { result ≡ 0 → fault.new ≡ fault.old }
@@ -74,15 +74,15 @@ pub fn run_into<S: Sink, F: Sink>(alloc: Global, words: &[String], out: &mut S, 
     }
 }
 
-/// Does what the words ask for, over any two writers, and answers the program's status:
-/// - 0: the answer and a newline were written to `out`, and `fault` is as it was;
-/// - 2: the words are refused, `fault` took a line that says why, and `out` is as it was;
-/// - 3: memory ran out, `fault` took a line that says so, and `out` is as it was;
-/// - 4: a writer refused a text; what the writers hold then is left open, but where the words have
-///   no answer `out` is as it was. That 4 comes only then is said by [`run_into`], since
-///   `fmt::Write` cannot tell;
-/// - 5: the words ask for the leaf text of what is not HTML, `fault` took a line that says so, and
-///   `out` is as it was. Out of memory may come first.
+/// Runs the command in the words, over any two writers, and returns the program's status:
+/// - 0: `out` took the answer and a newline, and `fault` is unchanged;
+/// - 2: the words are not a command, `fault` took a line with the reason, and `out` is unchanged;
+/// - 3: memory ran out, `fault` took the line `out of memory`, and `out` is unchanged;
+/// - 4: a writer refused a text. The contents of the writers are unspecified, but if the words have
+///   no answer, `out` is unchanged. Only the contract of [`run_into`] states that 4 implies a
+///   refusal, because [`fmt::Write`] does not record refusals;
+/// - 5: the words ask for the leaf text of a text that is not HTML, `fault` took the line
+///   `not html`, and `out` is unchanged. For such words the status may also be 3 or 4.
 pub fn run<W: fmt::Write, F: fmt::Write>(
     alloc: Global,
     words: &[String],
@@ -109,7 +109,7 @@ pub fn run<W: fmt::Write, F: fmt::Write>(
     let mut out_sink = TrackingWriter::new(out);
     let mut fault_sink = TrackingWriter::new(fault);
     let status = run_into(alloc, words, &mut out_sink, &mut fault_sink);
-    // These do nothing: the proof reads what the writers hold from the references that come back.
+    // These do nothing. The proof reads the writers' contents from the returned references.
     out_sink.into_inner();
     fault_sink.into_inner();
     status

@@ -1,4 +1,4 @@
--- What an entry that is a table answers: the first answer to a variable counts.
+-- The answers of an entry that is a table. The first answer to a variable counts.
 use Rattle.std.specs.Prelude.{Bool, List, [], Option, Some, None, Vec, find, map}
 use Rattle.std.specs.declared.alloc.Global.{Global}
 use Rattle.std.specs.List.{list_any}

@@ -1,4 +1,4 @@
-//! An entry type of these tests' own: whatever a style asks for, it has it, and it is empty.
+//! An entry type of these tests. All its answers are empty.
 
 use crate::cited::alone;
 use csl_entry::EntryLike;
@@ -9,8 +9,8 @@ use lit_model::{
 use std::alloc::Global;
 use std::borrow::{Cow, CowStr};
 
-/// An entry that answers each number, each text and the pages by an empty text, and each list of
-/// persons by one whose name is empty. It has no date and is of no kind.
+/// An entry that answers each number, text and page variable with an empty text, and each name
+/// variable with one person whose name is empty. It has no date and is of no kind.
 #[derive(Drop)]
 pub(crate) struct Blank {
     text: ChunkedString,
@@ -91,7 +91,7 @@ impl EntryLike for Blank {
     }
 }
 
-/// A person who has a name and a given name, or a name alone.
+/// A person with a name and a given name, or with a name alone.
 pub(crate) fn person(alloc: Global, name: &str, given: Option<&str>) -> Result<Person, Memory> {
     match given {
         Some(given) => Person::new(alloc, name, given),
@@ -99,7 +99,7 @@ pub(crate) fn person(alloc: Global, name: &str, given: Option<&str>) -> Result<P
     }
 }
 
-/// The entry, alone in a list.
+/// A list of one blank entry.
 pub(crate) fn blanks(alloc: Global) -> Result<Vec<Blank>, Memory> {
     let text = ChunkedString::plain(alloc, "")?;
     let person = Person::institution(alloc, "")?;

@@ -1,5 +1,5 @@
-//! What tests share: the built-in entries, what tells a cite from others, and what the style of
-//! authors and dates makes of it.
+//! Functions that tests share: the built-in entries, disambiguations, and cites in the style
+//! `author-date`.
 
 use crate::asserted::assert_text;
 use csl_context::{Context, RenderError, Rendered};
@@ -16,7 +16,8 @@ use std::alloc::Global;
 use std::process::Abort;
 use std::test::Fail;
 
-/// Built-in entries: what holds a list of them is quicker to prove than what holds an entry.
+/// A list of built-in entries. A function that holds a list is quicker to prove than one that holds
+/// an entry.
 pub(crate) fn entries(alloc: Global, which: &[BuiltIn]) -> Result<Vec<Entry>, Memory> {
     let mut works = Vec::new(alloc);
     for entry in which {
@@ -25,29 +26,30 @@ pub(crate) fn entries(alloc: Global, which: &[BuiltIn]) -> Result<Vec<Entry>, Me
     Ok(works)
 }
 
-/// Puts an item behind the others.
+/// Appends an item.
 pub(crate) fn put<T: Drop>(items: &mut Vec<T>, item: T) -> Result<(), Memory> {
     Ok(items.push(item)?)
 }
 
-/// A list of one, which is quicker to prove than `vec!` where the item ends.
+/// A list of one item. It is quicker to prove than `vec!` if the item needs a drop.
 pub(crate) fn alone<T: Drop>(alloc: Global, item: T) -> Result<Vec<T>, Memory> {
     let mut items = Vec::new(alloc);
     put(&mut items, item)?;
     Ok(items)
 }
 
-/// What tells a cite from others.
+/// The disambiguation of a cite.
 #[derive(Clone, Copy)]
 pub(crate) enum Told {
     Nothing,
-    /// The year suffix of that place.
+    /// The year suffix of this number: 0 is `a`.
     Suffix(u16),
-    /// The whole name of the one person of a variable, and the form of other names.
+    /// The whole name of the one person of a variable, and the form of a name that becomes shown.
     Name(NameVariable, DisambiguatedNameForm),
 }
 
-/// The whole name of the one person of a variable, and the form of other names.
+/// Name forms: the whole name of the one person of a variable, and the form `other` of a name that
+/// becomes shown.
 fn whole_name(
     alloc: Global,
     variable: NameVariable,
@@ -59,7 +61,7 @@ fn whole_name(
     Ok(NameDisambiguationProperties::new(other, variables, lists))
 }
 
-/// What tells a cite from others, as its citation says it.
+/// The disambiguation of a cite, as one of its properties.
 pub(crate) fn state(alloc: Global, told: Told) -> Result<DisambiguateState, Memory> {
     match told {
         Told::Nothing => Ok(DisambiguateState::None),
@@ -70,7 +72,7 @@ pub(crate) fn state(alloc: Global, told: Told) -> Result<DisambiguateState, Memo
     }
 }
 
-/// What a layout or a node makes of a cite of an entry, in a style.
+/// Renders a cite of an entry by a layout or a node, in a style.
 pub(crate) fn rendered<E: RenderCsl, T: EntryLike>(
     alloc: Global,
     style: &Style,
@@ -97,7 +99,7 @@ pub(crate) fn rendered<E: RenderCsl, T: EntryLike>(
     }
 }
 
-/// What the style of authors and dates makes of a cite of an entry.
+/// Renders a cite of an entry in the style `author-date`.
 pub(crate) fn rendered_by_author_and_date(
     alloc: Global,
     cite: &CiteProperties<'_>,
@@ -114,8 +116,8 @@ pub(crate) fn rendered_by_author_and_date(
     }
 }
 
-/// What the style of authors and dates makes of a first cite of a built-in entry, in a form and
-/// told from others so.
+/// Renders a first cite of a built-in entry in the style `author-date`, with this disambiguation
+/// and special form.
 pub(crate) fn cited(
     alloc: Global,
     entry: BuiltIn,
@@ -128,7 +130,7 @@ pub(crate) fn cited(
     made
 }
 
-/// Renders a cite of a built-in entry with these properties in the style of authors and dates.
+/// Renders a cite of a built-in entry with these properties in the style `author-date`.
 fn cited_with(
     alloc: Global,
     entry: BuiltIn,
@@ -140,7 +142,7 @@ fn cited_with(
     Ok(rendered_by_author_and_date(alloc, cite, form, work)?)
 }
 
-/// Asserts the plain text of what was made of a cite.
+/// Asserts the plain text of a rendering.
 pub(crate) fn assert_plain(
     rt: &impl Abort,
     alloc: Global,

@@ -1,5 +1,5 @@
-//! What `cite` answers of the built-in entries in the built-in styles. What is expected stands here
-//! as written out by hand.
+//! Tests of the command `cite`, with the built-in entries and styles. The expected texts are
+//! written by hand.
 
 use crate::words::{Row, assert_all};
 use std::test::Fail;
@@ -125,7 +125,7 @@ static REFUSED: [Row; 11] = [
         "",
         "missing word\n",
     ),
-    // A word is unknown, or one too many. Words are judged from the left.
+    // A word is unknown, or one too many. Words are parsed from the left.
     (&["cite", "nobody"], 2, "", "unknown: nobody\n"),
     (
         &["cite", "nobody", "author-date", "plain"],

@@ -1,6 +1,5 @@
-//! Copies of what a cite is told by, of what it leaves and of what it is written from, and calls of
-//! the program's parts that its words alone do not show. What is expected stands here as written
-//! out by hand.
+//! Tests of copies of cite properties, states, pages and texts, and of calls that the program's
+//! words alone do not cover. The expected texts are written by hand.
 
 use crate::asserted::{assert_status, assert_text};
 use crate::cited::{alone, assert_plain, entries, rendered_by_author_and_date};
@@ -18,7 +17,7 @@ use std::alloc::{AllocError, Global};
 use std::process::Abort;
 use std::test::Fail;
 
-/// The same cite, of which what may still change is a copy.
+/// The same cite, with a copy of its speculative properties.
 fn copied_cite(
     alloc: Global,
     cite: CiteProperties<'static>,
@@ -32,7 +31,7 @@ fn copied_cite(
     })
 }
 
-/// The book, in a cite that is a copy of one with a year suffix.
+/// Renders the book in a cite that is a copy of one with a year suffix.
 fn copy_made(alloc: Global) -> Result<Rendered, Fail> {
     let suffix = DisambiguateState::YearSuffix(3);
     let cite = copied_cite(alloc, CiteProperties::first(suffix))?;
@@ -47,7 +46,7 @@ fn book_made(alloc: Global, cite: &CiteProperties<'_>) -> Result<Rendered, Fail>
     Ok(rendered_by_author_and_date(alloc, cite, None, work)?)
 }
 
-/// What is left, where a title was looked up for printing.
+/// The state after a lookup of the title for printing, while such lookups suppress their variable.
 fn left(alloc: Global) -> Result<LeftState, AllocError> {
     let mut left = LeftState::new(alloc);
     let title = Variable::Standard(StandardVariable::Title);
@@ -62,7 +61,7 @@ fn left(alloc: Global) -> Result<LeftState, AllocError> {
     }
 }
 
-/// Says a copy of what is left.
+/// Appends a copy of [`left`], in words.
 fn say_copy(alloc: Global, said: &mut String) -> Result<(), Fail> {
     let left = left(alloc)?;
     let copy = LeftState::clone(&left, alloc);
@@ -73,7 +72,7 @@ fn say_copy(alloc: Global, said: &mut String) -> Result<(), Fail> {
     Ok(answer?)
 }
 
-/// Says the pages 7-8, of a copy.
+/// Appends the pages 7-8 from a copy.
 fn say_copied_pages(alloc: Global, said: &mut String) -> Result<(), Fail> {
     let pages = PageRangesPart::Range(Numeric::new(7), Numeric::new(8));
     let copy = PageRangesPart::clone(&pages, alloc)?;
@@ -82,7 +81,7 @@ fn say_copied_pages(alloc: Global, said: &mut String) -> Result<(), Fail> {
     Ok(())
 }
 
-/// Says a text, of a copy.
+/// Appends a text from a copy.
 fn say_copied_text(alloc: Global, said: &mut String) -> Result<(), Fail> {
     let text = Formatted {
         text: String::from_str(alloc, "é")?,

@@ -1,5 +1,5 @@
-//! Each node of the built-in styles, alone: what it makes of an entry of empty texts, and what dry
-//! runs say. What is expected stands here as the definitions have it, written out by hand.
+//! Tests of each node of the built-in styles alone: its dry run, and its content for an entry of
+//! empty texts. The expected texts are those of the definitions, written by hand.
 
 ghost use Rattle.std.specs.Prelude.{◌≡◌, OnOk};
 
@@ -17,7 +17,7 @@ use std::alloc::{AllocError, Global};
 use std::process::Abort;
 use std::test::Fail;
 
-/// What two dry runs in one context said, and what they left.
+/// The results of two dry runs in one context, and the state that they leave.
 #[derive(Drop)]
 struct TwoAnswers {
     first: (bool, UsageInfo),
@@ -25,7 +25,7 @@ struct TwoAnswers {
     left: LeftState,
 }
 
-/// What two dry runs say while looks suppress their variable.
+/// The results of two dry runs, while lookups for printing suppress their variable.
 fn ask_twice<'s, E: RenderCsl, T: EntryLike>(
     element: &'s E,
     ctx: &mut Context<'s, T>,
@@ -38,7 +38,7 @@ fn ask_twice<'s, E: RenderCsl, T: EntryLike>(
     Ok((first, second))
 }
 
-/// A first cite of an entry, of which nothing more is said.
+/// A cite of an entry with these properties. It is rendered whole, and not for a sort key.
 pub(crate) fn instance<'s, T>(
     entry: &'s T,
     cite_props: &'s CiteProperties<'s>,
@@ -51,7 +51,7 @@ pub(crate) fn instance<'s, T>(
     }
 }
 
-/// What two dry runs say of a cite of an entry, and leave.
+/// The results of two dry runs for a cite of an entry, and the state that they leave.
 fn asked<E: RenderCsl, T: EntryLike>(
     alloc: Global,
     style: &Style,
@@ -75,7 +75,7 @@ fn asked<E: RenderCsl, T: EntryLike>(
     }
 }
 
-/// What is left where nothing is asked.
+/// The state that is left without a dry run.
 fn unasked<T: EntryLike>(
     alloc: Global,
     style: &Style,
@@ -89,7 +89,7 @@ fn unasked<T: EntryLike>(
     Ok(ctx.finish()?.state)
 }
 
-/// What two dry runs of a node say, or of the layout where there is none.
+/// The results of two dry runs of a node, or of the layout if there is no node.
 fn asked_of<T: EntryLike>(
     alloc: Global,
     style: &Style,
@@ -109,7 +109,7 @@ fn asked_of<T: EntryLike>(
     }
 }
 
-/// What a node makes of a cite of an entry, or the layout where there is no node.
+/// Renders a cite of an entry by a node, or by the layout if there is no node.
 fn made_of<T: EntryLike>(
     alloc: Global,
     style: &Style,
@@ -123,7 +123,7 @@ fn made_of<T: EntryLike>(
     }
 }
 
-/// Says what a dry run said.
+/// Appends the result of a dry run, in words.
 pub(crate) fn say_answer(
     said: &mut String,
     (prints, usage): (bool, UsageInfo),
@@ -143,7 +143,7 @@ pub(crate) fn say_answer(
     Ok(())
 }
 
-/// Says what was left.
+/// Appends a state, in words.
 pub(crate) fn say_left(said: &mut String, left: &LeftState) -> Result<(), AllocError> {
     let (suppressing, dated) = (left.suppressing, left.first_date_seen);
     let has_names = left.first_names.is_some();
@@ -154,8 +154,8 @@ pub(crate) fn say_left(said: &mut String, left: &LeftState) -> Result<(), AllocE
     )
 }
 
-/// Asserts that both dry runs said the same, and left what is left where nothing is asked. What
-/// they said.
+/// Asserts that both dry runs have the same result, and leave the state that is left without them.
+/// Returns the result in words.
 fn assert_asked(
     rt: &impl Abort,
     alloc: Global,
@@ -175,7 +175,8 @@ fn assert_asked(
     Ok(first)
 }
 
-/// Asks a node twice, or the layout, and asserts that it told and left the same. What it told.
+/// Asserts equal results of two dry runs of a node, or of the layout if there is no node, and an
+/// unchanged state. Returns the result in words.
 fn told<T: EntryLike>(
     rt: &impl Abort,
     alloc: Global,
@@ -194,10 +195,10 @@ fn told<T: EntryLike>(
     told
 }
 
-/// The places of a node, what it makes of an entry of empty texts, and what a dry run says of it.
+/// The places of a node, its plain text for an entry of empty texts, and its dry run in words.
 type Row = (&'static [usize], &'static str, &'static str);
 
-/// The nodes of the style of authors and dates.
+/// The nodes of the style `author-date`.
 static AUTHORS_AND_DATE: [Row; 4] = [
     (&[], "", " prints called non-empty"),
     (&[0], "", " prints called non-empty"),
@@ -205,14 +206,14 @@ static AUTHORS_AND_DATE: [Row; 4] = [
     (&[0, 1], "", " called"),
 ];
 
-/// The nodes of the style of references.
+/// The nodes of the style `reference`.
 static REFERENCE: [Row; 15] = [
     (&[], ", vol. , p. .", " prints called non-empty"),
     (&[0], ", vol. , p. .", " prints called non-empty group"),
-    // The authors, and the editors in their place.
+    // The authors, and the editors as their substitute.
     (&[0, 0], "", " prints called non-empty"),
     (&[0, 0, 0], "", " prints called non-empty"),
-    // The titles, of the work and of what it stands in.
+    // The titles of the work and of its container.
     (&[0, 1], "", " called"),
     (&[0, 2], "", " called"),
     // The volume.
@@ -225,12 +226,12 @@ static REFERENCE: [Row; 15] = [
     (&[0, 4, 1], "", " prints called non-empty"),
     // The date.
     (&[0, 5], "", " called"),
-    // The address: its prefix stands in the link, alone.
+    // The address. The text of its link is the prefix alone.
     (&[1], "", " called"),
     (&[1, 0], "https://doi.org/", " called"),
 ];
 
-/// What a node of a style makes of a first cite of an entry.
+/// Renders a first cite of an entry by a node, or by the layout if there is no node.
 fn made<T: EntryLike>(
     alloc: Global,
     style: &Style,
@@ -243,7 +244,7 @@ fn made<T: EntryLike>(
     made
 }
 
-/// Asserts what a node of a style makes of an entry, and what dry runs say.
+/// Asserts the plain text and the dry run of a row's node, for an entry.
 fn assert_node<T: EntryLike>(
     rt: &impl Abort,
     alloc: Global,
@@ -261,7 +262,7 @@ fn assert_node<T: EntryLike>(
     answer
 }
 
-/// Asserts all rows of an entry of empty texts.
+/// Asserts all rows, for an entry of empty texts.
 fn assert_nodes(rt: &impl Abort, alloc: Global, style: &Style, rows: &[Row]) -> Result<(), Fail> {
     let works = blanks(alloc)?;
     let work = works.first().ok_or("an entry")?;
@@ -271,7 +272,7 @@ fn assert_nodes(rt: &impl Abort, alloc: Global, style: &Style, rows: &[Row]) -> 
     Ok(())
 }
 
-/// The same in a built-in style.
+/// Asserts all rows in a built-in style, for an entry of empty texts.
 fn assert_style(
     rt: &impl Abort,
     alloc: Global,
@@ -290,7 +291,8 @@ fn each_node_of_empty_texts(rt: HostRuntime) -> Result<(), Fail> {
     assert_style(&rt, rt.alloc(), BuiltInStyle::Reference, &REFERENCE)
 }
 
-/// Asserts that dry runs of each node of these rows tell the same twice, and leave nothing.
+/// Asserts for each row's node that two dry runs have the same result and leave the state
+/// unchanged.
 fn assert_told<T: EntryLike>(
     rt: &impl Abort,
     alloc: Global,
@@ -305,7 +307,8 @@ fn assert_told<T: EntryLike>(
     Ok(())
 }
 
-/// The same of a style and of the built-in entries.
+/// Asserts equal dry runs and an unchanged state for each node of the style `reference`, with two
+/// built-in entries.
 fn assert_told_of_entries(rt: &impl Abort, alloc: Global, style: &Style) -> Result<(), Fail> {
     let works = entries(alloc, &[BuiltIn::CrazyRich, BuiltIn::QuantizedVortex])?;
     for work in &works {

@@ -1,5 +1,4 @@
-//! What the built-in entries of the program answer. What is expected stands here as written out by
-//! hand.
+//! Tests of the answers of the program's built-in entries. The expected texts are written by hand.
 
 use crate::asserted::assert_text;
 use crate::cited::entries;
@@ -13,7 +12,7 @@ use std::fmt::Write;
 use std::process::Abort;
 use std::test::Fail;
 
-/// What an entry is asked for.
+/// A query to an entry.
 #[derive(Clone, Copy)]
 enum Question {
     Number(NumberVariable),
@@ -23,7 +22,7 @@ enum Question {
     Year(DateVariable),
 }
 
-/// Says the number that an entry answers, if any, in brackets.
+/// Appends the number that an entry answers, if any, in brackets.
 fn say_number<T: EntryLike>(
     alloc: Global,
     entry: &T,
@@ -38,7 +37,7 @@ fn say_number<T: EntryLike>(
     Ok(())
 }
 
-/// Says the pieces of the text that an entry answers, if any, each in brackets.
+/// Appends the pieces of the text that an entry answers, if any, each in brackets.
 fn say_text<T: EntryLike>(
     alloc: Global,
     entry: &T,
@@ -53,7 +52,7 @@ fn say_text<T: EntryLike>(
     Ok(())
 }
 
-/// Says the names of the persons that an entry answers, each in brackets.
+/// Appends the names of the persons that an entry answers, each in brackets.
 fn say_names<T: EntryLike>(
     alloc: Global,
     entry: &T,
@@ -66,7 +65,7 @@ fn say_names<T: EntryLike>(
     Ok(())
 }
 
-/// Says the pages that an entry answers, if any, in brackets.
+/// Appends the pages that an entry answers, if any, in brackets.
 fn say_pages<T: EntryLike>(alloc: Global, entry: &T, said: &mut String) -> Result<(), Fail> {
     match entry.resolve_page_variable(alloc, PageVariable::Page)? {
         Some(MaybeTyped::Typed(pages)) => write!(said, "[{pages}]")?,
@@ -76,7 +75,7 @@ fn say_pages<T: EntryLike>(alloc: Global, entry: &T, said: &mut String) -> Resul
     Ok(())
 }
 
-/// A value that may be borrowed, if there is one.
+/// A reference to the value, if there is one.
 fn borrowed<'a, T: Drop>(found: &'a Option<Cow<'_, T>>) -> Option<&'a T> {
     match found {
         Some(value) => Some(value.as_ref()),
@@ -84,7 +83,7 @@ fn borrowed<'a, T: Drop>(found: &'a Option<Cow<'_, T>>) -> Option<&'a T> {
     }
 }
 
-/// Says the year that an entry answers, if any, in brackets.
+/// Appends the year that an entry answers, if any, in brackets.
 fn say_year<T: EntryLike>(
     alloc: Global,
     entry: &T,
@@ -98,7 +97,7 @@ fn say_year<T: EntryLike>(
     Ok(())
 }
 
-/// Says what an entry of any type answers, and nothing where there is no answer.
+/// Appends the answer of an entry of any type, or nothing if there is no answer.
 fn say_answer<T: EntryLike>(
     alloc: Global,
     entry: &T,
@@ -114,7 +113,7 @@ fn say_answer<T: EntryLike>(
     }
 }
 
-/// Makes a built-in entry, and says what it answers.
+/// Makes a built-in entry, and appends its answer.
 fn say_answer_of(
     alloc: Global,
     entry: BuiltIn,
@@ -132,7 +131,7 @@ const ARTICLE: BuiltIn = BuiltIn::QuantizedVortex;
 
 const BLOG_POST: BuiltIn = BuiltIn::Feminism;
 
-/// An entry, what it is asked for, and what it answers.
+/// An entry, a query to it, and its answer.
 type Row = (BuiltIn, Question, &'static str);
 
 static ANSWERS: [Row; 9] = [
@@ -159,7 +158,7 @@ static ANSWERS: [Row; 9] = [
     ),
 ];
 
-/// Makes a built-in entry, and asserts what it answers.
+/// Makes the built-in entry of a row, and asserts its answer.
 fn assert_answer(rt: &impl Abort, alloc: Global, row: &Row) -> Result<(), Fail> {
     let (entry, question, wanted) = row;
     let mut said = String::new(alloc);

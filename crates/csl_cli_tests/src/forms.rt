@@ -1,5 +1,5 @@
-//! Built-in cites that forms of names tell apart. What is expected stands here as written out by
-//! hand.
+//! Tests of cites of built-in entries with name forms that disambiguate them. The expected texts
+//! are written by hand.
 
 use crate::cited::{Told, assert_plain, cited, put, state};
 use csl_context::Rendered;
@@ -11,8 +11,8 @@ use std::alloc::Global;
 use std::process::Abort;
 use std::test::Fail;
 
-/// An entry, what tells its cite from others, and the plain text of the cite: told so, and again
-/// told by the forms of names that it keeps.
+/// An entry, the disambiguation of its cite, the plain text, and the plain text of a second cite.
+/// The name forms that the first cite keeps disambiguate the second.
 type Row = (BuiltIn, Told, &'static str, &'static str);
 
 const AUTHOR: Told = Told::Name(NameVariable::Author, DisambiguatedNameForm::ShortFull);
@@ -32,13 +32,13 @@ static CITES: [Row; 3] = [
     (BuiltIn::Dependence, Told::Nothing, THREE, THREE),
 ];
 
-/// The forms of names that a cite keeps, to tell it from others.
+/// Takes the name forms that a cite keeps, as a disambiguation.
 fn kept(made: &mut Rendered) -> Result<DisambiguateState, Fail> {
     let kept = made.state.first_names.take().ok_or("forms of names")?;
     Ok(DisambiguateState::NameDisambiguation(kept))
 }
 
-/// Asserts the plain text of what was made. The forms of names that it keeps.
+/// Asserts the plain text of a cite. Returns the name forms that it keeps.
 fn assert_made(
     rt: &impl Abort,
     alloc: Global,
@@ -49,7 +49,7 @@ fn assert_made(
     kept(made)
 }
 
-/// Asserts the plain text of a cite that is told from others so. The forms of names that it keeps.
+/// Asserts the plain text of a cite with this disambiguation. Returns the name forms that it keeps.
 fn assert_cite(
     rt: &impl Abort,
     alloc: Global,
@@ -81,10 +81,11 @@ fn forms_of_names_tell_cites_apart(rt: HostRuntime) -> Result<(), Fail> {
     Ok(())
 }
 
-/// The form of one person, if there is one.
+/// The form of one person, if the person has one.
 type Form = Option<DisambiguatedNameForm>;
 
-/// An entry, the lists of forms that its citation has for authors, and the plain text of the cite.
+/// An entry, the lists of forms that its citation has for the authors, and the plain text of the
+/// cite.
 type ListsRow = (BuiltIn, &'static [&'static [Form]], &'static str);
 
 static LISTS: [ListsRow; 4] = [
@@ -107,7 +108,7 @@ fn list(alloc: Global, forms: &[Form]) -> Result<Vec<Form>, Memory> {
     Ok(list)
 }
 
-/// What tells a cite from others: these forms of its authors.
+/// The disambiguation of a cite by these forms of its authors.
 fn forms_of_authors(alloc: Global, lists: &[&'static [Form]]) -> Result<DisambiguateState, Memory> {
     let mut all = Vec::new(alloc);
     for forms in lists {

@@ -1,5 +1,5 @@
-//! What `leaf` answers. What is expected stands here as written out by hand, or is the plain text
-//! of the same cite.
+//! Tests of the command `leaf`. The expected texts are written by hand, or are the plain text of
+//! the same cite.
 
 use crate::asserted::{assert_status, assert_text};
 use crate::words::{Row, assert_all, owned};
@@ -110,7 +110,7 @@ fn texts_that_are_not_html(rt: HostRuntime) -> Result<(), Fail> {
     assert_all(&rt, rt.alloc(), &TEXTS)
 }
 
-/// What the program answers to these words, without the newline at its end.
+/// Runs the program with these words, and asserts success. Returns the answer without its newline.
 fn answer(rt: &impl Abort, alloc: Global, words: &[&str]) -> Result<String, Fail> {
     let all = owned(alloc, words)?;
     let mut wrote = String::new(alloc);
@@ -122,7 +122,7 @@ fn answer(rt: &impl Abort, alloc: Global, words: &[&str]) -> Result<String, Fail
     Ok(wrote)
 }
 
-/// Asserts that the leaf text of a cite's HTML is its plain text.
+/// Asserts that the leaf text of a cite's HTML is the cite's plain text.
 fn assert_cite(rt: &impl Abort, alloc: Global, &(key, style): &(&str, &str)) -> Result<(), Fail> {
     let html = answer(rt, alloc, &["cite", key, style, "html"])?;
     let plain = answer(rt, alloc, &["cite", key, style, "plain"])?;

@@ -1,5 +1,5 @@
-//! The calls of `csl_nodes` and `csl_names`, each alone in a context. What is expected stands here
-//! as written out by hand.
+//! Tests of the calls of `csl_nodes` and `csl_names`, for one node in each context. The expected
+//! texts are written by hand.
 
 ghost use Rattle.std.specs.Prelude.{◌≡◌, OnOk};
 
@@ -31,10 +31,10 @@ const VOLUME: Variable = Variable::Number(NumberVariable::Volume);
 
 const ISSUED: Variable = Variable::Date(DateVariable::Issued);
 
-/// What a dry run says, and whether the variable would be shown.
+/// The result of a dry run, and a flag: for most nodes, whether they show the variable `asked`.
 type DryRun = ((bool, UsageInfo), bool);
 
-/// What a dry run of a variable's text says. The text is written.
+/// Renders a text of a variable. Returns its dry run, and whether it shows the variable `asked`.
 fn variable_told<'s, T: EntryLike>(
     ctx: &mut Context<'s, T>,
     text: &'s Text,
@@ -50,7 +50,7 @@ fn variable_told<'s, T: EntryLike>(
     Ok((info, shown))
 }
 
-/// The same of a term. It is written.
+/// Renders a text of a term. Returns its dry run and `false`.
 fn term_told<'s, T: EntryLike>(
     ctx: &mut Context<'s, T>,
     text: &'s Text,
@@ -64,7 +64,8 @@ fn term_told<'s, T: EntryLike>(
     Ok((info, false))
 }
 
-/// The same of a value. It is written in quotes.
+/// Renders a text of a value, in quotes. Returns its dry run, and whether the front of its suffix
+/// moved into the quotes.
 #[tactic(auto, unfolding(csl_context::specs::ContextView::with_quotes))]
 fn value_told<'s, T: EntryLike>(
     ctx: &mut Context<'s, T>,
@@ -80,7 +81,8 @@ fn value_told<'s, T: EntryLike>(
     Ok((info, moved))
 }
 
-/// What a dry run says of a text, and whether a variable would be shown. The text is written.
+/// Renders a text by the calls for its target, and returns their results. A text of a macro appends
+/// nothing.
 fn text_told<'s, T: EntryLike>(
     ctx: &mut Context<'s, T>,
     text: &'s Text,
@@ -96,7 +98,7 @@ fn text_told<'s, T: EntryLike>(
     }
 }
 
-/// What is said where nothing is written.
+/// Appends nothing. Returns the dry run of a node that prints nothing, and `false`.
 fn nothing_told<T: EntryLike>(ctx: &mut Context<'_, T>) -> Result<DryRun, RenderError>
     ensures { OnOk result (ctx.new.outer ≡ ctx.old.outer) }
 {
@@ -104,8 +106,8 @@ fn nothing_told<T: EntryLike>(ctx: &mut Context<'_, T>) -> Result<DryRun, Render
     Ok((no_info(), false))
 }
 
-/// Whether names have one list that is found, and one that is printed. They are written, and a
-/// letter stands in their place.
+/// Renders names, and after them a letter in a box of names. Returns whether silent lookups find
+/// one list, without usage flags, and whether lookups for printing find one.
 fn names_told<'s, T: EntryLike>(
     ctx: &mut Context<'s, T>,
     names: &'s Names,
@@ -122,8 +124,8 @@ fn names_told<'s, T: EntryLike>(
     Ok(((found == 1, UsageInfo::default()), lists.len() == 1))
 }
 
-/// What a dry run says of a node, and whether a variable would be shown. The node is written. A
-/// group says nothing.
+/// Renders a node by the calls for its kind, and returns their results. A group or a choice appends
+/// nothing.
 fn told<'s, T: EntryLike>(
     ctx: &mut Context<'s, T>,
     node: &'s LayoutRenderingElement,
@@ -155,7 +157,7 @@ fn told<'s, T: EntryLike>(
     }
 }
 
-/// What the calls of a node say and make of a cite of an entry.
+/// The results and the rendering of a node's calls, for a cite of an entry.
 fn made<T: EntryLike>(
     alloc: Global,
     style: &Style,
@@ -176,10 +178,10 @@ fn made<T: EntryLike>(
     }
 }
 
-/// A variable, what a dry run says, whether the variable would be shown, and the plain text.
+/// A variable, the dry run in words, the flag, and the plain text.
 type Wanted = (Variable, &'static str, bool, &'static str);
 
-/// Asserts what the calls of a node say and make of a first cite of an entry.
+/// Asserts the results and the plain text of a node's calls, for a first cite of an entry.
 fn assert_node<T: EntryLike>(
     rt: &impl Abort,
     alloc: Global,
@@ -203,7 +205,7 @@ fn assert_node<T: EntryLike>(
     Ok(())
 }
 
-/// Asserts those of a node of the style, by its places.
+/// Asserts the results and the plain text of a row's node, for a first cite of an entry.
 fn assert_place<T: EntryLike>(
     rt: &impl Abort,
     alloc: Global,
@@ -215,10 +217,10 @@ fn assert_place<T: EntryLike>(
     assert_node(rt, alloc, style, node, entry, row.1)
 }
 
-/// What a dry run says of a variable that is there.
+/// The dry run, in words, of a node whose variable has an answer.
 const SAID: &str = " prints called non-empty";
 
-/// The places of a node in the style of references, and what is wanted of it.
+/// The places of a node in the style `reference`, and the expected values.
 type Row = (&'static [usize], Wanted);
 
 static NODES: [Row; 7] = [

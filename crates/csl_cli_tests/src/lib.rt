@@ -1,6 +1,7 @@
-//! What the program answers to its words, what its built-in entries answer, and what its built-in
-//! styles name and make of them; what becomes of entries that answer oddly, of entries that have no
-//! memory, and of writers that refuse; and calls of the crates below that have no test elsewhere.
+//! Tests of the program: its answers to words, the answers of its built-in entries, the variables
+//! that its built-in styles name, and cites in these styles. Other tests have entries with odd
+//! answers, entries that run out of memory, and writers that refuse texts. The rest test calls of
+//! the crates below that have no test elsewhere.
 #![tactic(auto)]
 
 #[cfg(test)]

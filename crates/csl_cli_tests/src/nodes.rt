@@ -1,4 +1,4 @@
-//! Nodes and layouts that tests lay out, and the nodes of a layout by their places in it.
+//! Constructors of nodes and layouts, and the nodes of a layout by their places in it.
 
 use crate::cited::{alone, put};
 use csl_style::{
@@ -30,7 +30,7 @@ fn text(target: TextTarget) -> LayoutRenderingElement {
     })
 }
 
-/// The long form of a variable's text.
+/// A text of a variable, in the long form.
 pub(crate) fn text_of(variable: StandardVariable) -> LayoutRenderingElement {
     text(TextTarget::Variable {
         var: Variable::Standard(variable),
@@ -38,13 +38,13 @@ pub(crate) fn text_of(variable: StandardVariable) -> LayoutRenderingElement {
     })
 }
 
-/// A text that stands in the style.
+/// A text of a value.
 pub(crate) fn value(alloc: Global, words: &str) -> Result<LayoutRenderingElement, Memory> {
     let val = String::from_str(alloc, words)?;
     Ok(text(TextTarget::Value { val }))
 }
 
-/// A term in a form.
+/// A text of a term, in a form.
 pub(crate) fn term(term: Term, form: TermForm) -> LayoutRenderingElement {
     text(TextTarget::Term {
         term,
@@ -53,7 +53,7 @@ pub(crate) fn term(term: Term, form: TermForm) -> LayoutRenderingElement {
     })
 }
 
-/// The number of a variable.
+/// A number of a variable, in numeric form.
 pub(crate) fn number(variable: NumberVariable) -> LayoutRenderingElement {
     LayoutRenderingElement::Number(Number {
         variable: NumberOrPageVariable::Number(variable),
@@ -64,7 +64,7 @@ pub(crate) fn number(variable: NumberVariable) -> LayoutRenderingElement {
     })
 }
 
-/// The persons of a variable, in the form that names have where nothing is said.
+/// Names of a variable, with no options set.
 pub(crate) fn names(
     alloc: Global,
     variable: NameVariable,
@@ -81,7 +81,7 @@ pub(crate) fn names(
     }))
 }
 
-/// A group with that text between its nodes.
+/// A group with this delimiter.
 pub(crate) fn group(
     alloc: Global,
     children: Vec<LayoutRenderingElement>,
@@ -97,7 +97,7 @@ pub(crate) fn group(
     }))
 }
 
-/// So many texts of the value `a`.
+/// `count` texts of the value `a`.
 pub(crate) fn values(alloc: Global, count: usize) -> Result<Vec<LayoutRenderingElement>, Memory> {
     let mut texts = Vec::new(alloc);
     for _ in 0..count {
@@ -106,7 +106,7 @@ pub(crate) fn values(alloc: Global, count: usize) -> Result<Vec<LayoutRenderingE
     Ok(texts)
 }
 
-/// The nodes in the substitute of names, if there is one.
+/// The nodes in the first substitute of names, if there is one.
 fn substitutes(names: &Names) -> &[LayoutRenderingElement] {
     for child in &names.children {
         if let NamesChild::Substitute(substitute) = child {
@@ -116,7 +116,7 @@ fn substitutes(names: &Names) -> &[LayoutRenderingElement] {
     &[]
 }
 
-/// The nodes in a node.
+/// The nodes in a group or in the substitute of names.
 fn inner(node: &LayoutRenderingElement) -> &[LayoutRenderingElement] {
     match node {
         LayoutRenderingElement::Group(group) => group.children.as_slice(),
@@ -125,8 +125,8 @@ fn inner(node: &LayoutRenderingElement) -> &[LayoutRenderingElement] {
     }
 }
 
-/// A node of a layout, by its place there and in each node around it. Without a place it is the
-/// layout itself, for which there is none.
+/// The node of a layout at these places: the first place is in the layout, each next one in the
+/// node before. Without places it is the layout itself, and the result is `None`.
 pub(crate) fn node_at<'s>(
     layout: &'s Layout,
     places: &[usize],

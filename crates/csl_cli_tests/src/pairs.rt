@@ -1,5 +1,5 @@
-//! Pairs of the built-in entries: whether they answer alike all that a layout names, and what it
-//! makes of both. What is expected stands here as written out by hand.
+//! Tests of pairs of entries: whether they are alike for a layout, and the renderings of both. The
+//! expected texts are written by hand.
 
 use crate::asserted::assert_text;
 use crate::cited::entries;
@@ -15,7 +15,7 @@ use std::alloc::Global;
 use std::process::Abort;
 use std::test::Fail;
 
-/// The key of an entry, and the line that a style makes of it.
+/// The key of an entry, and the line of its cite.
 pub(crate) type Row = (&'static str, &'static str);
 
 pub(crate) static AUTHORS_AND_DATES: [Row; 4] = [
@@ -51,7 +51,7 @@ fn paired<T: EntryLike, U: EntryLike>(
     pair
 }
 
-/// Whether both are alike and whether the contents are equal, in words.
+/// Whether two entries are alike and whether their contents are equal, in words.
 fn likeness(alike: bool, same: bool) -> &'static str {
     match (alike, same) {
         (true, true) => "alike, with equal contents",
@@ -61,8 +61,8 @@ fn likeness(alike: bool, same: bool) -> &'static str {
     }
 }
 
-/// Asserts that the two are alike, with equal contents, exactly where that is so, and both HTML
-/// texts.
+/// Asserts both HTML texts of a pair, and that the entries are alike and the contents equal, each
+/// exactly if `is_one`.
 fn assert_pair(rt: &impl Abort, pair: &Pair, is_one: bool, left: &str, right: &str, of: &[&str]) {
     let same = pair.left.content == pair.right.content;
     let wanted = likeness(is_one, is_one);
@@ -71,7 +71,7 @@ fn assert_pair(rt: &impl Abort, pair: &Pair, is_one: bool, left: &str, right: &s
     assert_text(rt, pair.right_html.as_str(), right, of);
 }
 
-/// What a style makes of the first and the last of some entries.
+/// Renders the first and the last of some entries in a style.
 fn pair_of(alloc: Global, style: BuiltInStyle, works: &[Entry]) -> Result<Pair, Fail> {
     let left = works.first().ok_or("an entry")?;
     let right = works.last().ok_or("an entry")?;
@@ -83,7 +83,7 @@ fn pair_of(alloc: Global, style: BuiltInStyle, works: &[Entry]) -> Result<Pair, 
     Ok(pair?)
 }
 
-/// What a style makes of the built-in entries of two keys.
+/// Renders the built-in entries of two keys in a style.
 fn pair_of_keys(alloc: Global, style: BuiltInStyle, left: &str, right: &str) -> Result<Pair, Fail> {
     let left = BuiltIn::of_key(left).ok_or("an entry")?;
     let right = BuiltIn::of_key(right).ok_or("an entry")?;
@@ -91,12 +91,13 @@ fn pair_of_keys(alloc: Global, style: BuiltInStyle, left: &str, right: &str) -> 
     pair_of(alloc, style, works.as_slice())
 }
 
-/// A line without its end.
+/// A line without its newline.
 pub(crate) fn line(text: &'static str) -> &'static str {
     text.strip_suffix('\n').unwrap_or(text)
 }
 
-/// Asserts that two entries are alike, with equal contents, exactly where they are one.
+/// Asserts the pair of two rows: the entries are alike, with equal contents, exactly if they are
+/// the same.
 fn assert_rows(
     rt: &impl Abort,
     alloc: Global,
@@ -112,7 +113,7 @@ fn assert_rows(
     Ok(())
 }
 
-/// Asserts each pair of the entries.
+/// Asserts each pair of rows.
 fn assert_pairs(
     rt: &impl Abort,
     alloc: Global,
@@ -142,13 +143,13 @@ fn built_in_entries_in_full(rt: HostRuntime) -> Result<(), Fail> {
     assert_pairs(&rt, rt.alloc(), BuiltInStyle::Reference, &REFERENCES)
 }
 
-/// What a style and the layout of a title make of a book and of an entry that has a title alone.
+/// Renders a book and an entry with only a title in a style, by a layout of the title.
 fn titles_in(alloc: Global, style: &Style, book: &Entry, title: &TitleOnly) -> Result<Pair, Fail> {
     let layout = layout(alloc, text_of(StandardVariable::Title))?;
     Ok(paired(alloc, style, &layout, book, title)?)
 }
 
-/// Renders a book and an entry that has a title alone in the style of a title.
+/// Renders a book and an entry with only a title in the style of titles, by a layout of the title.
 fn titles(alloc: Global, book: &Entry, title: &TitleOnly) -> Result<Pair, Fail> {
     let style = title_style(alloc)?;
     let pair = titles_in(alloc, &style, book, title);
@@ -156,7 +157,7 @@ fn titles(alloc: Global, book: &Entry, title: &TitleOnly) -> Result<Pair, Fail> 
     pair
 }
 
-/// What the layout of a title makes of the book and of an entry that has this title alone.
+/// Renders the built-in book and an entry with only this title, by a layout of the title.
 fn titles_of(alloc: Global, title: &str) -> Result<Pair, Fail> {
     let title = TitleOnly {
         title: ChunkedString::plain(alloc, title)?,
@@ -164,7 +165,7 @@ fn titles_of(alloc: Global, title: &str) -> Result<Pair, Fail> {
     titles_with(alloc, &title)
 }
 
-/// Renders the built-in book and an entry that has a title alone in the style of a title.
+/// Renders the built-in book and an entry with only a title, by a layout of the title.
 fn titles_with(alloc: Global, title: &TitleOnly) -> Result<Pair, Fail> {
     let book = BuiltIn::of_key("crazy-rich").ok_or("a book")?;
     let books = entries(alloc, &[book])?;

@@ -1,5 +1,5 @@
-//! Cites of entries that have no memory for one of their answers, each answer in turn. What is
-//! expected stands here as written out by hand.
+//! Tests of cites of entries that run out of memory in one lookup, for each lookup in turn. The
+//! expected texts are written by hand.
 
 use crate::cited::{assert_plain, entries};
 use crate::cites::{BOOK, DEPENDENCE, ESSAY, VORTEX};
@@ -15,7 +15,7 @@ use std::alloc::Global;
 use std::process::Abort;
 use std::test::Fail;
 
-/// Whether a call answered that the context had failed before.
+/// Whether a call returned that the context had failed already.
 fn says_so(error: Option<RenderError>) -> bool {
     match error {
         Some(RenderError::Failed) => true,
@@ -23,7 +23,8 @@ fn says_so(error: Option<RenderError>) -> bool {
     }
 }
 
-/// Whether each call of a context, but the last, says that it had failed.
+/// Whether each of these calls returns that the context had failed already. `finish` is not among
+/// them.
 fn is_refused<'s, T: EntryLike>(ctx: &mut Context<'s, T>, style: &'s Style) -> bool {
     let volume = NumberVariable::Volume;
     let layout = style.citation();
@@ -38,7 +39,7 @@ fn is_refused<'s, T: EntryLike>(ctx: &mut Context<'s, T>, style: &'s Style) -> b
     asked && shown && rendered && peeked && named && dated && written && opened
 }
 
-/// Whether a context has failed, and each call says so.
+/// Whether a context has failed, and each of its calls returns so.
 fn has_failed<'s, T: EntryLike>(mut ctx: Context<'s, T>, style: &'s Style) -> bool {
     let is_refused = is_refused(&mut ctx, style);
     if ctx.has_failed() {
@@ -50,11 +51,12 @@ fn has_failed<'s, T: EntryLike>(mut ctx: Context<'s, T>, style: &'s Style) -> bo
     }
 }
 
-/// What a style makes of a cite of an entry, or nothing where there was no memory and the context
-/// says so from then on.
+/// Renders a cite of an entry in a style. Returns `None` if memory ran out and each call after that
+/// returned that the context had failed already.
 ///
 /// # Errors
-/// [`RenderError::Failed`]: the context does not say so, or had failed before.
+/// [`RenderError::Memory`]: out of memory in the context's first or last call.
+/// [`RenderError::Failed`]: the rendering returned this error, or a call after it did not.
 fn tried<T: EntryLike>(
     alloc: Global,
     style: &Style,
@@ -86,7 +88,7 @@ fn tried<T: EntryLike>(
     }
 }
 
-/// What a style makes of the first cite of an entry, or nothing where there was no memory.
+/// Renders a first cite of an entry in a style. Returns `None` if memory ran out.
 fn tried_first<T: EntryLike>(
     alloc: Global,
     style: &Style,
@@ -98,7 +100,7 @@ fn tried_first<T: EntryLike>(
     made
 }
 
-/// Asserts what a style makes of a first cite of an entry that refuses nothing.
+/// Asserts the plain text of a first cite of an entry that refuses nothing.
 fn assert_alone(
     rt: &impl Abort,
     alloc: Global,
@@ -115,8 +117,9 @@ fn assert_alone(
     answer
 }
 
-/// Asserts that an entry whose call behind so many is refused is cited, or that memory ran out and
-/// the entry is then cited alone. Whether the call was refused.
+/// Cites an entry that refuses the lookup after the first `answered` ones, and asserts the plain
+/// text. If memory runs out instead, asserts that the entry refused, and cites it without refusals.
+/// Returns whether the lookup was refused.
 fn assert_refusal(
     rt: &impl Abort,
     alloc: Global,
@@ -140,7 +143,7 @@ fn assert_refusal(
     Ok(refusing.has_refused())
 }
 
-/// Asserts each refusal, until none is left.
+/// Asserts the refusal of each lookup in turn, up to the last one.
 fn assert_refusals(
     rt: &impl Abort,
     alloc: Global,

@@ -1,5 +1,5 @@
-//! What is answered where a writer refuses a text, each text in turn. What is expected stands here
-//! as written out by hand.
+//! Tests of writers that refuse a text, for each text in turn. The expected texts are written by
+//! hand.
 
 ghost use Rattle.std.specs.Prelude.{Some, None, codes};
 
@@ -19,7 +19,7 @@ use std::fmt::{self, Write};
 use std::process::Abort;
 use std::test::Fail;
 
-/// A writer that takes so many texts and refuses the next.
+/// A writer that takes the given number of texts and refuses those after them.
 #[derive(Drop)]
 struct Few {
     left: usize,
@@ -48,8 +48,9 @@ impl fmt::Write for Few {
     }
 }
 
-/// Runs the words of a row over writers that take so many texts each, and asserts the row, or a
-/// status of four. Whether it was the row.
+/// Runs the words of a row over writers that take `texts` texts each. Asserts the row or, at status
+/// 4, that nothing is written as the answer to words that have none. Returns whether it was the
+/// row.
 fn is_row(rt: &impl Abort, alloc: Global, words: &[String], row: &Row, texts: usize) -> bool {
     let (of, status, out, fault) = row;
     let mut wrote = Few::of(alloc, texts);
@@ -67,7 +68,7 @@ fn is_row(rt: &impl Abort, alloc: Global, words: &[String], row: &Row, texts: us
     true
 }
 
-/// Asserts a row, and four where a text is refused.
+/// Asserts the status 4 until both writers take all texts, and then the row.
 fn assert_row(rt: &impl Abort, alloc: Global, row: &Row) -> Result<(), Fail> {
     let words = owned(alloc, row.0)?;
     for texts in 0..200 {
@@ -110,8 +111,8 @@ fn a_refused_text_is_status_four(rt: HostRuntime) -> Result<(), Fail> {
     Ok(())
 }
 
-/// Asserts that a call answers an error of its writer where a text is refused, and else writes the
-/// text that is wanted.
+/// Asserts that a call returns an error of its writer if that refuses a text, and else writes the
+/// expected text.
 fn assert_written<F: Fn(&mut Few) -> fmt::Result>(
     rt: &impl Abort,
     alloc: Global,
@@ -133,7 +134,7 @@ fn assert_written<F: Fn(&mut Few) -> fmt::Result>(
 
 const TITLE: &str = "(Title: <span style=\"font-style: italic;\">R&amp;D</span>)";
 
-/// Asserts what is written of a title.
+/// Asserts the HTML, the plain text and the display text of a title's content.
 fn assert_content(rt: &impl Abort, alloc: Global, content: &ElemChildren) -> Result<(), Fail> {
     let html = |w: &mut Few| content.write_buf(w, BufWriteFormat::Html);
     let plain = |w: &mut Few| content.write_buf(w, BufWriteFormat::Plain);
@@ -143,7 +144,7 @@ fn assert_content(rt: &impl Abort, alloc: Global, content: &ElemChildren) -> Res
     assert_written(rt, alloc, &displayed, "(Title: R&D)")
 }
 
-/// What a style makes of a title.
+/// Renders an entry with only a title, in a style.
 fn titled(alloc: Global, style: &Style, title: &TitleOnly) -> Result<Rendered, Fail> {
     let cite_props = CiteProperties::first(DisambiguateState::None);
     let made = cite(alloc, style, title, &cite_props);
@@ -151,7 +152,7 @@ fn titled(alloc: Global, style: &Style, title: &TitleOnly) -> Result<Rendered, F
     Ok(made?)
 }
 
-/// The content of a title.
+/// Renders an entry with only a title, in the style of titles.
 fn content(alloc: Global) -> Result<Rendered, Fail> {
     let title = TitleOnly {
         title: ChunkedString::plain(alloc, "R&D")?,
@@ -170,7 +171,7 @@ fn refused_texts_of_trees(rt: HostRuntime) -> Result<(), Fail> {
     answer
 }
 
-/// Asserts what is written of some numbers, as they are and to sort by.
+/// Asserts the display text and the sort text of some numbers.
 fn assert_numbers(
     rt: &impl Abort,
     alloc: Global,
@@ -184,14 +185,14 @@ fn assert_numbers(
     assert_written(rt, alloc, &sorted, sort_text)
 }
 
-/// Asserts what is written of some pages.
+/// Asserts the display text of some pages.
 fn assert_pages(rt: &impl Abort, alloc: Global, pages: &str) -> Result<(), Fail> {
     let ranges = PageRanges::parse(alloc, pages)?;
     let displayed = |w: &mut Few| write!(w, "{ranges}");
     assert_written(rt, alloc, &displayed, pages)
 }
 
-/// A locale in which each number has the suffix `st`.
+/// Ordinals in which each number has the suffix `st`.
 struct Suffix;
 
 impl Ordinals for Suffix {
@@ -208,7 +209,7 @@ impl Ordinals for Suffix {
     }
 }
 
-/// Asserts what is written of 21 in a form.
+/// Asserts the text of 21 in a form.
 fn assert_form(rt: &impl Abort, alloc: Global, form: NumberForm, wanted: &str) -> Result<(), Fail> {
     let number = Numeric::new(21);
     let formed = |w: &mut Few| number.with_form(w, form, None, &Suffix);
@@ -223,14 +224,14 @@ fn refused_texts_of_numbers(rt: HostRuntime) -> Result<(), Fail> {
     assert_form(&rt, rt.alloc(), NumberForm::Roman, "xxi")
 }
 
-/// Asserts what is written of the initials of a given name.
+/// Asserts the initials of a given name.
 fn assert_initials(rt: &impl Abort, alloc: Global, given: &str, wanted: &str) -> Result<(), Fail> {
     let person = Person::new(alloc, "x", given)?;
     let initials = |w: &mut Few| person.initials(w, Some(". "), true);
     assert_written(rt, alloc, &initials, wanted)
 }
 
-/// Asserts what is written of a given name.
+/// Asserts the text of a given name, with a dot after each single letter.
 fn assert_given(rt: &impl Abort, alloc: Global, given: &str, wanted: &str) -> Result<(), Fail> {
     let person = Person::new(alloc, "x", given)?;
     let first = |w: &mut Few| person.first_name_with_delimiter(w, Some("."));

@@ -1,5 +1,5 @@
-//! What the built-in styles name, and what they make of a cite of which its citation says more.
-//! What is expected stands here as written out by hand.
+//! Tests of the variables that the built-in styles name, and of cites with a disambiguation or a
+//! special form. The expected texts are written by hand.
 
 use crate::asserted::assert_text;
 use crate::cited::{Told, assert_plain, cited, state};
@@ -22,7 +22,7 @@ pub(crate) fn say_set<T: Debug + Ord>(
     write!(said, "{name} {set:?}")
 }
 
-/// Says all that is named, set by set.
+/// Appends all named variables and kinds, set by set.
 fn say_named(said: &mut String, named: &Named) -> Result<(), AllocError> {
     say_set(said, "numbers", &named.numbers)?;
     say_set(said, " pages", &named.pages)?;
@@ -40,7 +40,7 @@ fn named(alloc: Global, style: BuiltInStyle) -> Result<Named, Memory> {
     named
 }
 
-/// Says what a style names, set by set.
+/// Appends the variables and kinds that a style names, set by set.
 fn say_style(alloc: Global, style: BuiltInStyle, said: &mut String) -> Result<(), Fail> {
     let named = named(alloc, style)?;
     let answer = say_named(said, &named);
@@ -48,7 +48,7 @@ fn say_style(alloc: Global, style: BuiltInStyle, said: &mut String) -> Result<()
     Ok(answer?)
 }
 
-/// A style, and what it names.
+/// A style, and the variables and kinds that it names.
 static NAMED: [(BuiltInStyle, &str); 2] = [
     (
         BuiltInStyle::AuthorDate,
@@ -82,7 +82,8 @@ fn built_in_styles_name_what_they_print(rt: HostRuntime) -> Result<(), Fail> {
     Ok(())
 }
 
-/// What tells the cite from others, its form, and the cite of the book by its author and date.
+/// The disambiguation of the cite, its special form, and its plain text: a cite of the book in the
+/// style `author-date`.
 type Row = (Told, Option<SpecialForm>, &'static str);
 
 const DATE_ALONE: SpecialForm = SpecialForm::VarOnly(Variable::Date(DateVariable::Issued));
@@ -105,7 +106,7 @@ static CITES: [Row; 10] = [
     (Told::Nothing, Some(AUTHOR_ALONE), "(Kwan)"),
     (Told::Nothing, Some(SpecialForm::OnlyFirstDate), "(2014)"),
     (Told::Suffix(25), Some(SpecialForm::OnlyYearSuffix), "(z)"),
-    // What is said of editors does not count for authors.
+    // Name forms of editors do not count for authors.
     (EDITOR, None, "(Kwan, 2014)"),
 ];
 

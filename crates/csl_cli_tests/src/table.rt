@@ -1,4 +1,4 @@
-//! An entry type of these tests' own: what it answers stands in a table.
+//! An entry type of these tests. Its answers are in a table.
 
 ghost use Rattle.std.specs.Prelude.{◌≡◌, IfOk, map, option_copied, option_map};
 ghost use Rattle.csl_cli_tests.specs.Table.{date_in, is_in, names_in, number_in, text_in};
@@ -80,7 +80,7 @@ fn names_in(
     answers.iter().find(|answer| answer.0 == variable)
 }
 
-/// These persons, as an answer.
+/// These persons as an answer, each borrowed.
 fn name_answer(alloc: Global, persons: &[Person]) -> Result<Vec<Cow<'_, Person>>, Memory>
     ensures { IfOk result (λ found. map (cow_view person_view) found.items
         ≡ map person_view persons.now) }
@@ -92,7 +92,7 @@ fn name_answer(alloc: Global, persons: &[Person]) -> Result<Vec<Cow<'_, Person>>
     Ok(found)
 }
 
-/// A number, borrowed, and copied where it is a text.
+/// A number as an answer, if there is one: borrowed, or copied if it is a text.
 fn number_answer(
     alloc: Global,
     found: Option<&(NumberVariable, MaybeTyped<Numeric>)>,
@@ -112,7 +112,7 @@ fn number_answer(
     }
 }
 
-/// A copy of the pages, where there are some.
+/// A copy of the pages, if there are some.
 fn page_answer(
     alloc: Global,
     found: &Option<MaybeTyped<PageRanges>>,

@@ -1,4 +1,4 @@
-//! Cites of entries that are tables. What is expected stands here as written out by hand.
+//! Tests of cites of entries that are tables. The expected texts are written by hand.
 
 use crate::blank::person;
 use crate::cited::{alone, assert_plain, put, rendered};
@@ -15,7 +15,7 @@ use std::alloc::Global;
 use std::process::Abort;
 use std::test::Fail;
 
-/// What a table answers.
+/// An answer of a table.
 #[derive(Clone, Copy)]
 enum Answer {
     /// A number that is this text.
@@ -25,7 +25,7 @@ enum Answer {
     Year(DateVariable, i32),
 }
 
-/// Writes an answer into a table.
+/// Appends an answer to a table.
 fn write(alloc: Global, table: &mut Table, answer: Answer) -> Result<(), Fail> {
     match answer {
         Answer::Number(variable, text) => {
@@ -55,10 +55,10 @@ fn tables(alloc: Global, answers: &[Answer]) -> Result<Vec<Table>, Fail> {
     Ok(tables)
 }
 
-/// What is laid out of a table.
+/// The layout of a cite.
 #[derive(Clone, Copy)]
 enum Laid {
-    /// What the style of authors and dates lays out.
+    /// The citation layout of the style `author-date`.
     AuthorsAndDate,
     /// The authors alone.
     Authors,
@@ -68,7 +68,7 @@ enum Laid {
     Values,
 }
 
-/// The one node that is laid out, where it is not that of the style.
+/// The one node of a layout that is not the style's.
 fn node(alloc: Global, laid: Laid) -> Result<LayoutRenderingElement, Memory> {
     match laid {
         Laid::AuthorsAndDate | Laid::Authors => names(alloc, NameVariable::Author),
@@ -81,7 +81,7 @@ fn node(alloc: Global, laid: Laid) -> Result<LayoutRenderingElement, Memory> {
     }
 }
 
-/// What a layout of a style makes of the first table.
+/// Renders the first table by a layout in a style.
 fn first_made(
     alloc: Global,
     style: &Style,
@@ -95,7 +95,7 @@ fn first_made(
     Ok(made?)
 }
 
-/// What is laid out, made of the first table.
+/// Renders the first table by the chosen layout in a style.
 fn made_in(alloc: Global, style: &Style, laid: Laid, tables: &[Table]) -> Result<Rendered, Fail> {
     if let Laid::AuthorsAndDate = laid {
         return first_made(alloc, style, style.citation(), tables);
@@ -106,7 +106,7 @@ fn made_in(alloc: Global, style: &Style, laid: Laid, tables: &[Table]) -> Result
     made
 }
 
-/// The same in the style of authors and dates.
+/// Renders the first table by the chosen layout in the style `author-date`.
 fn made(alloc: Global, laid: Laid, tables: &[Table]) -> Result<Rendered, Fail> {
     let style = BuiltInStyle::AuthorDate.style(alloc)?;
     let made = made_in(alloc, &style, laid, tables);
@@ -114,7 +114,7 @@ fn made(alloc: Global, laid: Laid, tables: &[Table]) -> Result<Rendered, Fail> {
     made
 }
 
-/// Asserts what is made of the table of these answers.
+/// Asserts the plain text of the table of these answers.
 fn assert_made(
     rt: &impl Abort,
     alloc: Global,
@@ -131,11 +131,11 @@ fn assert_made(
     answer
 }
 
-/// What a table answers, what is laid out of it, and the plain text.
+/// The answers of a table, the layout, and the plain text.
 type Row = (&'static [Answer], Laid, &'static str);
 
 static ROWS: [Row; 3] = [
-    // A name may be empty: there is a list of persons, and nothing to print.
+    // A name may be empty. There is a list of persons then, but no text.
     (
         &[
             Answer::Person(NameVariable::Author, "", None),
@@ -144,13 +144,13 @@ static ROWS: [Row; 3] = [
         Laid::AuthorsAndDate,
         "(, 2014)",
     ),
-    // The space between given name and name stands though the name is empty.
+    // The space between given name and name is written even if the name is empty.
     (
         &[Answer::Person(NameVariable::Author, "", Some("A"))],
         Laid::Authors,
         "A ",
     ),
-    // A number that is there prints, whatever its text.
+    // A number that has an answer prints, whatever the text.
     (
         &[Answer::Number(NumberVariable::Volume, "")],
         Laid::ValueAndVolume,

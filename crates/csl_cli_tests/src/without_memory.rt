@@ -1,4 +1,4 @@
-//! An entry type of these tests' own: another entry, which has no memory for one of its answers.
+//! An entry type of these tests. It wraps another entry, and runs out of memory in one lookup.
 
 use csl_entry::EntryLike;
 use csl_style::{DateVariable, Kind, NameVariable, NumberVariable, PageVariable, StandardVariable};
@@ -9,16 +9,16 @@ use std::alloc::Global;
 use std::borrow::{Cow, CowStr};
 use std::cell::Cell;
 
-/// An entry that answers what another one does, but for one call, for which it has no memory.
+/// An entry with the answers of another one. One lookup runs out of memory.
 #[derive(Drop)]
 pub(crate) struct WithoutMemory<'e, T> {
     entry: &'e T,
-    /// How many calls are still answered before the one that is refused; none once it was.
+    /// The number of lookups before the refused one, or `None` after it.
     answers_left: Cell<Option<u32>>,
 }
 
 impl<'e, T> WithoutMemory<'e, T> {
-    /// The entry that refuses the call behind so many.
+    /// Wraps an entry, to refuse the lookup after the first `answered` ones.
     pub(crate) fn behind(entry: &'e T, answered: u32) -> WithoutMemory<'e, T> {
         WithoutMemory {
             entry,
@@ -26,15 +26,15 @@ impl<'e, T> WithoutMemory<'e, T> {
         }
     }
 
-    /// Whether a call was refused.
+    /// Whether a lookup was refused.
     pub(crate) fn has_refused(&self) -> bool {
         self.answers_left.get().is_none()
     }
 
-    /// Counts a call.
+    /// Counts a lookup.
     ///
     /// # Errors
-    /// [`Memory`]: it is the one that is refused.
+    /// [`Memory`]: this lookup is the refused one.
     fn count(&self) -> Result<(), Memory> {
         match self.answers_left.get() {
             None => Ok(()),

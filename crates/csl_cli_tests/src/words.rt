@@ -1,5 +1,5 @@
-//! The words of the program and what it writes for them. What is expected stands here as written
-//! out by hand.
+//! Tests of the program's words: its status and the texts that it writes. The expected texts are
+//! written by hand.
 
 use crate::asserted::{assert_status, assert_text};
 use csl_cli::run::run;
@@ -7,7 +7,7 @@ use std::alloc::Global;
 use std::process::Abort;
 use std::test::Fail;
 
-/// The words, and the status, the answer and the fault that they give.
+/// The words, the status, the answer and the fault.
 pub type Row = (&'static [&'static str], u8, &'static str, &'static str);
 
 pub(crate) const NATURE: &str = "(Title: <span style=\"font-style: italic;\">Nature</span>)\n";
@@ -85,7 +85,7 @@ pub fn owned(alloc: Global, words: &[&str]) -> Result<Vec<String>, Fail> {
     Ok(all)
 }
 
-/// Runs the words of a row, and asserts the status and what both streams took.
+/// Runs the words of a row, and asserts the status and the texts of both writers.
 fn assert_run(rt: &impl Abort, alloc: Global, words: &[String], row: &Row) {
     let (of, status, out, fault) = row;
     let mut wrote = String::new(alloc);
@@ -96,14 +96,14 @@ fn assert_run(rt: &impl Abort, alloc: Global, words: &[String], row: &Row) {
     assert_text(rt, said.as_str(), *fault, *of);
 }
 
-/// Asserts what the program writes for the words of a row.
+/// Asserts the status and the texts of a row.
 fn assert_row(rt: &impl Abort, alloc: Global, row: &Row) -> Result<(), Fail> {
     let words = owned(alloc, row.0)?;
     assert_run(rt, alloc, words.as_slice(), row);
     Ok(())
 }
 
-/// Asserts what the program writes for the words of each row.
+/// Asserts the status and the texts of each row.
 pub fn assert_all(rt: &impl Abort, alloc: Global, rows: &[Row]) -> Result<(), Fail> {
     for row in rows {
         assert_row(rt, alloc, row)?;

@@ -1,4 +1,4 @@
--- The label and the kinds of what shows a built-in entry.
+-- The label and the kinds of a built-in entry.
 use Rattle.std.proofs.Common.{◌≡◌, ℕ, Bool, true, false, ◌&&◌, List, [], ◌∷◌, Option, Some, None, map, option_map, refl, ap, ◌∙◌}
 use Rattle.std.specs.Prelude.{is_none, Vec, ◌||◌, Result, Ok, Err, IfOk, String, string_bytes}
 use Rattle.std.specs.Option.{option_or}
@@ -65,7 +65,7 @@ own_date_first (Some d) more visit date h = h
 label_date_is : (e : Entry) (date : DateView) → option_map date_view (out-Entry e).date ≡ Some date → option_map date_view (label_date e) ≡ Some date
 label_date_is e date h = ap (λ d. option_map date_view (option_or d (visit_date e))) (first_some_here date_in e) ∙ own_date_first (date_in e) _ (visit_date e) date h
 
--- of a work with authors, a title and a date
+-- the label of a work with authors, a title and a date
 label_shown : (own : Own) (date : DateView) (names : List PersonView) (title : FormatStringView) (e : Entry) → Shows own (Some date) e → own.authors ≡ Some names → own.title ≡ Some title → label_parts (full_of e) ≡ record { creators = names; stand_in = own_stand_in own; date = Some date }
 label_shown own date names title e shows authors has_title =
     let untitled : is_untitled_part e ≡ false = ap (λ b. (same_type (out-Entry e).entry_type Chapter || same_type (out-Entry e).entry_type Scene) && b) (titled format_string_view (out-Entry e).title title (ap (λ (o : Own). o.title) shows.fields ∙ has_title)) ∙ and_false _ in

@@ -1,4 +1,4 @@
--- The parser takes the address of the essay.
+-- The parser accepts the address of the essay.
 use Rattle.std.proofs.Common.{◌≡◌, true, refl, sym, ap, ◌∙◌, true≢false}
 use Rattle.std.specs.Prelude.{None, is_some}
 use Rattle.url.proofs.OnLiterals.{url_on_literals}

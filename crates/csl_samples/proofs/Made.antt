@@ -1,4 +1,4 @@
--- A substitute that is made, as data.
+-- A substitute that the code constructs, as data.
 use Rattle.std.proofs.Common.{◌≡◌, [], ◌∷◌, map, refl, sym, ap, ◌∙◌}
 use Rattle.std.specs.Prelude.{Vec}
 use Rattle.std.specs.declared.alloc.Global.{Global}

@@ -1,10 +1,10 @@
 -- The English locale of the built-in styles (CSL 1.0.2, Locale), `IsEnglish`.
--- - Terms in the long form alone: `and`, `et al.`, the dash of page ranges, the quotes and those
---   inside them, and the twelve months. The terms for pages and volumes, for one and for several,
---   in the long and the short form.
--- - Ordinals of no gender: `th`; `st`, `nd` and `rd` for 1, 2 and 3; `th` for 11, 12 and 13.
+-- - Terms with one text, only in the long form: `and`, `et al.`, the dash of page ranges, outer and
+--   inner quotes, and the twelve months.
+-- - Terms for pages and volumes, for one and for several, in the long and the short form.
+-- - Ordinals without a gender: `th`; `st`, `nd` and `rd` for 1, 2 and 3; `th` for 11, 12 and 13.
 -- - A comma or period goes before a closing quote. Ordinal days are not limited to the first of a
---   month. There are no dates and no other terms.
+--   month. There are no localized dates and no other terms.
 use Rattle.std.specs.Prelude.{◌≡◌, ℕ, true, false, List, [], ◌∷◌, ◌++◌, Some, None, codes}
 use Rattle.std.specs.Borrow.{Bor}
 use Rattle.csl_style.specs.declared.locale.Locale.{Locale}
@@ -20,15 +20,15 @@ use Rattle.csl_style.specs.declared.term.TermForm.{TermForm}
 use Rattle.csl_style.specs.declared.term.TermForm.TheVariants.{Long, Short}
 use Rattle.csl_style.specs.Locale.{TermView, OrdinalView, terms_of, ordinals_of}
 
--- a term that has one text, in its long form
+-- a term with one text, in its long form
 abbrev pub word : OtherTerm → List ℕ → TermView
 word term text = record { term = Other term; form = Long; single = text; multiple = None; gender = None }
 
--- a term that has a text for one and one for several
+-- a term with a text for one and another for several
 abbrev pub term_with_plural : Term → TermForm → List ℕ → List ℕ → TermView
 term_with_plural term form one several = record { term = term; form = form; single = one; multiple = Some several; gender = None }
 
--- The dash is –, the quotes are “ and ”, and ‘ and ’ inside others, each in UTF-8.
+-- The dash is –, the outer quotes are “ and ”, and the inner ones ‘ and ’, each in UTF-8.
 abbrev pub english_words : List TermView
 english_words =
     word others.And (codes "and")
@@ -60,7 +60,7 @@ english_counted =
     ∷ term_with_plural (Number Volume) Short (codes "vol.") (codes "vols.")
     ∷ []
 
--- an ordinal of no gender, for the digits that its slot has by itself
+-- an ordinal without a gender; its slot alone decides which digits it matches
 abbrev pub ordinal : OrdinalSlot → List ℕ → OrdinalView
 ordinal slot text = record { slot = slot; matching = None; gender = None; text = text }
 
@@ -82,7 +82,7 @@ pub record IsEnglish (locale : Locale) : Type 0 where
   pub punctuation_in_quote : locale.punctuation_in_quote ≡ true
   pub day_ordinals : locale.limit_day_ordinals_to_day_1 ≡ false
 
--- ---- what the rows of the code's tables say
+-- ---- the rows of the code's tables
 
 abbrev pub word_of_row : OtherTerm × Bor (List ℕ) → TermView
 word_of_row row = word row.0 row.1.now

@@ -1,9 +1,8 @@
--- Four entries are built in, each with a key. An entry is one of them (`IsBuiltIn`) if it has all
--- the fields, the date and the parents that are listed for it, and no others. Their texts are one
--- normal chunk each. Their parents have no key. The address of one is what the URL Standard's
--- parser makes of its text. The label and the kinds of a built-in entry follow from the listed
--- fields: authors, title and date; own type, the parent's type, and whether there is a publisher
--- and an address.
+-- Four entries are built in, each with a key. An entry is one of them (`IsBuiltIn`) if it has
+-- exactly the fields, the date and the parents listed for it. Each text is one normal chunk. The
+-- parents have no key. The address of the essay (`feminism`) is the result of the URL Standard's
+-- parser on its text. The label of a built-in entry follows from its authors, title and date. Its
+-- kinds follow from its own type, its parent's type, and whether it has a publisher and an address.
 use Rattle.std.specs.Prelude.{◌≡◌, ℕ, pos, Bool, false, List, [], ◌∷◌, Option, Some, None, Ok, Err, codes, option_map, unwrap_or, if◌then◌else◌}
 use Rattle.std.specs.Str.{bytes_eq}
 use Rattle.url.specs.Parser.{Parsed, parse_url}
@@ -34,7 +33,7 @@ key_of QuantizedVortex = codes "quantized-vortex"
 key_of Dependence = codes "dependence"
 key_of Feminism = codes "feminism"
 
--- the built-in entry of a key
+-- the built-in entry with this key
 abbrev pub named_built_in : List ℕ → Option BuiltIn
 named_built_in key =
     if bytes_eq key (key_of CrazyRich) then Some CrazyRich
@@ -53,11 +52,11 @@ number n = typed (bare_number n)
 abbrev pub pages : ℕ → ℕ → MaybeView (List PartView)
 pages from to = typed (range (bare_number from) (bare_number to) ∷ [])
 
--- a year, with a month and a day where they are known; both count from 0
+-- a year, with a month and a day if they are known; both count from 0
 abbrev pub calendar_date : ℕ → Option ℕ → Option ℕ → DateView
 calendar_date year month day = record { year = pos year; month = month; day = day; season = None; approximate = false }
 
--- an entry's own fields with only a key and a type
+-- the own fields of an entry with only a key and a type
 abbrev pub minimal_fields : List ℕ → EntryType → Own
 minimal_fields key entry_type = record {
   key = key;
@@ -89,7 +88,7 @@ minimal_fields key entry_type = record {
   genre = None;
 }
 
--- the address that a text gives, if it is one
+-- the address that a parser returns, unless it returns an error
 abbrev pub address_of_parse : Parsed of_url.Parts → Option Address
 address_of_parse (Ok parts) = Some (record { value = parts; visit_date = None })
 address_of_parse (Err _) = None
@@ -99,7 +98,7 @@ address_from text = address_of_parse (parse_url None text)
 
 -- ---- the entries
 
--- an entry with these fields of its own and this date
+-- an entry has these fields of its own and this date
 pub record Shows (own : Own) (date : Option DateView) (e : Entry) : Type 0 where
   pub fields : own_of e ≡ record own { date = (out-Entry e).date }
   pub date_is : option_map date_view (out-Entry e).date ≡ date
@@ -112,7 +111,7 @@ StandsAlone own e = Shows own None e × (parents_of e ≡ [])
 abbrev pub HasParent : Own → Entry → Type 0
 HasParent own e = (parent : Entry) × (parents_of e ≡ parent ∷ []) × StandsAlone own parent
 
--- only a type and a title, without a key
+-- the own fields of an entry with only a type and a title
 abbrev pub only_title : EntryType → List ℕ → Own
 only_title entry_type title = record (minimal_fields [] entry_type) { title = Some (plain_forms title) }
 
@@ -176,9 +175,9 @@ IsBuiltIn QuantizedVortex e = Shows quantized_vortex (Some (calendar_date 1961 (
 IsBuiltIn Dependence e = Shows dependence (Some (calendar_date 1987 (Some 6) None)) e × HasParent transactions e
 IsBuiltIn Feminism e = Shows feminism (Some (calendar_date 2015 (Some 8) (Some 24))) e × HasParent aeon e
 
--- ---- what tells the label and the kinds of a built-in entry
+-- ---- the label and the kinds of a built-in entry
 
--- a built-in entry's own fields but the date, its date, and the fields of its parents
+-- the own fields of a built-in entry without its date, its date, and the fields of its parents
 abbrev pub own_fields : BuiltIn → Own
 own_fields CrazyRich = crazy_rich
 own_fields QuantizedVortex = quantized_vortex
@@ -197,8 +196,7 @@ parent_fields QuantizedVortex = nuovo_cimento ∷ []
 parent_fields Dependence = transactions ∷ []
 parent_fields Feminism = aeon ∷ []
 
--- what the label of a built-in entry is made of: its authors, its title where there are none, and
--- its date
+-- the parts of a built-in entry's label: its authors, its title as their stand-in, and its date
 abbrev pub label_parts_of : BuiltIn → LabelParts
 label_parts_of entry = record {
   creators = unwrap_or (own_fields entry).authors [];

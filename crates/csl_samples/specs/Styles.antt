@@ -1,14 +1,14 @@
--- Two styles are built in, by name (`IsBuiltInStyle`; CSL 1.0.2, Rendering Elements). Each is the
--- layout of a cite and nothing else: no bibliography, no macros, settings that set nothing, and one
--- locale (`IsEnglish`). A date part has no form of its own unless one is named here.
+-- Two styles are built in, by name (`IsBuiltInStyle`; CSL 1.0.2, Rendering Elements). Each has a
+-- citation layout, default settings and one locale (`IsEnglish`), no bibliography and no macros. A
+-- date part has no form of its own unless one is named here.
 -- - `author-date` is a group in parentheses, delimited by `, `: the authors in their short form,
 --   with the word `and` before the last, and the year of issue.
 -- - `reference` is two groups. The first ends with a period and is delimited by `, `: the authors,
 --   the first with the family name first and the last after the word `and`, with the editors as
---   their substitute, written as they are; the title in quotes; the title of the container in
+--   their substitute, written like the authors; the title in quotes; the title of the container in
 --   italics; the volume and the pages, each after its short label and a space; the month of issue
 --   in its long form and the year, with a space between them. The second begins with a space and
---   has the DOI after `https://doi.org/`.
+--   is the DOI after `https://doi.org/`.
 use Rattle.std.specs.Prelude.{◌≡◌, ℕ, Bool, true, false, List, [], ◌∷◌, Option, Some, None, codes, if◌then◌else◌}
 use Rattle.std.specs.Str.{bytes_eq}
 use Rattle.csl_common.specs.declared.form.NumberForm.TheVariants as number_forms
@@ -52,7 +52,7 @@ abbrev pub style_name : BuiltInStyle → List ℕ
 style_name AuthorDate = codes "author-date"
 style_name Reference = codes "reference"
 
--- the built-in style of a name
+-- the built-in style with this name
 abbrev pub named_style : List ℕ → Option BuiltInStyle
 named_style name =
     if bytes_eq name (style_name AuthorDate) then Some AuthorDate
@@ -68,14 +68,14 @@ variable_text variable formatting affixes quotes = text (of_variable variable Lo
   strip_periods = false;
 })
 
--- the short label of a number or of pages, in the plural beside several
+-- the short label of a number or of pages, in the plural if there are several
 abbrev pub short_label : NumberOrPageVariable → Node
 short_label variable = label variable (view_label (short_label_of variable).label)
 
 abbrev pub date_part : DatePartName → Option DateAnyForm → DatePartNode
 date_part name form = record { name = name; form = form; formatting = no_formatting; affixes = no_affixes; strip_periods = false }
 
--- the date of issue, by these parts
+-- the date of issue, with these parts
 abbrev pub issued_date : List DatePartNode → Option (List ℕ) → DateNode
 issued_date parts delimiter = record {
   variable = Some Issued;
@@ -86,7 +86,7 @@ issued_date parts delimiter = record {
   dressing = no_dressing;
 }
 
--- persons of one variable, written by these children
+-- the names of one variable, with these children
 abbrev pub persons_by : NameVariable → List NamesChildView → Node
 persons_by variable children = names (record {
   variables = variable ∷ [];
@@ -98,7 +98,7 @@ persons_by variable children = names (record {
   label = first_label false children;
 }) (substitutes children)
 
--- the word `and` before the last name, with or without a form and an order
+-- name options with the word `and` before the last name, with or without a form and an order
 abbrev pub joined_by_and : Option NameForm → Option NameAsSortOrder → PartialOptions
 joined_by_and form order = record no_options { and = Some ands.Text; form = form; name_as_sort_order = order }
 
@@ -122,7 +122,7 @@ abbrev pub editors : Node
 editors = persons_by Editor []
 
 -- The authors, the first with the family name first. The editors are their substitute, and are
--- written as they are.
+-- written like the authors.
 abbrev pub authors : Node
 authors = persons_by Author (a_name (name_by (joined_by_and None (Some First))) ∷ a_substitute (node editors no_nodes) ∷ [])
 
@@ -155,11 +155,11 @@ description_elements = node authors (node quoted_title (node container_title (no
 abbrev pub description : Node
 description = group (Some (codes ", ")) (only_affixes (text_behind (codes "."))) description_elements
 
--- the digital object identifier behind the address that resolves it
+-- the digital object identifier after the address of its resolver
 abbrev pub link : Node
 link = variable_text (Standard DOI) no_formatting (text_before (codes "https://doi.org/")) false
 
--- the second group of a reference: the address of its digital object identifier, after a space
+-- the second group of a reference: the resolver's address and the DOI, after a space
 abbrev pub address : Node
 address = group None (only_affixes (text_before (codes " "))) (node link no_nodes)
 
@@ -172,7 +172,7 @@ elements_of Reference = node description (node address no_nodes)
 abbrev pub built_in_layout : BuiltInStyle → LayoutNode
 built_in_layout style = record { delimiter = None; formatting = no_formatting; elements = elements_of style }
 
--- A style of one layout, that of a cite, in English. It has no macros and sets nothing.
+-- A style with only a citation layout, in English. It has default settings and no macros.
 pub record IsBuiltInStyle (style : BuiltInStyle) (parts : StyleParts) : Type 0 where
   pub citation : view_layout parts.citation ≡ built_in_layout style
   pub bibliography : parts.bibliography ≡ None

@@ -1,5 +1,5 @@
--- An entry that has a title and nothing else, and the style that it is cited in (`CitesTitles`): no
--- macros, no locales, and a layout that is a group in parentheses, delimited by `: `, of the word
+-- An entry with only a title, and the style that it is cited in (`CitesTitles`). The style has no
+-- macros and no locales. Its layout is a group in parentheses, delimited by `: `, of the word
 -- `Title` and the title in italics.
 use Rattle.std.specs.Prelude.{◌≡◌, List, [], Option, Some, None, false, codes}
 use Rattle.lit_model.specs.Text.{Chunk}
@@ -44,7 +44,7 @@ title_text = text (of_variable (Standard Title) Long) (formatted_dressing italic
 abbrev pub label_and_title : Nodes
 label_and_title = node label (node title_text no_nodes)
 
--- the label and the title in parentheses
+-- the word `Title` and the title, in parentheses
 abbrev pub title_group : Node
 title_group = group (Some (codes ": ")) (only_affixes (texts_around (codes "(") (codes ")"))) label_and_title
 

@@ -13,7 +13,7 @@ use csl_style::{
 use lit_model::Memory;
 use std::alloc::Global;
 
-/// The terms that have one text.
+/// The terms with one text.
 static WORDS: [(OtherTerm, &str); 19] = [
     (OtherTerm::And, "and"),
     (OtherTerm::EtAl, "et al."),
@@ -58,7 +58,7 @@ fn ordinal_rows() -> &'static [(OrdinalSlot, &'static str)]
     &ORDINALS
 }
 
-/// The terms that have one text.
+/// The term entries of [`WORDS`].
 fn words(alloc: Global) -> Result<Vec<TermEntry>, Memory>
     ensures { IfOk result (λ made. map term_view made.items ≡ english_words) }
 {
@@ -70,7 +70,7 @@ fn words(alloc: Global) -> Result<Vec<TermEntry>, Memory>
     Ok(terms)
 }
 
-/// What pages and volumes are called.
+/// The terms for pages and volumes, for one and for several, in the long and the short form.
 fn counted_terms(alloc: Global) -> Result<Vec<TermEntry>, Memory>
     ensures { IfOk result (λ made. map term_view made.items ≡ english_counted) }
 {
@@ -93,7 +93,7 @@ fn terms(alloc: Global) -> Result<Vec<TermEntry>, Memory>
     Ok(terms)
 }
 
-/// An ordinal of no gender.
+/// An ordinal without a gender.
 fn ordinal(alloc: Global, slot: OrdinalSlot, text: &str) -> Result<OrdinalTerm, Memory>
     ensures { IfOk result (λ made. ordinal_view made ≡ ordinal slot text.now) }
 {
@@ -115,10 +115,10 @@ fn ordinals(alloc: Global) -> Result<Vec<OrdinalTerm>, Memory>
     Ok(ordinals)
 }
 
-/// The locale of English.
+/// The English locale of the built-in styles.
 ///
 /// # Errors
-/// [`Memory`]: there was no memory left.
+/// [`Memory`]: out of memory.
 pub fn english(alloc: Global) -> Result<Locale, Memory>
     ensures { IfOk result IsEnglish }
 {

@@ -21,16 +21,16 @@ use url::{ParseError, Url};
 pub enum BuiltIn {
     /// A book.
     CrazyRich,
-    /// An article of a journal, with its pages.
+    /// A journal article with its pages.
     QuantizedVortex,
-    /// An article of a journal, by three authors.
+    /// A journal article by three authors.
     Dependence,
-    /// An article of a blog, with its address.
+    /// A blog article with its address.
     Feminism,
 }
 
 impl BuiltIn {
-    /// The built-in entry of this key, if there is one.
+    /// The built-in entry with this key, if there is one.
     pub fn of_key(key: &str) -> Option<BuiltIn>
         ensures { result ≡ named_built_in key.now }
     {
@@ -43,10 +43,10 @@ impl BuiltIn {
         }
     }
 
-    /// The entry.
+    /// The built-in entry as an [`Entry`].
     ///
     /// # Errors
-    /// [`Memory`]: there was no memory left.
+    /// [`Memory`]: out of memory.
     pub fn entry(self, alloc: Global) -> Result<Entry, Memory>
         ensures { IfOk result (IsBuiltIn self) }
     {
@@ -59,7 +59,7 @@ impl BuiltIn {
     }
 }
 
-/// One person with a given name.
+/// A list of one person with a given name.
 fn one_person(alloc: Global, name: &str, given: &str) -> Result<Vec<Person>, Memory>
     ensures { IfOk result (λ v. map person_view v.items ≡ person_of name.now given.now ∷ []) }
 {
@@ -67,7 +67,7 @@ fn one_person(alloc: Global, name: &str, given: &str) -> Result<Vec<Person>, Mem
     Ok(vec![in alloc; person]?)
 }
 
-/// A digital object identifier.
+/// A serial number that is a digital object identifier (DOI).
 fn doi(alloc: Global, number: &str) -> Result<SerialNumber, Memory>
     ensures { IfOk result (λ s. serials s ≡ (codes "doi", number.now) ∷ []) }
 {
@@ -78,7 +78,7 @@ fn doi(alloc: Global, number: &str) -> Result<SerialNumber, Memory>
     Ok(SerialNumber(numbers))
 }
 
-/// Why a text was not parsed to an address.
+/// The reason why a text was not parsed as an address.
 #[derive(Clone, Copy)]
 enum AddressError {
     /// Out of memory.
@@ -87,7 +87,7 @@ enum AddressError {
     NotAddress,
 }
 
-/// The address that a text gives.
+/// Parses a text as an address.
 #[tactic(auto, unfolding(crate::specs::Entries::address_from))]
 fn address(alloc: Global, text: &str) -> Result<QualifiedUrl, AddressError>
     ensures ok { IfOk result (λ url. Some (address_of url) ≡ address_from text.now) }
@@ -98,7 +98,7 @@ fn address(alloc: Global, text: &str) -> Result<QualifiedUrl, AddressError>
             value,
             visit_date: None,
         }),
-        // The second is an address of 4 GB.
+        // `Overflow` means that the address has 4 GiB or more.
         Err(ParseError::OutOfMemory | ParseError::Overflow) => Err(AddressError::Memory),
         Err(_) => Err(AddressError::NotAddress),
     }
@@ -124,7 +124,7 @@ fn crazy_rich(alloc: Global) -> Result<Entry, Memory>
     Ok(entry)
 }
 
-/// A periodical or a blog of this title, without a key.
+/// A parent, such as a periodical or a blog, with this title and without a key.
 fn parent(alloc: Global, entry_type: EntryType, title: &str) -> Result<Entry, Memory>
     ensures { IfOk result (StandsAlone (only_title entry_type title.now)) }
 {
@@ -214,7 +214,7 @@ fn essay_text() -> &'static str
     "https://aeon.co/essays/can-you-enjoy-romance-fiction-and-be-a-feminist"
 }
 
-/// The address of the essay, which the parser takes.
+/// The address of the essay. The parser accepts its text.
 #[tactic(auto, using(crate::proofs::Essay::essay_is_address))]
 fn essay_address(alloc: Global) -> Result<QualifiedUrl, Memory>
     ensures { IfOk result (λ url. Some (address_of url) ≡ essay_address) }

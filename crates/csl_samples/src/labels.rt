@@ -13,7 +13,7 @@ impl BuiltIn {
     /// The label of the entry, with three letters.
     ///
     /// # Errors
-    /// [`Memory`]: there was no memory left.
+    /// [`Memory`]: out of memory.
     pub fn label(self, alloc: Global) -> Result<String, Memory>
         ensures { IfOk result (λ label. string_bytes label ≡ label_text self) }
     {
@@ -26,7 +26,7 @@ impl BuiltIn {
     /// Whether the entry is of a kind.
     ///
     /// # Errors
-    /// [`Memory`]: there was no memory left.
+    /// [`Memory`]: out of memory.
     pub fn is_of_kind(self, alloc: Global, kind: Kind) -> Result<bool, Memory>
         ensures { IfOk result (λ answer. answer ≡ is_built_in_kind kind self) }
     {
@@ -37,7 +37,7 @@ impl BuiltIn {
     }
 }
 
-/// The label, with three letters, of what shows a built-in entry.
+/// The label, with three letters, of an [`Entry`] that is this built-in entry.
 fn label_of(alloc: Global, entry: BuiltIn, work: &Entry) -> Result<String, Memory>
     requires { IsBuiltIn entry work.now }
     ensures { IfOk result (λ label. string_bytes label ≡ label_text entry) }
@@ -45,7 +45,7 @@ fn label_of(alloc: Global, entry: BuiltIn, work: &Entry) -> Result<String, Memor
     Alphanumerical::new().citation(alloc, work)
 }
 
-/// Whether what shows a built-in entry is of a kind.
+/// Whether an [`Entry`] that is this built-in entry is of a kind.
 fn is_of_kind(entry: BuiltIn, kind: Kind, work: &Entry) -> bool
     requires { IsBuiltIn entry work.now }
     ensures { result ≡ is_built_in_kind kind entry }

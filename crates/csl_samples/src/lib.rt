@@ -1,5 +1,5 @@
-//! What the program has built in: its entries, their labels and their kinds, the styles that they
-//! are cited in, and the one that a title is cited in.
+//! The built-in data of the program `csl_cite`: entries with their labels and kinds, the styles
+//! that they are cited in, and the style that a title is cited in.
 #![tactic(auto)]
 
 mod english;

@@ -28,12 +28,12 @@ use std::alloc::Global;
 pub enum BuiltInStyle {
     /// The authors' family names and the year, in parentheses.
     AuthorDate,
-    /// All that a list of references says of a work.
+    /// A full reference, as in a list of references.
     Reference,
 }
 
 impl BuiltInStyle {
-    /// The built-in style of this name, if there is one.
+    /// The built-in style with this name, if there is one.
     pub fn of_name(name: &str) -> Option<BuiltInStyle>
         ensures { result ≡ named_style name.now }
     {
@@ -44,10 +44,10 @@ impl BuiltInStyle {
         }
     }
 
-    /// The style: a layout of citations in English, and no macros and settings.
+    /// The style. It has a citation layout, default settings, the English locale, and no macros.
     ///
     /// # Errors
-    /// [`Memory`]: there was no memory left.
+    /// [`Memory`]: out of memory.
     pub fn style(self, alloc: Global) -> Result<Style, Memory>
         ensures { IfOk result (IsBuiltInStyle self) }
     {
@@ -58,13 +58,13 @@ impl BuiltInStyle {
         match Style::new(alloc, settings, Vec::new(alloc), citation, None, locales) {
             Ok(style) => Ok(style),
             Err(StyleError::Memory) => Err(Memory),
-            // No macro leads back to itself where there is none, and no page format is asked for.
+            // The style has no macros, so no cycle, and it sets no page format.
             Err(_) => unreachable!(),
         }
     }
 }
 
-/// Two nodes with a space between them.
+/// A group of two nodes with a space between them.
 #[tactic(auto, using(csl_style::proofs::Rolled::group_made))]
 fn space_group(
     alloc: Global,
@@ -78,7 +78,7 @@ fn space_group(
     Ok(Group::delimited(alloc, " ", children)?.into())
 }
 
-/// Options that ask for the word `and` before the last name, in a form and an order.
+/// Name options with the word `and` before the last name, and with this form and order.
 fn joined_by_and(form: Option<NameForm>, order: Option<NameAsSortOrder>) -> InheritableNameOptions
     ensures { partial_options result ≡ joined_by_and form order }
 {
@@ -90,7 +90,7 @@ fn joined_by_and(form: Option<NameForm>, order: Option<NameAsSortOrder>) -> Inhe
     }
 }
 
-/// How names are written by these options alone.
+/// A `cs:name` with only these options.
 fn name_by(alloc: Global, options: InheritableNameOptions) -> NamesChild
     ensures { view_child result ≡ a_name (name_by (partial_options options)) }
 {
@@ -101,7 +101,7 @@ fn name_by(alloc: Global, options: InheritableNameOptions) -> NamesChild
     .into()
 }
 
-/// The persons of a variable, written by these children.
+/// A `cs:names` of one variable, with these children.
 #[tactic(auto, using(csl_style::proofs::Rolled::names_made))]
 fn persons_by(
     alloc: Global,
@@ -152,14 +152,14 @@ fn author_date(alloc: Global) -> Result<LayoutRenderingElement, Memory>
     .into())
 }
 
-/// The editors, written as the names that they stand in for.
+/// The editors. As a substitute, they are written like the names that they replace.
 fn editors(alloc: Global) -> Result<LayoutRenderingElement, Memory>
     ensures { IfOk result (λ made. view_node made ≡ editors) }
 {
     persons_by(alloc, NameVariable::Editor, Vec::new(alloc))
 }
 
-/// What is printed where there are no authors.
+/// The substitute of the authors: the editors.
 fn instead_of_authors(alloc: Global) -> Result<NamesChild, Memory>
     ensures { IfOk result (λ made. view_child made ≡ a_substitute (node editors no_nodes)) }
 {
@@ -168,7 +168,7 @@ fn instead_of_authors(alloc: Global) -> Result<NamesChild, Memory>
     Ok(NamesChild::Substitute(Substitute { children }))
 }
 
-/// The authors, the first with the family name first. The editors stand in for them.
+/// The authors, the first with the family name first. The editors are their substitute.
 fn authors(alloc: Global) -> Result<LayoutRenderingElement, Memory>
     ensures { IfOk result (λ made. view_node made ≡ authors) }
 {
@@ -237,7 +237,7 @@ fn month_and_year(alloc: Global) -> Result<LayoutRenderingElement, Memory>
     .into())
 }
 
-/// What the description of a work says, in order.
+/// The elements of a work's description, in order.
 fn description_elements(alloc: Global) -> Result<Vec<LayoutRenderingElement>, Memory>
     ensures { IfOk result (λ made. view_nodes made.items ≡ description_elements) }
 {
@@ -255,7 +255,7 @@ fn description_elements(alloc: Global) -> Result<Vec<LayoutRenderingElement>, Me
     ]?)
 }
 
-/// A description of the work, with a period at its end.
+/// The description of a work, with a period at its end.
 #[tactic(auto, using(csl_style::proofs::Rolled::group_made))]
 fn description(alloc: Global) -> Result<LayoutRenderingElement, Memory>
     ensures { IfOk result (λ made. view_node made ≡ description) }
@@ -269,7 +269,7 @@ fn description(alloc: Global) -> Result<LayoutRenderingElement, Memory>
     .into())
 }
 
-/// The digital object identifier behind the address that resolves it.
+/// The digital object identifier after the address of its resolver.
 fn link(alloc: Global) -> Result<LayoutRenderingElement, Memory>
     ensures { IfOk result (λ made. view_node made ≡ link) }
 {
@@ -281,7 +281,7 @@ fn link(alloc: Global) -> Result<LayoutRenderingElement, Memory>
     .into())
 }
 
-/// The address of the digital object identifier.
+/// The resolver's address and the digital object identifier, after a space.
 #[tactic(auto, using(csl_style::proofs::Rolled::group_made))]
 fn address(alloc: Global) -> Result<LayoutRenderingElement, Memory>
     ensures { IfOk result (λ made. view_node made ≡ address) }
@@ -296,7 +296,7 @@ fn address(alloc: Global) -> Result<LayoutRenderingElement, Memory>
     .into())
 }
 
-/// What a style prints of a cite, in order.
+/// The elements of a style's layout, in order.
 fn elements(alloc: Global, style: BuiltInStyle) -> Result<Vec<LayoutRenderingElement>, Memory>
     ensures { IfOk result (λ made. view_nodes made.items ≡ elements_of style) }
 {
@@ -313,7 +313,7 @@ fn elements(alloc: Global, style: BuiltInStyle) -> Result<Vec<LayoutRenderingEle
     }
 }
 
-/// The layout of a style.
+/// The citation layout of a style.
 fn layout(alloc: Global, style: BuiltInStyle) -> Result<Layout, Memory>
     ensures { IfOk result (λ made. view_layout made ≡ built_in_layout style) }
 {

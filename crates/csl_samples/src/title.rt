@@ -1,4 +1,4 @@
-//! An entry that has a title and nothing else, and the style that it is cited in.
+//! An entry with only a title, and the style that it is cited in.
 
 ghost use Rattle.std.specs.Prelude.{◌≡◌, IfOk};
 ghost use Rattle.csl_style.specs.View.{view_node, view_layout};
@@ -16,7 +16,7 @@ use lit_model::{
 use std::alloc::Global;
 use std::borrow::{Cow, CowStr};
 
-/// An entry that has a title and nothing else.
+/// An entry with only a title.
 #[derive(Drop)]
 pub struct TitleOnly {
     pub title: ChunkedString,
@@ -109,7 +109,7 @@ fn title_text() -> LayoutRenderingElement
     .into()
 }
 
-/// The word and the title in parentheses.
+/// The word `Title` and the title, in parentheses.
 #[tactic(auto, using(csl_style::proofs::Rolled::group_made))]
 fn title_group(alloc: Global) -> Result<LayoutRenderingElement, Memory>
     ensures { IfOk result (λ group. view_node group ≡ title_group) }
@@ -124,7 +124,7 @@ fn title_group(alloc: Global) -> Result<LayoutRenderingElement, Memory>
     .into())
 }
 
-/// A layout of that group alone.
+/// The layout of titles: the group of the word and the title.
 fn title_layout(alloc: Global) -> Result<Layout, Memory>
     ensures { IfOk result (λ layout. view_layout layout ≡ title_layout) }
 {
@@ -133,10 +133,10 @@ fn title_layout(alloc: Global) -> Result<Layout, Memory>
     Ok(Layout::new(elements))
 }
 
-/// The style that titles are cited in: a layout of citations, and no macros and locales.
+/// The style that titles are cited in. It has a citation layout, no macros and no locales.
 ///
 /// # Errors
-/// [`Memory`]: there was no memory left.
+/// [`Memory`]: out of memory.
 pub fn title_style(alloc: Global) -> Result<Style, Memory>
     ensures { IfOk result CitesTitles }
 {
@@ -146,7 +146,7 @@ pub fn title_style(alloc: Global) -> Result<Style, Memory>
     match Style::new(alloc, settings, macros, citation, None, locales) {
         Ok(style) => Ok(style),
         Err(StyleError::Memory) => Err(Memory),
-        // No macro leads back to itself where there is none, and no page format is asked for.
+        // The style has no macros, so no cycle, and it sets no page format.
         Err(_) => unreachable!(),
     }
 }

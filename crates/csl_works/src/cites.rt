@@ -1,4 +1,4 @@
-//! Cites in ways that the words of `csl_cite` do not ask for, a pair, and a label.
+//! Cites in several manners, a pair of cites, and a label.
 
 use crate::error::WorkError;
 use crate::nodes::alone;
@@ -15,7 +15,7 @@ use csl_tree::{BufWriteFormat, ElemChildren};
 use lit_model::{ChunkedString, Entry, Memory};
 use std::alloc::Global;
 
-/// How a cite is asked for.
+/// The manner of a cite.
 #[derive(Clone, Copy)]
 pub enum Manner {
     /// The whole cite.
@@ -26,11 +26,11 @@ pub enum Manner {
     Suppressed,
     /// The date of issue alone.
     DateOnly,
-    /// With forms of its names: the first in its short form, and no others.
+    /// With name forms: the first author in the short form, and no others.
     Shortened,
 }
 
-/// The forms of the authors: the first in its short form, and no others.
+/// Name forms of the authors: the first in the short form, and no others.
 pub fn forms(alloc: Global) -> Result<NameDisambiguationProperties, Memory> {
     let form = DisambiguatedNameForm::ShortFull;
     let shown = alone(alloc, Some(form))?;
@@ -39,7 +39,7 @@ pub fn forms(alloc: Global) -> Result<NameDisambiguationProperties, Memory> {
     Ok(NameDisambiguationProperties::new(form, variables, lists))
 }
 
-/// What tells a cite apart.
+/// The disambiguation state of a cite in a manner.
 fn state(alloc: Global, manner: Manner) -> Result<DisambiguateState, Memory> {
     match manner {
         Manner::Suffixed => Ok(DisambiguateState::YearSuffix(702)),
@@ -48,7 +48,7 @@ fn state(alloc: Global, manner: Manner) -> Result<DisambiguateState, Memory> {
     }
 }
 
-/// The part of a cite that is shown.
+/// The special form of a cite in a manner, or `None` for the whole cite.
 fn part(manner: Manner) -> Option<SpecialForm> {
     match manner {
         Manner::Suppressed => Some(SpecialForm::SuppressAuthor),
@@ -57,7 +57,7 @@ fn part(manner: Manner) -> Option<SpecialForm> {
     }
 }
 
-/// The entry that is cited.
+/// The entry that is cited in a manner.
 fn cite_text(manner: Manner) -> BuiltIn {
     match manner {
         Manner::Shortened => BuiltIn::Dependence,
@@ -65,8 +65,8 @@ fn cite_text(manner: Manner) -> BuiltIn {
     }
 }
 
-/// What the citation layout of a style makes of a cite. Where it is refused memory, later calls of
-/// the context have to say so.
+/// Renders the citation layout of a style for a cite. If it fails, checks that later calls of the
+/// context return that it has failed.
 fn rendered<'s, T: EntryLike>(
     alloc: Global,
     style: &'s Style,
@@ -86,7 +86,7 @@ pub fn plain(alloc: Global, content: &ElemChildren) -> Result<String, WorkError>
     Ok(text)
 }
 
-/// The plain text of what the citation layout of a style makes of a cite.
+/// Renders the citation layout of a style for a cite, as plain text.
 pub fn text_of<'s, T: EntryLike>(
     alloc: Global,
     style: &'s Style,
@@ -98,7 +98,7 @@ pub fn text_of<'s, T: EntryLike>(
     text
 }
 
-/// The cite of an entry in a manner. Where it is refused, it is made once more, in a new context.
+/// Cites an entry in a manner. If memory runs out, cites it once more in a new context.
 fn cite_by(
     alloc: Global,
     style: &Style,
@@ -118,7 +118,7 @@ fn cite_by(
     }
 }
 
-/// The cite of an entry in a manner.
+/// Cites an entry in a manner, for the first time.
 fn cite_of(
     alloc: Global,
     style: &Style,
@@ -131,7 +131,7 @@ fn cite_of(
     said
 }
 
-/// A cite in a manner, in a style.
+/// Cites the entry of a manner in a style.
 fn cite_in(alloc: Global, style: &Style, manner: Manner) -> Result<String, WorkError> {
     let entry = cite_text(manner).entry(alloc)?;
     let said = cite_of(alloc, style, &entry, manner);
@@ -139,7 +139,7 @@ fn cite_in(alloc: Global, style: &Style, manner: Manner) -> Result<String, WorkE
     said
 }
 
-/// A cite in a manner, by its authors and the year.
+/// Cites the entry of a manner by its authors and the year.
 pub fn cite(alloc: Global, manner: Manner) -> Result<String, WorkError> {
     let style = BuiltInStyle::AuthorDate.style(alloc)?;
     let said = cite_in(alloc, &style, manner);
@@ -147,7 +147,7 @@ pub fn cite(alloc: Global, manner: Manner) -> Result<String, WorkError> {
     said
 }
 
-/// The label of an entry. Where it is refused, it is made once more.
+/// The label of an entry. If memory runs out, labels it once more.
 fn label_of(alloc: Global, entry: &Entry) -> Result<String, WorkError> {
     match Alphanumerical::new().citation(alloc, entry) {
         Err(Memory) => Ok(Alphanumerical::new().citation(alloc, entry)?),
@@ -176,7 +176,7 @@ fn paired(
     pair
 }
 
-/// Whether both are alike, and the HTML of both.
+/// The text of a pair: whether both entries are alike, and their HTML.
 fn say_pair(alloc: Global, pair: &Pair) -> Result<String, WorkError> {
     let alike = if pair.alike { "alike" } else { "not alike" };
     let mut said = String::new(alloc);
@@ -188,7 +188,7 @@ fn say_pair(alloc: Global, pair: &Pair) -> Result<String, WorkError> {
     Ok(said)
 }
 
-/// What is said of a book and a title. Where the pair is refused, it is made once more.
+/// Cites a book and a title, and compares them. If memory runs out, cites the pair once more.
 fn pair_of(
     alloc: Global,
     style: &Style,
@@ -205,7 +205,7 @@ fn pair_of(
     said
 }
 
-/// What is said of the book and of a title of the same text in a style.
+/// Cites a book and an entry with only its title in a style, and compares them.
 fn pair_in(alloc: Global, style: &Style) -> Result<String, WorkError> {
     let title = ChunkedString::plain(alloc, "Crazy Rich Asians")?;
     let book = BuiltIn::CrazyRich.entry(alloc)?;
@@ -214,7 +214,7 @@ fn pair_in(alloc: Global, style: &Style) -> Result<String, WorkError> {
     said
 }
 
-/// A book, and a title of the same text.
+/// Cites a book and an entry with only its title in the style of titles, and compares them.
 pub fn pair(alloc: Global) -> Result<String, WorkError> {
     let style = title_style(alloc)?;
     let said = pair_in(alloc, &style);

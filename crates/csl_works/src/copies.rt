@@ -1,4 +1,4 @@
-//! Each `clone` that takes memory. A copy is compared with what it was made of.
+//! Each `clone` that allocates. Each copy is compared with its original.
 
 use crate::cites::forms;
 use crate::error::WorkError;
@@ -19,7 +19,7 @@ use lit_model::{
 use std::alloc::Global;
 use std::borrow::Cow;
 
-/// Says of what a copy was made, and whether both are equal.
+/// Appends the type of a copy, and whether it equals the original.
 fn say(said: &mut String, name: &str, is_equal: bool) -> Result<(), Memory> {
     if !said.is_empty() {
         said.push_str(", ")?;
@@ -29,7 +29,7 @@ fn say(said: &mut String, name: &str, is_equal: bool) -> Result<(), Memory> {
     Ok(())
 }
 
-/// Says whether a copy equals what it was made of.
+/// Compares a copy with its original, and appends the result.
 fn tell<T: PartialEq + Drop>(
     said: &mut String,
     name: &str,
@@ -58,7 +58,7 @@ fn url(alloc: Global) -> Result<Option<QualifiedUrl>, Memory> {
     Ok(url)
 }
 
-/// A person in a role that has no name of its own.
+/// A person in a role that [`PersonRole`] does not name.
 fn adviser(alloc: Global) -> Result<PersonsWithRoles, Memory> {
     let names = alone(alloc, Person::institution(alloc, "Kwan")?)?;
     let name = String::from_str(alloc, "adviser")?;
@@ -76,13 +76,13 @@ fn language(alloc: Global) -> Result<LanguageIdentifier, Memory> {
     })
 }
 
-/// Pages whose one part has more numbers than one, so that its copy takes memory.
+/// Page ranges with one part of several numbers, so that copying the part allocates.
 fn pages(alloc: Global) -> Result<PageRanges, WorkError> {
     let ranges = alone(alloc, PageRangesPart::SinglePage(numeric(alloc)?))?;
     Ok(PageRanges { ranges })
 }
 
-/// Adds to an article what it lacks.
+/// Sets the pages, volume, publisher, address, adviser and language of an article.
 fn add(alloc: Global, article: &mut Entry) -> Result<(), WorkError> {
     article.page_range = Some(MaybeTyped::Typed(pages(alloc)?));
     article.volume = Some(MaybeTyped::Typed(numeric(alloc)?));
@@ -132,7 +132,7 @@ fn tell_adviser(alloc: Global, said: &mut String, it: &PersonsWithRoles) -> Resu
     }
 }
 
-/// Copies where a work can be had: publisher, address, serial numbers and language.
+/// Copies the publisher, address, serial numbers and language of an entry.
 fn tell_sources(alloc: Global, said: &mut String, work: &Entry) -> Result<(), Memory> {
     if let Some(it) = &work.publisher {
         tell(said, "Publisher", it, it.clone(alloc))?;
@@ -149,7 +149,7 @@ fn tell_sources(alloc: Global, said: &mut String, work: &Entry) -> Result<(), Me
     Ok(())
 }
 
-/// Copies an entry and its parts, and says which copies are equal.
+/// Copies an entry and its parts, and returns which copies are equal.
 fn tell_entry(alloc: Global, work: &Entry) -> Result<String, Memory> {
     let mut said = String::new(alloc);
     tell(&mut said, "Entry", work, work.clone(alloc))?;
@@ -174,7 +174,7 @@ fn tell_entry(alloc: Global, work: &Entry) -> Result<String, Memory> {
     Ok(said)
 }
 
-/// Copies an article and its parts. What is refused is copied once more.
+/// Copies an article and its parts. If memory runs out, copies them once more.
 fn tell_article(alloc: Global, article: &Entry) -> Result<String, WorkError> {
     match tell_entry(alloc, article) {
         Err(Memory) => Ok(tell_entry(alloc, article)?),
@@ -182,7 +182,7 @@ fn tell_article(alloc: Global, article: &Entry) -> Result<String, WorkError> {
     }
 }
 
-/// Copies an article of which nearly all is known, and its parts.
+/// Copies an article with many fields, and its parts.
 pub fn entry(alloc: Global) -> Result<String, WorkError> {
     let mut article = BuiltIn::QuantizedVortex.entry(alloc)?;
     let said = match add(alloc, &mut article) {
@@ -193,12 +193,12 @@ pub fn entry(alloc: Global) -> Result<String, WorkError> {
     said
 }
 
-/// A number of three.
+/// A set of three numbers.
 fn numeric(alloc: Global) -> Result<Numeric, WorkError> {
     Ok(Numeric::parse(alloc, "4-6, 9")?)
 }
 
-/// Copies an answer, and the number that it holds.
+/// Copies an answer to a number variable, and the number that it owns.
 fn tell_number(
     alloc: Global,
     said: &mut String,
@@ -213,7 +213,7 @@ fn tell_number(
     }
 }
 
-/// Copies the answers of an entry.
+/// Copies answers and their parts, and returns which copies are equal.
 fn tell_answers(
     alloc: Global,
     answers: &[NumberOrPageVariableResult<'_>],
@@ -233,7 +233,7 @@ fn tell_answers(
     Ok(said)
 }
 
-/// Copies an answer that owns its number, and its parts. What is refused is copied once more.
+/// Copies an answer that owns its number, and its parts. If memory runs out, copies them once more.
 pub fn answers(alloc: Global) -> Result<String, WorkError> {
     let number = MaybeTyped::Typed(Cow::Owned(numeric(alloc)?));
     let answer = NumberVariableResult::from_regular(number);
@@ -244,7 +244,7 @@ pub fn answers(alloc: Global) -> Result<String, WorkError> {
     }
 }
 
-/// The forms of names that tell a cite apart.
+/// The name forms of a disambiguation state, if it has any.
 fn forms_in(state: &DisambiguateState) -> Option<&NameDisambiguationProperties> {
     match state {
         DisambiguateState::NameDisambiguation(forms) => Some(forms),
@@ -287,7 +287,7 @@ fn tell_speculative(
     tell_state(alloc, said, &props.disambiguation)
 }
 
-/// Copies what a citation says of a cite.
+/// Copies the properties of a cite and their parts, and returns which copies are equal.
 fn tell_cite(alloc: Global, props: &CiteProperties<'_>) -> Result<String, Memory> {
     let mut said = String::new(alloc);
     let copy = props.clone(alloc)?;
@@ -298,7 +298,7 @@ fn tell_cite(alloc: Global, props: &CiteProperties<'_>) -> Result<String, Memory
     Ok(said)
 }
 
-/// Copies what a citation says of a cite. What is refused is copied once more.
+/// Copies the properties of a cite and their parts. If memory runs out, copies them once more.
 pub fn cite(alloc: Global) -> Result<String, WorkError> {
     let state = DisambiguateState::NameDisambiguation(forms(alloc)?);
     let props = CiteProperties::first(state);
@@ -310,7 +310,7 @@ pub fn cite(alloc: Global) -> Result<String, WorkError> {
     Ok(said?)
 }
 
-/// Copies what a rendering leaves.
+/// Copies the left state of a rendering, and returns whether both are equal.
 fn tell_left(alloc: Global, left: &LeftState) -> Result<String, Memory> {
     let mut said = String::new(alloc);
     let copy = left.clone(alloc)?;
@@ -320,7 +320,7 @@ fn tell_left(alloc: Global, left: &LeftState) -> Result<String, Memory> {
     Ok(said)
 }
 
-/// Leaves a variable that is suppressed, and forms of names.
+/// Adds a suppressed variable and name forms to a left state.
 fn fill(alloc: Global, left: &mut LeftState) -> Result<(), Memory> {
     left.suppressed
         .insert(Variable::Standard(StandardVariable::Title))?;
@@ -328,7 +328,7 @@ fn fill(alloc: Global, left: &mut LeftState) -> Result<(), Memory> {
     Ok(())
 }
 
-/// Copies what is left. What is refused is copied once more.
+/// Copies a left state. If memory runs out, copies it once more.
 fn tell_filled(alloc: Global, left: &LeftState) -> Result<String, Memory> {
     match tell_left(alloc, left) {
         Err(Memory) => tell_left(alloc, left),
@@ -336,7 +336,7 @@ fn tell_filled(alloc: Global, left: &LeftState) -> Result<String, Memory> {
     }
 }
 
-/// Copies what a rendering leaves.
+/// Copies a left state with a suppressed variable and name forms.
 pub fn left(alloc: Global) -> Result<String, WorkError> {
     let mut left = LeftState::new(alloc);
     let said = match fill(alloc, &mut left) {
@@ -347,7 +347,7 @@ pub fn left(alloc: Global) -> Result<String, WorkError> {
     Ok(said?)
 }
 
-/// An element of two texts, that names made.
+/// An element of two texts, marked as the content of names.
 fn names_elem(alloc: Global) -> Result<Elem, Memory> {
     let persons = alone(alloc, Person::institution(alloc, "Kwan")?)?;
     let names = alone(alloc, (persons, NameVariable::Author))?;
@@ -386,7 +386,7 @@ fn tell_children(alloc: Global, children: &[ElemChild]) -> Result<String, Memory
     Ok(said)
 }
 
-/// Copies a tree and its parts. What is refused is copied once more.
+/// Copies a tree and its parts. If memory runs out, copies them once more.
 pub fn tree(alloc: Global) -> Result<String, WorkError> {
     let mut children = alone(alloc, ElemChild::Elem(names_elem(alloc)?))?;
     children.push(ElemChild::Text(formatted(alloc, "a")?))?;

@@ -1,4 +1,4 @@
-//! Deep values, for whoever measures how deep one may be on a stack.
+//! Deep values, to measure how deep a value may be on a given stack.
 
 use crate::cites::{plain, text_of};
 use crate::error::WorkError;
@@ -15,7 +15,7 @@ use csl_tree::{ElemChildren, simplify_fully};
 use lit_model::{ChunkedString, Entry, EntryType, Memory};
 use std::alloc::Global;
 
-/// The works, by name.
+/// The names of the deep works.
 pub static NAMES: [&'static str; 12] = [
     "tree",
     "tree-copy",
@@ -31,7 +31,7 @@ pub static NAMES: [&'static str; 12] = [
     "names-render",
 ];
 
-/// Blocks, each in the next.
+/// `depth` nested blocks around two texts.
 fn blocks(alloc: Global, depth: usize) -> Result<ElemChildren, Memory> {
     let mut children = texts(alloc)?;
     for _ in 0..depth {
@@ -40,12 +40,12 @@ fn blocks(alloc: Global, depth: usize) -> Result<ElemChildren, Memory> {
     Ok(ElemChildren(children))
 }
 
-/// The bytes of a text, without it.
+/// Counts the bytes of a text, and drops it.
 fn length(text: String) -> usize {
     text.len()
 }
 
-/// How many children a copy has.
+/// Copies a tree, and counts the children of the copy.
 fn copied(alloc: Global, tree: &ElemChildren) -> Result<usize, WorkError> {
     let copy = tree.clone(alloc)?;
     let count = copy.0.len();
@@ -53,7 +53,7 @@ fn copied(alloc: Global, tree: &ElemChildren) -> Result<usize, WorkError> {
     Ok(count)
 }
 
-/// How many children the normal form has.
+/// Simplifies a tree fully, and counts the children of its normal form.
 fn simplified(alloc: Global, tree: &ElemChildren) -> Result<usize, WorkError> {
     let normal = simplify_fully(alloc, tree)?;
     let count = normal.0.len();
@@ -61,7 +61,7 @@ fn simplified(alloc: Global, tree: &ElemChildren) -> Result<usize, WorkError> {
     Ok(count)
 }
 
-/// Whether a tree is equal to another of that depth.
+/// Compares a tree with another of this depth. Returns 1 if they are equal, otherwise 0.
 fn compared(alloc: Global, tree: &ElemChildren, depth: usize) -> Result<usize, WorkError> {
     let other = blocks(alloc, depth)?;
     let is_equal = other == *tree;
@@ -69,7 +69,7 @@ fn compared(alloc: Global, tree: &ElemChildren, depth: usize) -> Result<usize, W
     Ok(usize::from(is_equal))
 }
 
-/// Does a work over a tree.
+/// Runs the work with this name over a tree, and returns its count.
 fn of_tree(alloc: Global, name: &str, depth: usize) -> Result<usize, WorkError> {
     let tree = blocks(alloc, depth)?;
     let said = match name {
@@ -83,14 +83,14 @@ fn of_tree(alloc: Global, name: &str, depth: usize) -> Result<usize, WorkError> 
     said
 }
 
-/// A work with these parents.
+/// A list of one book with these parents.
 fn below(alloc: Global, parents: Vec<Entry>) -> Result<Vec<Entry>, Memory> {
     let mut work = Entry::new(alloc, "work", EntryType::Book)?;
     work.parents = parents;
     alone(alloc, work)
 }
 
-/// A chain of parents.
+/// Makes a chain of `depth` entries, each the parent of the next, and drops it.
 fn of_parents(alloc: Global, depth: usize) -> Result<usize, WorkError> {
     let mut works = Vec::new(alloc);
     for _ in 0..depth {
@@ -111,7 +111,7 @@ fn group(children: Vec<LayoutRenderingElement>) -> LayoutRenderingElement {
     })
 }
 
-/// A choice of one branch, which asks for nothing.
+/// A choice of one branch without conditions.
 fn choice(alloc: Global, children: Vec<LayoutRenderingElement>) -> LayoutRenderingElement {
     LayoutRenderingElement::Choose(Choose {
         if_: ChooseBranch {
@@ -130,7 +130,7 @@ fn choice(alloc: Global, children: Vec<LayoutRenderingElement>) -> LayoutRenderi
     })
 }
 
-/// Names of no variable, with these as their substitute.
+/// Names of no variable, with these children.
 fn names(alloc: Global, children: Vec<NamesChild>) -> LayoutRenderingElement {
     LayoutRenderingElement::Names(Names {
         variable: Vec::new(alloc),
@@ -143,7 +143,7 @@ fn names(alloc: Global, children: Vec<NamesChild>) -> LayoutRenderingElement {
     })
 }
 
-/// A node around others.
+/// A list of one node around others. The name of the work selects its sort.
 fn around(
     alloc: Global,
     name: &str,
@@ -159,7 +159,7 @@ fn around(
     }
 }
 
-/// Nodes, each in the next.
+/// `depth` nested nodes around the text `a`.
 fn nodes(alloc: Global, name: &str, depth: usize) -> Result<Vec<LayoutRenderingElement>, Memory> {
     let mut nodes = letter(alloc)?;
     for _ in 0..depth {
@@ -168,7 +168,7 @@ fn nodes(alloc: Global, name: &str, depth: usize) -> Result<Vec<LayoutRenderingE
     Ok(nodes)
 }
 
-/// Renders a style for a title, and counts the bytes of the text.
+/// Renders the citation layout of a style for a title, and counts the bytes of the plain text.
 fn rendered(alloc: Global, style: &Style) -> Result<usize, WorkError> {
     let entry = TitleOnly {
         title: ChunkedString::plain(alloc, "a")?,
@@ -185,7 +185,7 @@ fn rendered(alloc: Global, style: &Style) -> Result<usize, WorkError> {
     text.map(length)
 }
 
-/// Does a work over nodes.
+/// Runs the work with this name over nested nodes, and returns its count.
 fn of_nodes(alloc: Global, name: &str, depth: usize) -> Result<usize, WorkError> {
     let nodes = nodes(alloc, name, depth)?;
     if !name.ends_with("-render") {
@@ -201,7 +201,7 @@ fn of_nodes(alloc: Global, name: &str, depth: usize) -> Result<usize, WorkError>
     bytes
 }
 
-/// Does a work that deep, and answers a count of what it made.
+/// Runs a work at a depth, and returns its count.
 fn count(alloc: Global, name: &str, depth: usize) -> Result<usize, WorkError> {
     match name {
         "tree" | "tree-copy" | "tree-compare" | "tree-write" | "tree-simplify" => {
@@ -215,7 +215,7 @@ fn count(alloc: Global, name: &str, depth: usize) -> Result<usize, WorkError> {
     }
 }
 
-/// Does a work that deep, and says what it counts.
+/// Runs a work at a depth, and returns its count as a text.
 pub fn work(alloc: Global, name: &str, depth: usize) -> Result<String, WorkError> {
     let count = count(alloc, name, depth)?;
     Ok(format!(in alloc; "{count}")?)

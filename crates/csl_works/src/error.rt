@@ -1,4 +1,4 @@
-//! Why a work is not done.
+//! The reasons why a work fails.
 
 use csl_context::RenderError;
 use csl_style::StyleError;
@@ -6,12 +6,12 @@ use lit_model::{Memory, NumericError};
 use std::alloc::{AllocError, AllocFailed};
 use std::fmt;
 
-/// Why a work is not done.
+/// The reason why a work failed.
 #[derive(Clone, Copy)]
 pub enum WorkError {
-    /// There was no memory left.
+    /// Out of memory.
     Memory,
-    /// Something else was asked or answered than a work needs.
+    /// An argument or a result is not as the work needs it.
     Unexpected(&'static str),
 }
 
@@ -33,7 +33,7 @@ impl<T: Drop> From<AllocFailed<T>> for WorkError {
     }
 }
 
-/// A text refuses what is written to it for want of memory alone.
+/// Writing to a string fails only if memory runs out.
 impl From<fmt::Error> for WorkError {
     fn from(_error: fmt::Error) -> WorkError {
         WorkError::Memory
@@ -58,7 +58,7 @@ impl From<StyleError> for WorkError {
     }
 }
 
-/// That a context had failed is told to none of its callers here, who stop at the first refusal.
+/// Callers convert only the first error of a context, so [`RenderError::Failed`] is unexpected.
 impl From<RenderError> for WorkError {
     fn from(error: RenderError) -> WorkError {
         match error {

@@ -1,4 +1,4 @@
-//! The locale of English, and a style that is made by constructors.
+//! The English locale, and a style made by constructors.
 
 use crate::error::WorkError;
 use csl::style::{
@@ -8,14 +8,14 @@ use csl::style::{
 use csl::{Memory, english};
 use std::alloc::Global;
 
-/// How many terms, ordinals and dates a locale has.
+/// The numbers of terms, ordinals and dates of a locale, as a text.
 fn counts(alloc: Global, locale: &Locale) -> Result<String, Memory> {
     let (terms, ordinals) = (locale.terms.len(), locale.ordinals.len());
     let dates = locale.dates.len();
     Ok(format!(in alloc; "{terms} terms, {ordinals} ordinals, {dates} dates")?)
 }
 
-/// The locale of English, made once more where memory was refused.
+/// Makes the English locale, and counts its parts. If memory runs out, makes it once more.
 pub fn locale(alloc: Global) -> Result<String, WorkError> {
     let locale = match english(alloc) {
         Err(Memory) => english(alloc)?,
@@ -26,13 +26,13 @@ pub fn locale(alloc: Global) -> Result<String, WorkError> {
     Ok(said?)
 }
 
-/// The macro `author`, of the authors.
+/// The macro `author`, of the authors' names.
 fn author(alloc: Global) -> Result<CslMacro, Memory> {
     let names = Names::new(alloc, vec![in alloc; NameVariable::Author]?);
     CslMacro::new(alloc, "author", vec![in alloc; names.into()]?)
 }
 
-/// The authors, by the macro, and the title in brackets.
+/// A group of the authors, by the macro, and of the title in brackets.
 fn cite(alloc: Global) -> Result<LayoutRenderingElement, Memory> {
     let author = Text::macro_call(alloc, "author")?;
     let title = Text {
@@ -43,7 +43,7 @@ fn cite(alloc: Global) -> Result<LayoutRenderingElement, Memory> {
     Ok(group.into())
 }
 
-/// The style of that cite, which lacks the macro where it is made without.
+/// A style of one cite, with or without the macro that the cite calls.
 fn style(alloc: Global, has_macro: bool) -> Result<Style, WorkError> {
     let mut macros = Vec::new(alloc);
     if has_macro {
@@ -54,7 +54,7 @@ fn style(alloc: Global, has_macro: bool) -> Result<Style, WorkError> {
     Ok(Style::new(alloc, settings, macros, citation, None, Vec::new(alloc))?)
 }
 
-/// The first name that the style calls and has no macro for.
+/// The first macro name that the style calls but does not define, or `none`.
 fn missing(alloc: Global, has_macro: bool) -> Result<String, WorkError> {
     let style = style(alloc, has_macro)?;
     let said = String::from_str(alloc, style.missing_macro().unwrap_or("none"));
@@ -62,7 +62,8 @@ fn missing(alloc: Global, has_macro: bool) -> Result<String, WorkError> {
     Ok(said?)
 }
 
-/// What a style by constructors lacks, with its macro and without.
+/// The missing macro of a style made by constructors, with its macro and without. If memory runs
+/// out in the first, makes it once more.
 pub fn constructed(alloc: Global) -> Result<String, WorkError> {
     let with = match missing(alloc, true) {
         Err(WorkError::Memory) => missing(alloc, true)?,

@@ -1,10 +1,11 @@
-//! The program `csl_works`: it does what takes memory and the words of `csl_cite` do not ask for,
-//! for whoever refuses it memory, request by request.
+//! The program `csl_works`: it runs works, which are tasks of allocating calls. `csl_cite` does not
+//! make most of these calls. `tools/refuse_memory` refuses each of their allocations in turn.
 //!
-//! `csl_works WORK` does a work and prints its answer. A call that is refused memory is made once
-//! more on the same value, so a value that the refusal changed shows. `csl_works deep WORK N` does
-//! a work over a value of that depth. Without words it does each work once, the deep ones in a
-//! small depth. Its status is 3 where memory ran out, and it has printed nothing then.
+//! `csl_works WORK` runs a work and prints its result. A call that runs out of memory is repeated
+//! once on the same value, so the result reveals a value that the failed call changed.
+//! `csl_works deep WORK N` runs a work over a value of that depth. Without words it runs each work
+//! once, the deep ones at a small depth. Its status is 3 if memory ran out. Standard output is then
+//! empty.
 #![tactic(auto)]
 
 mod cites;
@@ -47,10 +48,10 @@ static WORKS: [&'static str; 19] = [
     "copy-tree",
 ];
 
-/// The depth of a deep work that is done without words.
+/// The depth of a deep work if the program has no words.
 const SMALL: usize = 10;
 
-/// Does a work, and answers what it says.
+/// Runs a work, and returns its result.
 fn said(alloc: Global, work: &str) -> Result<String, WorkError> {
     match work {
         "macros" => styles::style_of(alloc, &styles::CHAIN),
@@ -76,19 +77,19 @@ fn said(alloc: Global, work: &str) -> Result<String, WorkError> {
     }
 }
 
-/// Puts the line of a work behind the others.
+/// Runs a work, and appends its line.
 fn add(alloc: Global, lines: &mut String, work: &str) -> Result<(), WorkError> {
     let said = said(alloc, work)?;
     Ok(writeln!(lines, "{work}: {said}")?)
 }
 
-/// Puts the line of a deep work behind the others.
+/// Runs a deep work, and appends its line.
 fn add_deep(alloc: Global, lines: &mut String, work: &str, depth: usize) -> Result<(), WorkError> {
     let said = deep::work(alloc, work, depth)?;
     Ok(writeln!(lines, "deep {work} {depth}: {said}")?)
 }
 
-/// Adds the line of each work.
+/// Runs each work, and appends their lines.
 fn add_all(alloc: Global, lines: &mut String) -> Result<(), WorkError> {
     let works: &[&'static str] = &WORKS;
     for work in works {
@@ -101,7 +102,7 @@ fn add_all(alloc: Global, lines: &mut String) -> Result<(), WorkError> {
     Ok(())
 }
 
-/// Adds the lines of what the words ask for.
+/// Runs the works that the words name, and appends their lines.
 fn add_asked(alloc: Global, lines: &mut String, words: &[String]) -> Result<(), WorkError> {
     match words {
         [] => add_all(alloc, lines),
@@ -114,7 +115,7 @@ fn add_asked(alloc: Global, lines: &mut String, words: &[String]) -> Result<(), 
     }
 }
 
-/// Does what the words ask for, and prints it.
+/// Runs the works that the words name, and prints their lines.
 fn run(rt: &(impl Env + Print + AllocGlobal)) -> Result<(), WorkError> {
     let Ok(mut words) = env::args(rt) else {
         return Err(WorkError::Memory);
@@ -135,7 +136,7 @@ fn main(rt: HostRuntime) -> ExitCode {
         Err(WorkError::Memory) => (3, "out of memory"),
         Err(WorkError::Unexpected(reason)) => (1, reason),
     };
-    // Where even this can't be said, the status says it.
+    // If this line cannot be printed, the status still reports the failure.
     let _ = rt.eprintln(reason);
     ExitCode::from(status)
 }

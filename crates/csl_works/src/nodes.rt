@@ -1,18 +1,18 @@
-//! Lists of one, and the nodes of a style that hold no others.
+//! Lists, and texts and layouts with nothing around them.
 
 use csl_style::formatting::Formatting;
 use csl_style::{Affixes, Layout, LayoutRenderingElement, Text, TextTarget};
 use lit_model::Memory;
 use std::alloc::Global;
 
-/// A list of one.
+/// A list of one item.
 pub fn alone<T: Drop>(alloc: Global, item: T) -> Result<Vec<T>, Memory> {
     let mut items = Vec::new(alloc);
     put(&mut items, item)?;
     Ok(items)
 }
 
-/// Puts an item behind the others.
+/// Appends an item.
 pub fn put<T: Drop>(items: &mut Vec<T>, item: T) -> Result<(), Memory> {
     Ok(items.push(item)?)
 }
@@ -29,7 +29,7 @@ pub fn text(target: TextTarget) -> LayoutRenderingElement {
     })
 }
 
-/// The text `a` alone.
+/// A list of one text, `a`.
 pub fn letter(alloc: Global) -> Result<Vec<LayoutRenderingElement>, Memory> {
     let val = String::from_str(alloc, "a")?;
     alone(alloc, text(TextTarget::Value { val }))

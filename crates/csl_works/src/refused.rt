@@ -1,5 +1,5 @@
-//! What a context answers that was refused memory: each later call that answers a `Result` says
-//! that it has failed.
+//! Checks on a context that ran out of memory: each later call that returns a `Result` has to
+//! return [`RenderError::Failed`].
 
 use crate::error::WorkError;
 use csl_context::{Context, Mark, RenderError};
@@ -11,14 +11,14 @@ use csl_style::{
 };
 use lit_model::ChunkedString;
 
-/// Whether a call answered that the context had failed.
+/// Whether a call returned that the context had failed already.
 fn says_failed<A: Drop>(answer: Result<A, RenderError>) -> bool {
     let said = matches!(&answer, Err(RenderError::Failed));
     drop(answer);
     said
 }
 
-/// Whether each call that writes says that the context has failed.
+/// Whether each call that writes returns that the context has failed.
 fn writing_fails<T>(ctx: &mut Context<'_, T>) -> bool {
     let no_chunks = ChunkedString(Vec::new(ctx.alloc()));
     says_failed(ctx.ensure_live())
@@ -29,7 +29,7 @@ fn writing_fails<T>(ctx: &mut Context<'_, T>) -> bool {
         && says_failed(ctx.ensure_space())
 }
 
-/// Whether each call that opens something says so.
+/// Whether each call that opens something returns that the context has failed.
 fn opening_fails<'s, T>(ctx: &mut Context<'s, T>) -> bool {
     let style = ctx.style();
     says_failed(ctx.push_elem())
@@ -40,7 +40,7 @@ fn opening_fails<'s, T>(ctx: &mut Context<'s, T>) -> bool {
         && says_failed(ctx.push_name_options(&style.settings().names))
 }
 
-/// Whether one that closes affixes says so.
+/// Whether the call that closes affixes returns that the context has failed.
 fn affixing_fails<T>(ctx: &mut Context<'_, T>, mark: Mark) -> bool {
     if !ctx.has_failed() {
         return false;
@@ -51,7 +51,8 @@ fn affixing_fails<T>(ctx: &mut Context<'_, T>, mark: Mark) -> bool {
     says_failed(answer)
 }
 
-/// Whether each call that closes a part says so. Of a context that has failed any mark will do.
+/// Whether each call that closes a part returns that the context has failed. A failed context takes
+/// any mark.
 fn closing_fails<T>(ctx: &mut Context<'_, T>, mark: Mark) -> bool {
     if !ctx.has_failed() || !says_failed(ctx.commit_elem(mark, None, None)) {
         return false;
@@ -68,7 +69,7 @@ fn closing_fails<T>(ctx: &mut Context<'_, T>, mark: Mark) -> bool {
     says_failed(ctx.pop_quotes(mark, None))
 }
 
-/// Whether each silent look says so.
+/// Whether each silent lookup returns that the context has failed.
 fn peeking_fails<T: EntryLike>(ctx: &Context<'_, T>) -> bool {
     says_failed(ctx.peek_number_variable(NumberVariable::Volume))
         && says_failed(ctx.peek_page_variable(PageVariable::Page))
@@ -77,7 +78,7 @@ fn peeking_fails<T: EntryLike>(ctx: &Context<'_, T>) -> bool {
         && says_failed(ctx.peek_date_variable(DateVariable::Issued))
 }
 
-/// Whether each look for printing says so.
+/// Whether each lookup for printing returns that the context has failed.
 fn looking_fails<T: EntryLike>(ctx: &mut Context<'_, T>) -> bool {
     says_failed(ctx.resolve_number_variable(NumberVariable::Volume))
         && says_failed(ctx.resolve_page_variable(PageVariable::Page))
@@ -86,7 +87,7 @@ fn looking_fails<T: EntryLike>(ctx: &mut Context<'_, T>) -> bool {
         && says_failed(ctx.resolve_date_variable(DateVariable::Issued))
 }
 
-/// Whether each call of a layout says so.
+/// Whether each call of a layout returns that the context has failed.
 fn rendering_fails<'s, T: EntryLike>(ctx: &mut Context<'s, T>) -> bool {
     let layout = ctx.style().citation();
     says_failed(layout.render(ctx))
@@ -94,8 +95,8 @@ fn rendering_fails<'s, T: EntryLike>(ctx: &mut Context<'s, T>) -> bool {
         && says_failed(layout.will_render(ctx, Variable::Date(DateVariable::Issued)))
 }
 
-/// Whether each call of a context but the last says that it has failed. The marks of what it would
-/// close are those of a context of the same cite.
+/// Whether each call of a context except `finish` returns that it has failed. The mark for the
+/// closing calls is from another context of the same cite.
 fn all_fail<'s, T: EntryLike>(ctx: &mut Context<'s, T>) -> Result<bool, WorkError> {
     let failed = ctx.has_failed()
         && writing_fails(ctx)
@@ -109,8 +110,8 @@ fn all_fail<'s, T: EntryLike>(ctx: &mut Context<'s, T>) -> Result<bool, WorkErro
     Ok(failed && closing_fails(ctx, mark?))
 }
 
-/// Why nothing was made in a context: for want of memory, unless a later call of the context does
-/// not say that it has failed.
+/// The error of a failed rendering: out of memory, unless a later call of the context does not
+/// return that it has failed.
 pub fn refusal<'s, T: EntryLike>(mut ctx: Context<'s, T>) -> WorkError {
     let unexpected = WorkError::Unexpected("a call went on after a refusal");
     let failed = all_fail(&mut ctx);

@@ -9,13 +9,13 @@ use csl_style::{
 use lit_model::Memory;
 use std::alloc::Global;
 
-/// The name of a macro, and that of the macro that it calls.
+/// The name of a macro, and the name of the macro that it calls.
 type Row = (&'static str, &'static str);
 
-/// Macros of which the last calls one that is absent.
+/// Macros that each call the next. The last calls an absent macro.
 pub static CHAIN: [Row; 3] = [("title", "label"), ("label", "dots"), ("dots", "absent")];
 
-/// Macros of which the first calls two that call each other.
+/// Two macros that call each other, after a macro that calls one of them.
 pub static CYCLE: [Row; 3] = [("x", "a"), ("a", "b"), ("b", "a")];
 
 const ET_AL: Term = Term::Other(OtherTerm::EtAl);
@@ -28,7 +28,7 @@ fn calling(alloc: Global, row: &Row) -> Result<CslMacro, Memory> {
     Ok(CslMacro { name, children })
 }
 
-/// The macros of some rows.
+/// The macros of the rows.
 fn macros(alloc: Global, rows: &[Row]) -> Result<Vec<CslMacro>, Memory> {
     let mut macros = Vec::new(alloc);
     for row in rows {
@@ -48,7 +48,7 @@ fn term(alloc: Global) -> Result<TermEntry, Memory> {
     })
 }
 
-/// A locale of one term, alone.
+/// A list of one locale with one term.
 fn locales(alloc: Global) -> Result<Vec<Locale>, Memory> {
     let terms = alone(alloc, term(alloc)?)?;
     let locale = Locale {
@@ -61,7 +61,7 @@ fn locales(alloc: Global) -> Result<Vec<Locale>, Memory> {
     alone(alloc, locale)
 }
 
-/// A style of macros, which is refused where one leads back to itself.
+/// A style of the rows' macros, or its error: a macro may lead back to itself.
 fn style(alloc: Global, rows: &[Row]) -> Result<Result<Style, StyleError>, Memory> {
     let macros = macros(alloc, rows)?;
     let locales = locales(alloc)?;
@@ -70,7 +70,7 @@ fn style(alloc: Global, rows: &[Row]) -> Result<Result<Style, StyleError>, Memor
     Ok(Style::new(alloc, settings, macros, citation, None, locales))
 }
 
-/// The names of its macros, and its term.
+/// The names of a style's macros, and its term.
 fn parts(alloc: Global, style: &Style) -> Result<String, WorkError> {
     let mut said = String::new(alloc);
     for named in style.macros() {
@@ -82,7 +82,7 @@ fn parts(alloc: Global, style: &Style) -> Result<String, WorkError> {
     Ok(said)
 }
 
-/// Why a style is refused.
+/// The text of a style's error, unless memory ran out.
 fn refusal(alloc: Global, error: &StyleError) -> Result<String, WorkError> {
     match error {
         StyleError::Memory => Err(WorkError::Memory),
@@ -91,7 +91,7 @@ fn refusal(alloc: Global, error: &StyleError) -> Result<String, WorkError> {
     }
 }
 
-/// What a style of some rows says, or why it is refused.
+/// The macros' names and the term of a style of the rows, or the text of its error.
 fn said(alloc: Global, rows: &[Row]) -> Result<String, WorkError> {
     match style(alloc, rows)? {
         Ok(style) => {
@@ -103,7 +103,8 @@ fn said(alloc: Global, rows: &[Row]) -> Result<String, WorkError> {
     }
 }
 
-/// The same. Where memory is refused, the style is made once more from new parts.
+/// Makes a style of the rows, and returns its parts or its error as a text. If memory runs out,
+/// makes it once more from new parts.
 pub fn style_of(alloc: Global, rows: &[Row]) -> Result<String, WorkError> {
     match said(alloc, rows) {
         Err(WorkError::Memory) => said(alloc, rows),

@@ -1,4 +1,4 @@
-//! Trees of content, call by call, and a stack.
+//! Trees of content, built call by call, and a stack.
 
 use crate::cites::plain;
 use crate::error::WorkError;
@@ -11,7 +11,7 @@ use csl_tree::{
 use lit_model::Memory;
 use std::alloc::Global;
 
-/// A text in no formatting.
+/// A text in the default formatting.
 pub fn formatted(alloc: Global, text: &str) -> Result<Formatted, Memory> {
     Ok(Formatting::default().add_text(String::from_str(alloc, text)?))
 }
@@ -25,7 +25,7 @@ pub fn texts(alloc: Global) -> Result<Vec<ElemChild>, Memory> {
     Ok(children)
 }
 
-/// An element of these children.
+/// An element with these children.
 pub fn elem(children: Vec<ElemChild>, display: Option<Display>) -> ElemChild {
     ElemChild::Elem(Elem {
         children: ElemChildren(children),
@@ -34,7 +34,7 @@ pub fn elem(children: Vec<ElemChild>, display: Option<Display>) -> ElemChild {
     })
 }
 
-/// How many children the normal form of some content has, and its text.
+/// The number of children of some content's normal form, and its plain text.
 fn normal_form(alloc: Global, content: &ElemChildren) -> Result<String, WorkError> {
     let normal = simplify_fully(alloc, content)?;
     let text = plain(alloc, &normal);
@@ -44,7 +44,7 @@ fn normal_form(alloc: Global, content: &ElemChildren) -> Result<String, WorkErro
     Ok(format!(in alloc; "{count} child, {text}")?)
 }
 
-/// The same of an element around two texts. Where it is refused, it is made once more.
+/// Simplifies an element around two texts fully. If memory runs out, simplifies it once more.
 pub fn simplify(alloc: Global) -> Result<String, WorkError> {
     let mut children = Vec::new(alloc);
     put(&mut children, elem(texts(alloc)?, None))?;
@@ -67,7 +67,7 @@ enum Step {
     CloseSpliced,
 }
 
-/// The calls that make `a`, a block of `b(cd)`, and `ee`.
+/// The calls that build `a`, a block of `b(cd)`, and `ee`.
 static STEPS: [Step; 10] = [
     Step::PushText("a"),
     Step::Open,
@@ -111,7 +111,7 @@ fn call(alloc: Global, tree: &mut FlatTree, step: Step) -> Result<(), WorkError>
     }
 }
 
-/// Makes the calls. One that is refused is made once more.
+/// Makes the calls. If memory runs out in a call, makes it once more.
 fn call_each(alloc: Global, tree: &mut FlatTree, steps: &[Step]) -> Result<(), WorkError> {
     for step in steps {
         match call(alloc, tree, *step) {
@@ -122,7 +122,7 @@ fn call_each(alloc: Global, tree: &mut FlatTree, steps: &[Step]) -> Result<(), W
     Ok(())
 }
 
-/// What the calls make.
+/// The content that the calls build.
 fn called(alloc: Global, steps: &[Step]) -> Result<ElemChildren, WorkError> {
     let mut tree = FlatTree::new(alloc);
     call_each(alloc, &mut tree, steps)?;
@@ -138,8 +138,8 @@ fn html_of(alloc: Global, content: &ElemChildren) -> Result<String, WorkError> {
     Ok(html)
 }
 
-/// The HTML of what the calls make. The last of them drops the tree where it is refused, and all
-/// are made once more.
+/// The HTML of the content that the calls build. If memory runs out, makes all calls once more:
+/// `finish` drops the tree if it fails.
 pub fn flat(alloc: Global) -> Result<String, WorkError> {
     let content = match called(alloc, &STEPS) {
         Err(WorkError::Memory) => called(alloc, &STEPS)?,
@@ -150,7 +150,7 @@ pub fn flat(alloc: Global) -> Result<String, WorkError> {
     html
 }
 
-/// Pushes a letter, and once more where it comes back.
+/// Pushes a letter. If the push fails, pushes the returned letter once more.
 fn push_letter(stack: &mut NonEmptyStack<char>, letter: char) -> Result<(), Memory> {
     match stack.push(letter) {
         Ok(()) => Ok(()),
@@ -161,7 +161,7 @@ fn push_letter(stack: &mut NonEmptyStack<char>, letter: char) -> Result<(), Memo
     }
 }
 
-/// The letters from `a` to `i` on a stack.
+/// A stack of the letters from `a` to `i`.
 fn letters(alloc: Global) -> Result<NonEmptyStack<char>, Memory> {
     let mut stack = NonEmptyStack::new(alloc, 'a')?;
     for letter in "bcdefghi".chars() {
@@ -170,7 +170,7 @@ fn letters(alloc: Global) -> Result<NonEmptyStack<char>, Memory> {
     Ok(stack)
 }
 
-/// The letters on that stack, in order.
+/// The letters from `a` to `i`, in order from a stack.
 pub fn stack(alloc: Global) -> Result<String, WorkError> {
     let stack = letters(alloc)?;
     let mut said = String::new(alloc);

@@ -15,7 +15,7 @@ use Rattle.csl_cli.specs.Content.{IsEntryContent}
 use Rattle.csl_cli.specs.Command.{CommandView, cite_in, leaf_of, command_verdict}
 use Rattle.csl_cli.proofs.answers.answer_to.Goals as goal
 
--- the content of a cite, as it is written, answers the words for it
+-- the content of a cite, in its format, answers the words for it
 cite_answer : (v : CommandView) (entry : BuiltIn) (style : BuiltInStyle) (format : BufWriteFormat) (content : List Token) → v ≡ cite_in entry style format → IsEntryContent entry style content → IsAnswer v (text_in_format format content)
 cite_answer v entry style format content is made = subst (λ (w : CommandView). IsAnswer w (text_in_format format content)) (sym is) (content, made, refl)
 
@@ -23,7 +23,7 @@ pub returns-in_ok-content-in-Cite-clause-ok : goal.returns-in_ok-content-in-Cite
 returns-in_ok-content-in-Cite-clause-ok c =
     cite_answer _ c.in-Cite.entry c.in-Cite.style c.in-Cite.format _ (ap command_verdict c.in-Cite.is) c.in_ok-content-in-Cite.ensures
 
--- the error of the reader is that of the command
+-- if reading returns `NotHtml`, the words ask for the leaf text of a text that is not HTML
 refused_leaf : {T : Type 0} (v : CommandView) (why : HtmlError) (r : Result T HtmlError) (html : List ℕ) → v ≡ leaf_of html → (why ≡ errors.NotHtml → IsNotHtml html) → IsErrAnd r (λ e. e ≡ why) → r ≡ Err errors.NotHtml → IsRefused v
 refused_leaf v errors.NotHtml r html is n h e = subst IsRefused (sym is) (n refl)
 refused_leaf v errors.Memory r html is n h e = let p = err_from_is_err_and r h in absurd (cc (p.1, p.2, e))

@@ -3,7 +3,7 @@ use Rattle.csl_render.specs.CiteContent.{cite_content}
 use Rattle.csl_samples.specs.Title.{title_answers}
 use Rattle.csl_cli.proofs.content.title_content.Goals as goal
 
--- the style that was made is the witness
+-- the witness is the style that the function builds
 pub returns-in-Ok : goal.returns-in-Ok
 returns-in-Ok c =
     let style = c.in_ok-style.style in

@@ -3,7 +3,7 @@ use Rattle.csl_style.specs.Style.{StyleParts, AreDefaults}
 use Rattle.csl_style.specs.View.{view_layout}
 use Rattle.csl_samples.proofs.styles.BuiltInStyle.style.Goals as goal
 
--- the style is of the parts that it was made of
+-- the style has the parts that it is built from
 pub returns-in-Ok : goal.returns-in-Ok
 returns-in-Ok c =
     let made = c.in-Ok.ensures.value in
