@@ -1,4 +1,4 @@
--- Two entries that answer alike what a node names: the node says, shows and makes the same of both.
+-- A node has the same dry run, shown variables and output for two entries that are alike for it.
 use Rattle.std.proofs.Common.{◌≡◌, Bool, true, false, subst, ℕ, List, [], ◌∷◌, map, Option, Some, None, refl, sym, ap, ap₂, ◌∙◌, if◌then◌else◌}
 use Rattle.std.specs.Prelude.{◌||◌, ◌&&◌, not, ◌==◌, length, option_map, is_some, unwrap_or}
 use Rattle.lit_model.specs.Date.{DateView}
@@ -46,7 +46,7 @@ use Rattle.csl_render.specs.Tree.{is_group, info, nodes_info, branches_info, sub
 use Rattle.csl_render.proofs.Looks.{kind_alike, number_look_alike, page_look_alike, number_or_page_look_alike, standard_look_alike, name_look_alike, date_look_alike}
 
 module _ (a b : Answers) where
-  -- alike in both of two sets, alike in each
+  -- entries that are alike on a union are alike on each of the two sets
   on_left : (p r : NamedSet) → SameNamedAnswers (named_union p r) a b → SameNamedAnswers p a b
   unfolding named_union
   on_left p r h q e = h q (or_left (p q) (r q) e)
@@ -174,7 +174,7 @@ module _ (a b : Answers) where
     lists_state_alike : (s : State) (vs : List NameVariable) → lists_state v s vs ≡ lists_state u s vs
     lists_state_alike s vs = ap (λ t. if may_merge w.style vs then state_after_resolve (variable.Name Translator) (state_after_resolve (variable.Name Editor) s) else t) (all_looked_alike s vs)
 
-    -- lists of editors and translators that may be merged are of these two variables
+    -- the variables of lists that may merge are the editors and the translators
     module _ (s t : State) where
       abbrev Pair : Type 0
       Pair = (peek_names v s Editor ≡ peek_names u s Editor) × (peek_names v t Translator ≡ peek_names u t Translator)
@@ -198,7 +198,7 @@ module _ (a b : Answers) where
       pair_alike vs e h =
           one_of (same_variables vs (Editor ∷ Translator ∷ [])) (same_variables vs (Translator ∷ Editor ∷ [])) vs (same_list vs (Editor ∷ Translator ∷ [])) (same_list vs (Translator ∷ Editor ∷ [])) e h
 
-      -- lists that are merged where a word is there and they are that pair, else not
+      -- the lists, merged if the style has the term and the variables are that pair
       merged_alike : (word pair : Bool) (vs : List NameVariable) (xs ys : PersonLists) → pair ≡ is_pair vs → xs ≡ ys → SameNamedAnswers (each_of the_name vs) a b
           → (if word && pair then merged_lists (peek_names v s Editor) (peek_names v t Translator) else xs) ≡ (if word && pair then merged_lists (peek_names u s Editor) (peek_names u t Translator) else ys)
       merged_alike true true vs xs ys e f h = let both = pair_alike vs (sym e) h in ap₂ merged_lists both.0 both.1
@@ -233,7 +233,7 @@ module _ (a b : Answers) where
     disambiguated_alike (Some true) = refl
     disambiguated_alike (Some false) = refl
 
-    -- each of a list, where each one is alike
+    -- the tests of the items of a list have equal results if each test has
     module _ {A : Type 0} (names : A → NamedSet) (f g : A → Bool) (one : (x : A) → SameNamedAnswers (names x) a b → f x ≡ g x) where
       each_alike : (xs : List A) → SameNamedAnswers (each_of names xs) a b → map f xs ≡ map g xs
       each_alike [] h = refl
@@ -254,7 +254,7 @@ module _ (a b : Answers) where
         let present = each_if_alike the_variable (is_present v s) (is_present u s) (present_alike s) ts.variable (on_right _ _ past_dates) in
         rw (disambiguated_alike ts.disambiguate, numbers, dates, kinds, present) refl
 
-    -- ---- what is shown
+    -- ---- the shown variables
 
     mutual
       pub shows_alike : (s : State) (x : Variable) (f : ExpandedNode) → SameNamedAnswers (named_in_node f) a b → shows v s x f ≡ shows u s x f
@@ -284,7 +284,7 @@ module _ (a b : Answers) where
       substitute_shows_alike s x no_expanded_substitutes h = refl
       substitute_shows_alike s x (expanded_substitute fs is) h = any_shows_alike s x fs (on_left _ _ h)
 
-    -- ---- what is said
+    -- ---- the dry run
 
     mutual
       pub info_alike : (s : State) (f : ExpandedNode) → SameNamedAnswers (named_in_node f) a b → info v s f ≡ info u s f
@@ -319,7 +319,7 @@ module _ (a b : Answers) where
       substitute_info_alike s no_expanded_substitutes h = refl
       substitute_info_alike s (expanded_substitute fs is) h = ap without_group_flag (infos_alike s fs (on_left _ _ h))
 
-    -- ---- what is made
+    -- ---- the output
 
     mutual
       pub tree_alike : (f : ExpandedNode) (inh : Inherited) (s : State) → SameNamedAnswers (named_in_node f) a b → node_output v f inh s ≡ node_output u f inh s

@@ -1,5 +1,5 @@
--- Rendering by a plan: the plan of a choice is that of the nodes that it takes, and what a plan
--- decides is what the definition does.
+-- Rendering by a plan. The plan of a choice is that of the nodes that it takes. A call by a plan
+-- changes the context as the definition states.
 use Rattle.std.proofs.Common.{◌≡◌, Option, Some, None, IfSome, Result, Ok, Err, List, subst, sym, ◌∙◌}
 use Rattle.std.specs.Option.{IsSomeAnd}
 use Rattle.csl_style.specs.Node.{ExpandedNode, ExpandedNodes}
@@ -22,7 +22,7 @@ taken_planned w s f fs planned (Some node) (Some nodes) h same =
     subst (λ at. AreInfos w at fs nodes.infos.now) (sym same.0)
     (subst (λ is. AreInfos w node.at.now fs is) (sym same.1) (planned node.at.now h.0 (inside_of node.info.now) h.1.1))
 
--- ---- calls that end as another one does
+-- ---- calls that change the context by an equal function
 
 pub ends_as : {T R : Type 0} (f h : ContextView T → ContextView T) (old new : ContextView T) (r : Result R RenderError) → f old ≡ h old → Runs f r old new → Runs h r old new
 ends_as f h old new (Ok x) e l = record { was_live = l.was_live; becomes = l.becomes ∙ e }

@@ -1,4 +1,4 @@
--- What the calls of a text of a macro make of a context, one after another.
+-- The context after the calls that render a text that calls a macro, one after another.
 use Rattle.std.proofs.Common.{Bool, None}
 use Rattle.std.specs.Prelude.{◌||◌}
 use Rattle.csl_style.specs.Dressing.{AffixTexts, TextDressing}
@@ -12,12 +12,12 @@ use Rattle.csl_nodes.specs.Text.{with_quotes_toggled_if, in_quotes_if, with_outp
 use Rattle.csl_render.specs.Tree.{nodes_output}
 
 module _ {T : Type 0} (answers : T → Answers) where
-  -- the nodes of a macro, in the context that they are lent
+  -- the context after the nodes of a macro
   abbrev pub with_nodes : Nodes → ContextView T → ContextView T
   with_nodes ns now = with_output (nodes_output (render_input answers now) (expand_nodes (macro_env now.style) ns) now.inherited now.state) now
 
   module _ (d : TextDressing) (ns : Nodes) where
-    -- up to the nodes
+    -- up to and including the nodes
     abbrev pub called_inside : ContextView T → ContextView T
     called_inside now =
         let opened = with_part (with_quotes_toggled_if d.quotes (with_part (with_part (with_delimiter None (with_format d.dressing.formatting now))))) in

@@ -1,4 +1,5 @@
--- A choice says, shows and makes what the nodes do that it chooses.
+-- A choice has the dry run (without the group flag), the shown variables and the output of the
+-- nodes that it takes.
 use Rattle.std.proofs.Common.{◌≡◌, ℕ, ◌<◌, ◌+◌, suc, Bool, true, false, List, Option, Some, None, option_map, IfSome, if◌then◌else◌, refl, ap, sym, arith}
 use Rattle.csl_style.specs.declared.element.Choose.{Choose}
 use Rattle.csl_style.specs.declared.taxonomy.Variable.{Variable}

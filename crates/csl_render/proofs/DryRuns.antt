@@ -1,4 +1,5 @@
--- What a dry run keeps of macros stays right, and is what a text of a macro answers.
+-- The results that dry runs keep for macros stay right. Each is that of a text that calls the
+-- macro.
 use Rattle.std.proofs.Common.{◌≡◌, ℕ, Bool, true, false, cond, List, [], Option, Some, None, IfSome, refl, sym, ap, ◌∙◌}
 use Rattle.std.proofs.lemmas.Slice.Eq.{bytes_eq-Decides}
 use Rattle.std.specs.HashMap.{HashMap, get, Updates}
@@ -13,7 +14,7 @@ use Rattle.csl_render.specs.DryRun.{text_eq, call_info, call_shows}
 use Rattle.csl_render.specs.Tree.{info, shows}
 
 module _ {X : Type 0} (Right : List ℕ → X → Type 0) where
-  -- each entry is right
+  -- each kept result is right
   abbrev pub Kept : {S : Type 0} → HashMap (Bor (List ℕ)) X S → Type 0
   Kept m = (name : Bor (List ℕ)) (a : X) → get text_eq m name ≡ Some a → Right name.now a
 
@@ -32,12 +33,12 @@ module _ {X : Type 0} (Right : List ℕ → X → Type 0) where
   pub learned : {S : Type 0} (m n : HashMap (Bor (List ℕ)) X S) (k : Bor (List ℕ)) (x : X) → Updates text_eq m n k (Some x) → Kept m → Right k.now x → Kept n
   learned m n k x up kept new q y e = kept_by k q (text_eq k q) x y (get text_eq m q) refl (kept q y) new (sym (up.0 q) ∙ e)
 
--- what is found is so
+-- a value that is found has a property that each such value has
 pub recalled : {X : Type 0} (P : X → Type 0) (o : Option X) → ((a : X) → o ≡ Some a → P a) → IfSome o P
 recalled P None h = tt
 recalled P (Some a) h = h a refl
 
--- ---- texts of a macro
+-- ---- texts that call a macro
 
 pub info_of_call : (w : RenderInput) (s : State) (d : TextDressing) (o : Option ExpandedNodes) → info w s (expand_call d o) ≡ call_info w s o
 info_of_call w s d None = refl

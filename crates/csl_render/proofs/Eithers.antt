@@ -1,4 +1,4 @@
--- What three say together, whichever two are joined first; what one says together with nothing.
+-- The union of dry runs is associative, and `no_info` is its unit.
 use Rattle.std.proofs.Common.{◌≡◌, Bool, true, false, refl}
 use Rattle.std.specs.Prelude.{◌||◌}
 use Rattle.csl_nodes.specs.Usage.{Info, info_of, usage_flags, info_union, no_info}

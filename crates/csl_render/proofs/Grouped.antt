@@ -1,4 +1,4 @@
--- What the calls of a group make of a context, one after another.
+-- The context after the calls that render a group, one after another.
 use Rattle.std.proofs.Common.{ℕ, Bool, true, false, List, Option, None}
 use Rattle.csl_style.specs.declared.formatting.Display.{Display}
 use Rattle.csl_style.specs.declared.formatting.Formatting as partial
@@ -13,7 +13,7 @@ use Rattle.csl_render.specs.Tree.{shown_if, delimited_output}
 use Rattle.csl_nodes.specs.Text.{with_output}
 
 module _ {T : Type 0} (answers : T → Answers) where
-  -- the children of a group, in the context that they are lent
+  -- the context after the children of a group
   abbrev pub with_children : Nodes → ContextView T → ContextView T
   with_children ns now = with_output (delimited_output (render_input answers now) (expand_nodes (macro_env now.style) ns) now.inherited true now.state) now
 

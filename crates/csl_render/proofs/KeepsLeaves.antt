@@ -1,5 +1,5 @@
--- What nodes without children keep of the state: a lookup only adds to the suppressed variables, a
--- date only sets its mark, and names fill the place of the first names only where it is empty.
+-- Nodes without children preserve the state (`Keeps`): a lookup only adds to the suppressed
+-- variables, a date only sets its mark, and names set the first names only if the state has none.
 use Rattle.std.proofs.Common.{◌≡◌, Bool, true, false, List, [], ◌∷◌, Option, Some, None, refl, ap, ◌∙◌}
 use Rattle.std.specs.Prelude.{◌||◌, is_some, if◌then◌else◌}
 use Rattle.std.specs.BTreeMap.{is_at}
@@ -54,9 +54,9 @@ if_keeps : (s : State) (b : Bool) (t u : State) → Keeps s t → Keeps s u → 
 if_keeps s true t u a c = a
 if_keeps s false t u a c = c
 
--- ---- looks
+-- ---- lookups
 
--- what some key of a list passes, some key passes after one more was put in
+-- if a key of a list passes a test, some key still passes after one more is inserted
 module _ {K : Type 0} (cmp : K → K → Ordering) (p : K → Bool) (k : K) where
   or_more : (a b c : Bool) → (b ≡ true → c ≡ true) → (a || b) ≡ true → (a || c) ≡ true
   or_more true b c f h = refl
@@ -82,7 +82,7 @@ looks_keep : (w : RenderInput) (vs : List NameVariable) (s : State) → Keeps s 
 looks_keep w [] s = keeps_itself s
 looks_keep w (v ∷ vs) s = keeps_through s (state_after_resolve (variable.Name v) s) (state_after_resolve_all w (state_after_resolve (variable.Name v) s) vs) (look_keeps (variable.Name v) s) (looks_keep w vs (state_after_resolve (variable.Name v) s))
 
--- ---- names that are printed first
+-- ---- the names that are printed first
 
 option_stays : (o : Option NameProperties) (p : NameProperties) → is_some o ≡ true → option_or o (Some p) ≡ o
 option_stays None p h = absurd (cc)
@@ -96,7 +96,7 @@ form_keeps Count p s = keeps_itself s
 form_keeps Short p s = forms_keep p s
 form_keeps Long p s = forms_keep p s
 
--- looks suppress as they did before the substitute
+-- after the substitute, lookups suppress their variable exactly if they did before it
 substitute_keeps : (s t : State) → Keeps (suppressing_from s) t → Keeps s (record t { suppressing = s.suppressing })
 substitute_keeps s t k = record { switch = refl; suppressed = k.suppressed; date = k.date; names = k.names }
 
@@ -144,7 +144,7 @@ module _ (w : RenderInput) where
       either_keeps s (date_shows_own w s v) (resolved_date w n (peek_date w s v) inh t) (render_output [] s)
       (keeps_through s t (resolved_date w n (peek_date w s v) inh t).state (look_keeps (variable.Date v) s) (found_keeps n (peek_date w s v) inh t)) (keeps_itself s)
 
-  -- names, whose looks leave t, where the substitute keeps what is in it
+  -- names that leave `t` after their lookups, if the substitute preserves `t`
   pub names_keep : (n : NamesNode) (ls : PersonLists) (refused : Bool) (inh : Inherited) (sub : RenderOutput) (s t : State) → Keeps s t → Keeps (suppressing_from t) sub.state → Keeps s (lists_or_substitute w n ls refused inh sub t).state
   names_keep n ls refused inh sub s t a b =
       either_keeps s refused (render_output [] t) (if all_empty ls then boxed_substitute n ls sub t else lists_output w n ls inh t) a

@@ -1,6 +1,6 @@
--- What each node keeps of the state: the recursion of `node_output` once more, with a line for each
--- case. A leaf is one of `KeepsLeaves`, and nodes in a row keep what each keeps of the state before
--- it.
+-- Each node preserves the state (`Keeps`). The recursion is that of `node_output`, with a line for
+-- each case. `KeepsLeaves` has the leaves. Each node in a row preserves the state that the one
+-- before it left.
 use Rattle.std.proofs.Common.{Bool, true, false, []}
 use Rattle.csl_style.specs.Node.{ExpandedNode, expanded_text, expanded_macro, unknown_macro, expanded_number, expanded_label, expanded_date, expanded_names, shorthand, expanded_choose, expanded_group, ExpandedNodes, no_expanded_nodes, expanded_node, ExpandedBranches, no_expanded_branches, expanded_otherwise, expanded_branch, ExpandedSubstitutes, no_expanded_substitutes, expanded_substitute}
 use Rattle.csl_tree.specs.Tokens.{has_text}

@@ -1,4 +1,4 @@
--- What is found of two entries that answer alike what is named: the same, whatever the state.
+-- Lookups return the same for two entries that are alike on the variable, in any state.
 use Rattle.std.proofs.Common.{◌≡◌, false, [], refl, ap}
 use Rattle.std.specs.Prelude.{option_map, None, if◌then◌else◌}
 use Rattle.csl_common.specs.declared.form.LongShortForm.{LongShortForm}
@@ -25,7 +25,7 @@ use Rattle.csl_nodes.specs.NumberOrPage.{peek_number_or_page}
 use Rattle.csl_render.specs.PairOutput.{with_answers}
 
 module _ (a b : Answers) where
-  -- a variable that is named, unless the citation answers it
+  -- the same answer for a variable that is named, unless the citation answers it
   answer_alike : (v : Variable) → SameNamedAnswers (the_variable v) a b → is_of_citation v ≡ false → SameAnswer a b (a_variable v)
   unfolding the_variable
   answer_alike v h e = h (a_variable v) (rw ((variable_ordered v v).1 refl, e) refl)

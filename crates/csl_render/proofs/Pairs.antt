@@ -1,4 +1,4 @@
--- What a layout makes of two entries that answer alike what it names.
+-- A layout has the same output for two entries that are alike for it.
 use Rattle.std.proofs.Common.{◌≡◌, ◌↔◌, Bool, true, false, ℕ, List, refl, ap, sym, ◌∙◌}
 use Rattle.csl_style.specs.declared.element.Layout.{Layout}
 use Rattle.csl_style.specs.Named.{named_in_nodes}
@@ -18,7 +18,7 @@ use Rattle.csl_context.specs.RenderInput.{RenderInput}
 use Rattle.csl_render.specs.PairOutput.{with_answers, layout_output_from, Prints, PrintsSame}
 use Rattle.csl_render.proofs.AlikeNodes.{layout_alike}
 
--- a context that has not failed fails only if memory runs out
+-- a call fails only with `Memory` if the context has not failed before it
 pub rendering_wants_memory : {T : Type 0} (e : RenderError) (old new : ContextView T) → FailsAs e old new → old.failed ≡ false → e ≡ Memory
 rendering_wants_memory Memory old new h was_live = refl
 rendering_wants_memory Failed old new h was_live = let had : old.failed ≡ true = h.0 in cc

@@ -1,5 +1,5 @@
--- Plans: what is known of a node is known in each state of which dry runs read the same, and of a
--- group, a macro and a choice it is known of the nodes inside.
+-- Plans. The result for a node holds in each state of which dry runs read the same. The result for
+-- a group, a macro and a choice includes results for the nodes inside.
 use Rattle.std.proofs.Common.{◌≡◌, ℕ, ◌<◌, ◌+◌, ◌++◌, get_or, drop, Bool, true, false, length, subst, List, [], ◌∷◌, Option, Some, option_map, if◌then◌else◌, refl, sym, ap, ◌∙◌, arith}
 use Rattle.std.specs.Bool.{MatchBool}
 use Rattle.std.proofs.lemmas.List.{append_assoc, at_drop_more}
@@ -19,7 +19,7 @@ use Rattle.csl_render.proofs.Chosen.{IsChoice, is_choice}
 use Rattle.csl_render.proofs.GroupView.{group_out}
 use Rattle.csl_render.proofs.Reading.{info_alike, holds_alike}
 
--- ---- no answers at all
+-- ---- no results
 
 module _ (w : RenderInput) (s : State) where
   pub no_infos : (fs : ExpandedNodes) → AreInfos w s fs []
@@ -53,7 +53,7 @@ module _ (w : RenderInput) (s : State) where
 
 -- ---- node by node
 
--- from a place on, the node there and those after it
+-- the nodes from a place on: the node there, and those after it
 pub nodes_from : (env : List ℕ → Option ExpandedNodes) (ns : List LayoutRenderingElement) (i : ℕ) (x : LayoutRenderingElement) → i < length ns → x ≡ get_or ns i x → expand_nodes env (view_nodes (drop i ns)) ≡ expanded_node (expand env (view_node x)) (expand_nodes env (view_nodes (drop (i + 1) ns)))
 nodes_from env ns i x within is = at_drop_more (λ l. expand_nodes env (view_nodes l)) ns i x within ∙ ap (λ y. expand_nodes env (view_nodes (y ∷ drop (i + 1) ns))) (sym is)
 
@@ -61,7 +61,7 @@ nodes_from env ns i x within is = at_drop_more (λ l. expand_nodes env (view_nod
 pub one_more : {X : Type 0} (before now : List X) (x : X) (others : List X) → now ≡ before ++ (x ∷ []) → before ++ (x ∷ others) ≡ now ++ others
 one_more before now x others e = sym (ap (λ xs. xs ++ others) e ∙ append_assoc before (x ∷ []) others)
 
--- ---- in a state of which the same is read
+-- ---- a state of which dry runs read the same
 
 module _ (w : RenderInput) (s t : State) (alike : AreReadAlike w s t) where
   taken_by : {A B C D : Type 0} (b c : Bool) → b ≡ c → (A → C) → (B → D) → MatchBool b A B → MatchBool c C D
@@ -96,18 +96,18 @@ module _ (w : RenderInput) (s t : State) (alike : AreReadAlike w s t) where
   pub info_moved : (f : ExpandedNode) (i : NodeInfo) → IsInfo w s f i → IsInfo w t f i
   info_moved f i h = (h.0 ∙ info_alike w s t alike f, inside_alike f (inside_of i) h.1)
 
--- a plan says what the node answers in the state for which it holds
+-- a plan has the dry run of the node in the state for which it holds
 pub answer_by_plan : (w : RenderInput) (s : State) (f : ExpandedNode) (p : NodePlan) → IsPlan w s f p → answer_of p.info.now ≡ info w s f
 answer_by_plan w s f p h = h.1.0 ∙ info_alike w p.at.now s h.0 f
 
--- and of a group, what its children answer
+-- a plan of a group has the results for its children
 pub group_planned : (w : RenderInput) (s : State) (env : List ℕ → Option ExpandedNodes) (g : Group) (p : NodePlan) → IsPlan w s (expand env (view_group g)) p → AreInfos w p.at.now (expand_nodes env (view_nodes g.children.items)) (inside_of p.info.now)
 group_planned w s env g p h = subst (λ n. AreInside w p.at.now (expand env n) (inside_of p.info.now)) (group_out g) h.1.1
 
 -- ---- the nodes that a choice takes
 
 module _ (w : RenderInput) (env : List ℕ → Option ExpandedNodes) where
-  -- the nodes that are taken in a state s, where a plan was made in t
+  -- the nodes taken in a state `s`, by a plan for the state `t`
   module _ (s t : State) (alike : AreReadAlike w t s) (is : List NodeInfo) where
     taken_here : (b c : Bool) → b ≡ c → (fs : ExpandedNodes) (cs : ExpandedBranches) (ns : Nodes) (o : Option Nodes) → fs ≡ expand_nodes env ns
         → (AreTaken w t cs is → AreOfTaken w t (option_map (expand_nodes env) o) is)

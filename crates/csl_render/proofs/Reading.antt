@@ -1,5 +1,5 @@
--- Dry runs read of a state what is suppressed and, under two special forms, whether a date was
--- rendered.
+-- Dry runs read of a state the suppressed variables and, under two special forms, whether a date
+-- was rendered.
 use Rattle.std.proofs.Common.{◌≡◌, Bool, true, false, List, [], ◌∷◌, map, Option, Some, None, refl, sym, ap, ap₂, ◌∙◌}
 use Rattle.std.specs.Prelude.{◌||◌, ◌&&◌, not, is_some, if◌then◌else◌}
 use Rattle.csl_style.specs.declared.taxonomy.DateVariable.{DateVariable}
@@ -146,7 +146,7 @@ module _ (w : RenderInput) (s : State) where
     substitute_info_dry no_expanded_substitutes = refl
     substitute_info_dry (expanded_substitute fs is) = ap without_group_flag (infos_dry fs)
 
--- where dry runs read the same of two states, they answer the same
+-- dry runs have the same result in two states of which they read the same
 module _ (w : RenderInput) (s t : State) (alike : AreReadAlike w s t) where
   pub info_alike : (f : ExpandedNode) → info w s f ≡ info w t f
   info_alike f = sym (info_dry w s f) ∙ ap (λ x. info w x f) alike ∙ info_dry w t f
@@ -154,7 +154,7 @@ module _ (w : RenderInput) (s t : State) (alike : AreReadAlike w s t) where
   pub holds_alike : (ts : Tests) → branch_matches w s ts ≡ branch_matches w t ts
   holds_alike ts = sym (holds_dry w s ts) ∙ ap (λ x. branch_matches w x ts) alike ∙ holds_dry w t ts
 
--- what is read is the same where its two parts are
+-- dry runs read the same of two states if the two parts that they read are equal
 pub read_alike : (special : Option SpecialForm) (s t : State) → (asks_for_dates special && s.first_date_seen) ≡ (asks_for_dates special && t.first_date_seen) → s.suppressed ≡ t.suppressed → dry special s ≡ dry special t
 read_alike special s t mark keys = ap₂ (λ ks b. record { suppressed = ks; suppressing = false; first_date_seen = b; first_names = None }) keys mark
 

@@ -1,4 +1,4 @@
--- What the calls of a substitute make of a context, one after another.
+-- The context after the calls that render a substitute, one after another.
 use Rattle.std.proofs.Common.{◌≡◌, Bool, true, [], refl}
 use Rattle.csl_style.specs.NameOptions.{PartialOptions}
 use Rattle.csl_style.specs.Names.{NamesNode}
@@ -15,7 +15,7 @@ use Rattle.csl_render.specs.Rendering.{with_whole_output}
 use Rattle.csl_render.specs.Tree.{output_until_text}
 
 module _ {T : Type 0} (answers : T → Answers) (ls : PersonLists) (ns : Nodes) where
-  -- the children of a substitute, in the context that they are lent
+  -- the context after the children of a substitute
   abbrev pub with_tries : NamesNode → ContextView T → ContextView T
   with_tries n now = with_whole_output (output_until_text (render_input answers now) (expand_substitute_nodes (macro_env now.style) n ns) now.inherited (render_output now.inner now.state)) now
 

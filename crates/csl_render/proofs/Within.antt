@@ -1,6 +1,6 @@
--- The children of a substitute: in the place of the names around them they are as large, say and
--- show as much, and name the same variables as elsewhere. Of several substitutes the first one
--- counts.
+-- The children of a substitute, in the place of the names around them, have the same size, dry run
+-- and shown variables as elsewhere, and are names of the same variables. Of several substitutes the
+-- first one counts.
 use Rattle.std.proofs.Common.{◌≡◌, ℕ, ◌<◌, ◌+◌, suc, Bool, true, false, List, Option, Some, None, option_map, IfSome, if◌then◌else◌, refl, ap, ap₂, arith}
 use Rattle.std.specs.Prelude.{◌||◌, ◌&&◌}
 use Rattle.csl_style.specs.declared.taxonomy.NameVariable.{NameVariable}
@@ -29,7 +29,7 @@ has_children : (n : NamesNode) (ns : Nodes) (ss : Substitutes) → is_childless 
 has_children n ns ss = grind (arith, none_of_four)
 
 module _ (env : List ℕ → Option ExpandedNodes) (original : NamesNode) where
-  -- what does not tell names without children in a substitute from others
+  -- a function with one result for names without children, in a substitute and elsewhere
   module _ {A : Type 0} (f : ExpandedNode → A) (same : (n m : NamesNode) → f (shorthand n m) ≡ f (expanded_names n no_expanded_substitutes)) where
     by_test : (n m : NamesNode) (b : Bool) → f (if b then shorthand n m else expanded_names n no_expanded_substitutes) ≡ f (expanded_names n no_expanded_substitutes)
     by_test n m true = same n m

@@ -1,8 +1,8 @@
--- What a style makes of an entry that is cited, from the state of a new context (CSL 1.0.2,
--- Citation; Bibliography; Layout). The cite is whole and is not sorted (`whole_cite`). Its citation
--- layout makes what stands in a note or a text, and its bibliography layout what stands in the
--- bibliography, if it has one.
--- A first cite without disambiguation has a content of its own name (`cite_content`).
+-- The content and the state of a cite in a new context (CSL 1.0.2, Citation; Bibliography; Layout).
+-- The cite is whole and not for a sort key (`whole_cite`). The citation layout of a style renders
+-- it for a note or a text. The bibliography layout, if there is one, renders it for the
+-- bibliography. A first cite without disambiguation has a definition of its own for its content
+-- (`cite_content`).
 use Rattle.std.specs.Prelude.{List, None}
 use Rattle.csl_style.specs.declared.element.Layout.{Layout}
 use Rattle.csl_style.specs.declared.style.settings.Scope.{Scope}
@@ -15,7 +15,7 @@ use Rattle.csl_context.specs.ContextView.{initial_state}
 use Rattle.csl_nodes.specs.Text.{RenderOutput}
 use Rattle.csl_render.specs.PairOutput.{cite_input, layout_output_from}
 
--- the content and the state that a layout makes of a whole cite
+-- the content and the state of a whole cite by a layout
 abbrev pub whole_cite : StyleParts → Scope → CiteState → Answers → Layout → RenderOutput
 whole_cite style scope cite answers layout = layout_output_from initial_state (cite_input style scope cite None None answers) layout
 

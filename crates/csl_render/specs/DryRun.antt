@@ -1,5 +1,6 @@
--- What a dry run keeps of macros (CSL 1.0.2, Macro). In one input and state the result for a text
--- of a macro depends on the macro's name alone, so a macro is gone through once.
+-- The results that dry runs and queries keep for macros (CSL 1.0.2, Macro). In one input and state
+-- the result for a text that calls a macro depends on the macro's name alone. One result for each
+-- name is enough.
 use Rattle.std.specs.Prelude.{◌≡◌, ℕ, Bool, false, List, Option, Some, None}
 use Rattle.std.specs.HashMap.{HashMap, get}
 use Rattle.std.specs.Str.{bytes_eq}
@@ -14,12 +15,12 @@ use Rattle.csl_nodes.specs.declared.usage.UsageInfo.{UsageInfo}
 use Rattle.csl_nodes.specs.Usage.{Info, no_info, without_group_flag, macro_info, info_view}
 use Rattle.csl_render.specs.Tree.{nodes_info, any_shows}
 
--- the dry run of a text of a macro, from what the macro's name stands for
+-- the dry run of a text that calls a macro, from the macro's nodes, if the style has it
 abbrev pub call_info : RenderInput → State → Option ExpandedNodes → Info
 call_info w s None = no_info
 call_info w s (Some fs) = macro_info (without_group_flag (nodes_info w s fs))
 
--- whether a text of a macro shows a variable
+-- whether a text that calls a macro shows a variable
 abbrev pub call_shows : RenderInput → State → Variable → Option ExpandedNodes → Bool
 call_shows w s v None = false
 call_shows w s v (Some fs) = any_shows w s v fs
@@ -27,16 +28,16 @@ call_shows w s v (Some fs) = any_shows w s v fs
 abbrev pub text_eq : Bor (List ℕ) → Bor (List ℕ) → Bool
 text_eq a b = bytes_eq a.now b.now
 
--- at each name the dry run of a text of that macro
+-- each result is the dry run of a text that calls the macro of its name
 abbrev pub HasInfos : {S : Type 0} → RenderInput → State → HashMap (Bor (List ℕ)) (Bool × UsageInfo) S → Type 0
 HasInfos w s calls =
     (name : Bor (List ℕ)) (answer : Bool × UsageInfo) → get text_eq calls name ≡ Some answer → info_view answer ≡ call_info w s (macro_env w.style name.now)
 
--- at each name whether a text of that macro shows the variable
+-- each result is whether a text that calls the macro of its name shows the variable
 abbrev pub HasShown : {S : Type 0} → RenderInput → State → Variable → HashMap (Bor (List ℕ)) Bool S → Type 0
 HasShown w s v calls = (name : Bor (List ℕ)) (shows : Bool) → get text_eq calls name ≡ Some shows → shows ≡ call_shows w s v (macro_env w.style name.now)
 
--- a context, and the variable that is asked for
+-- a context, and the variable of the query
 pub record Query (T : Type 0) : Type 0 where
   pub now : ContextView T
   pub variable : Variable

@@ -1,5 +1,5 @@
--- The definitions that the contracts of `csl_render` cite: what any node, and a layout, returns in
--- a dry run and renders.
+-- The definitions that the contracts of `csl_render` cite: the dry run, the shown variables and the
+-- content of nodes and layouts.
 pub mod Names
 pub mod Tree
 pub mod DryRun

@@ -25,7 +25,7 @@ use Rattle.csl_names.specs.NamesLists.{PersonLists, all_empty}
 use Rattle.csl_nodes.specs.Usage.{usage_flags, Info, info_of, no_info}
 use Rattle.csl_nodes.specs.Text.{RenderOutput, render_output}
 
--- what the macros of a style stand for
+-- the nodes that each macro name of a style stands for
 abbrev pub Macros : Type 0
 Macros = List ℕ → Option ExpandedNodes
 
@@ -37,7 +37,7 @@ has_variable v vs = list_any (λ own. sameb the_type own v) vs
 abbrev pub author : Variable
 author = variable.Name Author
 
--- the variable is that of one of the lists
+-- the variable is one of these name variables
 abbrev pub is_of_names : Variable → List NameVariable → Bool
 is_of_names (variable.Standard v) vs = false
 is_of_names (variable.Number v) vs = false
@@ -47,9 +47,9 @@ is_of_names (variable.Date v) vs = false
 
 -- ---- substitutes
 -- Of several substitutes the first one counts. Names without children directly in a substitute are
--- rendered as their node in the place of the names around it (`shorthand_expansion` of
--- `csl_style`): with those names' name, et-al and label, with their affixes, formatting, delimiter
--- and options where the node sets none, and without a substitute.
+-- rendered in the place of the names around it (`shorthand_expansion` of `csl_style`). They have
+-- the name, et-al and label of those names. They take over affixes, formatting, delimiter and
+-- options that they do not set. They have no substitute.
 
 -- a names node of the variable
 abbrev pub is_names_of : NameVariable → ExpandedNode → Bool
@@ -68,7 +68,7 @@ abbrev pub any_is_names_of : NameVariable → ExpandedNodes → Bool
 any_is_names_of v no_expanded_nodes = false
 any_is_names_of v (expanded_node f fs) = is_names_of v f || any_is_names_of v fs
 
--- whether one of the nodes that are chosen, if any, is a names node of the variable
+-- whether any of the chosen nodes, if any, is a names node of the variable
 abbrev pub choice_is_names_of : NameVariable → Option ExpandedNodes → Bool
 choice_is_names_of v None = false
 choice_is_names_of v (Some fs) = any_is_names_of v fs
@@ -82,20 +82,20 @@ substitute_has_names_of v (expanded_substitute fs is) = any_is_names_of v fs
 abbrev pub expanded_substitutes_of : (List ℕ → Option ExpandedNodes) → Names → ExpandedSubstitutes
 expanded_substitutes_of env n = expand_substitutes env (names_node n) (names_substitutes n)
 
--- a node in the substitute of another one: a names node without children is in that one's place,
--- any other is as elsewhere
+-- a child of the substitute of the names `original`: names without children (`own`) are in the
+-- place of `original`, any other node is as elsewhere
 abbrev pub standing_in : NamesNode → ExpandedNode → Option NamesNode → ExpandedNode
 standing_in original f None = f
 standing_in original f (Some own) = shorthand own (shorthand_expansion original own)
 
 -- ---- special forms
--- If only one variable is to be shown, names stay if it is one of theirs, or if they have no
--- persons and names of it are directly in their substitute: not in a group, a choice or a macro
--- there. The two forms for the first date and the year suffix leave no names. If the author is
+-- If the cite shows one variable alone, names stay if it is one of theirs. Names without persons
+-- also stay if names of it are directly in their substitute, not in a group, a choice or a macro
+-- there. The two forms for the first date and the year suffix refuse all names. If the author is
 -- suppressed, names that show it are refused.
 
--- Where one variable alone is to be shown, names of another one are refused; where there are no
--- persons, those of the substitute count.
+-- If the cite shows one variable alone, names of another one are refused. If they have no persons,
+-- names directly in the substitute count too.
 abbrev pub refuses_alone : Variable → NamesNode → Bool → ExpandedSubstitutes → Bool
 refuses_alone (variable.Standard v) n empty is = true
 refuses_alone (variable.Number v) n empty is = true
@@ -112,18 +112,18 @@ is_refused (Some OnlyYearSuffix) n empty is shows_author = true
 is_refused (Some SuppressAuthor) n empty is shows_author = shows_author
 
 -- ---- dry runs
--- Names show a variable of theirs, and without persons also one that a child of their substitute
--- shows. Refused names do not print and have no flags. All others call a variable. Names that are
--- not void print, and are not empty. Void ones print if a child of the substitute does, with the
--- flags of the children except the group flag. Names without children in a substitute have the dry
--- run there that they have elsewhere.
+-- Names show their own variables. Names without persons also show the variables that a child of
+-- their substitute shows. Refused names do not print and have no flags. All other names call a
+-- variable. If they are not void (`writes_no_name` of `csl_names`), they print and are non-empty.
+-- Void names print if a child of the substitute does, and take over the children's flags except the
+-- group flag. Names without children have the same dry run in a substitute as elsewhere.
 
--- names show a variable of theirs, or without persons one that the substitute would show
+-- names show their own variables, and without persons those that the substitute shows
 abbrev pub names_show : Variable → NamesNode → Bool → Bool → Bool
 names_show v n empty substitute_shows = is_of_names v n.variables || (empty && substitute_shows)
 
--- The dry run of names that are not refused. They call a variable; void ones print if the
--- substitute does, with its flags.
+-- The dry run of names that are not refused. They call a variable. Void ones print if the
+-- substitute does, and take over its flags.
 abbrev pub names_or_substitute_info : Bool → Info → Info
 names_or_substitute_info false sub = info_of true (usage_flags true true false false)
 names_or_substitute_info true sub = info_of sub.prints (usage_flags true sub.flags.has_non_empty_vars sub.flags.has_used_macros false)
@@ -133,35 +133,36 @@ names_info special n ls is shows_author sub =
     if is_refused special n (all_empty ls) is shows_author then no_info else names_or_substitute_info (writes_no_name n ls) sub
 
 -- ---- rendering
--- The lists are what looks for printing find, from left to right. Refusal depends on these lists;
--- it and the substitute use the state after those looks, which refused names leave. Names with
--- persons are their content, and keep the forms of their names (`names_content` and `names_state`
--- of `csl_names`). Names without persons are a box of their display, with the lists as its meta,
--- around the children of the substitute, one after another, up to and including the one that brings
--- a text, or all of them (`output_until_text` of `Tree`). Without a substitute nothing is made. The
--- children inherit the names' formatting, the names' options over the inherited ones, and no
--- affixes. Their looks suppress what they look up; after them looks do as they did before.
+-- The lists come from lookups for printing. Refusal depends on these lists. Refusal and the
+-- substitute use the state after these lookups, and refused names leave that state. Names with
+-- persons append their content, and keep the forms of their names (`names_content` and
+-- `names_state` of `csl_names`). Names without persons are a box with their display, and with the
+-- lists as its meta. It holds the children of the substitute, one after another, up to and
+-- including the first that adds text, or all of them (`output_until_text` of `Tree`). Names without
+-- persons and without a substitute render nothing. The children inherit the names' formatting, and
+-- the names' options over the inherited ones, but no affixes. Lookups of the children suppress
+-- their variables. After the names, lookups suppress exactly if they did before.
 
 -- what the children of a substitute inherit: no affixes
 abbrev pub in_substitute : NamesNode → Inherited → Inherited
 in_substitute n inh = record (with_node_formatting n.dressing.formatting inh) { options = apply_options n.options inh.options }
 
--- looks for printing suppress their variable
+-- the state after which lookups for printing suppress their variable
 abbrev pub suppressing_from : State → State
 suppressing_from s = record s { suppressing = true }
 
--- the substitute's content in the node's box; from then on looks suppress their variable as they
--- did before
+-- the substitute's content in the node's box; after it, lookups suppress exactly if they did before
 abbrev pub boxed_substitute : NamesNode → PersonLists → RenderOutput → State → RenderOutput
 boxed_substitute n ls m s = render_output (elem_content n.dressing.display (lists_meta ls) m.content) (record m.state { suppressing = s.suppressing })
 
--- the first names that are not counted keep their forms
+-- the content and the state of names with persons; the state keeps the forms of the first names
+-- that are not counted
 abbrev pub lists_output : RenderInput → NamesNode → PersonLists → Inherited → State → RenderOutput
 lists_output w n ls inh s =
     render_output (names_content w.style (is_some w.instance.sorting) w.instance.cite n ls inh) (names_state w.instance.cite n ls inh s)
 
--- the content of names, from the state after the looks for their lists: nothing, what the
--- substitute makes, or the lists
+-- the content of names, from the state after the lookups for their lists: nothing, the substitute,
+-- or the lists
 abbrev pub lists_or_substitute : RenderInput → NamesNode → PersonLists → Bool → Inherited → RenderOutput → State → RenderOutput
 lists_or_substitute w n ls refused inh sub s =
     if refused then render_output [] s else if all_empty ls then boxed_substitute n ls sub s else lists_output w n ls inh s

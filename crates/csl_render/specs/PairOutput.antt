@@ -1,9 +1,9 @@
--- What a layout *prints* of a cite that begins with the state of another rendering (CSL 1.0.2,
--- Layout): the content and the state that it makes from that state, and the HTML of the content.
--- Two entries, of one type or of two, are *alike* for a layout if they answer alike on all that it
--- and the macros that it reaches name. Then the layout prints the same of both, in one style and
--- cite and from one state: content, state and HTML. It may also print the same of entries that are
--- not alike, because both forms of a title are compared and every branch counts, chosen or not.
+-- A layout *prints* a cite from the state that another rendering left (CSL 1.0.2, Layout): the
+-- content and the state of the cite from that state, and the HTML of the content. Two entries, of
+-- one type or of two, are *alike* for a layout if they answer alike on all that it and the macros
+-- it reaches name. The layout then prints the same for both, in one style and cite and from one
+-- state: content, state and HTML. It may print the same for entries that are not alike, because
+-- both forms of a title are compared and every branch counts, chosen or not.
 use Rattle.std.specs.Prelude.{◌≡◌, ℕ, List, Option}
 use Rattle.csl_style.specs.declared.element.Layout.{Layout}
 use Rattle.csl_style.specs.declared.style.settings.Scope.{Scope}
@@ -41,16 +41,16 @@ with_answers answers w = record w { instance = record w.instance { answers = ans
 abbrev pub layout_output_from : State → RenderInput → Layout → RenderOutput
 layout_output_from s w l = layout_output w (expand_layout (macro_env w.style) (view_layout l)) (base_inherited w.style w.scope) s
 
--- what a finished rendering is: its content and its state
+-- the content and the state of a finished rendering
 abbrev pub output_of : Rendered → RenderOutput
 output_of r = render_output (tokens r.content) (left_state_view r.state)
 
--- a rendering of that content and that state, with its HTML
+-- `r` has the content and the state `m`, and `bytes` are its HTML
 pub record Prints (m : RenderOutput) (r : Rendered) (bytes : List ℕ) : Type 0 where
   pub rendering : output_of r ≡ m
   pub html : bytes ≡ text_in_format Html m.content
 
--- two renderings, each with its HTML, that are the same in all three
+-- two renderings with equal content, state and HTML
 pub record PrintsSame (r : Rendered) (bytes : List ℕ) (other : Rendered) (others : List ℕ) : Type 0 where
   pub rendering : output_of r ≡ output_of other
   pub html : bytes ≡ others

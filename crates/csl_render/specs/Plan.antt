@@ -1,9 +1,8 @@
--- The results of a dry run for a node and for the nodes inside it are the *plan* by which the node
--- is rendered, without another dry run (CSL 1.0.2, Group). A plan holds for the state in which it
--- was made, and for each state of which dry runs read the same (`dry`): the suppressed variables,
--- and under two special forms whether a date was rendered. A list of results may break off: the
--- nodes after its end have no plan. All but `asks_for_dates` is the code's own: private contracts
--- alone cite it.
+-- A *plan* is the result of a dry run for a node and for the nodes inside it. By its plan a node is
+-- rendered without another dry run (CSL 1.0.2, Group). A plan holds for the state of its dry run,
+-- and for each state of which dry runs read the same (`dry`): the suppressed variables and, under
+-- two special forms, whether a date was rendered. A list of results may break off. The nodes after
+-- its end have no plan. Only private contracts cite these definitions.
 use Rattle.std.specs.Prelude.{◌≡◌, ⊤, Bool, true, false, ◌&&◌, List, [], ◌∷◌, Option, Some, None}
 use Rattle.std.specs.Bool.{MatchBool}
 use Rattle.csl_style.specs.Node.{ExpandedNode, expanded_text, expanded_macro, unknown_macro, expanded_number, expanded_label, expanded_date, expanded_names, shorthand, expanded_choose, expanded_group, ExpandedNodes, no_expanded_nodes, expanded_node, ExpandedBranches, no_expanded_branches, expanded_otherwise, expanded_branch}
@@ -50,8 +49,8 @@ inside_of i = (out-NodeInfo i).inside.items
 
 module _ (w : RenderInput) (s : State) where
   abbrev mutual
-    -- what is known of the nodes inside a node: of the children of a group, the nodes of a macro,
-    -- and those that a choice takes
+    -- the results for the nodes inside a node: the children of a group, the nodes of a macro, and
+    -- the nodes that a choice takes
     pub AreInside : ExpandedNode → List NodeInfo → Type 0
     AreInside (expanded_text t d) is = ⊤
     AreInside (expanded_macro fs d) is = AreInfos fs is
@@ -64,7 +63,7 @@ module _ (w : RenderInput) (s : State) where
     AreInside (expanded_choose cs) is = AreTaken cs is
     AreInside (expanded_group delimiter d fs) is = AreInfos fs is
 
-    -- each is that for its node, as far as there are any
+    -- each result is that for its node; the last nodes may have none
     pub AreInfos : ExpandedNodes → List NodeInfo → Type 0
     AreInfos no_expanded_nodes is = ⊤
     AreInfos (expanded_node f fs) [] = ⊤
@@ -75,12 +74,12 @@ module _ (w : RenderInput) (s : State) where
     AreTaken (expanded_otherwise fs) is = AreInfos fs is
     AreTaken (expanded_branch ts fs cs) is = MatchBool (branch_matches w s ts) (AreInfos fs is) (AreTaken cs is)
 
-  -- what is known of the nodes that a choice takes, if it takes any
+  -- the results for the nodes that a choice takes, if it takes any
   abbrev pub AreOfTaken : Option ExpandedNodes → List NodeInfo → Type 0
   AreOfTaken None is = ⊤
   AreOfTaken (Some fs) is = AreInfos fs is
 
-  -- the result for a node, with those for the nodes inside it
+  -- the result for a node, with the results for the nodes inside it
   abbrev pub IsInfo : ExpandedNode → NodeInfo → Type 0
   IsInfo f i = (answer_of i ≡ info w s f) × AreInside f (inside_of i)
 
@@ -90,6 +89,6 @@ module _ (w : RenderInput) (s : State) where
 abbrev pub IsPlan : RenderInput → State → ExpandedNode → NodePlan → Type 0
 IsPlan w s f p = AreReadAlike w p.at.now s × IsInfo w p.at.now f p.info.now
 
--- a plan of some nodes; the state for which it holds may have passed
+-- a plan of a list of nodes; it may not hold for the state any more
 abbrev pub ArePlans : RenderInput → ExpandedNodes → ListPlan → Type 0
 ArePlans w fs p = AreInfos w p.at.now fs p.infos.now

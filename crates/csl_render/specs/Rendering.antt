@@ -1,7 +1,6 @@
--- What can be rendered, a layout or a node of one, and its three calls: dry run (`info_in`), shown
--- variables (`shows_in`) and content (`output_in`). A rendering appends the content to the
--- innermost open part of a context and leaves the state. Nothing else of the context changes
--- (`after_render`).
+-- A layout or a node (`Renderable`), and its three calls: dry run (`info_in`), shown variables
+-- (`shows_in`) and content (`output_in`). A rendering appends the content to the innermost open
+-- part of a context and updates the state. Nothing else in the context changes (`after_render`).
 use Rattle.std.specs.Prelude.{Bool}
 use Rattle.csl_style.specs.declared.taxonomy.Variable.{Variable}
 use Rattle.csl_style.specs.Node.{ExpandedNode, ExpandedLayout}
@@ -38,7 +37,7 @@ abbrev pub output_in : RenderInput → Renderable → Inherited → State → Re
 output_in w (of_layout l) inh s = layout_output w l inh s
 output_in w (of_node f) inh s = node_output w f inh s
 
--- a context whose innermost open part is replaced by a rendering
+-- a context whose innermost open part and state are those of a rendering
 abbrev pub with_whole_output : {T : Type 0} → RenderOutput → ContextView T → ContextView T
 with_whole_output m now = record now { inner = m.content; state = m.state }
 

@@ -1,12 +1,13 @@
--- The dry run of a node (`info`), the variables that it shows (`shows`), and its content and the
--- state that it leaves (`node_output`), for nodes with no macro name left (CSL 1.0.2, Rendering
--- Elements; Group; Layout; Macro; Choose; Names). They read the input, the state and, for contents,
--- what the node inherits. A text of a macro, a group and a layout show what a child shows. A choice
--- has the dry run of the nodes that it takes, together, and shows what one of them shows. If it
--- takes none, it does not print, has no flags and shows nothing. A layout is what its elements make
--- one after another, in its formatting (`layout_output`). No delimiter is between them: that of the
--- layout is inherited by a choice directly in it. `choice_info`, `choice_shows`, `choice_output`
--- and `first_substitute_output` are the code's own: private contracts alone cite them.
+-- The dry run of a node (`info`), the variables that it shows (`shows`), and its content with the
+-- state that it leaves (`node_output`) (CSL 1.0.2, Rendering Elements; Group; Layout; Macro;
+-- Choose; Names). Each macro's nodes are in the place of its name. The three depend on the input
+-- and the state, and contents also on the inherited values. A text that calls a macro, a group and
+-- a layout show the variables that any child shows. A choice has the dry run of the nodes that it
+-- takes, together, without the group flag. It shows the variables that any of them shows. If it
+-- takes none, it does not print, has no flags and shows nothing. A layout is the content of its
+-- elements, one after another, in its formatting (`layout_output`). No delimiter is between them. A
+-- choice directly in the layout inherits the layout's delimiter. Only private contracts cite
+-- `choice_info`, `choice_shows`, `choice_output` and `first_substitute_output`.
 use Rattle.std.specs.Prelude.{ℕ, Bool, true, false, ◌||◌, List, [], Option, Some, None, if◌then◌else◌}
 use Rattle.csl_style.specs.declared.taxonomy.Variable.{Variable}
 use Rattle.csl_style.specs.Dressing.{AffixTexts, Dressing, TextDressing}
@@ -39,10 +40,10 @@ is_group (expanded_choose cs) = false
 is_group (expanded_group delimiter d fs) = true
 
 -- ---- Delimited
--- Of some nodes in order, those that print in the state that the earlier ones left are admitted.
--- The first is in a box, each later one in a box with the delimiter before its own box, or in a box
--- alone where there is no delimiter. A choice is the delimited nodes that it takes, under the
--- inherited delimiter and without a box of its own; without such nodes it is nothing.
+-- A node of a list is *admitted* if it prints in the state that the earlier ones left. The first
+-- admitted node is in a box. Each later one is in a box too. If there is a delimiter, a box around
+-- both holds the delimiter and then that box. A choice is the nodes that it takes, delimited by the
+-- inherited delimiter, without a box of its own. If it takes none, it is nothing.
 
 -- one admitted child, after the delimiter unless it is the first
 abbrev pub delimited_child : Option (List ℕ) → Bool → Inherited → List Token → List Token
@@ -54,10 +55,10 @@ abbrev pub delimited_child_output : Bool → Inherited → RenderOutput → Rend
 delimited_child_output first inh m = render_output (delimited_child inh.delimiter first inh m.content) m.state
 
 -- ---- macros
--- A text of a macro is a box around what the macro's nodes make one after another, with no
--- delimiter inherited, if the rule holds for its dry run. Else it is nothing and leaves the state
--- as it was. It has no affixes if one variable alone is shown. A text of a macro that the style
--- lacks is nothing.
+-- A text that calls a macro is a box around the content of the macro's nodes, one after another, if
+-- the rule holds for its dry run. The nodes inherit no delimiter. If the rule fails, the text is
+-- nothing and leaves the state unchanged. It has no affixes if the cite shows one variable alone. A
+-- text that calls a macro that the style lacks is nothing.
 
 abbrev pub macro_affixes : RenderInput → TextDressing → AffixTexts
 macro_affixes w d = if shows_macro_affixes w.instance.special then d.dressing.affixes else no_affixes
@@ -66,14 +67,14 @@ macro_affixes w d = if shows_macro_affixes w.instance.special then d.dressing.af
 abbrev pub in_macro : TextDressing → Inherited → Inherited
 in_macro d inh = record (in_body d inh) { delimiter = None }
 
--- where the rule fails, none of the macro's nodes counts
+-- if the rule fails: no content, and the state before the text
 abbrev pub macro_output : Bool → RenderInput → TextDressing → Inherited → RenderOutput → State → RenderOutput
 macro_output shows w d inh m s = if shows then render_output (text_box w.style (macro_affixes w d) d None inh m.content) m.state else render_output [] s
 
 -- ---- groups
--- A group is a box, in its own formatting, around its children, delimited by its own delimiter, in
--- its affixes, if the rule holds for its dry run at its start. Else it is nothing. It leaves its
--- children's state in both cases.
+-- A group is a box in its own formatting, if the rule holds for its dry run at its start. The box
+-- holds the children, delimited by the group's own delimiter, between the group's affixes. If the
+-- rule fails, the group is nothing. It leaves its children's state in both cases.
 
 abbrev pub in_group : Option (List ℕ) → Dressing → Inherited → Inherited
 in_group delimiter d inh = record (with_node_formatting d.formatting inh) { delimiter = delimiter }
@@ -136,7 +137,7 @@ module _ (w : RenderInput) where
     nodes_info s no_expanded_nodes = no_info
     nodes_info s (expanded_node f fs) = info_union (as_child_info (is_group f) (info s f)) (nodes_info s fs)
 
-    -- the nodes that are chosen; no group among them is counted
+    -- the chosen nodes, without the group flag
     pub branches_info : State → ExpandedBranches → Info
     branches_info s no_expanded_branches = no_info
     branches_info s (expanded_otherwise fs) = without_group_flag (nodes_info s fs)
@@ -146,7 +147,7 @@ module _ (w : RenderInput) where
     substitute_info s no_expanded_substitutes = no_info
     substitute_info s (expanded_substitute fs is) = without_group_flag (nodes_info s fs)
 
-  -- no names are left, in the state after the looks for these lists
+  -- whether the names are refused, in the state after the lookups for these lists
   abbrev pub refused_in : NamesNode → ExpandedSubstitutes → PersonLists → State → Bool
   refused_in n is ls s =
       is_refused w.instance.special n (all_empty ls) is (names_show author n (all_empty ls) (substitute_shows s author is))
@@ -176,12 +177,12 @@ module _ (w : RenderInput) where
     node_output (expanded_group delimiter d fs) inh s =
         group_output (should_render_group (info s (expanded_group delimiter d fs)).flags) d inh (delimited_output fs (in_group delimiter d inh) true s)
 
-    -- all of them, one after another
+    -- all nodes, one after another
     pub nodes_output : ExpandedNodes → Inherited → State → RenderOutput
     nodes_output no_expanded_nodes inh s = render_output [] s
     nodes_output (expanded_node f fs) inh s = then_output (node_output f inh s).content (nodes_output fs inh (node_output f inh s).state)
 
-    -- Delimited: those that print in the state that the earlier ones left
+    -- Delimited: the nodes that print in the state that the earlier ones left
     pub delimited_output : ExpandedNodes → Inherited → Bool → State → RenderOutput
     delimited_output no_expanded_nodes inh first s = render_output [] s
     delimited_output (expanded_node f fs) inh first s =
@@ -189,18 +190,18 @@ module _ (w : RenderInput) where
         then then_output (delimited_child_output first inh (node_output f inh s)).content (delimited_output fs inh false (node_output f inh s).state)
         else delimited_output fs inh first s
 
-    -- the nodes that are chosen, under the inherited delimiter
+    -- the chosen nodes, delimited by the inherited delimiter
     pub branches_output : ExpandedBranches → Inherited → State → RenderOutput
     branches_output no_expanded_branches inh s = render_output [] s
     branches_output (expanded_otherwise fs) inh s = delimited_output fs inh true s
     branches_output (expanded_branch ts fs cs) inh s = if branch_matches w s ts then delimited_output fs inh true s else branches_output cs inh s
 
-    -- the children of the first substitute, up to the one that brings a text
+    -- the children of the first substitute, up to the first that adds text
     pub substitute_output : ExpandedSubstitutes → Inherited → State → RenderOutput
     substitute_output no_expanded_substitutes inh s = render_output [] s
     substitute_output (expanded_substitute fs is) inh s = output_until_text fs inh (render_output [] s)
 
-    -- what is made so far, and the nodes after it, up to the first that brings a text
+    -- the rendering so far, and the nodes after it for as long as it has no text
     pub output_until_text : ExpandedNodes → Inherited → RenderOutput → RenderOutput
     output_until_text no_expanded_nodes inh m = m
     output_until_text (expanded_node f fs) inh m = if has_text m.content then m else output_until_text fs inh (then_output m.content (node_output f inh m.state))

@@ -27,7 +27,7 @@ use csl_nodes::{BranchConditionIter, UsageInfo, no_info, push_nothing, without_g
 use csl_style::{Choose, ChooseBranch, ChooseMatch, LayoutRenderingElement, Variable};
 use lit_model::Memory;
 
-/// Whether each condition holds. It reads them up to the first that does not.
+/// Whether all remaining conditions hold. Reads up to the first that does not.
 fn all_hold<'a, 's, T: EntryLike>(
     conditions: &mut BranchConditionIter<'a, 's, T>,
 ) -> Result<bool, RenderError>
@@ -45,7 +45,7 @@ fn all_hold<'a, 's, T: EntryLike>(
     Ok(true)
 }
 
-/// Whether a condition holds. It reads them up to the first that does.
+/// Whether any remaining condition holds. Reads up to the first that does.
 fn any_holds<'a, 's, T: EntryLike>(
     conditions: &mut BranchConditionIter<'a, 's, T>,
 ) -> Result<bool, RenderError>
@@ -63,7 +63,7 @@ fn any_holds<'a, 's, T: EntryLike>(
     Ok(false)
 }
 
-/// Whether the conditions satisfy the match. Those behind the one that decides it are left.
+/// Whether the remaining conditions satisfy the match. Those after the deciding one stay unread.
 fn satisfies<'a, 's, T: EntryLike>(
     match_: ChooseMatch,
     conditions: &mut BranchConditionIter<'a, 's, T>,
@@ -84,7 +84,7 @@ fn satisfies<'a, 's, T: EntryLike>(
     }
 }
 
-/// Whether the branch is taken, where none before it is.
+/// Whether the branch is taken if no branch before it is.
 #[tactic(auto, unfolding(csl_nodes::specs::Conditions::branch_matches))]
 fn holds<'s, T: EntryLike>(ctx: &Context<'s, T>, branch: &ChooseBranch) -> Result<bool, RenderError>
     ensures value { IfOk result (λ taken. taken
@@ -96,8 +96,8 @@ fn holds<'s, T: EntryLike>(ctx: &Context<'s, T>, branch: &ChooseBranch) -> Resul
     satisfies(branch.match_, &mut conditions)
 }
 
-/// The nodes of the first branch whose conditions satisfy its match, else those for the other
-/// cases, if there are some. The looks are silent.
+/// Returns the nodes of the first branch whose conditions satisfy its match, else those of
+/// `cs:else`, if there is one. Lookups are silent.
 fn first_taken<'a, 's, T: EntryLike>(
     ctx: &Context<'s, T>,
     choose: &'a Choose,
@@ -120,13 +120,13 @@ fn first_taken<'a, 's, T: EntryLike>(
     }
 }
 
-/// The nodes of the first branch whose conditions satisfy its match, else those for the other
-/// cases, if there are some. No more conditions are read than that takes. The context stays as it
-/// was.
+/// Returns the nodes of the first branch whose conditions satisfy its match, else those of
+/// `cs:else`, if there is one. Reads no more conditions than this needs. On `Ok` the context is
+/// unchanged.
 ///
 /// # Errors
-/// [`RenderError::Memory`]: there was no memory left, or the entry said so. The context has failed.
-/// [`RenderError::Failed`]: the context had failed before.
+/// [`RenderError::Memory`]: out of memory, here or in the entry. The context has failed.
+/// [`RenderError::Failed`]: the context had failed already.
 pub fn choose_children<'a, 's, T: EntryLike>(
     ctx: &mut Context<'s, T>,
     choose: &'a Choose,
@@ -139,8 +139,9 @@ pub fn choose_children<'a, 's, T: EntryLike>(
     ctx.settle(first_taken(ctx, choose))
 }
 
-/// The nodes that a choice takes. Its dry run, the variables that it shows and its content are
-/// theirs, and so is what is known of the nodes inside it.
+/// Returns the nodes that a choice takes. The choice shows the variables they show, and renders
+/// them delimited. Its dry run is theirs together, without the group flag. The results for the
+/// nodes inside the choice are the results for these nodes.
 fn taken_nodes<'s, T: EntryLike>(
     ctx: &Context<'s, T>,
     choose: &'s Choose,
@@ -245,7 +246,7 @@ pub(crate) fn choose_shows<'c, 's, T: EntryLike>(
     }
 }
 
-/// Appends what a choice makes, by its plan if it has one.
+/// Renders a choice, by its plan if it has one.
 #[cycle(render)]
 pub(crate) fn render_choose<'p, 's, T: EntryLike>(
     ctx: &mut Context<'s, T>,

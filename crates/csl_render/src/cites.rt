@@ -1,4 +1,4 @@
-//! What a style makes of an entry that is cited, and of two of them.
+//! Renders an entry, or two entries, by the layouts of a style.
 
 ghost use Rattle.std.specs.Prelude.{◌≡◌, true, IfOk, IfErr, option_map, string_bytes};
 ghost use Rattle.std.specs.Bool.{Decides};
@@ -20,7 +20,7 @@ use csl_entry::{CiteProperties, EntryLike, InstanceContext};
 use csl_style::{Layout, Scope, Style};
 use std::alloc::Global;
 
-/// What a layout makes of a cite that begins with what another rendering left.
+/// Renders a cite by a layout, from the state that another rendering left.
 #[tactic(auto, using(crate::proofs::Pairs::rendering_wants_memory, crate::proofs::Pairs::end_wants_memory))]
 pub(crate) fn render_from<'s, T: EntryLike>(
     alloc: Global,
@@ -41,7 +41,7 @@ pub(crate) fn render_from<'s, T: EntryLike>(
     ctx.finish()
 }
 
-/// What a layout makes of a whole cite that is not sorted.
+/// Renders a cite by a layout, in a new context: the whole cite, and not for a sort key.
 fn render_whole<T: EntryLike>(
     alloc: Global,
     style: &Style,
@@ -64,12 +64,12 @@ fn render_whole<T: EntryLike>(
     render_from(alloc, style, layout, instance, scope, &start)
 }
 
-/// What a style makes of one cite of an entry: the content and the state that its citation layout
-/// makes in a new context (CSL 1.0.2, Citation; Layout). The whole cite is shown, and it is not
-/// rendered to be sorted.
+/// Renders one cite of an entry by the style's citation layout, in a new context (CSL 1.0.2,
+/// Citation; Layout). It renders the whole cite, and not for a sort key. Returns the content, and
+/// the state that it leaves.
 ///
 /// # Errors
-/// [`RenderError::Memory`]: there was no memory left, or the entry said so.
+/// [`RenderError::Memory`]: out of memory, here or in the entry.
 pub fn cite<T: EntryLike>(
     alloc: Global,
     style: &Style,
@@ -84,12 +84,12 @@ pub fn cite<T: EntryLike>(
     render_whole(alloc, style, layout, Scope::Citation, entry, cite_props)
 }
 
-/// What a style makes of an entry in its bibliography: the content and the state that its
-/// bibliography layout makes in a new context (CSL 1.0.2, Bibliography; Layout), or nothing where
-/// the style has no bibliography. The whole entry is shown, and it is not rendered to be sorted.
+/// Renders an entry by the style's bibliography layout, in a new context (CSL 1.0.2, Bibliography;
+/// Layout). It renders the whole entry, and not for a sort key. Returns `None` if the style has no
+/// bibliography.
 ///
 /// # Errors
-/// [`RenderError::Memory`]: there was no memory left, or the entry said so.
+/// [`RenderError::Memory`]: out of memory, here or in the entry.
 pub fn bibliography_entry<T: EntryLike>(
     alloc: Global,
     style: &Style,
@@ -109,14 +109,14 @@ pub fn bibliography_entry<T: EntryLike>(
     Ok(Some(rendered))
 }
 
-/// What a style makes of one cite of each of two entries, of whatever types, as [`cite`] makes it
-/// of each, and whether they are *alike* for the citation layout: both answer alike all the
-/// variables and kinds that the layout and the macros it reaches name. Where they are, both cites
-/// have the same content, state and HTML, so whoever has rendered the one need not render the
-/// other. Entries that are not alike may have the same cite too.
+/// Renders a cite of each of two entries, of any types, as [`cite`] does. Also returns whether the
+/// entries are *alike* for the citation layout: they answer alike on all variables and kinds that
+/// the layout and the macros it reaches name. Cites of alike entries are equal in content, state
+/// and HTML, so a caller that has one need not render the other. Entries that are not alike may
+/// have the same cite too.
 ///
 /// # Errors
-/// [`RenderError::Memory`]: there was no memory left, or an entry said so.
+/// [`RenderError::Memory`]: out of memory, here or in an entry.
 pub fn cite_pair<T: EntryLike, U: EntryLike>(
     alloc: Global,
     style: &Style,

@@ -1,4 +1,4 @@
-//! Dates (CSL 1.0.2, Date). What they make stands in `csl_nodes`.
+//! Dates (CSL 1.0.2, Date). `csl_nodes` renders them.
 
 ghost use Rattle.csl_style.specs.Node.{expand, date};
 ghost use Rattle.csl_style.specs.View.{view_date};

@@ -1,4 +1,4 @@
-//! Dry runs: a context that is only read, and the results for macros that came before.
+//! Dry runs over a context that is only read. They keep the result for each macro.
 
 ghost use Rattle.std.specs.Prelude.{◌≡◌, [], IfSome};
 ghost use Rattle.csl_style.specs.Expanded.{macro_env};
@@ -15,7 +15,7 @@ use lit_model::Memory;
 use std::collections::HashMap;
 use std::marker::Model;
 
-/// A dry run over a context that is only read. It goes through each macro once, and keeps the
+/// A dry run over a context that is only read. It visits each macro at most once, and keeps the
 /// result by the macro's name.
 #[derive(Drop)]
 pub(crate) struct DryRun<'c, 's, T: EntryLike> {
@@ -40,7 +40,7 @@ impl<'c, 's, T: EntryLike> Model for DryRun<'c, 's, T> {
 }
 
 impl<'c, 's, T: EntryLike> DryRun<'c, 's, T> {
-    /// A dry run in which no macro is known yet.
+    /// A dry run that knows no macro yet.
     pub(crate) fn new(ctx: &'c Context<'s, T>) -> DryRun<'c, 's, T>
         ensures { result ≡ ctx.now }
     {
@@ -65,7 +65,7 @@ impl<'c, 's, T: EntryLike> DryRun<'c, 's, T> {
         NodeInfo::new(answer, Vec::new(self.ctx.alloc()))
     }
 
-    /// The result for a text of the macro, if one came before.
+    /// The result for a text that calls the macro, if the dry run has kept it.
     pub(crate) fn known_call(&self, name: &str) -> Option<(bool, UsageInfo)>
         ensures { IfSome result (λ answer. info_view answer ≡ call_info
             (render_input T.answers self.now)
@@ -74,7 +74,7 @@ impl<'c, 's, T: EntryLike> DryRun<'c, 's, T> {
         self.calls.get(name).copied()
     }
 
-    /// Keeps the result for a text of the macro.
+    /// Keeps the result for a text that calls the macro.
     pub(crate) fn keep_call(
         &mut self,
         name: &'s str,

@@ -125,7 +125,7 @@ pub(crate) fn node_info<'c, 's, T: EntryLike>(
     }
 }
 
-/// The dry run of some nodes together, and that of each.
+/// The dry run of a list of nodes together, and the dry run of each.
 #[cycle(info)]
 pub(crate) fn nodes_info<'c, 's, T: EntryLike>(
     nodes: &'s [LayoutRenderingElement],
@@ -174,7 +174,7 @@ pub(crate) fn node_shows<'c, 's, T: EntryLike>(
     }
 }
 
-/// Whether one of some nodes shows the variable.
+/// Whether any of the nodes shows the variable.
 #[cycle(shows)]
 pub(crate) fn any_shows<'c, 's, T: EntryLike>(
     nodes: &'s [LayoutRenderingElement],
@@ -194,7 +194,7 @@ pub(crate) fn any_shows<'c, 's, T: EntryLike>(
     Ok(false)
 }
 
-/// The dry run of a node, with the state that it read.
+/// The dry run of a node, and the state that it read.
 #[inline(never)]
 fn ask_node<'s, T: EntryLike>(
     ctx: &Context<'s, T>,
@@ -209,7 +209,7 @@ fn ask_node<'s, T: EntryLike>(
     Ok((at, info))
 }
 
-/// Appends what a node makes, by its plan if it has one.
+/// Renders a node, by its plan if it has one.
 #[cycle(render)]
 pub(crate) fn render_node<'p, 's, T: EntryLike>(
     ctx: &mut Context<'s, T>,
@@ -233,7 +233,7 @@ pub(crate) fn render_node<'p, 's, T: EntryLike>(
     }
 }
 
-/// Appends what some nodes make, one after another.
+/// Renders nodes one after another, each by its plan if it has one.
 #[cycle(render)]
 pub(crate) fn render_all<'p, 's, T: EntryLike>(
     ctx: &mut Context<'s, T>,
@@ -255,7 +255,7 @@ pub(crate) fn render_all<'p, 's, T: EntryLike>(
     Ok(())
 }
 
-/// Appends what those nodes make that print something, with the inherited delimiter between them.
+/// Renders the nodes that print something, with the inherited delimiter between them.
 #[cycle(render)]
 pub(crate) fn render_with_delimiter<'p, 's, T: EntryLike>(
     ctx: &mut Context<'s, T>,
@@ -280,8 +280,8 @@ pub(crate) fn render_with_delimiter<'p, 's, T: EntryLike>(
     Ok(())
 }
 
-/// Appends what a node makes if it would print, after the inherited delimiter unless it is the
-/// first. It returns whether the node would print.
+/// Renders a node if it would print, after the inherited delimiter unless it is the first. Returns
+/// whether it would print.
 #[cycle(render)]
 fn render_if_it_prints<'p, 's, T: EntryLike>(
     ctx: &mut Context<'s, T>,
@@ -309,7 +309,8 @@ fn render_if_it_prints<'p, 's, T: EntryLike>(
     }
 }
 
-/// The same by a plan.
+/// Renders a node if it prints by its plan, after the inherited delimiter unless it is the first.
+/// Returns whether it prints.
 #[cycle(render)]
 fn render_by_plan<'p, 's, T: EntryLike>(
     ctx: &mut Context<'s, T>,
@@ -336,7 +337,7 @@ fn render_by_plan<'p, 's, T: EntryLike>(
     Ok(prints)
 }
 
-/// Appends what a node makes, behind the inherited delimiter unless it is the first.
+/// Renders a node, after the inherited delimiter unless it is the first.
 #[cycle(render)]
 fn render_admitted<'p, 's, T: EntryLike>(
     ctx: &mut Context<'s, T>,

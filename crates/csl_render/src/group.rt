@@ -76,7 +76,7 @@ pub(crate) fn group_shows<'c, 's, T: EntryLike>(
     any_shows(&group.children, query)
 }
 
-/// The dry run of a group, with the state that it read.
+/// The dry run of a group, and the state that it read.
 #[inline(never)]
 fn ask_group<'s, T: EntryLike>(
     ctx: &Context<'s, T>,
@@ -91,7 +91,7 @@ fn ask_group<'s, T: EntryLike>(
     Ok((at, info))
 }
 
-/// Appends what a group makes, by its plan if it has one.
+/// Renders a group, by its plan if it has one.
 #[cycle(render)]
 pub(crate) fn render_group<'p, 's, T: EntryLike>(
     ctx: &mut Context<'s, T>,
@@ -114,7 +114,7 @@ pub(crate) fn render_group<'p, 's, T: EntryLike>(
     }
 }
 
-/// The same by a plan.
+/// Renders a group by its plan.
 #[cycle(render)]
 fn render_group_by_plan<'p, 's, T: EntryLike>(
     ctx: &mut Context<'s, T>,
@@ -140,7 +140,7 @@ fn render_group_by_plan<'p, 's, T: EntryLike>(
     Ok(())
 }
 
-/// Closes an element, and drops what it holds unless it is to be shown.
+/// Closes the innermost element: keeps it if `shows`, else drops it.
 fn close_group<'s, T: EntryLike>(
     ctx: &mut Context<'s, T>,
     mark: Mark,

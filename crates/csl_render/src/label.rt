@@ -1,4 +1,4 @@
-//! Labels (CSL 1.0.2, Label). What they make stands in `csl_nodes`.
+//! Labels (CSL 1.0.2, Label). `csl_nodes` renders them.
 
 ghost use Rattle.csl_style.specs.Node.{expand, label};
 ghost use Rattle.csl_style.specs.Names.{view_label};

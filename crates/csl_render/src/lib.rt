@@ -1,9 +1,8 @@
-//! What each node of a style makes of a cite (CSL 1.0.2, Rendering Elements): whether it prints
-//! and what it notes, whether it shows a variable, and its content, in a context that the caller
-//! lends. Here stand the nodes that hold other nodes, or call them by a macro; what the others make
-//! is in `csl_nodes`, and how persons are written in `csl_names`. What would take stack at each
-//! level of nesting, and is not needed while the nodes inside run, is kept out of line
-//! (`inline(never)`).
+//! Renders the nodes of a style for a cite (CSL 1.0.2, Rendering Elements). A node has three calls:
+//! its dry run, whether it shows a variable, and its content. They run in a context that the caller
+//! lends. This crate has the nodes that hold other nodes or call a macro. The other nodes are in
+//! `csl_nodes`, and the writing of persons in `csl_names`. Code that would take stack at each level
+//! of nesting, though the nodes inside do not need it, is kept out of line (`inline(never)`).
 #![tactic(auto)]
 
 mod choose;

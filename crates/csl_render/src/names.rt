@@ -1,4 +1,4 @@
-//! Names (CSL 1.0.2, Names; Substitute): what a names node says, shows and makes.
+//! Names (CSL 1.0.2, Names; Substitute): the dry run, shown variables and content of a names node.
 
 ghost use Rattle.std.specs.Prelude.{◌≡◌, Bool, ◌<◌, ◌&&◌, ◌||◌, [], false, map, IfOk, IfSome, option_map};
 ghost use Rattle.csl_style.specs.declared.taxonomy.Variable.{Variable};
@@ -60,7 +60,7 @@ impl RenderCsl for Names {
     }
 }
 
-/// What the lists of a names node are in a dry run.
+/// A summary of the lists of a names node in a dry run.
 #[derive(Clone, Copy)]
 struct NamesSummary {
     /// Whether no list has a person.
@@ -69,7 +69,7 @@ struct NamesSummary {
     is_void: bool,
 }
 
-/// Judges the lists of a names node. The looks are silent.
+/// Looks up the lists of a names node silently, and summarizes them.
 fn summarize_names<'s, T: EntryLike>(
     ctx: &Context<'s, T>,
     parts: NamesParts<'_>,
@@ -87,14 +87,14 @@ fn summarize_names<'s, T: EntryLike>(
     })
 }
 
-/// Whether the variable is one of some.
+/// Whether the variable is in the list.
 fn has_variable(wanted: NameVariable, variables: &[NameVariable]) -> bool
     ensures { result ≡ has_variable wanted variables.now }
 {
     variables.contains(&wanted)
 }
 
-/// Whether the variable is that of one of the lists.
+/// Whether the variable is one of these name variables.
 fn is_of_names(variable: Variable, variables: &[NameVariable]) -> bool
     ensures { result ≡ is_of_names variable variables.now }
 {
@@ -131,9 +131,9 @@ fn first_nodes(names: &Names) -> Option<&[LayoutRenderingElement]>
     }
 }
 
-/// The children of the first substitute. The names say, show and make by them what their
-/// substitutes do; a child of it that is rendered in the place of the names says and shows what it
-/// does elsewhere.
+/// The children of the first `cs:substitute`. The dry run, shown variables and content of the
+/// substitutes come from these children alone. In dry runs and queries, names without children
+/// count as elsewhere.
 fn substitute_nodes<'n, 's, T: EntryLike>(
     ctx: &Context<'s, T>,
     names: &'n Names,
@@ -162,7 +162,7 @@ fn substitute_nodes<'n, 's, T: EntryLike>(
     first_nodes(names)
 }
 
-/// Whether the node is names of the variable.
+/// Whether the node is a `cs:names` of the variable.
 fn is_names_of(variable: NameVariable, node: &LayoutRenderingElement) -> bool
     ensures { (env : Macros) → result ≡ is_names_of variable (expand env (view_node node.now)) }
 {
@@ -177,7 +177,7 @@ fn is_names_of(variable: NameVariable, node: &LayoutRenderingElement) -> bool
     }
 }
 
-/// Whether the names are of the variable.
+/// Whether the variable is one of the names node's own.
 #[tactic(auto, using(crate::proofs::NamesOf::names_it_by))]
 fn names_have_variable(variable: NameVariable, names: &Names) -> bool
     ensures { (env : Macros) → result ≡ is_names_of variable (expand env (view_names names.now)) }
@@ -198,7 +198,7 @@ fn any_is_names_of(variable: NameVariable, nodes: &[LayoutRenderingElement]) -> 
     false
 }
 
-/// Whether directly in the substitute stand names of the variable.
+/// Whether the first substitute directly holds a `cs:names` of the variable.
 #[tactic(auto, using(crate::proofs::NamesOf::substitutes_by))]
 fn substitute_has_names_of(variable: NameVariable, names: &Names) -> bool
     ensures { (env : Macros) → result ≡ substitute_has_names_of variable
@@ -210,7 +210,7 @@ fn substitute_has_names_of(variable: NameVariable, names: &Names) -> bool
     }
 }
 
-/// Whether names are refused where that variable alone is to be shown.
+/// Whether the names are refused if the cite shows this variable alone.
 fn refuses_alone(only: Variable, names: &Names, is_empty: bool) -> bool
     ensures { (env : Macros) → result
         ≡ refuses_alone only (names_node names.now) is_empty
@@ -225,8 +225,8 @@ fn refuses_alone(only: Variable, names: &Names, is_empty: bool) -> bool
     }
 }
 
-/// Whether the variable is one of the names, or where there are no persons one of the names in
-/// their substitute.
+/// Whether the names have the variable. If they have no persons, a `cs:names` directly in their
+/// substitute counts too.
 fn has_or_substitutes(variable: NameVariable, names: &Names, is_empty: bool) -> bool
     ensures { (env : Macros) → result ≡ (has_variable variable (names_node names.now).variables
         || (is_empty && substitute_has_names_of variable (expanded_substitutes_of env names.now))) }
@@ -262,7 +262,7 @@ pub(crate) fn names_info<'c, 's, T: EntryLike>(
     Ok(run.leaf(names_or_substitute_info(true, answer)))
 }
 
-/// The dry run of the first substitute, which counts no group.
+/// The dry run of the first substitute, without the group flag.
 #[cycle(info)]
 fn substitute_info<'c, 's, T: EntryLike>(
     names: &'s Names,
@@ -297,7 +297,7 @@ pub(crate) fn names_show<'c, 's, T: EntryLike>(
     names_or_substitute_show(names, query, judged.is_empty)
 }
 
-/// Whether names show the variable. `is_empty` says that there are no persons.
+/// Whether names show the variable. `is_empty` is whether they have no persons.
 #[cycle(shows)]
 fn names_or_substitute_show<'c, 's, T: EntryLike>(
     names: &'s Names,
@@ -322,7 +322,8 @@ fn names_or_substitute_show<'c, 's, T: EntryLike>(
     }
 }
 
-/// Whether the special form of the cite leaves no names. `is_empty` says that there are no persons.
+/// Whether the special form of the cite refuses the names. `is_empty` is whether they have no
+/// persons.
 fn refuses<'s, T: EntryLike>(
     ctx: &Context<'s, T>,
     names: &'s Names,
@@ -344,7 +345,7 @@ fn refuses<'s, T: EntryLike>(
     }
 }
 
-/// Whether names show the authors. `is_empty` says that there are no persons.
+/// Whether names show the authors. `is_empty` is whether they have no persons.
 fn shows_author<'s, T: EntryLike>(
     ctx: &Context<'s, T>,
     names: &'s Names,
@@ -358,7 +359,7 @@ fn shows_author<'s, T: EntryLike>(
     names_or_substitute_show(names, &mut query, is_empty)
 }
 
-/// Appends what names make.
+/// Renders names.
 #[cycle(render)]
 #[inline(never)]
 pub(crate) fn render_names<'s, T: EntryLike>(
@@ -375,7 +376,7 @@ pub(crate) fn render_names<'s, T: EntryLike>(
     Ok(())
 }
 
-/// Appends what names make that have these lists.
+/// Appends the content of names with these lists.
 #[cycle(render)]
 fn render_lists<'s, T: EntryLike>(
     ctx: &mut Context<'s, T>,
@@ -402,7 +403,7 @@ fn render_lists<'s, T: EntryLike>(
     write_names(ctx, names.parts(), lists)
 }
 
-/// Appends what stands for names without persons.
+/// Renders the substitute of names without persons, if there is one.
 #[cycle(render)]
 fn render_substitute<'s, T: EntryLike>(
     ctx: &mut Context<'s, T>,
@@ -422,8 +423,8 @@ fn render_substitute<'s, T: EntryLike>(
     }
 }
 
-/// Appends the box of names around the children of their substitute, up to the one that brings a
-/// text. Their looks suppress their variables.
+/// Appends the box of names with the children of their substitute, up to the first that adds text.
+/// Lookups of these children suppress their variables.
 #[cycle(render)]
 fn render_first_substitute<'s, T: EntryLike>(
     ctx: &mut Context<'s, T>,
@@ -451,7 +452,7 @@ fn render_first_substitute<'s, T: EntryLike>(
     Ok(())
 }
 
-/// Appends what the children of a substitute make, up to the one that brings the open part a text.
+/// Renders children of a substitute for as long as the open part has no text.
 #[cycle(render)]
 fn render_until_text<'s, T: EntryLike>(
     ctx: &mut Context<'s, T>,
@@ -473,7 +474,7 @@ fn render_until_text<'s, T: EntryLike>(
     Ok(())
 }
 
-/// The node, where it is names without children.
+/// The node, if it is a `cs:names` without children.
 fn shorthand(node: &LayoutRenderingElement) -> Option<&Names>
     ensures { (original : NamesNode) → (f : ExpandedNode) → as_substitute_child original
         (view_node node.now) f
@@ -490,7 +491,7 @@ fn shorthand(node: &LayoutRenderingElement) -> Option<&Names>
     }
 }
 
-/// The names, where they have no children.
+/// The names, if they have no children.
 #[tactic(auto, using(crate::proofs::NamesView::names_out))]
 fn childless_names(names: &Names) -> Option<&Names>
     ensures { (original : NamesNode) → (f : ExpandedNode) → as_substitute_child original
@@ -504,8 +505,8 @@ fn childless_names(names: &Names) -> Option<&Names>
     }
 }
 
-/// Appends what a child of a substitute makes: names without children are written as those are that
-/// they stand in for.
+/// Renders a child of a substitute. Names without children are rendered in the place of the names
+/// around the substitute.
 #[cycle(render)]
 fn render_in_place<'s, T: EntryLike>(
     ctx: &mut Context<'s, T>,
@@ -524,7 +525,7 @@ fn render_in_place<'s, T: EntryLike>(
     }
 }
 
-/// Whether the special form of the cite leaves no names of these parts, which have no substitute.
+/// Whether the special form of the cite refuses names of these parts, which have no substitute.
 #[tactic(auto, using(crate::proofs::NamesOf::unless_substituted))]
 fn refuses_shorthand<'s, T: EntryLike>(ctx: &Context<'s, T>, parts: NamesParts<'_>) -> bool
     ensures { (is_empty : Bool) → result ≡ is_refused ctx.now.special (parts_node parts.entry)
@@ -541,7 +542,7 @@ fn refuses_shorthand<'s, T: EntryLike>(ctx: &Context<'s, T>, parts: NamesParts<'
     }
 }
 
-/// Appends what names of these parts make, which have no substitute.
+/// Renders names of these parts, which have no substitute.
 #[inline(never)]
 fn render_shorthand<'s, T: EntryLike>(
     ctx: &mut Context<'s, T>,

@@ -1,4 +1,4 @@
-//! Numbers (CSL 1.0.2, Number). What they make stands in `csl_nodes`.
+//! Numbers (CSL 1.0.2, Number). `csl_nodes` renders them.
 
 ghost use Rattle.csl_style.specs.Node.{expand, number};
 ghost use Rattle.csl_style.specs.View.{view_number};

@@ -1,4 +1,4 @@
-//! What a layout makes of two entries, and whether they answer alike all that it names.
+//! Renders two entries by one layout, and compares their answers.
 
 ghost use Rattle.std.specs.Prelude.{◌≡◌, true, IfOk, IfErr, string_bytes};
 ghost use Rattle.std.specs.Bool.{Decides};
@@ -24,7 +24,7 @@ use csl_style::{Layout, Scope, Style, named_by};
 use csl_tree::BufWriteFormat;
 use std::alloc::Global;
 
-/// What a layout makes of two entries.
+/// The renderings of two entries by one layout.
 #[derive(Drop)]
 pub struct Pair {
     /// The rendering of the first entry.
@@ -35,11 +35,11 @@ pub struct Pair {
     pub left_html: String,
     /// The HTML of the second entry's rendering.
     pub right_html: String,
-    /// Whether both answer alike all that the layout names.
+    /// Whether both entries answer alike on all that the layout and the macros it reaches name.
     pub alike: bool,
 }
 
-/// What the layout makes of a cite that begins with what another rendering left, and its HTML.
+/// Renders a cite by the layout, from the state that another rendering left, and writes its HTML.
 fn render_with_html<'s, T: EntryLike>(
     alloc: Global,
     style: &'s Style,
@@ -60,7 +60,7 @@ fn render_with_html<'s, T: EntryLike>(
     Ok((rendered, html))
 }
 
-/// Whether both answer alike all that the layout names.
+/// Whether both entries answer alike on all that the layout and the macros it reaches name.
 fn are_alike<T: EntryLike, U: EntryLike>(
     alloc: Global,
     style: &Style,
@@ -82,14 +82,15 @@ fn are_alike<T: EntryLike, U: EntryLike>(
     }
 }
 
-/// What the layout makes of two entries, of whatever types, in the same cite and from the same
-/// state, and whether they answer alike all the variables and kinds that the layout and the macros
-/// it reaches name. Where they do, it makes the same of both. No rendering undoes what the
-/// state before it holds: suppressed variables, a first date and first names stay (CSL 1.0.2,
-/// Substitute; Disambiguation), and lookups after it suppress exactly if those before it did.
+/// Renders two entries, of any types, by the layout, in the same cite and from the same state. Also
+/// returns whether the entries are *alike* for the layout: they answer alike on all variables and
+/// kinds that the layout and the macros it reaches name. Renderings of alike entries are equal in
+/// content, state and HTML. Every rendering keeps the suppressed variables, a first date and first
+/// names of the state before it (CSL 1.0.2, Substitute; Disambiguation). Lookups after it suppress
+/// their variable exactly if those before it did.
 ///
 /// # Errors
-/// [`RenderError::Memory`]: there was no memory left, or an entry said so.
+/// [`RenderError::Memory`]: out of memory, here or in an entry.
 #[tactic(auto, using(crate::proofs::KeepsNodes::rendering_keeps))]
 pub fn render_pair<'s, T: EntryLike, U: EntryLike>(
     alloc: Global,
@@ -114,7 +115,8 @@ pub fn render_pair<'s, T: EntryLike, U: EntryLike>(
         (T.answers left.now) (U.answers right.now))) }
     ensures same { IfOk result (λ p. p.alike ≡ true
         → PrintsSame p.left (string_bytes p.left_html) p.right (string_bytes p.right_html)) }
-    // What the state left by any node or layout keeps of the one before, for every input.
+    // For every input, the state after any node or layout keeps what `Keeps` lists of the one
+    // before.
     ensures keeps { (w : RenderInput) (r : Renderable) (inherited : Inherited) (s : State)
         → Keeps s (output_in w r inherited s).state }
     ensures err { IfErr result (λ e. e ≡ RenderError.Memory) }

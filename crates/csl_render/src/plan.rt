@@ -1,5 +1,5 @@
-//! Plans: the result of a dry run of a node and of the nodes inside it, by which the node is then
-//! rendered without another one (CSL 1.0.2, Group).
+//! Plans. A plan is the result of a dry run of a node and of the nodes inside it. By its plan the
+//! node is rendered without another dry run (CSL 1.0.2, Group).
 
 ghost use Rattle.std.specs.Prelude.{◌≡◌, ◌&&◌, not, IfOk, IfSome, IsSomeAnd, IsTrue};
 ghost use Rattle.csl_style.specs.Node.{ExpandedNode, ExpandedNodes, expanded_node};
@@ -20,13 +20,13 @@ use std::marker::Model;
 pub(crate) struct NodeInfo {
     /// Whether the node would print, and its usage flags.
     pub(crate) answer: (bool, UsageInfo),
-    /// The results for the children of a group, the nodes of a macro, or those that a choice takes,
-    /// from the first. They may break off.
+    /// The results for the nodes inside: the children of a group, the nodes of a macro, or the
+    /// nodes that a choice takes. They start at the first node and may break off.
     pub(crate) inside: Vec<NodeInfo>,
 }
 
 impl NodeInfo {
-    /// A result, with those for the nodes inside.
+    /// A result, with the results for the nodes inside.
     pub(crate) fn new(answer: (bool, UsageInfo), inside: Vec<NodeInfo>) -> NodeInfo
         ensures answer { answer_of result ≡ info_view answer }
         ensures inside { inside_of result ≡ inside.items }
@@ -35,7 +35,7 @@ impl NodeInfo {
     }
 }
 
-/// What dry runs read of the state of a context.
+/// The part of a context's state that dry runs read.
 #[derive(Drop)]
 pub(crate) struct DryState {
     suppressed: BTreeSet<Variable>,
@@ -69,8 +69,8 @@ fn asks_for_dates(special: Option<SpecialForm>) -> bool
     }
 }
 
-/// Whether two date marks are the same as far as dry runs under the special form read them. The
-/// second is given by whether no date was rendered.
+/// Whether dry runs under the special form read the same of the dates in two states. In the first
+/// state a date was rendered if `seen`, in the second unless `is_first`.
 #[tactic(auto, using(crate::proofs::Reading::mark_unread, crate::proofs::Reading::mark_unset, crate::proofs::Reading::mark_set))]
 fn is_same_mark(special: Option<SpecialForm>, seen: bool, is_first: bool) -> bool
     ensures { IsTrue result
@@ -90,7 +90,7 @@ fn are_suppressed<'s, T: EntryLike>(ctx: &Context<'s, T>, variables: &BTreeSet<V
 }
 
 impl DryState {
-    /// What dry runs read of the context.
+    /// Copies the part of the context's state that dry runs read.
     pub(crate) fn of<'s, T: EntryLike>(ctx: &Context<'s, T>) -> Result<DryState, Memory>
         ensures { IfOk result (λ at. AreReadAlike (render_input T.answers ctx.now) at ctx.now.state) }
     {
@@ -100,7 +100,7 @@ impl DryState {
         })
     }
 
-    /// Whether dry runs read this of the context.
+    /// Whether dry runs read the same of the context as of this state.
     #[tactic(auto, using(crate::proofs::Reading::read_alike))]
     pub(crate) fn is_of<'s, T: EntryLike>(&self, ctx: &Context<'s, T>) -> bool
         ensures { IsTrue result → AreReadAlike
@@ -117,7 +117,7 @@ impl DryState {
     }
 }
 
-/// A plan of a node: the result of its dry run, and the state that this read.
+/// A plan of a node: the result of its dry run, and the state that the dry run read.
 #[derive(Clone, Copy)]
 pub(crate) struct NodePlan<'p> {
     at: &'p DryState,
@@ -125,7 +125,7 @@ pub(crate) struct NodePlan<'p> {
 }
 
 impl<'p> NodePlan<'p> {
-    /// The plan of a result and the state that it goes by.
+    /// A plan from a result and the state that its dry run read.
     pub(crate) fn new(at: &'p DryState, info: &'p NodeInfo) -> NodePlan<'p>
         ensures at { result.at.now ≡ at.now }
         ensures info { result.info.now ≡ info.now }
@@ -159,7 +159,8 @@ impl<'p> NodePlan<'p> {
     }
 }
 
-/// A plan of some nodes: the results from the first node on, and the state that they go by.
+/// A plan of a list of nodes: the results from the first node on, and the state that the dry runs
+/// read.
 #[derive(Clone, Copy)]
 pub(crate) struct ListPlan<'p> {
     at: &'p DryState,
@@ -167,8 +168,8 @@ pub(crate) struct ListPlan<'p> {
 }
 
 impl<'p> ListPlan<'p> {
-    /// The plan of the first node, if there is one and it holds for the context. That of the nodes
-    /// after it is left.
+    /// Takes the plan of the first node and leaves the plan of the nodes after it. Returns `None`
+    /// if there is no result for the first node, or if the plan does not hold for the context.
     pub(crate) fn next<'s, T: EntryLike>(&mut self, ctx: &Context<'s, T>) -> Option<NodePlan<'p>>
         ensures next { (f : ExpandedNode) → (fs : ExpandedNodes)
             → ArePlans (render_input T.answers ctx.now) (expanded_node f fs) self.old
@@ -187,8 +188,8 @@ impl<'p> ListPlan<'p> {
     }
 }
 
-/// The plan of the first node, if the nodes have one and it holds for the context. That of the
-/// nodes after it is left.
+/// Takes the plan of the first node and leaves the plan of the nodes after it. Returns `None` if
+/// the nodes have no plan, or if that of the first node does not hold for the context.
 pub(crate) fn next_plan<'p, 's, T: EntryLike>(
     ctx: &Context<'s, T>,
     plan: &mut Option<ListPlan<'p>>,
@@ -206,7 +207,7 @@ pub(crate) fn next_plan<'p, 's, T: EntryLike>(
     }
 }
 
-/// The plan of the nodes inside a node, if the node has one.
+/// The plan of the nodes inside a node, if the node has a plan.
 pub(crate) fn inside_plan<'p>(plan: Option<NodePlan<'p>>) -> Option<ListPlan<'p>>
     ensures { IfSome result (λ nodes. IsSomeAnd plan.entry (λ node.
         (nodes.at.now ≡ node.at.now) × (nodes.infos.now ≡ inside_of node.info.now))) }

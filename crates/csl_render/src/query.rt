@@ -1,4 +1,4 @@
-//! Whether nodes show one variable, in a context that is only read.
+//! Queries: whether nodes show a variable, over a context that is only read.
 
 ghost use Rattle.std.specs.Prelude.{◌≡◌, IfSome};
 ghost use Rattle.csl_style.specs.Expanded.{macro_env};
@@ -12,8 +12,8 @@ use lit_model::Memory;
 use std::collections::HashMap;
 use std::marker::Model;
 
-/// A query whether nodes show a variable, over a context that is only read. It goes through each
-/// macro once, and keeps the result by the macro's name.
+/// A query whether nodes show a variable, over a context that is only read. It visits each macro at
+/// most once, and keeps the result by the macro's name.
 #[derive(Drop)]
 pub(crate) struct Query<'c, 's, T: EntryLike> {
     ctx: &'c Context<'s, T>,
@@ -40,7 +40,7 @@ impl<'c, 's, T: EntryLike> Model for Query<'c, 's, T> {
 }
 
 impl<'c, 's, T: EntryLike> Query<'c, 's, T> {
-    /// A query for the variable in which no macro is known yet.
+    /// A query for the variable that knows no macro yet.
     pub(crate) fn new(ctx: &'c Context<'s, T>, variable: Variable) -> Query<'c, 's, T>
         ensures { result ≡ record { now = ctx.now; variable = variable } }
     {
@@ -58,14 +58,14 @@ impl<'c, 's, T: EntryLike> Query<'c, 's, T> {
         self.ctx
     }
 
-    /// The variable that is looked for.
+    /// The variable of the query.
     pub(crate) fn variable(&self) -> Variable
         ensures { result ≡ self.now.variable }
     {
         self.variable
     }
 
-    /// Whether a text of the macro shows the variable, if one came before.
+    /// Whether a text that calls the macro shows the variable, if the query has kept it.
     pub(crate) fn known_call(&self, name: &str) -> Option<bool>
         ensures { IfSome result (λ shows. shows ≡ call_shows (render_input T.answers self.now.now)
             self.now.now.state self.now.variable (macro_env self.now.now.style name.now)) }
@@ -73,7 +73,7 @@ impl<'c, 's, T: EntryLike> Query<'c, 's, T> {
         self.calls.get(name).copied()
     }
 
-    /// Keeps whether a text of the macro shows the variable.
+    /// Keeps whether a text that calls the macro shows the variable.
     pub(crate) fn keep_call(&mut self, name: &'s str, shows: bool) -> Result<(), Memory>
         requires { shows ≡ call_shows (render_input T.answers self.old.now) self.old.now.state
             self.old.variable (macro_env self.old.now.style name.now) }

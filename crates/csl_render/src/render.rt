@@ -1,4 +1,4 @@
-//! The three calls of what can be rendered.
+//! The three calls of a node or a layout: dry run, shown variables and content.
 
 ghost use Rattle.csl_style.specs.Style.{StyleParts};
 ghost use Rattle.csl_context.specs.ContextView.{Runs, Reads, render_input};
@@ -12,15 +12,15 @@ use csl_style::Variable;
 
 /// A node of a style, or a whole layout.
 pub trait RenderCsl {
-    /// What is rendered in a style, with no macro name left.
+    /// The node or layout in a style, with each macro's nodes in the place of its name.
     ghost rendering: { StyleParts → Self → Renderable };
 
-    /// Whether it would print something, and what it notes of its variables, macros and groups
-    /// (CSL 1.0.2, Group). The context stays as it was.
+    /// The dry run: whether it would print, and its usage flags (CSL 1.0.2, Group). On `Ok` the
+    /// context is unchanged.
     ///
     /// # Errors
-    /// [`RenderError::Memory`]: there was no memory left, or the entry said so. The context has
-    /// failed then. [`RenderError::Failed`]: the context had failed before.
+    /// [`RenderError::Memory`]: out of memory, here or in the entry. The context has failed.
+    /// [`RenderError::Failed`]: the context had failed already.
     fn will_have_info<'s, T: EntryLike>(
         &'s self,
         ctx: &mut Context<'s, T>,
@@ -28,7 +28,7 @@ pub trait RenderCsl {
         ensures { Reads info_view result (info_in (render_input T.answers ctx.old) ctx.old.state
             (rendering ctx.old.style self.now)) ctx.old ctx.new };
 
-    /// Whether it would show the variable. The context stays as it was.
+    /// Whether it would show the variable. On `Ok` the context is unchanged.
     ///
     /// # Errors
     /// As [`RenderCsl::will_have_info`].
@@ -40,8 +40,8 @@ pub trait RenderCsl {
         ensures { Reads (λ answer. answer) result (shows_in (render_input T.answers ctx.old)
             ctx.old.state var (rendering ctx.old.style self.now)) ctx.old ctx.new };
 
-    /// Appends its content to the innermost open part and leaves its state. Nothing else of the
-    /// context changes.
+    /// Appends the content to the innermost open part and updates the state. On `Ok` nothing else
+    /// in the context has changed.
     ///
     /// # Errors
     /// As [`RenderCsl::will_have_info`].

@@ -1,4 +1,4 @@
--- The answers of a work, an entry of these tests: one standard variable has a text.
+-- The answers of a work, an entry of these tests: a text for one standard variable.
 use Rattle.std.specs.Prelude.{List, Option, Some, None, if◌then◌else◌}
 use denote.Enum.Bare.{sameb}
 use Rattle.lit_model.specs.Text.{Chunk}

@@ -1,4 +1,4 @@
-//! What is asked of some nodes in a cite, and the answer in words.
+//! Questions about nodes in a cite, and their results in words.
 
 use crate::said::say;
 use crate::scene::{DryRun, Refusals, Scene, ask_first, context, render, render_first, run_dry};
@@ -16,35 +16,37 @@ use csl_tree::BufWriteFormat;
 use lit_model::Memory;
 use std::test::Fail;
 
-/// A question about a scene, answered in words.
+/// A question about a scene, with a result in words.
 pub(crate) trait Asked {
-    /// Appends the answer.
+    /// Appends the result.
     fn say<'s, T: EntryLike>(&self, scene: &Scene<'s, T>, said: &mut String) -> Result<(), Fail>;
 }
 
-/// A question about some nodes.
+/// A question about nodes.
 #[derive(Clone, Copy)]
 pub(crate) enum Sought {
-    /// The content that the nodes make, and the state that they leave.
+    /// The content of the nodes, and the state that they leave.
     Tree,
-    /// The content and the state, once more of a cite with the forms of names that the nodes left.
+    /// The content and the state of the cite, disambiguated by the forms of names that a first
+    /// rendering left.
     Again,
-    /// The content and the state, and both once more from the state that the nodes left.
+    /// The content and the state, and both again from the state that the nodes left.
     Twice,
-    /// The plain text of the content that the nodes make.
+    /// The plain text of the content.
     Plain,
-    /// The HTML of the content that the nodes make.
+    /// The HTML of the content.
     Html,
-    /// The dry run of the nodes, and whether they would show the volume.
+    /// The dry run of the nodes, and whether they show the volume.
     Dry,
-    /// The state after a dry run of the nodes, the dry run, and whether they would show the title.
+    /// The content and the state after a dry run of the nodes, the dry run, and whether they show
+    /// the title.
     Left,
-    /// The error of rendering, that of a dry run behind it, and whether the context failed then;
-    /// and the same where the dry run comes first.
+    /// The errors of rendering and of a dry run after it, and whether the context has failed. Then
+    /// the same with the dry run first.
     Errors,
-    /// What the tests of a choice's first branch answer.
+    /// The results of the tests of a choice's first branch.
     Conditions,
-    /// How many nodes a choice takes.
+    /// The number of nodes that a choice takes.
     Chosen,
 }
 
@@ -65,7 +67,7 @@ impl Asked for Sought {
     }
 }
 
-/// Says what is made and left, in a new context or in one that begins with what another one left.
+/// Appends the content and the state, from a new context or from the state that another one left.
 fn say_tree<'s, T: EntryLike>(
     scene: &Scene<'s, T>,
     left: Option<&LeftState>,
@@ -77,7 +79,7 @@ fn say_tree<'s, T: EntryLike>(
     answer
 }
 
-/// Says what was made, and then what is made from what it left.
+/// Appends the first rendering, and then one from the state that it left.
 fn say_from<'s, T: EntryLike>(
     scene: &Scene<'s, T>,
     first: &Rendered,
@@ -95,7 +97,7 @@ fn say_twice<'s, T: EntryLike>(scene: &Scene<'s, T>, said: &mut String) -> Resul
     answer
 }
 
-/// Says what is made and left where these forms tell the cite apart.
+/// Appends the content and the state of the cite, disambiguated by these forms.
 fn say_told_apart<'s, T: EntryLike>(
     scene: &Scene<'s, T>,
     forms: NameDisambiguationProperties,
@@ -147,7 +149,7 @@ fn say_text<'s, T: EntryLike>(
     Ok(written?)
 }
 
-/// Says the word where it is so.
+/// Appends the word if `is_so`.
 fn say_if(is_so: bool, word: &str, said: &mut String) -> Result<(), Memory> {
     if is_so {
         said.push_str(word)?;
@@ -181,7 +183,7 @@ fn say_left<'s, T: EntryLike>(scene: &Scene<'s, T>, said: &mut String) -> Result
     Ok(say_told(&told, said)?)
 }
 
-/// The word for what a call answered where it failed.
+/// The word for the error of a call, if there is one.
 fn word_of(error: Option<RenderError>) -> &'static str {
     match error {
         None => "None",
@@ -212,7 +214,7 @@ fn choice_of(element: &RenderingElement) -> Result<&Choose, Fail> {
     }
 }
 
-/// Says which tests of the branch hold: 1 where they do.
+/// Appends 1 for each test of the branch that holds, and 0 for each other one.
 fn say_tests<'s, T: EntryLike>(
     branch: &ChooseBranch,
     ctx: &Context<'s, T>,

@@ -1,8 +1,8 @@
-//! Choices from words.
+//! Parses choices from words.
 //!
 //! `( ( 'a ) ( 'b ) )?all:position=first` is a choice. Each group in it holds the nodes of a
-//! branch, and one group more those for the other cases. Behind each `?` stand the match of a
-//! branch and its tests, as `is-numeric=title,volume`.
+//! branch. One more group holds those of `cs:else`. After each `?` are the match of a branch and
+//! its tests, each after a colon, as in `all:is-numeric=title,volume`.
 
 use crate::nodes::{after, put, variable_named};
 use csl_style::{
@@ -14,7 +14,7 @@ use std::mem;
 use std::test::Fail;
 use std::vec::IntoIter;
 
-/// What a test asks for, by its name.
+/// A value that a test names.
 trait Named: Copy {
     fn named(name: &str) -> Result<Self, Fail>;
 }
@@ -69,12 +69,12 @@ impl Named for Kind {
     }
 }
 
-/// The locator of a name.
+/// The locator with this name.
 pub(crate) fn locator_named(name: &str) -> Result<Locator, Fail> {
     Locator::named(name)
 }
 
-/// What the names between commas stand for.
+/// The values with these names, which commas separate.
 fn listed<A: Named>(alloc: Global, names: &str) -> Result<Vec<A>, Fail> {
     let mut listed = Vec::new(alloc);
     for name in names.split(',') {
@@ -133,7 +133,7 @@ fn add_all(alloc: Global, branch: &mut ChooseBranch, tests: &str) -> Result<(), 
     Ok(())
 }
 
-/// The branch of a match and its tests, with these nodes.
+/// The branch with the match and the tests that words describe, and with these nodes.
 fn branch(
     alloc: Global,
     words: &str,
@@ -170,7 +170,7 @@ fn next_nodes(
     Ok(Some(nodes?))
 }
 
-/// The branches of these matches and tests, each with the nodes of the next group.
+/// The branches with these matches and tests, each with the nodes of the next group.
 fn branches_of(
     alloc: Global,
     parts: &mut IntoIter<LayoutRenderingElement>,
@@ -186,7 +186,7 @@ fn branches_of(
     Ok(branches)
 }
 
-/// The choice between these parts, by its branches.
+/// The choice with these branches. The parts are groups with their nodes, and those of `cs:else`.
 pub(crate) fn choice(
     alloc: Global,
     parts: Vec<LayoutRenderingElement>,

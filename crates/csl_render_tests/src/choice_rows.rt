@@ -12,17 +12,17 @@ static PLAIN: [Row; 35] = [
     ("( ( 'A ) ( 'B ) )?all", "book", "A"),
     ("( ( 'A ) ( 'B ) )?any", "book", "B"),
     ("( ( 'A ) ( 'B ) )?none", "book", "A"),
-    // The first branch that is taken, and no other.
+    // A choice takes the first branch that holds, and no other.
     ("( ( 'A ) ( 'B ) ( 'C ) )?any?all", "book", "B"),
     ("( ( 'A ) ( 'B ) ( 'C ) )?all?all", "book", "A"),
     ("( ( 'A ) ( 'B ) ( 'C ) )?any?any", "book", "C"),
     ("( ( 'A ) )?any", "book", ""),
-    // What is chosen stands under the delimiter that is inherited.
+    // The inherited delimiter is between the nodes that a choice takes, and not inside a macro.
     ("|,;~ ( ( ) ( 'A 'B ) )?any 'C", "book", "A; BC"),
     ("( =pair 'C )|,,~", "book", "AB, C"),
-    // A group in a choice is none to the group around them.
+    // A group in a choice does not count as a group for the group around the choice.
     ("( genre ( ( ( 'v ) ) )?all )", "book", ""),
-    // A locator that was printed, and is not to be printed again, is still where the cite points.
+    // The test `locator` holds for a suppressed locator too.
     (
         "#locator ( ( 'p ) ( 'other ) )?all:locator=page",
         "book @ page:3 suppressing",
@@ -39,7 +39,7 @@ static PLAIN: [Row; 35] = [
     ("( ( 'A ) ( 'B ) )?all:is-numeric=volume", "volume 'x", "B"),
     ("( ( 'A ) ( 'B ) )?all:is-numeric=page", "pages 7-8", "A"),
     ("( ( 'A ) ( 'B ) )?all:is-numeric=issued", "date 2014", "B"),
-    // Variables: a text of white space is not there.
+    // Variables: a text of white space is not present.
     ("( ( 'A ) ( 'B ) )?all:variable=title", "title T", "A"),
     ("( ( 'A ) ( 'B ) )?all:variable=title", "title ~", "B"),
     ("( ( 'A ) ( 'B ) )?all:variable=title", "book", "B"),
@@ -111,11 +111,11 @@ static PLAIN: [Row; 35] = [
     ),
 ];
 
-/// Tests of each sort, written in another order than they are read in.
+/// Tests of each sort, in another order than that of the results.
 const ALL_SORTS: &str = "( ( 'A ) )?all:variable=title,volume:type=book:position=first:locator=page\
                          :is-uncertain-date=issued:is-numeric=volume:disambiguate=true";
 
-/// What the tests of a branch answer, 1 where they hold.
+/// The results of the tests of a branch: 1 for each one that holds, else 0.
 static CONDITIONS: [Row; 17] = [
     ("( ( 'A ) )?all", "book", ""),
     (
@@ -149,7 +149,7 @@ static CONDITIONS: [Row; 17] = [
     ("( ( 'A ) )?all:disambiguate=true", "book @ told", "1"),
     ("( ( 'A ) )?all:disambiguate=false", "book", "1"),
     ("( ( 'A ) )?all:disambiguate=false", "book @ told", "0"),
-    // Disambiguation, numbers, dates, locators, positions, types and variables.
+    // In order: disambiguation, numbers, dates, locators, positions, types and variables.
     (
         ALL_SORTS,
         "article; volume 20; date ~2014 @ page:7",
@@ -157,7 +157,7 @@ static CONDITIONS: [Row; 17] = [
     ),
 ];
 
-/// How many nodes a choice takes.
+/// The number of nodes that a choice takes.
 static CHOSEN: [Row; 4] = [
     ("( ( 'A 'B ) ( 'C ) )?all", "book", "2"),
     ("( ( 'A 'B ) ( 'C ) )?any", "book", "1"),
@@ -181,7 +181,7 @@ static DRY: [Row; 4] = [
     ),
 ];
 
-/// The sorts of tests that begin with the first one: each but the last, and then no more.
+/// The sorts of tests from the first one on: each but the last, and then no more.
 static SORTS: [Option<BranchConditionPos>; 8] = [
     Some(BranchConditionPos::Disambiguate),
     Some(BranchConditionPos::IsNumeric),

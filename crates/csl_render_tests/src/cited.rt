@@ -1,4 +1,4 @@
-//! Rows of cites: some nodes, the cite, and what these answer.
+//! Rows of cites: nodes, their cite, and the expected result.
 
 use crate::answered::{Asked, Sought};
 use crate::entries::{SILENT, Setting, entries, properties, set_all};
@@ -12,7 +12,7 @@ use std::alloc::Global;
 use std::process::Abort;
 use std::test::Fail;
 
-/// The words of some nodes, and what a citation and its style say of their cite.
+/// The words of nodes, and the settings of their citation and style.
 #[derive(Clone, Copy)]
 pub(crate) struct Question<'q> {
     pub(crate) alloc: Global,
@@ -20,7 +20,7 @@ pub(crate) struct Question<'q> {
     pub(crate) setting: &'q Setting,
 }
 
-/// Says the answer for a cite in that style.
+/// Appends the result for a cite in this style.
 fn say_in_cite<T: EntryLike, A: Asked>(
     question: &Question<'_>,
     asked: &A,
@@ -42,7 +42,7 @@ fn say_in_cite<T: EntryLike, A: Asked>(
     answer
 }
 
-/// Says the answer for the entry in that style.
+/// Appends the result for an entry in this style.
 fn say_in_style<T: EntryLike, A: Asked>(
     question: &Question<'_>,
     asked: &A,
@@ -62,7 +62,7 @@ fn say_in_style<T: EntryLike, A: Asked>(
     answer
 }
 
-/// Says the answer for the entry.
+/// Appends the result for an entry.
 fn say_for<T: EntryLike, A: Asked>(
     question: &Question<'_>,
     asked: &A,
@@ -75,7 +75,7 @@ fn say_for<T: EntryLike, A: Asked>(
     answer
 }
 
-/// Says the answer for the entry of these words.
+/// Appends the result for the built-in entry that words describe.
 pub(crate) fn say_for_entry<A: Asked>(
     question: &Question<'_>,
     asked: &A,
@@ -89,7 +89,7 @@ pub(crate) fn say_for_entry<A: Asked>(
     }
 }
 
-/// Says the answer for the work of these words.
+/// Appends the result for the work that words describe.
 fn say_for_work<A: Asked>(
     question: &Question<'_>,
     asked: &A,
@@ -100,17 +100,17 @@ fn say_for_work<A: Asked>(
     say_for(question, asked, &work, said)
 }
 
-/// The entry that words describe.
+/// The type of the entry that words describe.
 #[derive(Clone, Copy)]
 pub(crate) enum Source {
     /// A built-in entry.
     Entry,
-    /// A work of another type, that answers one text.
+    /// A work: an entry of another type, which answers one variable.
     Work,
 }
 
-/// What the nodes of these words answer for the cite, of which also what stands in `behind` is
-/// said.
+/// The result for the nodes and the cite that words describe. The words of `behind` are further
+/// settings.
 pub(crate) fn answered(
     alloc: Global,
     words: &str,
@@ -136,12 +136,12 @@ pub(crate) fn answered(
     Ok(said)
 }
 
-/// Asserts that these words answer what is wanted for the cite.
+/// Asserts that the result of these words for the cite is the expected one.
 pub(crate) fn assert_text(rt: &impl Abort, answer: &str, wanted: &str, words: &str, cite: &str) {
     assert_eq!(rt; answer, wanted, "of {words} for {cite}");
 }
 
-/// Some nodes, their cite, and what they answer.
+/// Nodes, their cite, and the expected result.
 pub(crate) type Row = (&'static str, &'static str, &'static str);
 
 fn assert_row(
@@ -158,7 +158,7 @@ fn assert_row(
     Ok(())
 }
 
-/// Asserts what each row says of a built-in entry.
+/// Asserts the result of each row, for a built-in entry.
 pub(crate) fn assert_cited(
     rt: &impl Abort,
     alloc: Global,
@@ -171,7 +171,7 @@ pub(crate) fn assert_cited(
     Ok(())
 }
 
-/// Asserts what each row says of a work, of whose cite also what stands in `behind` is said.
+/// Asserts the result of each row, for a work. The words of `behind` are further settings.
 pub(crate) fn assert_described(
     rt: &impl Abort,
     alloc: Global,

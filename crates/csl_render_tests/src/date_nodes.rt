@@ -1,10 +1,10 @@
-//! Dates from words.
+//! Parses dates from words.
 //!
-//! `@issued+month+year` is a date of that variable with these parts, and `@+year` one without a
-//! variable. `@issued:text` and `@issued:numeric` stand for the date of the locale of that form,
-//! `@issued:text:year-month` for the same without its day, and `@issued::year+month+year` for a
-//! date without its month. A part has a form behind it, as `+month:short`. Options stand behind the
-//! names of a date and behind each part.
+//! `@issued+month+year` is a date of that variable with these parts, and `@+year` is one without a
+//! variable. `@issued:text` and `@issued:numeric` are the localized date of that form.
+//! `@issued:text:year-month` is the localized date without its day, by `date-parts`.
+//! `@issued::year+month+year` is a date without its month, by `date-parts`. The form of a part
+//! follows its name, as in `+month:short`. Options follow the names of a date, and each part.
 
 use crate::nodes::{affixes, display, formatting, option, put, text_of, variable_named};
 use csl_style::{
@@ -13,7 +13,7 @@ use csl_style::{
 use std::alloc::Global;
 use std::test::Fail;
 
-/// What stands before and behind a mark, where it stands there.
+/// The words before and after the first mark. Without a mark, none are after it.
 fn split<'w>(word: &'w str, mark: &str) -> (&'w str, &'w str) {
     word.split_once(mark).unwrap_or((word, ""))
 }
@@ -94,7 +94,7 @@ fn parts(alloc: Global, words: &str) -> Result<Vec<DatePart>, Fail> {
     Ok(parts)
 }
 
-/// The date of a word, behind its mark.
+/// The date that a word describes, without the mark of a date.
 pub(crate) fn date(alloc: Global, word: &str) -> Result<Date, Fail> {
     let (first, rest) = split(word, "+");
     let (names, options) = split(first, "|");

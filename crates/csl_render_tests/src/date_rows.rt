@@ -4,21 +4,21 @@ use crate::answered::Sought;
 use crate::cited::{Row, assert_cited};
 use std::test::Fail;
 
-/// A date of a year.
+/// A date with only its year.
 const YEAR: &str = "@issued+year";
 
 /// A month before a year.
 const MONTH: &str = "@issued|,~+month+year";
 
-/// Two dates of a year in a group.
+/// A group of two dates, each with only its year.
 const TWICE: &str = "( @issued+year @issued+year )|,,~";
 
-/// A day before a year, each its own date, in a group.
+/// A group of two dates: the first with only its day, the second with only its year.
 const DAY_FIRST: &str = "( @issued+day @issued+year )|,,~";
 
 /// The plain texts of the parts.
 static PARTS: [Row; 51] = [
-    // Years of an era have it behind them, and there is no year 0.
+    // A year before 1000 has its era after it. There is no year 0.
     (YEAR, "date 2014", "2014"),
     (YEAR, "date 1000", "1000"),
     (YEAR, "date 999", "999 AD"),
@@ -33,11 +33,11 @@ static PARTS: [Row; 51] = [
     ("@issued+year:short", "date 2005", "05"),
     ("@issued+year:short", "date 79", "79 AD"),
     ("@issued+year:short", "date 0", "1 BC"),
-    // A form that a part does not know says nothing.
+    // A form that a part does not know counts as none.
     ("@issued+year:ordinal", "date 2005", "2005"),
     ("@issued+month:ordinal", "date 2014/4", "May"),
     ("@issued+day:long", "date 2014/4/1", "2"),
-    // Days and months count from 1 where they are written.
+    // Days and months count from 1 in print.
     ("@issued+day", "date 2014/4/1", "2"),
     ("@issued+day:zeros", "date 2014/4/1", "02"),
     ("@issued+day:zeros", "date 2014/4/30", "31"),
@@ -46,18 +46,18 @@ static PARTS: [Row; 51] = [
     ("@issued+month:zeros", "date 2014/11", "12"),
     ("@issued+month", "date 2014/4", "May"),
     ("@issued+month:short", "date 2014/4", "M."),
-    // A short form that is missing is the long one, and a month without a term is its number.
+    // The long form replaces a missing short one. A month without a term prints its number.
     ("@issued+month:short", "date 2014/5", "June"),
     ("@issued+month", "date 2014/6", "7"),
     ("@issued+month:short", "date 2014/6", "7"),
-    // An ordinal has the gender of its month, and may be kept to the first day.
+    // An ordinal has the gender of its month. The locale may limit ordinals to the first day.
     ("@issued+day:ordinal", "date 2014/-/1", "2nd"),
     ("@issued+day:ordinal", "date 2014/4/2", "3ra"),
     ("@issued+day:ordinal", "date 2014/5/2", "3th"),
     ("@issued+day:ordinal", "date 2014/-/0 @ limited", "1th"),
     ("@issued+day:ordinal", "date 2014/-/1 @ limited", "2"),
     ("@issued+day:ordinal", "date 2014/4/2 @ limited", "3"),
-    // A season stands in the place of a month that is not known.
+    // A season replaces a missing month.
     (MONTH, "date 2014/-/-/summer", "Su. 2014"),
     (MONTH, "date 2014/-/-/autumn", "Autumn 2014"),
     (MONTH, "date 2014/5/-/summer", "June 2014"),
@@ -66,10 +66,10 @@ static PARTS: [Row; 51] = [
     ("@issued+day", "date 2014/4", ""),
     ("@issued|,~+day+month+year", "date 2014/4", "May 2014"),
     ("@issued|,~+day+month+year", "date 2014/-/1", "2 2014"),
-    // A delimiter stands between parts alone.
+    // The delimiter is only between parts. Without content there are no affixes.
     ("@issued|,,~|<(|>)+month+year", "date 2014/4", "(May, 2014)"),
     ("@issued|<(|>)+day", "date 2014/4", ""),
-    // A month alone loses its periods, and its affixes keep theirs.
+    // Only a month loses its periods. Its affixes keep theirs.
     ("@issued+month:short|s|>.", "date 2014/4", "M."),
     ("@issued+month:short|s|<.", "date 2014/4", ".M"),
     ("@issued+month|s", "date 2014/-/-/summer", "Su"),
@@ -79,7 +79,7 @@ static PARTS: [Row; 51] = [
     ("@issued", "date 2014", ""),
 ];
 
-/// The plain texts of localized dates, and of parts that are left out.
+/// The plain texts of localized dates, and of dates with parts left out.
 static LOCALIZED: [Row; 25] = [
     ("@issued:text", "date 2014", ""),
     ("@issued:numeric", "date 2014 @ locale::text+year", ""),
@@ -88,7 +88,7 @@ static LOCALIZED: [Row; 25] = [
         "date 2014/4/1 @ locale::text|,~+day+month+year",
         "2 May 2014",
     ),
-    // The delimiter is the locale's, though it has none.
+    // The delimiter is that of the localized date, even if it has none.
     (
         "@issued:text|,;~",
         "date 2014/4 @ locale::text+month+year",
@@ -99,7 +99,7 @@ static LOCALIZED: [Row; 25] = [
         "date 2014/4 @ locale::text|,~+month+year",
         "May 2014",
     ),
-    // The affixes are the date's own.
+    // The affixes are those of the node.
     (
         "@issued:text|<(|>)",
         "date 2014 @ locale::text|<{|>}+year",
@@ -110,8 +110,8 @@ static LOCALIZED: [Row; 25] = [
         "date 2014 @ locale::text|<{|>}+year",
         "2014",
     ),
-    // Its own first part of a name says the form, which may be none. Affixes, and whether periods
-    // are kept, are the locale's.
+    // The node's first part with the same name replaces the form of a part, even if it sets none.
+    // Affixes and strip-periods stay those of the localized date.
     (
         "@issued:text+month:short|s",
         "date 2014/4 @ locale::text+month",
@@ -137,13 +137,13 @@ static LOCALIZED: [Row; 25] = [
         "date 2014/4 @ locale::text|,~+month+year",
         "May 14",
     ),
-    // The locale says which parts there are.
+    // The parts are those of the localized date.
     (
         "@issued:text+day+year",
         "date 2014/4/1 @ locale::text+year",
         "2014",
     ),
-    // The date says which are left out, or else the locale.
+    // The `date-parts` of the node leave parts out, else those of the localized date.
     (
         "@issued:text:year-month",
         "date 2014/4/1 @ locale::text|,~+day+month+year",
@@ -175,7 +175,7 @@ static LOCALIZED: [Row; 25] = [
         "May 2014",
     ),
     ("@issued::year|,~+day+month+year", "date 2014/4/1", "2014"),
-    // A season is not left out with the month, and keeps the month.
+    // If `date-parts` leave out the month, a season still prints. A month with a season does too.
     (
         "@issued::year|,~+day+month+year",
         "date 2014/-/-/summer",
@@ -203,19 +203,19 @@ static LOCALIZED: [Row; 25] = [
     ),
 ];
 
-/// Plain texts where the cite has a year suffix.
+/// Plain texts of cites with a year suffix.
 static SUFFIXES: [Row; 17] = [
     (YEAR, "date 2014 @ letter:0", "2014a"),
     (YEAR, "date 79 @ letter:0", "79 ADa"),
     ("@issued+year:short", "date 2014 @ letter:0", "14a"),
-    // It stands within the affixes of the year.
+    // The suffix is inside the affixes of the year.
     ("@issued+year|<(|>)", "date 2014 @ letter:0", "(2014a)"),
-    // It stands behind the year of the first date alone, though that one is without its year.
+    // The suffix follows only the year of the first date. If that date has no year, none has it.
     (TWICE, "date 2014 @ letter:0", "2014a, 2014"),
     (YEAR, "date 2014 @ letter:0 dated", "2014"),
     ("@issued+day @issued+year", "date 2014 @ letter:0", "2014"),
     ("@issued+month", "date 2014/4 @ letter:0", "May"),
-    // It is left to a text of the layout of the scope, whether that is reached or not.
+    // If the layout of the scope has a text of the suffix, rendered or not, no year has it.
     (YEAR, "date 2014 @ letter:0 layout:suffix", "2014"),
     (YEAR, "date 2014 @ letter:0 layout:=suffix", "2014"),
     (YEAR, "date 2014 @ letter:0 layout:=choice", "2014"),
@@ -226,7 +226,7 @@ static SUFFIXES: [Row; 17] = [
         "2014a",
     ),
     ("suffix @issued+year", "date 2014 @ letter:0", "a2014a"),
-    // Alone, it loses the affixes of the year and all other parts.
+    // If the suffix is shown alone, the affixes of the year and all other parts are left out.
     (MONTH, "date 2014/4 @ letter:0 suffix-alone", "a"),
     (
         "@issued|<{|>}|,~+month|<(|>)+year|<(|>)",
@@ -238,7 +238,7 @@ static SUFFIXES: [Row; 17] = [
 
 /// Plain texts in groups and choices, and in each special form.
 static FORMS: [Row; 18] = [
-    // A date that prints nothing stands in its group as any other.
+    // A date without text takes a delimiter in its group, as any other.
     ("( title @issued+day )|,,~", "title T; date 2014", "T, "),
     (TWICE, "date 2014", "2014, 2014"),
     (TWICE, "date 2014 @ first-date", "2014"),
@@ -263,7 +263,7 @@ static FORMS: [Row; 18] = [
     ("( 'x @issued+year )|,~", "book", ""),
 ];
 
-/// Trees: what is sorted is one text, in the order of time.
+/// The trees and states of dates. A sort key is one text without an element.
 static TREES: [Row; 38] = [
     (YEAR, "date 2014", "[ 2014 ]:date dated"),
     (
@@ -271,7 +271,7 @@ static TREES: [Row; 38] = [
         "date 2014/4",
         "[ /( /*May /~2014) ]block:date dated",
     ),
-    // Affixes stand inside the formatting of a part.
+    // The affixes of a part are inside its formatting.
     (
         "@issued+month+year|/|<(|>)",
         "date 2014/4 @ letter:0",
@@ -282,13 +282,13 @@ static TREES: [Row; 38] = [
         "date 2014/4 @ letter:0 suffix-alone",
         "[ /a ]:date dated",
     ),
-    // A part that prints nothing leaves its formatting to nobody.
+    // The formatting of a part that prints nothing applies to nothing else.
     (
         "( @issued|,~+month|/+year 'A )",
         "date 2014/-/-/spring",
         "[ [ [ 2014 ]:date ] [ [ A ] ] ] dated",
     ),
-    // Its own formatting is written over that of the locale, a part's over a part's.
+    // The formatting of the node and of its parts is over that of the localized date.
     (
         "@issued:text|/",
         "date 2014 @ locale::text|*+year",
@@ -299,13 +299,14 @@ static TREES: [Row; 38] = [
         "date 2014 @ locale::text+year|*",
         "[ /*2014 ]block:date dated",
     ),
-    // A locale's date has no display.
+    // The display of a localized date does not count.
     (
         "@issued:text",
         "date 2014 @ locale::text|b+year",
         "[ 2014 ]:date dated",
     ),
-    // A date without text is the first one as well; one that is not looked for is not.
+    // A date that is found counts as the first date, even without text. One that is not looked up,
+    // not found or without its localized date does not.
     ("@issued+day", "date 2014", "dated"),
     ("@issued+year", "book", ""),
     ("@+year", "date 2014", ""),
@@ -328,7 +329,7 @@ static TREES: [Row; 38] = [
         "date 2014 @ suppressing",
         "[ 2014 ]:date suppressed {Date(Issued)} suppressing dated",
     ),
-    // Sorting writes the key of the parts that the node names.
+    // A sort key has the parts that the node lists, in the order year, month, day.
     (YEAR, "date 2014 @ sorted", "P000002014"),
     (YEAR, "date 79 @ sorted", "P000000079"),
     (YEAR, "date 0 @ sorted", "P000000000"),
@@ -341,7 +342,8 @@ static TREES: [Row; 38] = [
         "P0000020140500",
     ),
     ("@issued+month", "date 2014/4 @ sorted", "05"),
-    // A form takes all parts or those that the node names, whatever the locale has.
+    // With a form, the key has the `date-parts` of the node, else all parts. Those of the locale do
+    // not count.
     ("@issued:text", "date 2014 @ sorted", "P0000020140000"),
     ("@issued:text:year", "date 2014/4 @ sorted", "P000002014"),
     (
@@ -350,14 +352,14 @@ static TREES: [Row; 38] = [
         "P00000201405",
     ),
     ("@issued::year+month", "date 2014/4 @ sorted", "05"),
-    // A variable is sorted by all.
+    // The sort key of a variable has all parts.
     (YEAR, "date -1 @ sorted-by-variable", "N21474836460000"),
     (
         "@issued+year",
         "date 2014/4/1 @ sorted-by-variable",
         "P0000020140502",
     ),
-    // The year suffix stands behind the year, whether a date was first or not.
+    // In a sort key the year suffix follows each year, unless the layout has a text of the suffix.
     (
         "@issued+month+year",
         "date 2014/4 @ sorted letter:0",
@@ -391,7 +393,7 @@ static DRY: [Row; 12] = [
     ("@+year", "date 2014", " called"),
     (YEAR, "date 2014 @ only:title", ""),
     (YEAR, "date 2014 @ only:issued", " prints called non-empty"),
-    // While dates are shown alone, the first one shows whatever is asked for.
+    // If only the first date or the year suffix is shown, the first date shows any variable.
     (
         YEAR,
         "date 2014 @ first-date",

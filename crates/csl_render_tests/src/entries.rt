@@ -1,14 +1,20 @@
-//! Cites from words: an entry, and behind ` @ ` what its citation says of it.
+//! Parses cites from words: an entry and, after ` @ `, the settings of its citation and style.
 //!
-//! An entry is a book. It has clauses with `; ` between them: `article` makes it an article, and
-//! `title T`, `volume 20`, `edition 2`, `pages 7-8` and `date 2014` say the rest; `author A/B+C`,
-//! `editor A` and `translator A` say persons, each with a given name behind a stroke. Behind `'` a
-//! number or pages are a text, behind a backslash pages are an escaped range, and behind `~` a date
-//! is about right. In a title `~` says a blank, and behind a bar stands its short form. A date may
-//! go on with strokes before its month, its day, which both count from 0, and its season, as
-//! `2014/4/-/summer`: `-` says nothing.
+//! An entry is a book. Its clauses have `; ` between them, and set its fields:
 //!
-//! What the citation says has one space between its words, which are read in [`set`].
+//! | Clause | Field |
+//! |---|---|
+//! | `book`, `article` | the entry type |
+//! | `title T`, `title T\|S` | the title, with its short form `S` |
+//! | `volume 20`, `edition 2` | a number, or a text after `'` |
+//! | `pages 7-8` | pages, a text after `'`, or an escaped range after a backslash |
+//! | `date 2014/4/-/summer` | year, month, day and season; approximate after `~` |
+//! | `author A/B+C`, `editor A`, `translator A` | persons: a family name, a given name after `/` |
+//!
+//! In a title or a name `~` is a space. In a date only the year is required. Month and day count
+//! from 0, and `-` leaves one out.
+//!
+//! The settings have one space between their words, which [`set`] reads.
 
 use crate::choice_nodes::locator_named;
 use crate::made::{Manner, PLAIN};
@@ -26,7 +32,8 @@ use lit_model::{
 use std::alloc::Global;
 use std::test::Fail;
 
-/// A book, alone in a list: what holds the list is quicker to prove than what holds the entry.
+/// A list with only a book. Code that holds the list is quicker to prove than code that holds the
+/// entry.
 fn book(alloc: Global) -> Result<Vec<Entry>, Memory> {
     alone(alloc, Entry::new(alloc, "key", EntryType::Book)?)
 }
@@ -68,7 +75,7 @@ fn pages(alloc: Global, value: &str) -> Result<MaybeTyped<PageRanges>, Fail> {
     }
 }
 
-/// A range that is written in full.
+/// An escaped range, which no page format shortens.
 fn escaped(alloc: Global, range: &str) -> Result<PageRanges, Fail> {
     let (from, to) = range.split_once('-').ok_or("a range")?;
     let from = Numeric::parse(alloc, from)?;
@@ -77,7 +84,7 @@ fn escaped(alloc: Global, range: &str) -> Result<PageRanges, Fail> {
     Ok(PageRanges { ranges })
 }
 
-/// A month or a day, from 0.
+/// A month or a day, counted from 0; none without a word, or for `-`.
 fn counted(word: Option<&str>) -> Result<Option<u8>, Fail> {
     match word {
         None | Some("-") => Ok(None),
@@ -95,7 +102,7 @@ fn season_named(name: &str) -> Result<Season, Fail> {
     }
 }
 
-/// The date of a year and what stands behind it.
+/// The date that words describe, if its month and its day exist.
 pub(crate) fn date(value: &str) -> Result<Option<Date>, Fail> {
     let (value, approximate) = match value.strip_prefix('~') {
         Some(value) => (value, true),
@@ -112,7 +119,7 @@ pub(crate) fn date(value: &str) -> Result<Option<Date>, Fail> {
     Ok(Date::new(year, month, day, season, approximate))
 }
 
-/// A person: the family name, and behind a stroke the given name.
+/// A person with a family name and, after a slash, a given name.
 fn person(alloc: Global, words: &str) -> Result<Person, Fail> {
     let (name, given) = words.split_once('/').unwrap_or((words, ""));
     let given_name = if given.is_empty() {
@@ -138,14 +145,14 @@ fn persons(alloc: Global, words: &str) -> Result<Vec<Person>, Fail> {
     Ok(persons)
 }
 
-/// The translators, alone in a list of persons with roles.
+/// A list of persons with roles, with only the translators.
 fn translators(alloc: Global, words: &str) -> Result<Vec<PersonsWithRoles>, Fail> {
     let names = persons(alloc, words)?;
     let role = PersonRole::Translator;
     Ok(alone(alloc, PersonsWithRoles { names, role })?)
 }
 
-/// Sets the field of a work that a word names.
+/// Sets the field of an entry that a word names.
 fn state(alloc: Global, work: &mut Entry, word: &str, value: &str) -> Result<(), Fail> {
     match word {
         "book" => work.entry_type = EntryType::Book,
@@ -163,7 +170,7 @@ fn state(alloc: Global, work: &mut Entry, word: &str, value: &str) -> Result<(),
     Ok(())
 }
 
-/// The entry of these words, alone in a list.
+/// A list with only the entry that words describe.
 pub(crate) fn entries(alloc: Global, words: &str) -> Result<Vec<Entry>, Fail> {
     let mut works = book(alloc)?;
     for clause in words.split("; ") {
@@ -175,33 +182,33 @@ pub(crate) fn entries(alloc: Global, words: &str) -> Result<Vec<Entry>, Fail> {
     Ok(works)
 }
 
-/// What a citation and its style say.
+/// The settings of a citation, of its style, and of the context before the nodes.
 #[derive(Clone, Copy)]
 pub(crate) struct Setting {
     pub(crate) manner: Manner,
     pub(crate) scope: Scope,
     pub(crate) sorting: Option<Sorting>,
-    /// The part of the cite that is shown.
+    /// The part that the cite shows, if it does not show the whole.
     pub(crate) form: Option<SpecialForm>,
-    /// The text that is written before the nodes.
+    /// The text before the nodes.
     pub(crate) before: &'static str,
-    /// Whether a date is written before the nodes.
+    /// Whether a date counts as rendered before the nodes.
     pub(crate) is_dated: bool,
-    /// Looks for printing suppress their variable.
+    /// Whether lookups for printing suppress their variable.
     pub(crate) is_suppressing: bool,
     is_first: bool,
     is_near_note: bool,
     ibid: IbidState,
     locator: Option<SpecificLocator<'static>>,
-    /// The branches that ask for it tell the cite from others.
+    /// Whether branches that test `disambiguate` disambiguate the cite.
     is_told: bool,
-    /// The place of its year suffix, if it has one.
+    /// The number of its year suffix, from 0, if it has one.
     suffix: Option<u16>,
-    /// The forms of names that tell it apart, in words, if there are some.
+    /// The words of the forms of names that disambiguate it, if there are any.
     forms: Option<&'static str>,
 }
 
-/// Changes a setting as a word says.
+/// Sets the field that a word describes.
 fn set(setting: &mut Setting, word: &'static str) -> Result<(), Fail> {
     match word {
         "expanded" => setting.manner.format = Some(PageRangeFormat::Expanded),
@@ -228,7 +235,7 @@ fn set(setting: &mut Setting, word: &'static str) -> Result<(), Fail> {
     Ok(())
 }
 
-/// What a locator prints: `*` says what the caller writes.
+/// The source of a locator's text: this text or, for `*`, the caller.
 fn payload(text: &'static str) -> LocatorPayload<'static> {
     if text == "*" {
         LocatorPayload::Transparent
@@ -237,11 +244,11 @@ fn payload(text: &'static str) -> LocatorPayload<'static> {
     }
 }
 
-/// Sets what was written before, as in `after:k`, the variable that is shown alone, as in
-/// `only:volume`, the place of the year suffix, as in `letter:0`, the localized date or the layout
-/// of the style, as in `locale::text+year` and `layout:=suffix`, its options of names, as in
-/// `names:short`, the forms of names that tell the cite apart, as in `forms:S/author/L`, or where
-/// the cite points, as in `page:7`.
+/// Sets the field that a word with a colon describes. Of the cite: the text before its nodes
+/// (`after:k`), the only variable that it shows (`only:volume`), the number of its year suffix
+/// (`letter:0`), the forms of names that disambiguate it (`forms:S/author/L`), or its locator
+/// (`page:7`). Of the style: its localized date (`locale::text+year`), its citation layout
+/// (`layout:=suffix`), or its name options (`names:short`).
 fn set_text(setting: &mut Setting, word: &'static str) -> Result<(), Fail> {
     let (name, text) = word.split_once(':').ok_or("a word that no citation has")?;
     match name {
@@ -260,7 +267,7 @@ fn set_text(setting: &mut Setting, word: &'static str) -> Result<(), Fail> {
     Ok(())
 }
 
-/// What a citation and its style say that say nothing.
+/// The settings of a plain first cite, in a style that sets nothing.
 pub(crate) const SILENT: Setting = Setting {
     manner: PLAIN,
     scope: Scope::Citation,
@@ -278,7 +285,7 @@ pub(crate) const SILENT: Setting = Setting {
     forms: None,
 };
 
-/// Changes a setting as words say.
+/// Sets the fields that words describe.
 pub(crate) fn set_all(setting: &mut Setting, words: &'static str) -> Result<(), Fail> {
     for word in words.split(' ') {
         if !word.is_empty() {
@@ -288,7 +295,7 @@ pub(crate) fn set_all(setting: &mut Setting, words: &'static str) -> Result<(), 
     Ok(())
 }
 
-/// What tells the cite from others.
+/// How the cite is disambiguated.
 fn told_by(alloc: Global, setting: &Setting) -> Result<DisambiguateState, Fail> {
     if let Some(words) = setting.forms {
         let forms = forms_of(alloc, words)?;
@@ -301,7 +308,7 @@ fn told_by(alloc: Global, setting: &Setting) -> Result<DisambiguateState, Fail> 
     }
 }
 
-/// The first cite in the list of entries, of which that is said.
+/// The properties of a cite with these settings. Its index and its citation number are 0.
 pub(crate) fn properties(
     alloc: Global,
     setting: &Setting,

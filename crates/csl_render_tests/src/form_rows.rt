@@ -1,4 +1,4 @@
-//! The tests of forms of names that tell a cite apart, and of those that are kept.
+//! The tests of the forms of names that disambiguate a cite, and of the forms that it keeps.
 
 use crate::answered::Sought;
 use crate::cited::{Row, assert_cited};
@@ -6,7 +6,7 @@ use std::test::Fail;
 
 /// Rows of names and forms, with the plain text of each.
 static PLAIN: [Row; 19] = [
-    // The forms are of the author.
+    // The forms of a variable apply only to its names.
     (
         "+author:name=short",
         "author Kwan/Kevin @ forms:S/author/L",
@@ -17,7 +17,7 @@ static PLAIN: [Row; 19] = [
         "author Kwan/Kevin @ forms:S/editor/L",
         "Kwan",
     ),
-    // They need not be those of the node, whose initials stand.
+    // The forms may differ from that of the node. Its `initialize-with` still applies.
     (
         "+author:name=short;with-.",
         "author Kwan/Kevin @ forms:S/author/I",
@@ -28,7 +28,7 @@ static PLAIN: [Row; 19] = [
         "author Kwan/Kevin @ forms:S/author/1",
         "Kwan",
     ),
-    // There are fewer forms than names, as many, or more.
+    // Fewer forms than names, as many, or more.
     (
         "+author:name=short",
         "author Ferrante/Elena+Kwan/Kevin+Warren/Rosanna @ forms:S/author/SL",
@@ -49,7 +49,7 @@ static PLAIN: [Row; 19] = [
         "author Ferrante/Elena+Kwan/Kevin @ forms:S/author/SS.",
         "Ferrante, Kwan, et al.",
     ),
-    // An absent form ends the names that are shown, whatever the limits are.
+    // The first absent form ends the shown names, whatever the limits of the node are.
     (
         "+author:name=short",
         "author Ferrante/Elena+Kwan/Kevin+Warren/Rosanna @ forms:S/author/L..",
@@ -60,13 +60,13 @@ static PLAIN: [Row; 19] = [
         "author Ferrante/Elena+Kwan/Kevin @ forms:S/author/SS",
         "Ferrante, Kwan",
     ),
-    // A person who is shown may be kept as the last one too.
+    // The last person that is kept may be one that is shown already.
     (
         "+author:name=short;use-last",
         "author Kwan/Kevin @ forms:S/author/S.S",
         "Kwan, … Kwan",
     ),
-    // There are fewer lists of forms than lists of names.
+    // Fewer lists of forms than lists of names, or as many.
     (
         "+editor,translator:name=short|,;~",
         "editor Kwan/Kevin; translator Warren/Rosanna @ forms:S/editor,translator/L",
@@ -77,7 +77,7 @@ static PLAIN: [Row; 19] = [
         "editor Kwan/Kevin; translator Warren/Rosanna @ forms:S/editor,translator/L,S",
         "Kevin Kwan; Warren",
     ),
-    // The variables are those of the node, in their order.
+    // The forms apply only if their variables are exactly those of the node, in its order.
     (
         "+editor,translator:name=short|,;~",
         "editor Kwan/Kevin; translator Warren/Rosanna @ forms:S/translator,editor/L,L",
@@ -93,7 +93,8 @@ static PLAIN: [Row; 19] = [
         "author Kwan/Kevin @ forms:S/author,editor/L,L",
         "Kwan",
     ),
-    // They are compared before editors and translators are one list, which has the first forms.
+    // The variables are compared before editors and translators merge. The merged list has the
+    // first list of forms.
     (
         "+translator,editor:name=short",
         "editor Kwan/Kevin; translator Kwan/Kevin @ merging forms:S/translator,editor/L,S",
@@ -104,7 +105,7 @@ static PLAIN: [Row; 19] = [
         "editor Kwan/Kevin @ merging forms:S/editor/L",
         "Kwan",
     ),
-    // Names that are counted have no forms.
+    // The number of counted names does not depend on the forms.
     (
         "+author:name=count",
         "author Ferrante/Elena+Kwan/Kevin @ forms:S/author/L.",
@@ -124,7 +125,7 @@ static TREES: [Row; 16] = [
         "author Kwan/Kevin",
         "[ [ K.~Kwan ]:name ]:names named I/Author/I",
     ),
-    // Names that are left out have none.
+    // Names that are left out have no form.
     (
         "+author:name=short;min-1;first-1",
         "author Ferrante/Elena+Kwan/Kevin",
@@ -136,13 +137,13 @@ static TREES: [Row; 16] = [
         "author Kwan/Kevin",
         "[ [ Kwan ]:name ]:names named S/Editor,Author/,S",
     ),
-    // Two lists that are one have one list of forms and two variables.
+    // Two lists that merge have one list of forms and two variables.
     (
         "+translator,editor:name=short",
         "editor Kwan/Kevin; translator Kwan/Kevin @ merging",
         "[ [ Kwan ]:name ]:names named S/Translator,Editor/S",
     ),
-    // Those that tell the cite apart are kept as they are, their default form with them.
+    // The forms that disambiguate the cite are kept unchanged, with their default form.
     (
         "+author:name=short",
         "author Kwan/Kevin @ forms:i/author/L.S",
@@ -153,7 +154,7 @@ static TREES: [Row; 16] = [
         "author Kwan/Kevin @ forms:i/editor/L",
         "[ [ Kwan ]:name ]:names named S/Author/S",
     ),
-    // The first names count.
+    // The state keeps only the forms of the first names.
     (
         "+author:name=short +editor:name",
         "author Kwan/Kevin; editor Warren/Rosanna",
@@ -164,7 +165,7 @@ static TREES: [Row; 16] = [
         "author Kwan/Kevin; editor Warren/Rosanna @ forms:i/editor/L",
         "[ [ Kwan ]:name ]:names [ [ Rosanna~Warren ]:name ]:names named S/Author/S",
     ),
-    // Names that are counted keep none.
+    // Names that are counted keep no forms.
     (
         "+author:name=count",
         "author Ferrante/Elena+Kwan/Kevin",
@@ -175,7 +176,7 @@ static TREES: [Row; 16] = [
         "author Kwan/Kevin; editor Warren/Rosanna",
         "[ 1 ]:names [ [ Warren ]:name ]:names named S/Editor/S",
     ),
-    // Nor do names without persons, but those in their substitute do, under their own variables.
+    // Names without persons keep no forms. Names in their substitute do, with their own variables.
     (
         "( 'Anon. )+author:name +editor:name=short",
         "editor Warren/Rosanna",
@@ -186,19 +187,19 @@ static TREES: [Row; 16] = [
         "editor Warren/Rosanna @ forms:i/editor/L",
         "[ [ [ Rosanna~Warren ]:name ]:names ]:names suppressed {Name(Editor)} named i/Editor/L",
     ),
-    // Nor names that are left out of the cite.
+    // Names that the special form leaves out keep no forms.
     (
         "+author:name +editor:name=short",
         "author Kwan/Kevin; editor Warren/Rosanna @ no-author",
         "[ [ Warren ]:name ]:names named S/Editor/S",
     ),
-    // What a sort key is made from keeps its forms.
+    // Names in a sort key keep their forms.
     (
         "+author:name=short",
         "author Kwan/Kevin @ sorted",
         "[ [ Kwan ]:name ]:names named S/Author/S",
     ),
-    // A later cite has limits of its own.
+    // A later cite has its own limits.
     (
         "+author:name=short;min-2;first-2;later-first-1",
         "author Ferrante/Elena+Kwan/Kevin @ subsequent",
@@ -206,7 +207,7 @@ static TREES: [Row; 16] = [
     ),
 ];
 
-/// What is made, and left, also once the forms that are left tell the cite apart.
+/// Content and state of names, which are the same once the kept forms disambiguate the cite.
 static SAME: [Row; 5] = [
     (
         "+author:name=short",

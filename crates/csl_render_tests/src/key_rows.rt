@@ -1,4 +1,4 @@
-//! The test of sort keys by all parts.
+//! The test of sort keys with all parts.
 
 use crate::cited::assert_text;
 use crate::entries::date;
@@ -7,19 +7,19 @@ use std::alloc::Global;
 use std::process::Abort;
 use std::test::Fail;
 
-/// A date in words, and its key.
+/// The words of a date, and its sort key.
 type Row = (&'static str, &'static str);
 
 static KEYS: [Row; 5] = [
     ("2014/4", "P0000020140500"),
     ("2014/4/1", "P0000020140502"),
     ("0", "P0000000000000"),
-    // From the least year that is in order.
+    // Years before year 0 count from -2147483647.
     ("-1", "N21474836460000"),
     ("-2147483647", "N0000000000000"),
 ];
 
-/// The key of a date in words.
+/// The sort key of the date that words describe.
 fn key(alloc: Global, words: &str) -> Result<String, Fail> {
     match date(words)? {
         Some(date) => Ok(full_sort_key(alloc, &date)?),

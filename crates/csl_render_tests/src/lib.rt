@@ -1,5 +1,5 @@
-//! The tests of `csl_render`: what nodes of a style make of a cite, with ample memory. What is
-//! expected stands here as written out by hand.
+//! The tests of `csl_render`: the results of a style's nodes for a cite, with ample memory. The
+//! expected results are written out by hand.
 #![tactic(auto)]
 
 #[cfg(test)]

@@ -11,7 +11,7 @@ use lit_model::{GrammarGender, Memory, Season};
 use std::alloc::{AllocError, Global};
 use std::test::Fail;
 
-/// A macro a line: its name, and the words of its nodes.
+/// The macros, one a line: the name, and the words of the nodes.
 static MACROS: [&str; 10] = [
     "both 'w title",
     "choice ( ( 'v ) ( =suffix ) )?all",
@@ -51,7 +51,7 @@ const SUMMER: Term = Term::Other(OtherTerm::Season(Season::Summer));
 
 const AUTUMN: Term = Term::Other(OtherTerm::Season(Season::Autumn));
 
-/// An edition is feminine, and so is May.
+/// The gender of a term: feminine for the edition and for May, else none.
 fn gender_of(term: Term) -> Option<GrammarGender> {
     if term == EDITION || term == MAY {
         Some(GrammarGender::Feminine)
@@ -60,7 +60,7 @@ fn gender_of(term: Term) -> Option<GrammarGender> {
     }
 }
 
-/// A term, its form, its text for one and that for several.
+/// A term, its form, and its texts in the singular and in the plural.
 type TermRow = (Term, TermForm, &'static str, &'static str);
 
 static TERMS: [TermRow; 20] = [
@@ -111,13 +111,13 @@ static TERMS: [TermRow; 20] = [
     (AUTUMN, TermForm::Long, "Autumn", "Autumn"),
 ];
 
-/// The words for the eras.
+/// The terms of the eras.
 static ERAS: [TermRow; 2] = [
     (Term::Other(OtherTerm::Ad), TermForm::Long, " A.D.", " A.D."),
     (Term::Other(OtherTerm::Bc), TermForm::Long, " bc", " bc"),
 ];
 
-/// The word for who is both editor and translator.
+/// The term for persons who are both editors and translators.
 static BOTH: [TermRow; 1] = [(
     Term::Name(NameVariable::EditorTranslator),
     TermForm::Long,
@@ -156,7 +156,7 @@ fn terms(alloc: Global, manner: &Manner) -> Result<Vec<TermEntry>, Memory> {
     Ok(terms)
 }
 
-/// An ordinal: the numbers it is for, its gender, and what stands behind them or the word for one.
+/// An ordinal: its numbers, its gender, and the suffix after them or the word for one.
 type OrdinalRow = (OrdinalSlot, Option<GrammarGender>, &'static str);
 
 static ORDINALS: [OrdinalRow; 4] = [
@@ -181,28 +181,28 @@ fn ordinals(alloc: Global, rows: &[OrdinalRow]) -> Result<Vec<OrdinalTerm>, Memo
     Ok(ordinals)
 }
 
-/// What a style says beside its macros, its terms and its ordinals.
+/// The settings of a style, besides its macros, ordinals and fixed terms.
 #[derive(Clone, Copy)]
 pub(crate) struct Manner {
-    /// The page format of the style.
+    /// The page-range-format of the style, if it has one.
     pub(crate) format: Option<PageRangeFormat>,
     /// The words of its localized date, if it has one.
     pub(crate) date: Option<&'static str>,
-    /// The words of its layout of citations.
+    /// The words of its citation layout.
     pub(crate) layout: &'static str,
-    /// The words of its layout of the bibliography, if it has one.
+    /// The words of its bibliography layout, if it has one.
     pub(crate) bibliography: Option<&'static str>,
-    /// Only the first day of a month is an ordinal.
+    /// Whether only the first day of a month is an ordinal.
     pub(crate) is_limited: bool,
     /// Whether the style has terms for AD and BC.
     pub(crate) has_eras: bool,
-    /// Whether the style has a term for who is both editor and translator.
+    /// Whether the style has a term for persons who are both editors and translators.
     pub(crate) is_merging: bool,
-    /// The style's options of names.
+    /// The words of the style's name options.
     pub(crate) names: &'static str,
 }
 
-/// The manner of a style that says nothing.
+/// The manner of a style that sets nothing.
 pub(crate) const PLAIN: Manner = Manner {
     format: None,
     date: None,
@@ -221,7 +221,7 @@ fn dates(alloc: Global, manner: &Manner) -> Result<Vec<Date>, Fail> {
     }
 }
 
-/// The one locale. A comma or period behind a closing quote goes before it.
+/// A list with the only locale. A comma or period after a closing quote moves before it.
 fn locales(alloc: Global, manner: &Manner) -> Result<Vec<Locale>, Fail> {
     let terms = terms(alloc, manner)?;
     let ordinals = ordinals(alloc, &ORDINALS)?;
@@ -243,7 +243,7 @@ fn bibliography(alloc: Global, manner: &Manner) -> Result<Option<Layout>, Fail> 
     }
 }
 
-/// The style of these macros and this locale, of that manner.
+/// The style of this manner, with the macros of these tests and one locale.
 pub(crate) fn style(alloc: Global, manner: &Manner) -> Result<Style, Fail> {
     let names = name_options(alloc, manner.names)?;
     let macros = macros(alloc, &MACROS)?;

@@ -1,8 +1,8 @@
-//! Forms of names from words, and in words.
+//! Parses forms of names from words, and describes them in words.
 //!
-//! `S/author,editor/L.,S` says the form of a name that comes to be shown, the variables, and for
-//! each list the form of each name: `1` counts, `i` and `S` are the short form with initials and
-//! the whole short one, `I` and `L` the long ones, and `.` says that the name is not shown.
+//! `S/author,editor/L.,S` is the form of a name that becomes shown, the variables, and for each
+//! list the form of each name. `1` is the count. `i` is the short form with initials, and `S` the
+//! short form in full. `I` and `L` are the long forms. `.` means that the name is not shown.
 
 use crate::name_nodes::variables;
 use csl_entry::{DisambiguatedNameForm, NameDisambiguationProperties};
@@ -10,7 +10,7 @@ use lit_model::Memory;
 use std::alloc::Global;
 use std::test::Fail;
 
-/// The form that a letter stands for.
+/// The form that a letter stands for, if there is one.
 fn form(letter: char) -> Option<DisambiguatedNameForm> {
     match letter {
         '1' => Some(DisambiguatedNameForm::Count),
@@ -22,7 +22,7 @@ fn form(letter: char) -> Option<DisambiguatedNameForm> {
     }
 }
 
-/// The form that the first letter says.
+/// The form that the first letter stands for.
 fn first_form(letters: &str) -> Result<DisambiguatedNameForm, Fail> {
     match letters.chars().next() {
         Some(letter) => Ok(form(letter).ok_or("a form")?),
@@ -30,7 +30,7 @@ fn first_form(letters: &str) -> Result<DisambiguatedNameForm, Fail> {
     }
 }
 
-/// The letter that stands for a form.
+/// The letter that stands for a form, or for none.
 fn letter(form: Option<DisambiguatedNameForm>) -> char {
     match form {
         None => '.',
@@ -42,7 +42,7 @@ fn letter(form: Option<DisambiguatedNameForm>) -> char {
     }
 }
 
-/// The form that each letter says.
+/// The form that each letter stands for.
 fn list(alloc: Global, letters: &str) -> Result<Vec<Option<DisambiguatedNameForm>>, Memory> {
     let mut forms = Vec::new(alloc);
     for letter in letters.chars() {
@@ -51,7 +51,7 @@ fn list(alloc: Global, letters: &str) -> Result<Vec<Option<DisambiguatedNameForm
     Ok(forms)
 }
 
-/// The forms of each list, from words.
+/// The forms of each list. Commas separate the lists.
 fn lists(alloc: Global, words: &str) -> Result<Vec<Vec<Option<DisambiguatedNameForm>>>, Memory> {
     let mut lists = Vec::new(alloc);
     for letters in words.split(',') {

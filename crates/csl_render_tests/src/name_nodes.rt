@@ -1,19 +1,19 @@
-//! Names from words.
+//! Parses names from words.
 //!
-//! `+author,editor` are names of these variables without children. Behind each `:` stands a child:
-//! `name`, `label` with its affixes, as `label<~(>)`, or `et-al`; behind `name=` and behind the
-//! option `|=` stand options of names with `;` between them. Of `label.` the periods are stripped.
-//! `( .. )+author:name` are names whose last child is a substitute, with the nodes that stand
-//! inside; under the option `|each` each of these nodes stands in a substitute of its own.
+//! `+author,editor` are names of these variables without children. After each `:` is a child:
+//! `name`, `et-al`, or `label` with its affixes, as in `label<~(>)`. A `label.` strips periods.
+//! After `name=` and after the option `|=` are name options, with `;` between them.
+//! `( .. )+author:name` are names whose last child is a substitute with the nodes inside. With the
+//! option `|each` at the end, each of these nodes is in a substitute of its own.
 //!
-//! | Word | Option of names |
+//! | Word | Name option |
 //! |---|---|
-//! | `short`, `long`, `count` | the form |
-//! | `min-3`, `first-1` | from how many names on some are left out, and how many are left |
-//! | `later-min-3`, `later-first-1` | the same in a later cite |
-//! | `use-last` | the last name is kept |
-//! | `with-a` | what follows an initial |
-//! | `names-a` | what stands between two lists |
+//! | `short`, `long`, `count` | `form` |
+//! | `min-3`, `first-1` | `et-al-min`, `et-al-use-first`: of 3 names or more, 1 is left |
+//! | `later-min-3`, `later-first-1` | the same limits in a later cite |
+//! | `use-last` | `et-al-use-last`: the last name is kept |
+//! | `with-a` | `initialize-with`: the text after an initial |
+//! | `names-a` | `names-delimiter`: the text between two lists |
 
 use crate::nodes::{
     affixes, after, alone, display, formatting, option, put, read, text_of, variable_named,
@@ -25,7 +25,7 @@ use csl_style::{
 use std::alloc::Global;
 use std::test::Fail;
 
-/// Sets what a word says that has a text or a number behind it.
+/// Sets an option whose word ends with a text or a number.
 fn set_valued(alloc: Global, options: &mut InheritableNameOptions, word: &str) -> Result<(), Fail> {
     if let Some(count) = word.strip_prefix("min-") {
         options.et_al_min = Some(count.parse::<u32>()?);
@@ -57,7 +57,7 @@ fn set(alloc: Global, options: &mut InheritableNameOptions, word: &str) -> Resul
     Ok(())
 }
 
-/// The options of names of these words.
+/// The name options that words describe.
 pub(crate) fn name_options(alloc: Global, words: &str) -> Result<InheritableNameOptions, Fail> {
     let mut options = InheritableNameOptions::default();
     for word in words.split(';') {
@@ -76,8 +76,8 @@ fn name(alloc: Global, words: &str) -> Result<Name, Fail> {
     })
 }
 
-/// A label whose prefix stands behind `<` and whose suffix behind `>`. A period before them says
-/// that periods are stripped.
+/// A label with the prefix after `<` and the suffix after `>`. A period before them sets
+/// strip-periods.
 fn label(alloc: Global, words: &str) -> Result<VariablelessLabel, Fail> {
     let (words, strips) = match words.strip_prefix('.') {
         Some(words) => (words, true),
@@ -126,7 +126,7 @@ fn children(alloc: Global, words: &str) -> Result<Vec<NamesChild>, Fail> {
     Ok(children)
 }
 
-/// The variables of these words.
+/// The name variables that words describe.
 pub(crate) fn variables(alloc: Global, words: &str) -> Result<Vec<NameVariable>, Fail> {
     let mut variables = Vec::new(alloc);
     for word in words.split(',') {
@@ -158,7 +158,7 @@ fn names_of(alloc: Global, words: &str) -> Result<Names, Fail> {
     })
 }
 
-/// The names of a word, as a node.
+/// The names that a word describes, as a node.
 pub(crate) fn names(alloc: Global, words: &str) -> Result<LayoutRenderingElement, Fail> {
     Ok(LayoutRenderingElement::Names(names_of(alloc, words)?))
 }
@@ -179,7 +179,7 @@ fn push_each(
     Ok(())
 }
 
-/// Pushes these nodes in one substitute or, under `|each`, in one each.
+/// Pushes one substitute with these nodes or, with `|each`, one for each node.
 fn push_substitutes(
     alloc: Global,
     children: &mut Vec<NamesChild>,
@@ -193,7 +193,7 @@ fn push_substitutes(
     Ok(put(children, NamesChild::Substitute(substitute))?)
 }
 
-/// The names of a word with these nodes as their substitute.
+/// The names that a word describes, with these nodes as their substitute.
 pub(crate) fn substituted(
     alloc: Global,
     nodes: Vec<LayoutRenderingElement>,

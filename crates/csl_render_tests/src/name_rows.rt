@@ -26,7 +26,7 @@ static PLAIN: [Row; 49] = [
     ("+author:name=short;min-3;first-0", THREE, "et al."),
     ("+author:name=count;min-3;first-1;with-.", THREE, "1"),
     ("+author:name=count", THREE, "3"),
-    // A later cite has limits of its own, each where it is set.
+    // A later cite has its own limits, each if it is set.
     (
         "+author:name=short;min-3;first-2;later-first-1",
         "author Ferrante/Elena+Kwan/Kevin+Warren/Rosanna @ subsequent",
@@ -43,7 +43,7 @@ static PLAIN: [Row; 49] = [
         "author Ferrante/Elena",
         "Ferrante",
     ),
-    // Editors and translators who are the same are one list where the style has a term for them.
+    // Equal lists of editors and translators merge if the style has a term for both.
     (
         "+editor,translator:name=short:label<~(>)|,;~",
         BOTH,
@@ -59,7 +59,7 @@ static PLAIN: [Row; 49] = [
         "editor Weintraub/Stanley; translator Weintraub/Stanley @ merging",
         " (ed. & trans.)Weintraub",
     ),
-    // What stands between two lists: the name says it, else the names.
+    // The text between two lists is that of the name child, else the delimiter of the names.
     (
         "+editor,translator:name=short;names-~/~|,;~",
         TWO,
@@ -70,7 +70,7 @@ static PLAIN: [Row; 49] = [
         TWO,
         "Ottenstein; Warren",
     ),
-    // Names in a substitute inherit it only where they have no children.
+    // Names in a substitute take over the delimiter only if they have no children.
     (
         "( +editor,translator:name=short )+author|,;~",
         TWO,
@@ -81,7 +81,7 @@ static PLAIN: [Row; 49] = [
         TWO,
         "Ottenstein; Warren",
     ),
-    // So with affixes.
+    // Names in a substitute take over the affixes only if they have no children. A text never does.
     (
         "( +editor )+author:name=short|<(|>)",
         "editor Weintraub/Stanley",
@@ -93,19 +93,19 @@ static PLAIN: [Row; 49] = [
         "Weintraub",
     ),
     ("( title )+author|<(|>)", "title T", "T"),
-    // Where it sets them itself, they are its own.
+    // Names in a substitute keep an affix of their own.
     (
         "( +editor|<[ )+author:name=short|<(|>)",
         "editor Weintraub/Stanley",
         "[Weintraub)",
     ),
-    // The options of the names around are inherited.
+    // Names in a substitute inherit the options of the names around it.
     (
         "( +editor:name )+author|=short",
         "editor Weintraub/Stanley",
         "Weintraub",
     ),
-    // The space before what stands for others looks at the lists, and not at the affixes.
+    // The space before `et al.` depends on the text of the lists, and not on the affixes.
     (
         "+author:name=min-1;first-0|<by",
         "author Ferrante/Elena",
@@ -116,7 +116,7 @@ static PLAIN: [Row; 49] = [
         "editor Weintraub/Stanley; translator Weintraub/Stanley @ merging",
         "ed. & trans. et al.",
     ),
-    // A substitute ends with the first child that brings a text.
+    // A substitute ends with the first child that adds text.
     ("( title 'Anon. )+author:name", "title T", "T"),
     ("( genre 'Anon. )+author:name", "title T", "Anon."),
     (
@@ -124,7 +124,7 @@ static PLAIN: [Row; 49] = [
         THREE,
         "Elena Ferrante, Kevin Kwan, Rosanna Warren",
     ),
-    // What it prints is not printed again.
+    // A variable that a substitute printed is not printed again.
     ("( title )+author:name title", "title T", "T"),
     (
         "( ( genre )+editor:name title )+author title",
@@ -142,10 +142,11 @@ static PLAIN: [Row; 49] = [
         "author Ferrante/Elena",
         "Elena FerranteFerrante",
     ),
-    // A group is left out whose names are empty, and its substitute prints a value alone.
+    // A group is left out if its names are empty and their substitute prints only a value.
     ("( ( genre 'Anon. )+author )", "book", ""),
     ("( ( title )+author '! )", "title T", "T!"),
-    // Names that leave out every name by their own options call nothing that is not empty.
+    // Names whose own options leave out every name are empty for a dry run. Inherited options do
+    // not count, and each name child has to leave out every name.
     (
         "( +author:name|=min-1;first-0 title )|,,~",
         "author Ferrante/Elena; title T",
@@ -161,8 +162,8 @@ static PLAIN: [Row; 49] = [
         "author Ferrante/Elena; title T",
         "et al., T",
     ),
-    // A list without persons leaves out no name, whether or not the style has a term for who is
-    // both.
+    // A list without persons leaves out no name, whether or not the style has a term for both
+    // variables.
     (
         "( +editor,translator:name=min-1;first-0 )",
         "translator Warren/Rosanna @ merging",
@@ -194,7 +195,7 @@ static PLAIN: [Row; 49] = [
         "author Ferrante/Elena; editor Kwan/Kevin @ no-author",
         "Kevin Kwan",
     ),
-    // One variable alone.
+    // A cite that shows one variable alone.
     (
         "+author:name title",
         "author Ferrante/Elena; title T @ only:issued",
@@ -215,7 +216,7 @@ static PLAIN: [Row; 49] = [
         "editor Kwan/Kevin @ only:editor",
         "Kevin Kwan",
     ),
-    // The names of a macro in the substitute do not stand directly in it.
+    // Names in a macro are not directly in the substitute, and do not count.
     (
         "( =editors )+author:name",
         "editor Kwan/Kevin @ only:editor",
@@ -287,10 +288,10 @@ static DRY: [Row; 8] = [
     ),
 ];
 
-/// The authors and the year of a cite.
+/// A group of the authors and the year.
 const AUTHOR_DATE: &str = "( +author:name=short @issued+year )|,,~|<(|>)";
 
-/// Whole cites of a book, under what its citation says.
+/// Cites of a book, with settings of the citation.
 static CITES: [Row; 8] = [
     (AUTHOR_DATE, "author Kwan/Kevin; date 2014", "(Kwan, 2014)"),
     (
@@ -330,10 +331,10 @@ static CITES: [Row; 8] = [
     ),
 ];
 
-/// Lists, what stands between them, and how many names they show.
+/// Lists of names: the text between them, and the number of names that they show.
 static LISTS: [Row; 8] = [
-    // What stands between two lists: the node's own delimiter before its option, and this before
-    // that of the style.
+    // The text between two lists is the node's own delimiter, else its names-delimiter, else that
+    // of the style.
     (
         "+editor,translator:name=short|=names-~/~",
         TWO,
@@ -355,7 +356,7 @@ static LISTS: [Row; 8] = [
         "Ottenstein & Warren",
     ),
     ("+editor,translator:name=short", TWO, "OttensteinWarren"),
-    // A cite that says the same as the one before it, and is the first, is no later one.
+    // A cite that is `ibid` and first does not count as a later cite.
     (
         "+author:name=short;min-3;first-2;later-first-1",
         "author Ferrante/Elena+Kwan/Kevin+Warren/Rosanna @ ibid",
@@ -373,7 +374,7 @@ static LISTS: [Row; 8] = [
     ),
 ];
 
-/// The label of names, and names in sort keys.
+/// Labels of names, and names in sort keys.
 static LABELS: [Row; 8] = [
     (
         "+editor,translator:name=short:label<~(>)",
@@ -392,7 +393,7 @@ static LABELS: [Row; 8] = [
         "editor Weintraub/Stanley; translator Weintraub/Stanley @ merging",
         "Weintraub (ed. & trans.)",
     ),
-    // A sort key has neither labels nor a word for others.
+    // A sort key has neither labels nor `et al.`.
     (
         "+editor,translator:name=short:label<~(>)",
         "editor Weintraub/Stanley; translator Weintraub/Stanley @ merging sorted",
@@ -418,14 +419,14 @@ static LABELS: [Row; 8] = [
 
 /// Rows of names with substitutes, with the plain text of each.
 static SUBSTITUTES: [Row; 6] = [
-    // Names that leave out every name by their own options print where their substitute does, and
-    // it is they that are written.
+    // Names whose own options leave out every name print if their substitute does. The names are
+    // written then, and not the substitute.
     (
         "( ( 'Anon. )+author:name|=min-1;first-0 title )|,,~",
         "author Ferrante/Elena; title T",
         "et al., T",
     ),
-    // An affix and a delimiter that are empty are there.
+    // An empty affix counts as an affix, and an empty delimiter as a delimiter.
     (
         "( +editor|< )+author:name=short|<(|>)",
         "editor Weintraub/Stanley",
@@ -436,10 +437,10 @@ static SUBSTITUTES: [Row; 6] = [
         TWO,
         "OttensteinWarren",
     ),
-    // The first substitute is tried, and no other.
+    // Only the first substitute is tried.
     ("( title 'Anon. )+author:name|each", "title T", "T"),
     ("( genre title )+author:name|each", "title T", ""),
-    // What was printed has no affixes either.
+    // A text whose variable a substitute printed has no affixes either.
     ("( title )+author:name title|<.~", "title T", "T"),
 ];
 

@@ -1,23 +1,28 @@
-//! Nodes from words.
+//! Parses nodes from words, with one space between the words.
 //!
-//! The words of some nodes have one space between them. A node `( .. )` is a group of what stands
-//! inside, a node `( .. )?` a choice, as `choice_nodes` says, a word with `#` or `&` a number or a
-//! label, as `number_nodes` says, a word with `@` a date, as `date_nodes` says, a word with `+` and
-//! a node `( .. )+` names, as `name_nodes` says, and each other word a text. It begins with what
-//! the text prints:
+//! | Words | Node |
+//! |---|---|
+//! | `( .. )` | a group of the nodes inside |
+//! | `( .. )?` | a choice (`choice_nodes`) |
+//! | `#..`, `&..` | a number, a label (`number_nodes`) |
+//! | `@..` | a date (`date_nodes`) |
+//! | `+..`, `( .. )+` | names (`name_nodes`) |
+//! | any other word | a text |
 //!
-//! | Word | Text of |
+//! A text begins with its target:
+//!
+//! | Word | Target |
 //! |---|---|
 //! | `'a` | the value `a` |
 //! | `title` | the variable of that name |
-//! | `%long`, `%longs` | the term of pages in the form of that name, for one and for several |
-//! | `%by` | a term that the style has not |
+//! | `%long`, `%longs` | the term of pages in the form of that name, singular and plural |
+//! | `%by` | a term that the style lacks |
 //! | `=a` | the macro `a` |
 //!
-//! Behind a text, behind the end of a group and before the nodes of a layout stand options, each
-//! behind a bar: `|<(` is the prefix `(`, `|>)` the suffix `)`, `|,;` the delimiter `;`, `|/`
-//! italics, `|*` bold, `|q` quotes, `|s` the stripping of periods, and `|b` a block. In all texts
-//! `~` says a blank.
+//! Options follow a text, a number, a label or the end of a group, and precede the nodes of a
+//! layout. Each begins with a bar: `|<(` is the prefix `(`, `|>)` the suffix `)`, `|,;` the
+//! delimiter `;`, `|/` italics, `|*` bold, `|q` quotes, `|s` strip-periods, and `|b` the display
+//! `block`. In all texts `~` is a space.
 
 use crate::choice_nodes::choice;
 use crate::date_nodes::date;
@@ -34,7 +39,7 @@ use std::alloc::{AllocError, Global};
 use std::mem;
 use std::test::Fail;
 
-/// The variable of a name.
+/// The variable with this name.
 pub(crate) fn variable_named(name: &str) -> Result<Variable, Fail> {
     match name {
         "title" => Ok(Variable::Standard(StandardVariable::Title)),
@@ -59,7 +64,7 @@ pub(crate) fn variable_named(name: &str) -> Result<Variable, Fail> {
     }
 }
 
-/// A form of a term by its name, and whether several are meant.
+/// The form of a term with this name, and whether the term is in the plural.
 pub(crate) fn form_named(name: &str) -> Result<(TermForm, bool), Fail> {
     match name {
         "long" => Ok((TermForm::Long, false)),
@@ -76,7 +81,7 @@ pub(crate) fn form_named(name: &str) -> Result<(TermForm, bool), Fail> {
     }
 }
 
-/// The text that a word describes.
+/// The text of a word, with a space for each `~`.
 pub(crate) fn read(alloc: Global, word: &str) -> Result<String, AllocError> {
     let mut text = String::new(alloc);
     for c in word.chars() {
@@ -92,12 +97,12 @@ pub(crate) fn alone<T: Drop>(alloc: Global, value: T) -> Result<Vec<T>, Memory> 
     Ok(values)
 }
 
-/// Puts a value behind the others.
+/// Appends a value.
 pub(crate) fn put<T: Drop>(values: &mut Vec<T>, value: T) -> Result<(), Memory> {
     Ok(values.push(value)?)
 }
 
-/// The value, where what was done before went well.
+/// Returns the value if the step before it succeeded, else the error of that step.
 pub(crate) fn after<T: Drop, E>(done: Result<(), E>, value: T) -> Result<T, E> {
     match done {
         Ok(()) => Ok(value),
@@ -105,7 +110,7 @@ pub(crate) fn after<T: Drop, E>(done: Result<(), E>, value: T) -> Result<T, E> {
     }
 }
 
-/// What stands behind a mark among the options.
+/// The first option that begins with the mark, without the mark.
 pub(crate) fn option<'w>(options: &'w str, mark: &str) -> Option<&'w str> {
     for option in options.split('|') {
         if let Some(text) = option.strip_prefix(mark) {
@@ -115,7 +120,7 @@ pub(crate) fn option<'w>(options: &'w str, mark: &str) -> Option<&'w str> {
     None
 }
 
-/// The text behind a mark among the options.
+/// The text of the first option that begins with the mark.
 pub(crate) fn text_of(
     alloc: Global,
     options: &str,
@@ -159,7 +164,7 @@ pub(crate) fn formatting(options: &str) -> Formatting {
     }
 }
 
-/// The place on the page among the options.
+/// The display among the options.
 pub(crate) fn display(options: &str) -> Option<Display> {
     match option(options, "b") {
         Some(_) => Some(Display::Block),
@@ -236,7 +241,7 @@ fn node(alloc: Global, word: &str) -> Result<LayoutRenderingElement, Fail> {
     text(alloc, word, options)
 }
 
-/// What ends with these options, with the branches of a choice, or with names.
+/// The node of these children: names if the end begins with `+`, a choice if with `?`, or a group.
 fn ended(
     alloc: Global,
     children: Vec<LayoutRenderingElement>,
@@ -284,7 +289,7 @@ pub(crate) fn nodes(alloc: Global, words: &str) -> Result<Vec<LayoutRenderingEle
     Ok(nodes)
 }
 
-/// The options of a layout, and its nodes: options begin with a bar.
+/// Splits the words of a layout into its options, which begin with a bar, and its nodes.
 fn split_options(words: &str) -> (&str, &str) {
     if !words.starts_with('|') {
         return ("", words);
@@ -292,7 +297,7 @@ fn split_options(words: &str) -> (&str, &str) {
     words.split_once(' ').unwrap_or((words, ""))
 }
 
-/// A layout of some words. Its own options stand before them.
+/// The layout that words describe. Its own options come first.
 pub(crate) fn layout(alloc: Global, words: &str) -> Result<Layout, Fail> {
     let (options, words) = split_options(words);
     let delimiter = text_of(alloc, options, ",")?;
@@ -303,7 +308,7 @@ pub(crate) fn layout(alloc: Global, words: &str) -> Result<Layout, Fail> {
     })
 }
 
-/// A layout of some words, or, behind `!`, their last node.
+/// The layout that words describe or, if they begin with `!`, only their last node.
 pub(crate) fn element(alloc: Global, words: &str) -> Result<RenderingElement, Fail> {
     match words.strip_prefix('!') {
         Some(words) => {

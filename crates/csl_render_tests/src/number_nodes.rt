@@ -1,8 +1,8 @@
-//! Numbers and labels from words.
+//! Parses numbers and labels from words.
 //!
-//! `#volume` is a number of that variable, and `#volume:roman` the same in that form. `&page` is a
-//! label of that variable, `&page:short` the same in that form, and `&page:short:always` the same
-//! in the plural whatever it stands beside.
+//! `#volume` is a number of that variable, and `#volume:roman` is one in that form. `&page` is a
+//! label of that variable, and `&page:short` is one in that form. `&volume:short:always` also sets
+//! `plural`, which is `contextual` otherwise.
 
 use crate::nodes::{affixes, display, form_named, formatting, option, variable_named};
 use csl_style::{
@@ -13,7 +13,7 @@ use lit_model::NumberForm;
 use std::alloc::Global;
 use std::test::Fail;
 
-/// The variable of a name, which holds a number or pages.
+/// The variable with this name, which holds a number or pages.
 fn counted_named(name: &str) -> Result<NumberOrPageVariable, Fail> {
     match variable_named(name)? {
         Variable::Number(variable) => Ok(NumberOrPageVariable::Number(variable)),
@@ -41,7 +41,7 @@ fn plural_named(name: &str) -> Result<LabelPluralize, Fail> {
     }
 }
 
-/// The number of a word and its options.
+/// The number that a word and its options describe.
 pub(crate) fn number(
     alloc: Global,
     word: &str,
@@ -59,7 +59,7 @@ pub(crate) fn number(
     }))
 }
 
-/// The label of a word and its options.
+/// The label that a word and its options describe.
 pub(crate) fn label(
     alloc: Global,
     word: &str,

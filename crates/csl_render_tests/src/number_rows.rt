@@ -7,54 +7,54 @@ use std::test::Fail;
 /// A label and a text of pages.
 const PAGES: &str = "( &page:short page )|,~";
 
-/// A label and the number of where the cite points.
+/// A label and a number of the locator.
 const PLACE: &str = "( &locator #locator )|,~";
 
 /// Rows of numbers and labels, with the plain text of each.
 static PLAIN: [Row; 50] = [
-    // A minimal format keeps of the end of a range what differs from its start, and one digit.
+    // The minimal format drops the front of an end that repeats the start, but not the last digit.
     ("page", "pages 321-328 @ minimal", "321–8"),
     ("page", "pages 42-5 @ minimal", "42–5"),
     ("page", "pages 99-101 @ minimal", "99–101"),
     ("page", "pages 33-33 @ minimal", "33–3"),
-    // Ends with letters stay as they are.
+    // Ends with letters stay unchanged.
     ("page", "pages A1-A3 @ minimal", "A1–A3"),
     ("page", "pages A321-328 @ minimal", "A321–328"),
     ("page", "pages 'i-iv @ minimal", "i–iv"),
-    // The other one keeps two digits, where there are two.
+    // The format minimal-two keeps two digits, if there are two.
     ("page", "pages 321-328 @ minimal-two", "321–28"),
     ("page", "pages 42-5 @ minimal-two", "42–45"),
     ("page", "pages 3-3 @ minimal-two", "3–3"),
-    // An expanded one fills the end. It is that of a style that says nothing.
+    // The expanded format completes the end. It is the same in a style that sets no format.
     ("page", "pages 42-5 @ expanded", "42–45"),
     ("page", "pages 321-8, 5 & 7 @ expanded", "321–328, 5 & 7"),
     ("page", "pages 42-5", "42–45"),
-    // An escaped range is written in full.
+    // An escaped range is completed, but never shortened.
     ("page", "pages \\42-5 @ minimal", "42–45"),
-    // A label stands beside pages that are there.
+    // A label of pages prints if the pages are found.
     (PAGES, "pages 454-477", "pp. 454–477"),
     (PAGES, "book", ""),
     ("&page:short", "pages 7", "p."),
     ("&page:short:never", "pages 7", "p."),
-    // Beside pages it is in the plural by the pages alone.
+    // A label of pages is in the plural if the pages are, whatever its `plural` is.
     ("&page:short", "pages 7-8", "pp."),
     ("&page:short:never", "pages 7-8", "pp."),
     ("&volume:short", "volume 20", "vol."),
     ("&volume:short:always", "volume 20", "vols."),
     ("&volume:short", "book", ""),
-    // A number keeps the hyphens of a text in the place of pages.
+    // A number keeps the hyphens of a text in place of pages.
     ("#page", "pages 'i-iv", "i-iv"),
     ("#page", "pages 321-328", "321–328"),
     ("#edition:ordinal", "edition 2", "2nd"),
     ("#edition:ordinal", "edition 11", "11th"),
     ("#edition:ordinal", "edition 1-2, 4", "1th-2nd, 4th"),
-    // An ordinal has the gender of what its variable is called.
+    // An ordinal has the gender of its variable's term.
     ("#edition:ordinal", "edition 3", "3ra"),
     ("#volume:ordinal", "volume 3", "3th"),
-    // Words are for some numbers alone.
+    // Only some numbers have a word for a long ordinal.
     ("#edition:long-ordinal", "edition 2", "second"),
     ("#edition:long-ordinal", "edition 11", "11th"),
-    // A number with a text at its side does not change, nor does a text in a number's place.
+    // A number with a suffix stays unchanged, and so does a text in place of a number.
     ("#edition:roman", "edition 2nd", "2nd"),
     ("#edition:roman", "edition '2nd", "2nd"),
     ("#edition:roman", "edition 1994", "mcmxciv"),
@@ -63,17 +63,17 @@ static PLAIN: [Row; 50] = [
     ("#edition", "edition 2", "2"),
     ("#edition", "book", ""),
     ("edition", "edition 2", "2"),
-    // A custom locator has no term, and one of pages has not that of the pages.
+    // A custom locator has no term. The term of a page locator is not that of the variable `page`.
     (PLACE, "book @ custom:x", "x"),
     (PLACE, "book @ page:7", "7"),
     (PLACE, "book @ chapter:3", "chap 3"),
     (PLACE, "book @ chapter:3-4", "chaps 3-4"),
     (PLACE, "book", ""),
-    // A locator without a text is one.
+    // An empty locator counts as found.
     ("( 'x #locator )", "book @ chapter:", "x"),
-    // A label stands in the singular beside what the caller writes.
+    // A label of a locator that the caller writes is in the singular.
     ("&locator", "book @ chapter:*", "chap"),
-    // Affixes stand round what is there.
+    // Affixes print only around a variable that is found.
     ("#volume|<(|>)", "volume 20", "(20)"),
     ("#volume|<(|>)", "book", ""),
     ("&volume:short|s|>:", "volume 20", "vol:"),
@@ -88,11 +88,11 @@ static TREES: [Row; 10] = [
     ("volume", "volume 20", "[ 20 ]:text"),
     ("#volume|/", "volume 20", "[ /20 ]:number"),
     ("&volume:short", "volume 20", "[ vol. ]:label"),
-    // What is sorted is one text without an element, and a number has four places.
+    // A sort key is one text without an element: a number in four places or more, or pages in full.
     ("#volume|/", "volume 20 @ sorted", "0020"),
     ("#page", "pages 321-328 @ sorted", "321-328"),
     ("#volume", "volume 20 @ sorted after:k", "k0020"),
-    // What the caller writes has a place.
+    // A locator that the caller writes has a place in the tree.
     ("#locator", "book @ chapter:*", "[ #0 ]:number"),
     ("locator", "book @ chapter:*", "[ #0 ]:text"),
 ];
@@ -112,7 +112,8 @@ static FORMS: [Row; 8] = [
         "volume 20; edition 2; pages 7 @ chapter:3 no-author",
         "20 2 7 vol. p. 3 chap",
     ),
-    // A label stays, but not beside a number that is shown alone and is another.
+    // If a number variable is shown alone, the labels of other variables are left out. If another
+    // variable is shown alone, all labels stay.
     (
         EACH,
         "volume 20; edition 2; pages 7 @ chapter:3 only:volume",
@@ -128,7 +129,7 @@ static FORMS: [Row; 8] = [
         "volume 20; edition 2; pages 7 @ chapter:3 only:locator",
         "3 chap",
     ),
-    // Of numbers these two show the locator alone.
+    // The forms for first date and year suffix show no number but the locator. All labels stay.
     (
         EACH,
         "volume 20; edition 2; pages 7 @ chapter:3 first-date",
@@ -139,7 +140,7 @@ static FORMS: [Row; 8] = [
         "volume 20; edition 2; pages 7 @ chapter:3 suffix-alone",
         "vol. p. 3 chap",
     ),
-    // There a label counts as printed though its number is not there: its delimiter stands.
+    // Under these forms a label counts as printed even without its number: it takes a delimiter.
     (
         "( #locator &volume:short )|,~",
         "book @ chapter:3 first-date",
@@ -152,15 +153,15 @@ static DRY: [Row; 9] = [
     ("volume", "volume 20", " prints called non-empty shows"),
     ("volume", "book", " called"),
     ("#volume", "volume 20", " prints called non-empty shows"),
-    // A number shows its variable though it finds none.
+    // A number shows its variable even if it does not find it.
     ("#volume", "book", " called shows"),
     ("#edition", "edition 2", " prints called non-empty"),
     // A label calls and shows no variable.
     ("&volume:short", "volume 20", " prints"),
     ("&volume:short", "book", ""),
-    // An empty term is one.
+    // An empty term counts as a term.
     ("&locator", "book @ section:3", " prints"),
-    // Where the first date alone is shown a locator shows whatever is asked for.
+    // If only the first date is shown, a number of the locator shows any variable.
     ("#locator", "book @ first-date", " called shows"),
 ];
 

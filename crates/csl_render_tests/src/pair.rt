@@ -1,5 +1,5 @@
-//! The tests of pairs: a layout, two entries, whether they answer alike all that it names, and the
-//! HTML of both.
+//! The tests of pairs: a layout, two entries, whether they answer alike on all that the layout
+//! names, and the HTML of both.
 
 use crate::answered::Asked;
 use crate::cited::{Question, Source, say_for_entry};
@@ -15,14 +15,14 @@ use std::alloc::Global;
 use std::process::Abort;
 use std::test::Fail;
 
-/// A layout, two entries, and what is answered of them.
+/// A layout, two entries, and the expected result.
 type Row = (&'static str, &'static str, &'static str, &'static str);
 
 /// Two built-in entries.
 static ENTRIES: [Row; 20] = [
     ("title", "book; title T", "article; title T", "alike: T, T"),
     ("title", "title T", "title U", "not alike: T, U"),
-    // Each form counts, though the style asks for the long one alone.
+    // Each form of a title counts, even if the style uses only the long one.
     ("title", "title T|S", "title T|U", "not alike: T, T"),
     ("title", "title T", "title T|S", "not alike: T, T"),
     (
@@ -31,7 +31,7 @@ static ENTRIES: [Row; 20] = [
         "book; title T|S; volume 9",
         "alike: T, T",
     ),
-    // What is not named does not count.
+    // A variable or kind that the layout does not name does not count.
     ("", "title T", "article; title U", "alike: , "),
     (
         "'v %long",
@@ -45,14 +45,14 @@ static ENTRIES: [Row; 20] = [
         "title T",
         "alike: T, T",
     ),
-    // Nor does what the citation answers.
+    // A variable that the citation answers does not count.
     (
         "#citation-number suffix",
         "title T",
         "volume 9",
         "alike: 1, 1",
     ),
-    // A macro names what its nodes do.
+    // A macro names the variables of its nodes.
     ("=both", "title T; volume 9", "title T", "alike: wT, wT"),
     ("=both", "title T", "title U", "not alike: wT, wU"),
     ("=absent", "title T", "title U", "alike: , "),
@@ -61,7 +61,7 @@ static ENTRIES: [Row; 20] = [
     ("#volume", "volume 9", "volume 10", "not alike: 9, 10"),
     ("#volume", "volume 9", "volume '9", "not alike: 9, 9"),
     ("&page", "pages 7-8", "pages 7-9", "not alike: pages, pages"),
-    // Each branch is named, and its tests are, chosen or not.
+    // A choice names the variables and kinds of all its branches and tests, taken or not.
     (
         "( ( 'A ) ( 'B ) )?all:type=book",
         "book; title T",
@@ -88,7 +88,7 @@ static ENTRIES: [Row; 20] = [
     ),
 ];
 
-/// Two built-in entries and their names and dates.
+/// Two built-in entries with names and dates.
 static NAMES: [Row; 9] = [
     (
         "+author:name=short",
@@ -120,7 +120,7 @@ static NAMES: [Row; 9] = [
         "author Kwan; date 2014/4",
         "not alike: (Kwan, 2014), (Kwan, 2014)",
     ),
-    // Each substitute is named, also one that is not tried.
+    // The variables of each substitute are named, tried or not.
     (
         "( +editor title )+author:name=short",
         "author Kwan; editor Warren; title T",
@@ -147,7 +147,7 @@ static NAMES: [Row; 9] = [
     ),
 ];
 
-/// A built-in entry, and a work of another type that answers one text.
+/// A built-in entry, and a work of another type that answers one variable.
 static WORKS: [Row; 7] = [
     (
         "title",
@@ -176,9 +176,9 @@ static WORKS: [Row; 7] = [
 const ITALIC: &str = "alike: <span style=\"font-style: italic;\">T</span>, \
                       <span style=\"font-style: italic;\">T</span>";
 
-/// Pairs that begin with a state in which looks for printing suppress their variable.
+/// Pairs that begin with a state in which lookups for printing suppress their variable.
 static SUPPRESSING: [Row; 2] = [
-    // The second one begins where the first one did, and not where it ended.
+    // Both renderings begin with the same state.
     ("title title", "title T", "title T", "alike: T, T"),
     ("title title", "title T", "title U", "not alike: T, U"),
 ];
@@ -189,7 +189,8 @@ static SUPPRESSED: [Row; 2] = [
     ("title", "title T", "title U", "not alike: , "),
 ];
 
-/// A state in which looks for printing suppress their variable, and the title is suppressed, if so.
+/// A state. If `suppressing`, lookups for printing suppress their variable. If `suppressed`, the
+/// title is suppressed.
 fn begun(alloc: Global, suppressing: bool, suppressed: bool) -> Result<LeftState, Fail> {
     let mut start = LeftState::new(alloc);
     start.suppressing = suppressing;
@@ -205,7 +206,7 @@ fn suppress_title(start: &mut LeftState) -> Result<(), Fail> {
     Ok(())
 }
 
-/// What is asked of a layout and of another entry beside that of the scene.
+/// A question about the pair of the scene's entry and another one.
 #[derive(Drop)]
 struct Beside<'q, U> {
     start: &'q LeftState,
@@ -248,14 +249,14 @@ fn paired<T: EntryLike, U: EntryLike>(
     )
 }
 
-/// Says whether both are alike, and the HTML of both.
+/// Appends whether both entries are alike, and the HTML of both.
 pub(crate) fn say_pair(pair: &Pair, said: &mut String) -> Result<(), Fail> {
     let alike = if pair.alike { "alike" } else { "not alike" };
     let (left, right) = (pair.left_html.as_str(), pair.right_html.as_str());
     Ok(write!(said, "{alike}: {left}, {right}")?)
 }
 
-/// Says the answer for the first entry of the row and this one.
+/// Appends the result for the first entry of the row and this one.
 fn say_beside<U: EntryLike>(
     alloc: Global,
     start: &LeftState,
@@ -271,7 +272,7 @@ fn say_beside<U: EntryLike>(
     say_for_entry(&question, &Beside { start, right }, row.1, said)
 }
 
-/// Says the answer for two entries.
+/// Appends the result for two built-in entries.
 fn say_entries(alloc: Global, start: &LeftState, row: &Row, said: &mut String) -> Result<(), Fail> {
     let works = entries(alloc, row.2)?;
     match works.first() {
@@ -280,13 +281,13 @@ fn say_entries(alloc: Global, start: &LeftState, row: &Row, said: &mut String) -
     }
 }
 
-/// Says the answer for an entry and a work.
+/// Appends the result for a built-in entry and a work.
 fn say_work(alloc: Global, start: &LeftState, row: &Row, said: &mut String) -> Result<(), Fail> {
     let work = described(alloc, row.2)?;
     say_beside(alloc, start, row, &work, said)
 }
 
-/// What the layout answers of the two of the row, of which the second one is so described.
+/// The result for the two entries of the row. `right` is the type of the second one.
 fn answered(alloc: Global, start: &LeftState, right: Source, row: &Row) -> Result<String, Fail> {
     let mut said = String::new(alloc);
     match right {
@@ -296,7 +297,7 @@ fn answered(alloc: Global, start: &LeftState, right: Source, row: &Row) -> Resul
     Ok(said)
 }
 
-/// Asserts what each row says of an entry and another one that is so described.
+/// Asserts the result of each row. `right` is the type of the second entry.
 fn assert_pairs(
     rt: &impl Abort,
     alloc: Global,
@@ -323,7 +324,7 @@ fn assert_pair(
     Ok(())
 }
 
-/// Asserts what each row says, of pairs that begin in such a state.
+/// Asserts the result of each row, for pairs that begin with such a state.
 fn assert_begun(
     rt: &impl Abort,
     alloc: Global,

@@ -1,11 +1,11 @@
-//! What a context answers once it was refused memory.
+//! Checks that a context stays failed after an error.
 
 use csl_context::{Context, RenderError};
 use csl_entry::EntryLike;
 use csl_render::RenderCsl;
 use csl_style::RenderingElement;
 
-/// Whether a call answered that the context had failed before.
+/// Whether a call returned that the context had failed already.
 fn says_so(error: Option<RenderError>) -> bool {
     match error {
         Some(RenderError::Failed) => true,
@@ -13,8 +13,8 @@ fn says_so(error: Option<RenderError>) -> bool {
     }
 }
 
-/// What a call of the context answered, where the context answers from then on that it has failed.
-/// Where it does not, the answer is that it had failed before.
+/// Returns the error of a call if the context stays failed: it reports so, and a dry run, rendering
+/// and writing each return [`RenderError::Failed`]. Otherwise returns [`RenderError::Failed`].
 pub(crate) fn refused<'s, T: EntryLike>(
     ctx: &mut Context<'s, T>,
     element: &'s RenderingElement,

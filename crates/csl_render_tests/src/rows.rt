@@ -1,4 +1,4 @@
-//! The tests: some nodes, the cite, and what these answer.
+//! The tests of texts, groups and layouts: content, state, dry runs and errors.
 
 use crate::answered::Sought;
 use crate::cited::{Row, Source, answered, assert_described, assert_text};
@@ -8,13 +8,13 @@ use std::alloc::Global;
 use std::process::Abort;
 use std::test::Fail;
 
-/// The title of its entry is `T`.
+/// A work with the title `T`.
 const TITLED: &str = "title T";
 
 /// A titled work, cited with the year suffix `a`.
 const SUFFIXED: &str = "title T @ letter:0";
 
-/// A titled work, cited with the year suffix `a`, of which only the title is shown.
+/// A titled work, cited with the year suffix `a`. Only the title is shown.
 const TITLE_ALONE: &str = "title T @ letter:0 only:title";
 
 const GENRE_ALONE: &str = "title T @ letter:0 only:genre";
@@ -36,7 +36,7 @@ static TEXTS: [Row; 30] = [
     ("title", TITLED, "[ T ]:text"),
     ("!title", TITLED, "[ T ]:text"),
     ("label", "label L", "[ L ]:citation-label"),
-    // Affixes stand inside a text's own formatting, and nothing stands around nothing.
+    // Affixes are inside a text's own formatting. Nothing prints around a text without content.
     ("title|<(|>)|/|b", TITLED, "[ /(T) ]block:text"),
     ("title|<(|>)|b", "title ", ""),
     ("genre|<(|>)", TITLED, ""),
@@ -44,9 +44,9 @@ static TEXTS: [Row; 30] = [
     ("|/ 'a|* 'b", TITLED, "[ /*a ] [ /b ]"),
     // The work answers none of these variables.
     ("volume page author issued", TITLED, ""),
-    // Verbatim pieces keep their periods, mathematics is markup.
+    // Verbatim pieces keep their periods. Mathematics is markup.
     ("title|s", "title a.+`b.+$c.", "[ ab. $c. ]:text"),
-    // A term in each form, for one and for several.
+    // A term in each form, in the singular and in the plural.
     ("%long %longs", TITLED, "[ page ] [ pages ]"),
     ("%short %shorts", TITLED, "[ p. ] [ pp. ]"),
     ("%symbol %symbols", TITLED, "[ ¶ ] [ ¶¶ ]"),
@@ -57,7 +57,8 @@ static TEXTS: [Row; 30] = [
     ("=absent|<(", TITLED, ""),
     ("=both|<{|>}", TITLED, "[ { [ w ] [ T ]:text } ]"),
     ("=genre|<{|>}", TITLED, ""),
-    // Identifiers link to an address. The node's prefix that begins it begins the text.
+    // Identifiers link to an address. The node's prefix is outside the link, unless it is the
+    // prefix of the address.
     (
         "doi|<doi:",
         IDENTIFIED,
@@ -77,9 +78,9 @@ static TEXTS: [Row; 30] = [
     // Groups.
     ("( 'x genre )|<(|>)", TITLED, ""),
     ("( genre ( 'v ) )", TITLED, "[ [ [ [ [ v ] ] ] ] ]"),
-    // A macro forgets that a group in it prints.
+    // A macro does not count a group that prints in it.
     ("=group", TITLED, ""),
-    // An empty delimiter is one.
+    // An empty delimiter counts as a delimiter.
     ("( 'A 'B )|,", TITLED, "[ [ [ A ] ] [ [ [ B ] ] ] ]"),
     ("( 'A 'B )", TITLED, "[ [ [ A ] ] [ [ B ] ] ]"),
     (
@@ -89,13 +90,13 @@ static TEXTS: [Row; 30] = [
     ),
 ];
 
-/// Texts of each target: two variables, a term, a value, and macros of such texts in affixes.
+/// Texts of each target: two variables, a term, a value, and two macros of such texts, in affixes.
 const EACH: &str = "title suffix %long 'v =both|<{|>} =suffix|<{|>}";
 
 const ALL_OF_EACH: &str = "[ T ]:text [ a ]:text [ page ] [ v ] \
                            [ { [ w ] [ T ]:text } ] [ { [ a ]:text } ]";
 
-/// The trees in each special form.
+/// The trees of these texts in each special form.
 static FORMS: [Row; 7] = [
     (EACH, SUFFIXED, ALL_OF_EACH),
     (EACH, NO_AUTHOR, ALL_OF_EACH),
@@ -114,18 +115,18 @@ static PLAIN: [Row; 15] = [
     ("'a.b|s|>.", TITLED, "ab."),
     ("( 'x genre )|<(|>)|,~", TITLED, ""),
     ("( 'x genre =y )|<(|>)|,~", TITLED, "(x y)"),
-    // The comma or period of the suffix goes before the closing quote, where there are quotes.
+    // A comma or period of the suffix moves before the closing quote, if there are quotes.
     ("'A|q|>,~", TITLED, "“A,” "),
     ("'A|q|>:~", TITLED, "“A”: "),
     ("'|q|>,~", TITLED, ""),
     ("=quoted|q", TITLED, "“‘B’”"),
-    // Periods are stripped from the body alone, where the text itself says so. From the affixes and
-    // what is moved they are where a macro around them says so.
+    // A text's own strip-periods applies to its body alone. That of a macro around it also applies
+    // to the text's affixes and to moved punctuation.
     ("'a.b|q|s|>.", TITLED, "“ab.”"),
     ("=stopped", TITLED, "“a.”,"),
     ("=stopped|s", TITLED, "“a”,"),
-    // A link whose prefix begins its address prints that prefix, though the answer is empty. To a
-    // group an empty answer is none.
+    // A link whose prefix is that of its address prints this prefix even if the answer is empty.
+    // For a group an empty answer counts as none.
     ("doi", "doi ", ""),
     ("doi|<https://doi.org/", "doi ", "https://doi.org/"),
     ("( doi|<https://doi.org/ )", "doi ", ""),
@@ -149,17 +150,17 @@ static HTML: [Row; 3] = [
     ),
 ];
 
-/// What is made behind a text `a`, while looks for printing suppress their variable.
+/// Content and state after a text `a`, while lookups for printing suppress their variable.
 static BEHIND: [Row; 4] = [
     ("'b", TITLED, "a [ b ] suppressing"),
     ("", TITLED, "a suppressing"),
-    // What was printed once answers nothing, and takes no delimiter.
+    // A variable that was printed once has no answer any more, and takes no delimiter.
     (
         "( title title 'v title )|,;",
         TITLED,
         "a [ [ [ T ]:text ] [ ; [ [ v ] ] ] ] suppressed {Standard(Title)} suppressing",
     ),
-    // A look that finds nothing suppresses as well.
+    // A lookup that finds nothing suppresses its variable too.
     (
         "genre",
         TITLED,
@@ -167,7 +168,7 @@ static BEHIND: [Row; 4] = [
     ),
 ];
 
-/// What is made so, and what is made again from what was left.
+/// Content and state after a text `a`, and both again from the state that was left, without `a`.
 static TWICE: [Row; 2] = [
     (
         "title",
@@ -178,7 +179,7 @@ static TWICE: [Row; 2] = [
     ("'v", TITLED, "a [ v ] suppressing; then [ v ] suppressing"),
 ];
 
-/// What is said in dry runs, which leave the context as it was.
+/// Content and state, which a dry run leaves unchanged, and then the dry run.
 static DRY: [Row; 24] = [
     ("", TITLED, "a suppressing;"),
     (
@@ -195,7 +196,7 @@ static DRY: [Row; 24] = [
     ("genre", TITLED, "a suppressing; called"),
     ("title", GENRE_ALONE, "a suppressing; called"),
     ("title", FIRST_DATE, "a suppressing; called"),
-    // The year suffix is called only where it is found.
+    // The year suffix is called only if it is found.
     ("suffix", TITLED, "a suppressing;"),
     ("suffix", SUFFIXED, "a suppressing; prints called non-empty"),
     ("volume", TITLED, "a suppressing; called"),
@@ -233,8 +234,8 @@ static DRY: [Row; 24] = [
     ),
 ];
 
-/// What is answered where the entry has no memory for an answer: the first call says so, the next
-/// one that the context has failed.
+/// The result if the entry runs out of memory: the first call returns `Memory`, the next one
+/// `Failed`.
 const NO_MEMORY: &str = "(Some(Memory), Some(Failed), true) (Some(Memory), Some(Failed), true)";
 
 const NO_ERROR: &str = "(None, None, false) (None, None, false)";
@@ -244,12 +245,12 @@ static ERRORS: [Row; 4] = [
     ("( 'v title genre )", TITLED, NO_ERROR),
     ("'v unanswered", TITLED, NO_MEMORY),
     ("( 'v ( unanswered ) )", TITLED, NO_MEMORY),
-    // What is not shown is not asked for.
+    // A variable that the cite does not show is not looked up.
     ("( 'v ( unanswered ) )", TITLE_ALONE, NO_ERROR),
 ];
 
-/// What is said of each cite whose nodes stand behind a text, where looks for printing suppress
-/// their variable.
+/// Settings of a cite whose nodes come after a text `a`, while lookups for printing suppress their
+/// variable.
 const BEGUN: &str = "after:a suppressing";
 
 #[test]
@@ -268,7 +269,7 @@ fn nodes_leave_a_state_and_dry_runs_leave_all_as_it_was(rt: HostRuntime) -> Resu
     assert_described(&rt, rt.alloc(), "", Sought::Errors, &ERRORS)
 }
 
-/// A value in a hundred groups, one in another.
+/// The words of a value in a hundred nested groups.
 fn deep(alloc: Global) -> Result<String, Memory> {
     let mut words = String::new(alloc);
     for _ in 0..100 {
@@ -294,7 +295,7 @@ fn plain_deep(alloc: Global) -> Result<String, Fail> {
     )
 }
 
-/// What two nodes note, and whether a group whose parts note this is to be shown.
+/// The usage flags of a parent and of a child, and whether a group with both together prints.
 type GroupRow = (UsageInfo, UsageInfo, bool);
 
 const CALLED: UsageInfo = UsageInfo {

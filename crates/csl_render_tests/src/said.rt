@@ -1,18 +1,17 @@
-//! What was rendered, in words, with one space between them.
+//! Describes a content and a state in words, with one space between them.
 //!
-//! | Word | What was written |
+//! | Word | Content |
 //! |---|---|
 //! | `a` | the text `a` |
 //! | `/a`, `*a` | the text `a` in italics, in bold |
 //! | `$a` | the markup `a` |
-//! | `@a\|b` | a link from what `a` says to the address `b` |
-//! | `#3` | the place of the citation 3 |
-//! | `[ a ]` | an element around what `a` says |
+//! | `@a\|b` | a link with the text of `a`, to the address `b` |
+//! | `#3` | the place that the caller fills for the cite of index 3 |
+//! | `[ a ]` | an element around the content of `a` |
 //!
-//! In a text `~` says a blank. Behind the end of an element stand its display and its meta:
-//! `]block`, `]:date`, `]block:date`. Behind it all stands what was left, as far as it is not as in
-//! the beginning: ` suppressed {..}`, `suppressing`, `dated`, and `named` with the forms of names
-//! that are kept.
+//! In a text `~` is a space. The display and the meta of an element follow its end: `]block`,
+//! `]:date`, `]block:date`. The state comes last, as far as it differs from the initial one:
+//! `suppressed {..}`, `suppressing`, `dated`, and `named` with the kept forms of names.
 
 use crate::name_forms::say_forms;
 use csl_context::{LeftState, Rendered};
@@ -29,7 +28,7 @@ fn say_text(text: &str, said: &mut String) -> Result<(), Memory> {
     Ok(())
 }
 
-/// The marks that describe a formatting.
+/// The marks of a formatting.
 fn marks(formatting: Formatting) -> &'static str {
     match (formatting.font_style, formatting.font_weight) {
         (FontStyle::Italic, FontWeight::Bold) => "/*",
@@ -39,7 +38,7 @@ fn marks(formatting: Formatting) -> &'static str {
     }
 }
 
-/// Says a text in its formatting.
+/// Appends a text after the marks of its formatting.
 fn say_formatted(text: &Formatted, said: &mut String) -> Result<(), Memory> {
     said.push_str(marks(text.formatting))?;
     say_text(text.text.as_str(), said)
@@ -54,7 +53,7 @@ fn end_of(display: Option<Display>) -> &'static str {
     }
 }
 
-/// The word for the node that made an element.
+/// The word for the meta of an element.
 fn meta_of(meta: &Option<ElemMeta>) -> &'static str {
     match meta {
         None => "",
@@ -70,7 +69,7 @@ fn meta_of(meta: &Option<ElemMeta>) -> &'static str {
     }
 }
 
-/// Begins a word: a blank stands between two.
+/// Begins a word, with a space if it is not the first.
 fn begin_word(said: &mut String) -> Result<(), Memory> {
     if !said.is_empty() {
         said.push(' ')?;
@@ -107,7 +106,7 @@ fn say_child(child: &ElemChild, said: &mut String) -> Result<(), Memory> {
     }
 }
 
-/// Says children, each in a word.
+/// Appends the description of each child.
 #[cycle(say)]
 fn say_children(children: &ElemChildren, said: &mut String) -> Result<(), Memory> {
     for child in &children.0 {
@@ -138,7 +137,7 @@ fn say_state(state: &LeftState, said: &mut String) -> Result<(), Fail> {
     Ok(())
 }
 
-/// Says what was rendered and left.
+/// Appends the description of the content and the state of a rendering.
 pub(crate) fn say(rendered: &Rendered, said: &mut String) -> Result<(), Fail> {
     say_children(&rendered.content, said)?;
     say_state(&rendered.state, said)

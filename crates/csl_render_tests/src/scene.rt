@@ -1,5 +1,5 @@
-//! What contexts are made of, and what nodes make and say in them. Where a context is refused
-//! memory, another one goes on.
+//! Scenes: the inputs of contexts, and the calls of nodes in them. If a context runs out of memory,
+//! `render` and `run_dry` repeat the call once in another one.
 
 ghost use Rattle.std.specs.Prelude.{◌≡◌, [], OnOk, IfOk};
 
@@ -12,7 +12,7 @@ use csl_style::{RenderingElement, Style, Variable};
 use lit_model::Memory;
 use std::alloc::Global;
 
-/// What contexts are made of, and what is rendered in them.
+/// The inputs of a context, and the element that it renders.
 #[derive(Drop)]
 pub(crate) struct Scene<'s, T> {
     pub(crate) alloc: Global,
@@ -22,7 +22,7 @@ pub(crate) struct Scene<'s, T> {
     pub(crate) element: &'s RenderingElement,
 }
 
-/// A context of the cite, which begins with what another one left, if so.
+/// A new context of the cite. It begins with the state that another one left, if there is one.
 pub(crate) fn context<'s, T: EntryLike>(
     scene: &Scene<'s, T>,
     left: Option<&LeftState>,
@@ -40,7 +40,8 @@ pub(crate) fn context<'s, T: EntryLike>(
     }
 }
 
-/// Writes the text that a setting has before the nodes.
+/// Writes the text before the nodes. If set, a date then counts as rendered, and lookups for
+/// printing suppress their variable.
 fn begin<T: EntryLike>(ctx: &mut Context<'_, T>, setting: &Setting) -> Result<(), RenderError>
     ensures { OnOk result (ctx.new.outer ≡ ctx.old.outer) }
 {
@@ -54,7 +55,7 @@ fn begin<T: EntryLike>(ctx: &mut Context<'_, T>, setting: &Setting) -> Result<()
     Ok(())
 }
 
-/// Renders, in a new context behind what was written before.
+/// Renders the element. In a new context [`begin`] comes first.
 fn write<'s, T: EntryLike>(
     ctx: &mut Context<'s, T>,
     scene: &Scene<'s, T>,
@@ -68,7 +69,7 @@ fn write<'s, T: EntryLike>(
     scene.element.render(ctx)
 }
 
-/// The content and the state that a context makes.
+/// Renders the element in one context.
 fn made<'s, T: EntryLike>(
     scene: &Scene<'s, T>,
     left: Option<&LeftState>,
@@ -84,12 +85,12 @@ fn made<'s, T: EntryLike>(
     }
 }
 
-/// What is made in a new context, or in one that begins with what another one left. Where a
-/// context is refused memory, another one makes it.
+/// Renders the element in a new context, or in one that begins with the state that another one
+/// left. If the context runs out of memory, renders once more in another one.
 ///
 /// # Errors
-/// [`RenderError::Memory`]: the other one was refused it as well.
-/// [`RenderError::Failed`]: a refusal was forgotten.
+/// [`RenderError::Memory`]: out of memory in the second context too.
+/// [`RenderError::Failed`]: a context did not return an error at once, or did not stay failed.
 pub(crate) fn render<'s, T: EntryLike>(
     scene: &Scene<'s, T>,
     left: Option<&LeftState>,
@@ -101,7 +102,7 @@ pub(crate) fn render<'s, T: EntryLike>(
     }
 }
 
-/// What dry runs say, and whether a variable would be shown.
+/// The result of a dry run, and whether the element shows a variable.
 #[derive(Clone, Copy)]
 pub(crate) struct DryRun {
     pub(crate) prints: bool,
@@ -109,7 +110,7 @@ pub(crate) struct DryRun {
     pub(crate) shows: bool,
 }
 
-/// What dry runs say behind what was written before.
+/// The dry run of the element after [`begin`], and whether it shows the variable.
 fn ask<'s, T: EntryLike>(
     ctx: &mut Context<'s, T>,
     scene: &Scene<'s, T>,
@@ -127,7 +128,7 @@ fn ask<'s, T: EntryLike>(
     })
 }
 
-/// What dry runs say, and what they leave, in a new context.
+/// The dry run of the element in one new context, and the content and the state after it.
 fn told<'s, T: EntryLike>(
     scene: &Scene<'s, T>,
     variable: Variable,
@@ -143,8 +144,8 @@ fn told<'s, T: EntryLike>(
     }
 }
 
-/// The dry run of nodes, whether they would show a variable, and the state after it. If a context
-/// is refused memory, another one is asked.
+/// The dry run of the element, whether it shows the variable, and the content and the state after
+/// both. If the context runs out of memory, runs once more in another one.
 ///
 /// # Errors
 /// As [`render`].
@@ -159,7 +160,7 @@ pub(crate) fn run_dry<'s, T: EntryLike>(
     }
 }
 
-/// What two calls answered where they failed, and whether the context has failed then.
+/// The errors of two calls, and whether the context has failed after them.
 #[derive(Clone, Copy)]
 pub(crate) struct Refusals {
     pub(crate) first: Option<RenderError>,
@@ -167,7 +168,7 @@ pub(crate) struct Refusals {
     pub(crate) has_failed: bool,
 }
 
-/// The refusals of rendering and of a dry run behind it.
+/// The errors of rendering, and of a dry run after it.
 pub(crate) fn render_first<'s, T: EntryLike>(
     scene: &Scene<'s, T>,
 ) -> Result<Refusals, RenderError> {
@@ -183,7 +184,7 @@ pub(crate) fn render_first<'s, T: EntryLike>(
     })
 }
 
-/// The refusals of a dry run and of rendering behind it.
+/// The errors of a dry run, and of rendering after it.
 pub(crate) fn ask_first<'s, T: EntryLike>(scene: &Scene<'s, T>) -> Result<Refusals, RenderError> {
     let mut ctx = context(scene, None)?;
     let first = scene.element.will_have_info(&mut ctx).err();

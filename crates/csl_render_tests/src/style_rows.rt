@@ -1,5 +1,5 @@
-//! The tests of styles: the layouts of a style, an entry with what its citation says, and what the
-//! style makes of its cite, of its entry in the bibliography, and of it beside another entry.
+//! The tests of styles: the layouts of a style, an entry with the settings of its citation, and the
+//! expected cite, bibliography entry, and pair with another entry.
 
 use crate::entries::{SILENT, Setting, entries, properties, set_all};
 use crate::made::style;
@@ -14,7 +14,7 @@ use std::alloc::Global;
 use std::process::Abort;
 use std::test::Fail;
 
-/// Says what a style makes of a cite.
+/// Appends the cite of an entry.
 fn say_cite<T: EntryLike>(
     alloc: Global,
     style: &Style,
@@ -28,7 +28,7 @@ fn say_cite<T: EntryLike>(
     answer
 }
 
-/// Says what a style makes of an entry in its bibliography, or that it has none.
+/// Appends the bibliography entry of an entry, or that the style has no bibliography.
 fn say_bibliography_entry<T: EntryLike>(
     alloc: Global,
     style: &Style,
@@ -46,19 +46,19 @@ fn say_bibliography_entry<T: EntryLike>(
     }
 }
 
-/// What is said where a style has no bibliography.
+/// The result if a style has no bibliography.
 const NONE: &str = "no bibliography";
 
-/// What is asked of a style.
+/// A question about an entry in a style.
 #[derive(Clone, Copy)]
 enum Sought<'q> {
     Cite,
     BibliographyEntry,
-    /// The cite beside that of a work.
+    /// The pair of the cite and that of a work.
     Pair(&'q Work),
 }
 
-/// Says what a style makes of an entry.
+/// Appends the result for an entry.
 fn say_of_entry(
     alloc: Global,
     style: &Style,
@@ -79,7 +79,7 @@ fn say_of_entry(
     }
 }
 
-/// Says what a style makes of the first of some entries, of which the setting says the rest.
+/// Appends the result for the first of the entries, cited with this setting.
 fn say_in_style(
     alloc: Global,
     style: &Style,
@@ -95,7 +95,7 @@ fn say_in_style(
     answer
 }
 
-/// What the style of a setting makes of the entry of these words.
+/// The result for the entry that words describe, in the style of the setting.
 fn answered(
     alloc: Global,
     entry: &str,
@@ -112,7 +112,7 @@ fn answered(
     Ok(said)
 }
 
-/// The layouts of a style: that of cites, and that of the bibliography, if there is one.
+/// The layouts of a style: for cites, and for the bibliography, if there is one.
 type Layouts = (&'static str, Option<&'static str>);
 
 /// Gives the style of a setting these layouts.
@@ -121,7 +121,7 @@ fn set_layouts(setting: &mut Setting, layouts: Layouts) {
     setting.manner.bibliography = layouts.1;
 }
 
-/// What the style of these layouts makes of an entry with what its citation says.
+/// The result for an entry with the settings of its citation, in a style with these layouts.
 fn made(
     alloc: Global,
     layouts: Layouts,
@@ -135,8 +135,8 @@ fn made(
     answered(alloc, entry, &setting, sought)
 }
 
-/// The layouts of a style, an entry with what its citation says, its cite, and what stands in the
-/// bibliography.
+/// The layouts of a style, an entry with the settings of its citation, its cite, and its
+/// bibliography entry.
 type Row = (Layouts, &'static str, &'static str, &'static str);
 
 static ROWS: [Row; 9] = [
@@ -147,31 +147,31 @@ static ROWS: [Row; 9] = [
         "[ /T ]:text [ /20 ]:number",
     ),
     (("title", None), "title T", "[ T ]:text", NONE),
-    // A bibliography of which nothing prints is one.
+    // A bibliography entry may be empty.
     (("title", Some("genre")), "title T", "[ T ]:text", ""),
     (("", Some("title")), "title T", "", "[ T ]:text"),
-    // The formatting of each layout is its own.
+    // Each layout has its own formatting.
     (
         ("|/ title", Some("|* title")),
         "title T",
         "[ /T ]:text",
         "[ *T ]:text",
     ),
-    // Neither begins with what the other one left.
+    // Neither rendering begins with the state that the other one left.
     (
         ("@issued+year", Some("title")),
         "title T; date 2014",
         "[ 2014 ]:date dated",
         "[ T ]:text",
     ),
-    // A year suffix that no layout of its scope writes stands behind the year.
+    // If the layout of the scope has no text of the year suffix, the suffix follows the year.
     (
         ("@issued+year", Some("@issued+year suffix")),
         "date 2014 @ letter:0",
         "[ 2014a ]:date dated",
         "[ 2014 ]:date [ a ]:text dated",
     ),
-    // What a citation says of its cite. The first citation number is 1.
+    // Variables that the citation answers. The first citation number is 1.
     (
         ("locator", Some("citation-number")),
         "book @ page:7",
@@ -212,8 +212,8 @@ fn styles_make_cites_and_bibliography_entries(rt: HostRuntime) -> Result<(), Fai
     Ok(())
 }
 
-/// The layout of cites, an entry with what its citation says, a work of another type, whether both
-/// are alike, and both cites.
+/// The layout of cites, an entry with the settings of its citation, a work of another type, and
+/// the expected result: whether both are alike, and both cites.
 type PairRow = (&'static str, &'static str, &'static str, &'static str);
 
 static PAIRS: [PairRow; 5] = [
@@ -225,7 +225,7 @@ static PAIRS: [PairRow; 5] = [
         "title T",
         "not alike: T20, T",
     ),
-    // Each cite begins in a state of its own.
+    // Each cite begins with a state of its own.
     (
         "title #citation-number suffix",
         "title T @ letter:0",
@@ -241,7 +241,7 @@ static PAIRS: [PairRow; 5] = [
     ),
 ];
 
-/// What a style of that layout makes of the entry and the work of a row.
+/// The result for the entry and the work of a row, in a style with the layout of the row.
 fn paired(alloc: Global, row: &PairRow) -> Result<String, Fail> {
     let work = described(alloc, row.2)?;
     let answer = made(alloc, (row.0, None), row.1, Sought::Pair(&work));

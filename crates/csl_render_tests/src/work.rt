@@ -13,10 +13,10 @@ use std::alloc::{AllocError, Global};
 use std::borrow::{Cow, CowStr};
 use std::test::Fail;
 
-/// A variable for which a work has no memory.
+/// A variable whose lookup in a work runs out of memory.
 pub(crate) const UNANSWERED: StandardVariable = StandardVariable::Annote;
 
-/// A work that answers one text and nothing else. It has a key, which nothing prints.
+/// A work: an entry that answers one variable with a text, and no other. Nothing prints its key.
 #[derive(Drop)]
 pub(crate) struct Work {
     own: StandardVariable,
@@ -101,7 +101,7 @@ impl EntryLike for Work {
     }
 }
 
-/// The kind of a piece of a text, and the piece without the mark of its kind.
+/// The kind of a piece of text, and the piece without the mark of its kind.
 fn kind_of(piece: &str) -> (ChunkKind, &str) {
     if let Some(verbatim) = piece.strip_prefix('`') {
         return (ChunkKind::Verbatim, verbatim);
@@ -112,8 +112,8 @@ fn kind_of(piece: &str) -> (ChunkKind, &str) {
     (ChunkKind::Normal, piece)
 }
 
-/// The text of some pieces with `+` between them. A backtick before a piece says `Verbatim`, and
-/// `$` says `Math`.
+/// The text of pieces with `+` between them. A piece after a backtick is `Verbatim`, and one after
+/// `$` is `Math`.
 fn pieces(alloc: Global, text: &str) -> Result<ChunkedString, AllocError> {
     let mut chunks = Vec::new(alloc);
     for piece in text.split('+') {
@@ -124,7 +124,7 @@ fn pieces(alloc: Global, text: &str) -> Result<ChunkedString, AllocError> {
     Ok(ChunkedString(chunks))
 }
 
-/// The work of a variable and of the pieces of its text, as in `title T`.
+/// The work that words describe: a variable and the pieces of its text, as in `title T`.
 pub(crate) fn described(alloc: Global, words: &str) -> Result<Work, Fail> {
     let (variable, text) = words.split_once(' ').ok_or("a text")?;
     match variable_named(variable)? {

@@ -34,8 +34,8 @@ decreases-names::substitute_info g l = 2 * expanded_substitutes_size (expanded_s
 abbrev pub decreases-element::nodes_info : goal.decreases-element::nodes_info
 decreases-element::nodes_info g l = 2 * sizes (expand_nodes (macro_env l.run.now.style) (view_nodes l.nodes.now))
 
--- The sum of the answers so far, with that of the rest, is that of all; and the answers so far,
--- with any of the rest, are answers of all.
+-- The union of the results so far, with that of the remaining nodes, is that of all nodes. The
+-- results so far, with any for the remaining nodes, are results for all nodes.
 abbrev pub invariant-element::nodes_info-loop-node : goal.invariant-element::nodes_info-loop-node
 invariant-element::nodes_info-loop-node g l =
     let w = render_input g.T.EntryLike.answers l.fn.run in

@@ -65,7 +65,7 @@ decreases-element::render_by_plan g l = 6 * size (expand (macro_env l.ctx.now.st
 abbrev pub decreases-element::render_if_it_prints : goal.decreases-element::render_if_it_prints
 decreases-element::render_if_it_prints g l = 6 * size (expand (macro_env l.ctx.now.style) (view_node l.node.now)) + 5
 
--- what the rest would make, behind what is written so far, is what they all make
+-- the context so far, with the output of the remaining nodes, is the context with that of all
 abbrev pub invariant-element::render_all-loop-node : goal.invariant-element::render_all-loop-node
 invariant-element::render_all-loop-node g l =
     let w = render_input g.T.EntryLike.answers l.fn.ctx in
@@ -90,7 +90,7 @@ invariant-element::render_with_delimiter-loop-node g l =
       inside : sizes rest ≤ sizes (expand_nodes (macro_env l.fn.ctx.style) (view_nodes l.nodes));
     }
 
--- what the rest would bring, behind what is written so far, is what they all bring
+-- the rendering so far, with the remaining nodes up to the first that adds text, is that of all
 abbrev pub invariant-names::render_until_text-loop-node : goal.invariant-names::render_until_text-loop-node
 invariant-names::render_until_text-loop-node g l =
     let w = render_input g.T.EntryLike.answers l.fn.ctx in

@@ -31,7 +31,7 @@ decreases-names::names_or_substitute_show g l = 2 * expanded_substitutes_size (e
 abbrev pub decreases-element::any_shows : goal.decreases-element::any_shows
 decreases-element::any_shows g l = 2 * sizes (expand_nodes (macro_env l.query.now.now.style) (view_nodes l.nodes.now))
 
--- the rest answers what all answer
+-- the result for the remaining nodes is that for all
 abbrev pub invariant-element::any_shows-loop-node : goal.invariant-element::any_shows-loop-node
 invariant-element::any_shows-loop-node g l =
     let w = render_input g.T.EntryLike.answers l.fn.query.now in

@@ -5,7 +5,7 @@ use Rattle.csl_context.specs.ContextView.{render_input}
 use Rattle.csl_nodes.specs.Conditions.{chosen_nodes, chosen_children}
 use Rattle.csl_render.proofs.choose.first_taken.Given as goal
 
--- the branches from this one on choose what all choose
+-- the remaining branches take the same nodes as all branches
 abbrev pub invariant-loop-branch : goal.invariant-loop-branch
 invariant-loop-branch g l =
     let choose = out-Choose l.choose in
