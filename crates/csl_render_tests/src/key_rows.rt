@@ -10,9 +10,12 @@ use std::test::Fail;
 /// The words of a date, and its sort key.
 type Row = (&'static str, &'static str);
 
-static KEYS: [Row; 5] = [
+static KEYS: [Row; 7] = [
     ("2014/4", "P0000020140500"),
     ("2014/4/1", "P0000020140502"),
+    // The last and the first year whose keys are in the order of time.
+    ("999999999", "P9999999990000"),
+    ("-1147483647", "N10000000000000"),
     ("0", "P0000000000000"),
     // Years before year 0 count from -2147483647.
     ("-1", "N21474836460000"),
@@ -42,6 +45,6 @@ fn assert_keys(rt: &impl Abort, alloc: Global, rows: &[Row]) -> Result<(), Fail>
 }
 
 #[test]
-fn keys_are_in_the_order_of_time(rt: HostRuntime) -> Result<(), Fail> {
+fn sort_keys_have_year_month_and_day(rt: HostRuntime) -> Result<(), Fail> {
     assert_keys(&rt, rt.alloc(), &KEYS)
 }
