@@ -101,11 +101,11 @@ fn numeric_date(alloc: Global) -> Result<Date, Memory> {
 /// The date format in words, as January 5, 2026.
 fn text_date(alloc: Global) -> Result<Date, Memory> {
     let month = DatePart {
-        affixes: Affixes::behind(alloc, " ")?,
+        affixes: Affixes::after(alloc, " ")?,
         ..DatePart::new(DatePartName::Month)
     };
     let day = DatePart {
-        affixes: Affixes::behind(alloc, ", ")?,
+        affixes: Affixes::after(alloc, ", ")?,
         ..DatePart::new(DatePartName::Day)
     };
     let year = DatePart::new(DatePartName::Year);

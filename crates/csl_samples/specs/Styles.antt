@@ -34,7 +34,7 @@ use Rattle.csl_style.specs.declared.taxonomy.PageVariable.TheVariants as pages
 use Rattle.csl_style.specs.declared.taxonomy.StandardVariable.TheVariants.{Title, ContainerTitle, DOI}
 use Rattle.csl_style.specs.declared.taxonomy.Variable.{Variable}
 use Rattle.csl_style.specs.declared.taxonomy.Variable.TheVariants.{Standard, Page}
-use Rattle.csl_style.specs.Constructors.{italic, short_label_of, text_before, text_behind, texts_around, no_dressing}
+use Rattle.csl_style.specs.Constructors.{italic, short_label_of, text_before, text_after, texts_around, no_dressing}
 use Rattle.csl_style.specs.Dressing.{AffixTexts}
 use Rattle.csl_style.specs.NameOptions.{PartialOptions}
 use Rattle.csl_style.specs.Names.{NameNode, view_label}
@@ -153,7 +153,7 @@ description_elements = node authors (node quoted_title (node container_title (no
 
 -- the first group of a reference: its parts with commas between them, and a period
 abbrev pub description : Node
-description = group (Some (codes ", ")) (only_affixes (text_behind (codes "."))) description_elements
+description = group (Some (codes ", ")) (only_affixes (text_after (codes "."))) description_elements
 
 -- the digital object identifier after the address of its resolver
 abbrev pub link : Node

@@ -261,7 +261,7 @@ fn description(alloc: Global) -> Result<LayoutRenderingElement, Memory>
     ensures { IfOk result (λ made. view_node made ≡ description) }
 {
     let children = description_elements(alloc)?;
-    let affixes = Affixes::behind(alloc, ".")?;
+    let affixes = Affixes::after(alloc, ".")?;
     Ok(Group {
         affixes,
         ..Group::delimited(alloc, ", ", children)?

@@ -38,8 +38,8 @@ no_affixes = record { prefix = None; suffix = None }
 abbrev pub text_before : List ℕ → AffixTexts
 text_before prefix = record { prefix = Some prefix; suffix = None }
 
-abbrev pub text_behind : List ℕ → AffixTexts
-text_behind suffix = record { prefix = None; suffix = Some suffix }
+abbrev pub text_after : List ℕ → AffixTexts
+text_after suffix = record { prefix = None; suffix = Some suffix }
 
 abbrev pub texts_around : List ℕ → List ℕ → AffixTexts
 texts_around prefix suffix = record { prefix = Some prefix; suffix = Some suffix }

@@ -2,7 +2,7 @@
 
 ghost use Rattle.std.specs.Prelude.{◌≡◌, IfOk};
 ghost use Rattle.csl_style.specs.Dressing.{affix_texts};
-ghost use Rattle.csl_style.specs.Constructors.{text_before, text_behind, texts_around};
+ghost use Rattle.csl_style.specs.Constructors.{text_before, text_after, texts_around};
 
 use csl_common::Memory;
 use std::alloc::Global;
@@ -32,8 +32,8 @@ impl Affixes {
     ///
     /// # Errors
     /// [`Memory`]: out of memory.
-    pub fn behind(alloc: Global, suffix: &str) -> Result<Affixes, Memory>
-        ensures { IfOk result (λ affixes. affix_texts affixes ≡ text_behind suffix.now) }
+    pub fn after(alloc: Global, suffix: &str) -> Result<Affixes, Memory>
+        ensures { IfOk result (λ affixes. affix_texts affixes ≡ text_after suffix.now) }
     {
         Ok(Affixes {
             suffix: Some(String::from_str(alloc, suffix)?),

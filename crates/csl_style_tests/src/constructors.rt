@@ -166,7 +166,7 @@ fn affixes(alloc: Global, prefix: Option<&str>, suffix: Option<&str>) -> Result<
     match (prefix, suffix) {
         (None, None) => Ok(Affixes::default()),
         (Some(prefix), None) => Affixes::before(alloc, prefix),
-        (None, Some(suffix)) => Affixes::behind(alloc, suffix),
+        (None, Some(suffix)) => Affixes::after(alloc, suffix),
         (Some(prefix), Some(suffix)) => Affixes::around(alloc, prefix, suffix),
     }
 }

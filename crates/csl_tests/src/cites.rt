@@ -25,7 +25,7 @@ fn titles(alloc: Global) -> Result<Style, Error> {
         ..Text::variable(StandardVariable::Title.into())
     };
     let ended = Text {
-        affixes: Affixes::behind(alloc, ".")?,
+        affixes: Affixes::after(alloc, ".")?,
         ..Text::variable(StandardVariable::Title.into())
     };
     let citation = Layout::new(vec![in alloc; quoted.into()]?);

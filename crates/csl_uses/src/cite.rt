@@ -154,7 +154,7 @@ fn bibliography(alloc: Global) -> Result<Layout, Error> {
     let title = title(alloc)?;
     let parts = vec![in alloc; creators.into(), year, title, publisher.into()]?;
     let line = Group {
-        affixes: Affixes::behind(alloc, ".")?,
+        affixes: Affixes::after(alloc, ".")?,
         ..Group::delimited(alloc, ", ", parts)?
     };
     Ok(Layout::new(vec![in alloc; line.into()]?))

@@ -178,7 +178,7 @@ fn description(alloc: Global) -> Result<LayoutRenderingElement, Error> {
     };
     let address = Text::variable(StandardVariable::URL.into());
     let parts = vec![in alloc; authors.into(), title.into(), address.into()]?;
-    let affixes = Affixes::behind(alloc, ".")?;
+    let affixes = Affixes::after(alloc, ".")?;
     let description = Group {
         affixes,
         display: Some(Display::RightInline),
