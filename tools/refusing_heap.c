@@ -1,10 +1,9 @@
-// The heap of `tools/refuse_memory`, in the place of the kit's. It counts the requests for memory, and
-// refuses the one whose number the variable REFUSE has, or with `n..` each from the n-th on. As the
-// process ends it writes how many there were, and how many of them it refused, to the file descriptor
-// that COUNT_TO has.
+// The heap of `tools/refuse_memory`, in place of the kit's. It counts the memory requests. It refuses
+// request n if the variable REFUSE is `n`, and each request from n on if it is `n..`. When the process
+// ends, it writes the number of requests and of refusals to the file descriptor in COUNT_TO.
 typedef unsigned long size;
 
-// What a request answers: whether it was met, and where. Where it was not, nothing is read there.
+// The result of a request: whether it was met, and the address. If it was not met, nobody reads there.
 struct answer {
     size met;
     void *at;
