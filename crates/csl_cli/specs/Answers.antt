@@ -1,6 +1,6 @@
 -- The program's output for its words. The answer is the text of a title or the content of a cite,
--- in a format; a label; `true` or `false`; or a leaf text. A newline follows it. A missing word, an
--- unknown word and a text that is not HTML each get a line of complaint instead.
+-- in a format; a label with three letters; `true` or `false`; or a leaf text. A newline follows it.
+-- A missing word, an unknown word and a text that is not HTML each get a line of complaint instead.
 use Rattle.std.specs.Prelude.{◌≡◌, ◌⊎◌, ℕ, Bool, true, false, List, ◌++◌, Option, Some, None, IsSomeAnd, codes, string_bytes}
 use Rattle.std.specs.Fmt.{WritesInCalls}
 use Rattle.csl_tree.specs.Html.{IsHtmlOf, IsNotHtml}

@@ -1,6 +1,6 @@
 -- The command `title` renders the first cite of an entry, in the style of titles
--- (`IsTitleContent`). The entry answers only this title, in one normal chunk. The command `cite`
--- renders the first cite of a built-in entry, by its answers, in a built-in style
+-- (`IsTitleContent`). The entry answers only the given title, in one normal chunk. The command
+-- `cite` renders the first cite of a built-in entry, by its answers, in a built-in style
 -- (`IsEntryContent`). `csl_render` defines the content (`cite_content`).
 -- The cite of a title is written as `(Title: `, the title and `)` (`title_text`). In HTML the title
 -- is escaped, in a span that declares italics. If the title is empty, the group around it does not

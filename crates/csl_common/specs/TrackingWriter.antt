@@ -1,6 +1,6 @@
 -- The view of a writer or formatter that records refusals: the one inside it (`writer_of`,
--- `formatter_of`), and whether that has refused a text (`has_refused`) or a part of one
--- (`has_refused_part`).
+-- `formatter_of`), and whether that has refused a text (`has_refused`) or, for a formatter, a part
+-- of one (`has_refused_part`).
 use Rattle.std.specs.Prelude.{Bool}
 use Rattle.std.specs.Borrow.{MutBor}
 use Rattle.std.specs.declared.fmt.Formatter.{Formatter}

@@ -176,7 +176,7 @@ pub trait WriteTo {
     /// Writes the text to a sink.
     ///
     /// # Errors
-    /// [`fmt::Error`]: the sink refused a part of it; its contents are then unspecified.
+    /// [`fmt::Error`]: the sink refused a part of it; the sink's contents are then unspecified.
     fn write_to<S: Sink>(&self, sink: &mut S) -> fmt::Result
         ensures ok { OnOk result (WritesInCalls S.write_str_gives sink.old
             (text self.now) sink.new) }
@@ -187,7 +187,7 @@ pub trait WriteTo {
 /// Writes a text to any writer.
 ///
 /// # Errors
-/// [`fmt::Error`]: the writer refused a part of it; its contents are then unspecified.
+/// [`fmt::Error`]: the writer refused a part of it; the writer's contents are then unspecified.
 pub fn write_text<T: WriteTo, W: fmt::Write>(text: &T, w: &mut W) -> fmt::Result
     ensures { OnOk result (WritesInCalls W.write_str_gives w.old (T.text text.now) w.new) }
 {
@@ -201,7 +201,7 @@ pub fn write_text<T: WriteTo, W: fmt::Write>(text: &T, w: &mut W) -> fmt::Result
 /// Writes a text as `{}` does, whatever options the formatter has.
 ///
 /// # Errors
-/// [`fmt::Error`]: the formatter refused a part of it; its contents are then unspecified.
+/// [`fmt::Error`]: the formatter refused a part of it; the formatter's output is then unspecified.
 pub fn display_text<T: WriteTo, W: fmt::Write>(text: &T, f: &mut fmt::Formatter<W>) -> fmt::Result
     ensures plain { WritesOnOk W.write_str_gives f.old result (T.text text.now) f.new }
     ensures styled { WritesStyledOnOk W.write_str_gives f.old result (T.text text.now) f.new }

@@ -1,7 +1,7 @@
 -- *Quoted* (CSL 1.0.2, Quotes; Locale, `punctuation-in-quote`): nothing if the content is empty,
--- else the opening term, the content, the moved character and the closing term. These are the outer
--- terms inside an even number of quotes, and the inner terms inside an odd number. A term that no
--- locale has writes nothing.
+-- else the opening term, the content, the moved character and the closing term. Both terms are the
+-- outer ones inside an even number of quotes, and the inner ones inside an odd number. A term that
+-- no locale has writes nothing.
 -- The moved character is a `,` or `.` that the suffix of the same node begins with, before any
 -- stripping. It moves if the first locale asks for it, and the suffix is then written without it
 -- (`affixed_after`). No character moves if the content is empty.

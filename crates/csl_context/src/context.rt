@@ -28,7 +28,8 @@ pub struct Context<'s, T> {
     pub(crate) writing: WritingContext<'s>,
 }
 
-/// All of a context but its style, scope and cite: the open parts, the inherited values, the state.
+/// All of a context but its style, scope and cite: the allocator, the open parts, the inherited
+/// values, the state, and whether it has failed.
 #[derive(Drop)]
 pub struct WritingContext<'s> {
     pub(crate) alloc: Global,

@@ -1,4 +1,4 @@
-//! The values that nodes inherit: formatting, delimiter, options of names, stripping of periods.
+//! Calls that set inherited values: formatting, delimiter, options of names, period stripping.
 
 ghost use Rattle.std.specs.Prelude.{◌≡◌, ◌<◌, ◌||◌, length, false, true, option_map};
 ghost use Rattle.std.specs.Bool.{OnFalse};
@@ -26,7 +26,8 @@ impl<'s, T> Context<'s, T> {
         Ok(())
     }
 
-    /// Restores the formatting before the last push. A failed context stays unchanged.
+    /// Restores the formatting before the last push not popped yet. A failed context stays
+    /// unchanged.
     pub fn pop_format(&mut self)
         requires pushed { OnFalse self.old.failed (0 < length self.old.formats) }
         ensures popped { self.old.failed ≡ false → self.new ≡ without_format self.old }
@@ -60,7 +61,8 @@ impl<'s, T> Context<'s, T> {
         Ok(())
     }
 
-    /// Restores the delimiter before the last push. A failed context stays unchanged.
+    /// Restores the delimiter before the last push not popped yet. A failed context stays
+    /// unchanged.
     pub fn pop_delimiter(&mut self)
         requires pushed { OnFalse self.old.failed (0 < length self.old.delimiters) }
         ensures popped { self.old.failed ≡ false → self.new ≡ without_delimiter self.old }
@@ -97,7 +99,8 @@ impl<'s, T> Context<'s, T> {
         Ok(())
     }
 
-    /// Restores the options of names before the last push. A failed context stays unchanged.
+    /// Restores the options of names before the last push not popped yet. A failed context stays
+    /// unchanged.
     pub fn pop_name_options(&mut self)
         requires pushed { OnFalse self.old.failed (0 < length self.old.options) }
         ensures popped { self.old.failed ≡ false → self.new ≡ without_options self.old }

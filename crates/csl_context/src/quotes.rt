@@ -229,8 +229,8 @@ impl<'s, T> Context<'s, T> {
         self.moved_punctuation(suffix).is_some() && !self.writing.content.is_empty()
     }
 
-    /// Closes the inside of quotes, and writes its content in quotes. The current parity chooses
-    /// them, so `turn` comes first.
+    /// Closes the inside of quotes, and writes its content in quotes, unless it is empty. The
+    /// current parity chooses the quotes, so `turn` comes first.
     #[tactic(auto, unfolding(crate::specs::ContextView::with_quotes))]
     fn close_quotes(&mut self, mark: Mark, suffix: Option<&str>) -> Result<(), RenderError>
         requires innermost { IsInnermost mark self.old }

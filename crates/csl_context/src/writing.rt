@@ -196,8 +196,8 @@ impl<'s, T> Context<'s, T> {
         self.or_fail(written)
     }
 
-    /// Writes a place that the caller fills, with the index of its cite, in the inherited
-    /// formatting.
+    /// Writes a place in the inherited formatting. The caller fills it for the cite of index
+    /// `cite_idx`.
     ///
     /// # Errors
     /// [`RenderError::Memory`]: out of memory. The context has failed.

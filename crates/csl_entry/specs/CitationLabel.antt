@@ -6,8 +6,8 @@
 --   has the first n letters of the organization, else of the title, else of the alphabetic
 --   characters of the key. By default n is 3.
 -- - The year is that of the first date along the work and its parents, else that of the visit to
---   the first address along them. The label has its last two digits without the sign, plus one if
---   the year is 0 or less, in at least two digits. Without a date there is no year.
+--   the first address along them. The label has the year's last two digits without the sign, plus
+--   one if the year is 0 or less, in at least two digits. Without a date there is no year.
 -- So a label depends only on the creators, their stand-in and a date (`LabelParts`). Entries with
 -- the same `works` have the same label (`LabelIsShown`).
 use Rattle.std.specs.Prelude.{◌≡◌, ℕ, true, zero, suc, pos, negsuc, ℤ, ◌+◌, ◌%◌, List, [], ◌∷◌, ◌++◌, Option, Some, None, option_map, take, filter, chars, encode_utf8_all, codes, string_bytes, nat_lt, if◌then◌else◌}

@@ -87,7 +87,7 @@ is_encyclopedia_entry y = stands_in (Reference ∷ []) y
 abbrev pub is_recording : Typing → Bool
 is_recording y = is_a Audio y || is_a Video y
 
--- an audio with a direct parent that can be read
+-- an audio in a book, a periodical, a work of reference, a miscellany, a blog or a site
 abbrev pub is_musical_score : Typing → Bool
 is_musical_score y = is_a Audio y && stands_in (Book ∷ Periodical ∷ Reference ∷ Misc ∷ Blog ∷ Web ∷ []) y
 

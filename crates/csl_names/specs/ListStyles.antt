@@ -28,8 +28,8 @@ and_word style None = None
 and_word style (Some Symbol) = Some (codes "&")
 and_word style (Some Text) = Some (unwrap_or (term_in style (Other And) Long false) [])
 
--- the settings that the code holds, as data: texts are borrowed, and a term is looked up in the
--- style when it is written
+-- the settings that the code holds, as data; the code borrows the texts, and looks a term up in the
+-- style when it writes it
 abbrev pub list_style_view : ListStyle → ListStyleView
 list_style_view s = record {
   variable = s.variable;

@@ -132,10 +132,10 @@ names_from inh how ends forms place (p ∷ ps) =
 -- If the forms leave a name out, the list ends with more pieces (`list_end`). With et-al-use-last
 -- and a form at the last place (`last_form`), they are the delimiter, an ellipsis and a space, and
 -- the last person in that form. That person has its own place, and is reversed only under `All`
--- (`kept_last`). Else they are a gap and the term, in the formatting of `et al.` (`et_al_pieces`).
--- There are none in a sort key, or if the style lacks the term. The delimiter is before the gap,
--- without that formatting, if `delimiter_precedes` is true for the place of the first name left out
--- and the number of persons before it.
+-- (`kept_last`). Else there are none in a sort key, or if the style lacks the term. Otherwise they
+-- are a gap and the term, in the formatting of `et al.` (`et_al_pieces`). The delimiter is before
+-- the gap, without that formatting, if `delimiter_precedes` is true for the place of the first name
+-- left out and the number of persons before it.
 
 -- `et al.` after `names` names, if `shown` of them are shown
 abbrev pub et_al_pieces : ListStyleView → ℕ → ℕ → Option (List ℕ) → List Piece

@@ -3,9 +3,9 @@
 -- lists (`peeked_lists`). For printing, each lookup may suppress its variable for the next ones
 -- (`resolved_lists`), and `lists_state` is the state after all of them. The lists for printing may
 -- merge if the variables are the editors and the translators alone, in either order, and the style
--- has the long term for both (`may_merge`). They are then the editors before the translators: an
--- empty list is dropped, and two lists of the same persons become one, with the variable for both
--- (`merged_lists`).
+-- has the long term `editortranslator` (`may_merge`). Then the editors come before the translators,
+-- and an empty list is dropped. Two lists of the same persons become one, with the variable
+-- `editortranslator` (`merged_lists`).
 use Rattle.std.specs.Prelude.{Bool, true, false, ◌&&◌, ◌||◌, List, [], ◌∷◌, is_some, if◌then◌else◌}
 use Rattle.std.specs.List.{list_all}
 use Rattle.std.specs.Cmp.Lexicographic.{pointwise}
@@ -42,8 +42,8 @@ same_variables = pointwise (sameb the_type)
 abbrev pub is_pair : List NameVariable → Bool
 is_pair vs = same_variables vs (Editor ∷ Translator ∷ []) || same_variables vs (Translator ∷ Editor ∷ [])
 
--- whether editors and translators may merge: the node has these two alone, and the style has a term
--- for both
+-- whether editors and translators may merge: the node has these two alone, and the style has the
+-- long term `editortranslator`
 abbrev pub may_merge : StyleParts → List NameVariable → Bool
 may_merge style vs = is_some (term_in style (terms.Name EditorTranslator) Long false) && is_pair vs
 

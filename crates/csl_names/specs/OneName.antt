@@ -62,8 +62,9 @@ name_style_view s = record {
 -- A *part* is its prefix and a text, both in the part's formatting, and then its suffix outside of
 -- that. The *given block* is the given part's prefix, the first name, a gap and the person's
 -- prefix, in the given part's formatting. The *first name* is the given name as it is, if there is
--- no `initialize-with`. With it, the first name is the initials in the form `LongInitialized`, and
--- in any other form the given name with that text after each word that is a single capital letter.
+-- no `initialize-with`. With it, the first name is the initials in the form `LongInitialized`. In
+-- any other form each word of one capital letter, with or without a dot, becomes that letter and
+-- the text of `initialize-with` (`lettered_name`).
 
 -- a text as a part of a name: prefix and text in the part's formatting, the suffix outside
 abbrev pub part_text : PartStyleView → List ℕ → List Piece
@@ -76,7 +77,8 @@ abbrev pub separated_word : List ℕ → Option (List ℕ) → List Piece
 separated_word separator None = []
 separated_word separator (Some bs) = word separator no_formatting ∷ word bs no_formatting ∷ []
 
--- the given name, with a text after each word that is a single capital letter
+-- the given name; each word of one capital letter, with or without a dot, becomes that letter and
+-- the text
 abbrev pub lettered_name : List ℕ → List ℕ → List ℕ
 lettered_name text given = lettered_words text (given_words given)
 
@@ -163,7 +165,7 @@ cjk_given how (Some given) = part_text how.given given
 abbrev pub cjk_name : NameStyleView → PersonView → List Piece
 cjk_name how p = part_text how.family p.name ++ cjk_given how p.given_name
 
--- an institution, in a sort key without its article
+-- an institution; in a sort key it has no article and no affixes
 abbrev pub institution : NameStyleView → PersonView → List Piece
 institution how p =
     if how.sorting then word (name_without_article p.name) how.family.formatting ∷ [] else part_text how.family p.name

@@ -27,7 +27,8 @@ fn initials_of(alloc: Global, person: &Person, text: &str, hyphen: bool) -> Resu
     }
 }
 
-/// The given name of a person, with `text` after each word that is a single capital letter.
+/// The given name of a person. Each word of one capital letter, with or without a dot, becomes that
+/// letter and `text`.
 fn lettered_name(alloc: Global, person: &Person, text: &str) -> Result<String, Memory>
     ensures { IfOk result (λ short. string_bytes short
         ≡ person_first_name (Some text.now) (person_view person.now)) }
@@ -39,8 +40,8 @@ fn lettered_name(alloc: Global, person: &Person, text: &str) -> Result<String, M
     }
 }
 
-/// The shortened given name: its initials in the form `LongInitialized`, else the name with `text`
-/// after each word that is a single capital letter.
+/// The shortened given name: its initials in the form `LongInitialized`, else the result of
+/// [`lettered_name`].
 fn shorten(
     alloc: Global,
     person: &Person,

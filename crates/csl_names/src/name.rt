@@ -149,7 +149,7 @@ impl NameStyle<'_> {
         }
     }
 
-    /// Writes the name of an institution, in a sort key without article and affixes.
+    /// Writes the name of an institution. In a sort key it has no article and no affixes.
     fn push_institution<T>(
         self,
         ctx: &mut Context<'_, T>,

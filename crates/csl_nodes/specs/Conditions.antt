@@ -42,8 +42,8 @@ use Rattle.csl_nodes.specs.declared.branch_conditions.BranchConditionPos.TheVari
 -- - *locator* holds if the cite points to a part of that kind, suppressed or not.
 -- - *position*: first if no cite of the entry comes before; subsequent if one does; ibid if the
 --   cite before is of the same entry, with the same locator or another; ibid with locator if the
---   cite has a locator that the one before did not have; near note if the citation state has it. In
---   a bibliography each is false.
+--   cite has a locator that the one before did not have; near note if the citation state has its
+--   flag set. In a bibliography each is false.
 -- - *type* holds if it is one of the entry's kinds.
 -- - A *variable* is present if it is found: a text with a character that is not white space, names
 --   with a person.

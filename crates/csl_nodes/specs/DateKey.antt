@@ -2,9 +2,9 @@
 -- `P` and its number in nine places. Before year 0 it is `N` and 2147483647 plus the year in nine
 -- places, the sign included. The year suffix follows the year. A month and a day are two digits, or
 -- `00` if there is none.
--- A key has its parts in the order year, month, day (`keyed_parts`). With a form, its parts are the
--- date-parts of the node, or all if the node sets none, whatever the locale has. Otherwise they are
--- all for a variable, and the listed parts for a macro.
+-- A key has its parts (`keyed_parts`) in the order year, month, day. With a form, they are those
+-- that the node's `date-parts` includes, or all if it is not set, whatever the locale has.
+-- Otherwise they are all for a variable, and the listed parts for a macro.
 -- *Time* compares year, month and day, with an absent one first.
 use Rattle.std.specs.Prelude.{◌≡◌, ℕ, ◌+◌, suc, Bool, true, false, List, [], ◌∷◌, ◌++◌, ℤ, pos, negsuc, ◌+ℤ◌, neg_ℤ, ◌≤ℤ◌, Option, Some, None, unwrap_or, codes, decimal}
 use Rattle.std.specs.Cmp.Lexicographic.{slice_cmp}
@@ -87,6 +87,6 @@ abbrev pub time_order : DateView → DateView → Ordering
 time_order a b = ordering_then (int_cmp a.year b.year) (ordering_then (option_cmp nat_cmp a.month b.month) (option_cmp nat_cmp a.day b.day))
 
 -- The key of a date compares by bytes with the full key of any other date as the two dates compare
--- in time, if both have such a year.
+-- in time, if both years are in the range of `HasKeyYear`.
 abbrev pub SortsByTime : List ℕ → Date → Type 0
 SortsByTime key d = (other : Date) → HasKeyYear d.year → HasKeyYear other.year → slice_cmp nat_cmp key (full_key (date_view other)) ≡ time_order (date_view d) (date_view other)

@@ -172,8 +172,8 @@ localized_over style n None = Some n
 localized_over style n (Some form) = option_map (λ l. date_over n (Some l)) (localized_date style form)
 
 -- ---- a part
--- A part is its text, in its affixes, in its formatting. The own strip-periods of a part applies to
--- a month alone, and not to the affixes.
+-- A part is its text, in its affixes, in its formatting. A part's own strip-periods applies to a
+-- month alone, and not to the affixes.
 
 -- the suffix comes with the year
 abbrev pub suffix_with : DatePartName → List ℕ → List ℕ

@@ -26,7 +26,7 @@ abbrev pub peek_number_or_page : RenderInput → State → NumberOrPageVariable 
 peek_number_or_page w s (number_or_page.Number v) = option_map number (peek_number w s v)
 peek_number_or_page w s (number_or_page.Page v) = option_map page (peek_page w s v)
 
--- a text, or a place that the caller fills for the cite of an index
+-- a text, or a place that the caller fills for the cite with the given index
 pub data NumberTextView : Type 0 where
   number_words : List ℕ → NumberTextView
   number_transparent : ℕ → NumberTextView

@@ -2,9 +2,9 @@
 -- Formats): their parts in order, with `, ` and ` & ` for separators. Between the two ends of a
 -- range is the style's term for it, else an en dash. If both ends are ASCII digits alone, the
 -- second is completed from the front of the first if it is shorter. Then, if both are equally long,
--- `minimal` drops the front that the second repeats of the first, but never its last digit;
--- `minimal-two` never drops its last two. An escaped range is only completed. Any other end stays
--- unchanged.
+-- `minimal` drops the front that the second repeats of the first, but never the last digit of the
+-- second; `minimal-two` never drops the second's last two. An escaped range is only completed. Any
+-- other end stays unchanged.
 use Rattle.std.specs.Prelude.{ℕ, ◌-◌, min, Bool, false, ◌&&◌, ◌==◌, nat_eq, List, [], ◌∷◌, ◌++◌, length, take, drop, map, chars, encode_utf8_all, Option, Some, None, unwrap_or, codes, if◌then◌else◌}
 use Rattle.std.specs.Char.{is_ascii_digit}
 use Rattle.std.specs.List.{list_all, flat_map, common_prefix_len}

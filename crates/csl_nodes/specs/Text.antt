@@ -65,7 +65,8 @@ is_standard u v = sameb the_standard v u
 
 -- ---- texts under a special form
 
--- the two forms for the first date and the year suffix show only the year suffix and the locator
+-- the two forms for the first date and the year suffix show a text of the year suffix or the
+-- locator, and of no other variable
 abbrev pub survives_only_forms : Variable → Bool
 survives_only_forms (variable.Standard v) = is_standard standard.YearSuffix v
 survives_only_forms (variable.Number v) = sameb the_number v Locator

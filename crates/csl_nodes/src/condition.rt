@@ -98,7 +98,7 @@ fn is_ibid(state: IbidState) -> bool
     }
 }
 
-/// Whether the cite before this one is of the same entry but did not have its locator.
+/// Whether the cite before this one is of the same entry but did not have this cite's locator.
 fn is_ibid_with_locator(state: IbidState) -> bool
     ensures { result ≡ is_ibid_with_locator state }
 {

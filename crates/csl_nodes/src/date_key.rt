@@ -59,8 +59,9 @@ fn lists_part(node: &Date, name: DatePartName) -> bool
     false
 }
 
-/// Whether the sort key of a date has the part. With a form, a key has the date-parts of the node,
-/// or all if it sets none. Otherwise it has all for a variable, and the listed parts for a macro.
+/// Whether the sort key of a date has the part. With a form, a key has the parts that the node's
+/// `date-parts` includes, or all if that is not set. Otherwise it has all for a variable, and the
+/// listed parts for a macro.
 fn is_keyed(node: &Date, sorting: Sorting, part: DatePartName) -> bool
     ensures { result ≡ is_keyed (view_date node.now) sorting part }
 {

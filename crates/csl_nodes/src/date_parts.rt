@@ -104,7 +104,7 @@ impl<'d> LocalizedDate<'d> {
     }
 }
 
-/// The form of a part. An own part of the node replaces it, set or not.
+/// The form of a part. The form of the node's own part replaces it, set or not.
 fn form_over(own: Option<&DatePart>, form: Option<DateAnyForm>) -> Option<DateAnyForm>
     ensures { result ≡ form_over (option_map (λ part. view_date_part part.now) own.entry) form }
 {

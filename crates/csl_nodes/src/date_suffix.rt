@@ -23,8 +23,8 @@ pub(crate) fn is_suffix_alone(form: Option<SpecialForm>) -> bool
     }
 }
 
-/// The year suffix after the first year. It is empty if the cite has none, or if the layout has a
-/// text of it. The lookup is silent.
+/// The year suffix after the first year. It is empty if the cite has none, or if the layout reaches
+/// a text of it. The lookup is silent.
 pub(crate) fn implicit_suffix<'s, T: EntryLike>(ctx: &Context<'s, T>) -> Result<String, Memory>
     ensures { GivesBy string_bytes result
         (implicit_suffix (render_input T.answers ctx.now) ctx.now.state) }

@@ -16,7 +16,7 @@ use csl_style::{Affixes, Text};
 use csl_tree::ElemMeta;
 use lit_model::ChunkedString;
 
-/// The body of a number, a label or a text that calls no macro, inside affixes and quotes.
+/// The body of a number, a label or a text that calls no macro, inside affixes and any quotes.
 #[derive(Clone, Copy)]
 pub(crate) enum Body<'b> {
     Str(&'b str),

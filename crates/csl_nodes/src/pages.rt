@@ -159,7 +159,7 @@ fn pages_in_format(
     Ok(text)
 }
 
-/// Pages in the format of the context's style, with the style's delimiter in ranges.
+/// Pages in the format of the context's style. Ranges have the style's delimiter, else an en dash.
 #[tactic(auto, unfolding(crate::specs::Pages::pages_in_style))]
 pub(crate) fn pages_in_style<T>(ctx: &Context<'_, T>, pages: &PageRanges) -> Result<String, Memory>
     ensures { IfOk result (λ s. string_bytes s

@@ -41,9 +41,9 @@ is_group (expanded_group delimiter d fs) = true
 
 -- ---- Delimited
 -- A node of a list is *admitted* if it prints in the state that the earlier ones left. The first
--- admitted node is in a box. Each later one is in a box too. If there is a delimiter, a box around
--- both holds the delimiter and then that box. A choice is the nodes that it takes, delimited by the
--- inherited delimiter, without a box of its own. If it takes none, it is nothing.
+-- admitted node is in a box. Each later one is in a box too. If there is a delimiter, an outer box
+-- holds the delimiter and then the box of the later one. A choice is the nodes that it takes,
+-- delimited by the inherited delimiter, without a box of its own. If it takes none, it is nothing.
 
 -- one admitted child, after the delimiter unless it is the first
 abbrev pub delimited_child : Option (List ℕ) → Bool → Inherited → List Token → List Token

@@ -85,8 +85,8 @@ pub fn cite<T: EntryLike>(
 }
 
 /// Renders an entry by the style's bibliography layout, in a new context (CSL 1.0.2, Bibliography;
-/// Layout). It renders the whole entry, and not for a sort key. Returns `None` if the style has no
-/// bibliography.
+/// Layout). It renders the whole entry, and not for a sort key. Returns the content and the state
+/// that it leaves, or `None` if the style has no bibliography.
 ///
 /// # Errors
 /// [`RenderError::Memory`]: out of memory, here or in the entry.

@@ -133,7 +133,7 @@ fn first_nodes(names: &Names) -> Option<&[LayoutRenderingElement]>
 
 /// The children of the first `cs:substitute`. The dry run, shown variables and content of the
 /// substitutes come from these children alone. In dry runs and queries, names without children
-/// count as elsewhere.
+/// among them count as they do elsewhere.
 fn substitute_nodes<'n, 's, T: EntryLike>(
     ctx: &Context<'s, T>,
     names: &'n Names,

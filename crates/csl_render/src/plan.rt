@@ -189,7 +189,7 @@ impl<'p> ListPlan<'p> {
 }
 
 /// Takes the plan of the first node and leaves the plan of the nodes after it. Returns `None` if
-/// the nodes have no plan, or if that of the first node does not hold for the context.
+/// the first node has no plan, or if its plan does not hold for the context.
 pub(crate) fn next_plan<'p, 's, T: EntryLike>(
     ctx: &Context<'s, T>,
     plan: &mut Option<ListPlan<'p>>,

@@ -177,7 +177,7 @@ IsBuiltIn Feminism e = Shows feminism (Some (calendar_date 2015 (Some 8) (Some 2
 
 -- ---- the label and the kinds of a built-in entry
 
--- the own fields of a built-in entry without its date, its date, and the fields of its parents
+-- three parts of a built-in entry: its own fields except the date; its date; its parents' fields
 abbrev pub own_fields : BuiltIn → Own
 own_fields CrazyRich = crazy_rich
 own_fields QuantizedVortex = quantized_vortex
@@ -196,7 +196,7 @@ parent_fields QuantizedVortex = nuovo_cimento ∷ []
 parent_fields Dependence = transactions ∷ []
 parent_fields Feminism = aeon ∷ []
 
--- the parts of a built-in entry's label: its authors, its title as their stand-in, and its date
+-- the parts of a built-in entry's label: its authors, its title if there are none, and its date
 abbrev pub label_parts_of : BuiltIn → LabelParts
 label_parts_of entry = record {
   creators = unwrap_or (own_fields entry).authors [];

@@ -158,7 +158,7 @@ with_defaults o = record {
 abbrev pub names_delimiter_of : PartialOptions → List ℕ
 names_delimiter_of o = unwrap_or o.names_delimiter []
 
--- the limit for a cite: for a later cite its own limit if it is set, else that of a first cite
+-- the limit for a cite: `later` for a subsequent one if it is set, else `own`
 abbrev pub limit_of : Option ℕ → Option ℕ → Bool → Option ℕ
 limit_of own later subsequent = if subsequent then option_or later own else own
 

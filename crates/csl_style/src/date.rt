@@ -90,7 +90,7 @@ impl DatePart {
 }
 
 impl Date {
-    /// A date that sets only its variable and its parts.
+    /// A date that sets only its variable and its list `date_part`.
     pub fn new(variable: DateVariable, parts: Vec<DatePart>) -> Date
         ensures { result ≡ date_of variable parts }
     {

@@ -110,7 +110,8 @@ fn missing_in_macros<'s>(style: &Style, macros: &'s [CslMacro]) -> Option<&'s st
 impl Style {
     /// The first macro name that the style calls but does not define. The search goes through the
     /// layout of citations, that of the bibliography, and then all macros in order, also those that
-    /// no layout reaches. Such a call prints nothing, so check a style that you wrote.
+    /// no layout reaches. A call of a missing macro prints nothing, so check a style that you
+    /// wrote.
     ///
     /// The search allocates nothing, and looks up the name of each call at most once.
     pub fn missing_macro(&self) -> Option<&str>

@@ -1,5 +1,5 @@
-//! The parts of a names node (CSL 1.0.2, Names): its own, or in a substitute also those of the
-//! names around it.
+//! The parts of a names node (CSL 1.0.2, Names): its own. A node without children in a substitute
+//! also has parts of the names around it.
 
 ghost use Rattle.std.specs.Prelude.{◌≡◌, false, map, option_map};
 ghost use Rattle.csl_style.specs.Names.{first_of, first_name, shorthand_expansion, view_name, view_et_al, view_part};
@@ -68,9 +68,9 @@ impl Names {
         self.children.is_empty()
     }
 
-    /// The parts of the node in the place of another: the children of `original`, and its own
-    /// variables and display. Everything else is its own if it is set, field by field, else that of
-    /// `original`.
+    /// The parts of the node in the place of another: the children of `original`, and the node's
+    /// own variables and display. Everything else is the node's own if it is set, field by field,
+    /// else that of `original`.
     pub fn parts_in_place_of<'s>(&'s self, original: NamesParts<'s>) -> NamesParts<'s>
         ensures { parts_node result ≡ shorthand_expansion (parts_node original.entry)
             (names_node self.now) }

@@ -7,7 +7,7 @@ use crate::taxonomy::{NumberVariable, StandardVariable, Variable};
 
 impl Variable {
     /// Whether the citation answers the variable, and not the entry. It answers four: the citation
-    /// number, the number of the first note, the locator and the year suffix.
+    /// number, the number of the note that first cites the entry, the locator and the year suffix.
     pub fn is_of_citation(self) -> bool
         ensures { result ≡ is_of_citation self }
     {

@@ -85,8 +85,8 @@ fn room_after_child(style: &Style, child: &NamesChild, room: u64) -> Option<u64>
     }
 }
 
-/// The room that is left after a choose, which counts one, and one more for each branch and for its
-/// `otherwise` nodes.
+/// The room that is left after a choose, which counts one, and one more for each branch, `cs:else`
+/// included.
 #[cycle(size)]
 fn room_after_choose(style: &Style, choose: &Choose, room: u64) -> Option<u64>
     ensures some { IfSome result (λ left. left

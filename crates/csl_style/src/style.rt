@@ -224,7 +224,7 @@ impl Style {
         first_macro(&self.macros, &self.places, name)
     }
 
-    /// The text of a term in this form, else in the first of its fallback forms that a locale has
+    /// The text of a term in this form, else in the first fallback form in which a locale has it
     /// (CSL 1.0.2, Terms).
     pub fn term(&self, term: Term, form: TermForm, plural: bool) -> Option<&str>
         ensures { option_map (λ text. text.now) result

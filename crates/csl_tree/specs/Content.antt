@@ -93,7 +93,7 @@ pub data IsContent : List Token → Type 0 where
   element_then : (d : Option Display) (m : Option Meta) (t : Token) (inside rest : List Token)
       → IsContent (t ∷ inside) → IsContent rest → IsContent (solid (elem_start d m) ∷ (t ∷ (inside ++ solid (elem_end d) ∷ rest)))
 
--- the new children have the old tokens, and then a further content
+-- the new tokens are the old ones and a further content in a row (`++>`)
 abbrev pub Appends : ElemChildren → ElemChildren → List Token → Type 0
 Appends old new more = tokens new ≡ tokens old ++> more
 

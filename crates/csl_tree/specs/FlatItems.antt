@@ -55,7 +55,7 @@ IsRun (Mark ∷ xs) = ⊥
 abbrev pub IsLastPart : List Item → ℕ → Type 0
 IsLastPart xs n = (n ≤ length xs) × IsRun (drop (length xs - n) xs) × (n < length xs → get_or xs (length xs - n - 1) Mark ≡ Mark)
 
--- in the innermost part, no adjacent texts have equal formatting
+-- in the innermost part, no adjacent items are texts of equal formatting
 abbrev pub IsJoined : List Item → Type 0
 IsJoined xs = plain_inner xs ≡ (open_parts xs).inner
 

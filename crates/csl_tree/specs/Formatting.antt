@@ -1,7 +1,7 @@
 -- In a tree each of the five attributes of a formatting has a value (CSL 1.0.2, Formatting). The
 -- default is the first value of each: normal, normal, normal, none, none. A node's formatting is
--- applied to that of its place. The result has each attribute that the node sets, and that of the
--- place for the rest. Two formattings are equal if all five attributes are.
+-- applied to that of its place. The result has each attribute that the node sets, and the place's
+-- value for each other attribute. Two formattings are equal if all five attributes are.
 use Rattle.std.specs.Prelude.{ℕ, Bool, ◌&&◌, ◌==◌, unwrap_or}
 use Rattle.csl_style.specs.declared.formatting.FontStyle.{FontStyle}
 use Rattle.csl_style.specs.declared.formatting.FontStyle.TheVariants as style
@@ -36,7 +36,7 @@ default_formatting = record {
   vertical_align = align.None;
 }
 
--- a number for each value of an attribute
+-- a different number for each value of an attribute
 abbrev pub style_place : FontStyle → ℕ
 style_place style.Normal = 0
 style_place style.Italic = 1

@@ -7,7 +7,7 @@
 --   elements that are not plain around their own styled value.
 -- - A tree is *normal* if, at every depth, no element is plain and no neighbouring texts have equal
 --   formatting.
--- - The *normal form* is the tree after `n` rounds if it has `n` nodes at all depths.
+-- - The *normal form* of a tree with `n` nodes, at all depths, is the tree after `n` rounds.
 use Rattle.std.specs.Prelude.{ℕ, zero, suc, ◌+◌, Bool, true, false, not, ◌&&◌, List, [], ◌∷◌, ◌++◌, map, Option, Some, None, if◌then◌else◌}
 use Rattle.csl_style.specs.declared.formatting.Display.{Display}
 use Rattle.csl_tree.specs.declared.formatting.Formatting.{Formatting}

@@ -50,7 +50,7 @@ fn reference_of_first(text: &str) -> Option<(&'static str, &str)>
 /// Writes a text with a reference in place of each reserved character.
 ///
 /// # Errors
-/// [`fmt::Error`]: the sink refused a part of it; the contents of the sink are then unspecified.
+/// [`fmt::Error`]: the sink refused a text; the contents of the sink are then unspecified.
 pub fn write_escaped<S: Sink>(text: &str, sink: &mut S) -> fmt::Result
     ensures ok { OnOk result (WritesInCalls S.write_str_gives sink.old
         (escape_all text.now) sink.new) }

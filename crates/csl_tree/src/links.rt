@@ -33,7 +33,8 @@ impl ElemChild {
         *self = child.without_link();
     }
 
-    /// Replaces each link in the child by its text, unless `is_allowed` accepts the address.
+    /// Replaces the child if it is a link, or each link inside it, by the link's text, unless
+    /// `is_allowed` accepts the address.
     #[cycle(links)]
     fn keep_links_by<F: FnMut(&str) -> bool>(&mut self, is_allowed: &mut F)
         requires { F.IsAlwaysCallable is_allowed.old }
@@ -68,7 +69,7 @@ impl ElemChildren {
         }
     }
 
-    /// Replaces each link whose address is not allowed by its text, at any depth. Allocates
+    /// Replaces each link, at any depth, by its text if its address is not allowed. Allocates
     /// nothing.
     pub fn keep_links<F: FnMut(&str) -> bool>(&mut self, mut is_allowed: F)
         requires { F.IsAlwaysCallable is_allowed }

@@ -1,5 +1,6 @@
 //! Simplification of a tree. Elements without display and meta are replaced by their children, and
-//! adjacent texts of equal formatting become one.
+//! adjacent texts of equal formatting become one. A tree is *normal* if it has no such elements or
+//! texts at any depth.
 //!
 //! The *styled value* of a tree stays the same: each byte of a text with its formatting, the other
 //! leaves, and the elements with display or meta (`specs/Simplify.antt`).
@@ -150,8 +151,8 @@ impl ElemChild {
         }
     }
 
-    /// Whether the child is normal and differs in formatting from a text before it, if both are
-    /// texts. `last` is the formatting of the text before.
+    /// Whether the child is normal and, if it is a text, differs in formatting from a text right
+    /// before it. `last` is the formatting of that text, or `None` if there is none.
     #[cycle(normal)]
     fn is_normal_after(&self, last: Option<Formatting>) -> bool
         ensures { result ≡ is_normal_after last (child_tree self.now) }

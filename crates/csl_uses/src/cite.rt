@@ -36,8 +36,9 @@ pub fn the_compilers_book(alloc: Global) -> Result<Entry, Error> {
     Ok(book)
 }
 
-/// The options for names. Of three or more names the style writes the first and `et al.` Cites have
-/// the family names alone. In the bibliography the first person's family name comes first.
+/// The options for names. Of three or more names the style writes the first, and `et al.` for the
+/// others. Cites have the family names alone. In the bibliography the first person's family name
+/// comes first.
 fn settings() -> StyleSettings {
     let names = InheritableNameOptions {
         and: Some(NameAnd::Text),

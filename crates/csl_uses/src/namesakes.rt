@@ -64,7 +64,7 @@ fn names_and_year(alloc: Global) -> Result<LayoutRenderingElement, Error> {
     Ok(cite.into())
 }
 
-/// A style that cites as `(Miller, 2014)`. Disambiguated cites are `(A. Miller, 2014)` and
+/// A style that cites as `(Miller, 2014)`. A disambiguated cite is `(A. Miller, 2014)` or
 /// `(Anna Miller, 2014)`.
 ///
 /// # Errors

@@ -19,7 +19,8 @@ use csl::{
 use std::alloc::Global;
 use std::borrow::{Cow, CowStr};
 
-/// The page before the list. A flex box ignores floats, so each number is beside its entry.
+/// The part of the page before the list. A flex box ignores floats, so each number is beside its
+/// entry.
 const HEAD: &str = r#"<!doctype html>
 <html lang="en">
 <head>
@@ -33,7 +34,7 @@ const HEAD: &str = r#"<!doctype html>
 <h1>References</h1>
 "#;
 
-/// The page after the list.
+/// The part of the page after the list.
 const TAIL: &str = "</body>\n</html>\n";
 
 /// A web page as somebody described it: its title and its address may be any text.
@@ -252,6 +253,7 @@ fn list_line<T: EntryLike>(
 /// # Errors
 /// [`Error::Memory`]: out of memory, here or in an entry.
 /// [`Error::NotNumeric`]: there are more entries than citation numbers.
+/// [`Error::Refused`]: out of memory while a line is added to the page.
 pub fn page<T: EntryLike>(alloc: Global, style: &Style, entries: &[T]) -> Result<String, Error> {
     let mut html = String::from_str(alloc, HEAD)?;
     for (place, entry) in entries.iter().enumerate() {

@@ -44,8 +44,8 @@ word_initials text hyphen [] = []
 word_initials text hyphen (g ∷ []) = g
 word_initials text hyphen (g ∷ h ∷ gs) = g ++ (initials_separator text hyphen ++ word_initials text hyphen (h ∷ gs))
 
--- The initials of words that each have some. The given text follows each word; at the end it loses
--- its trailing white space.
+-- The initials of words that each have some. The given text follows the initials of each word; at
+-- the end it loses its trailing white space.
 abbrev pub all_initials : List ℕ → Bool → List (List (List ℕ)) → List ℕ
 all_initials text hyphen [] = []
 all_initials text hyphen (w ∷ []) = word_initials text hyphen w ++ trim_end text

@@ -101,7 +101,7 @@ name_without_particle name = join_with_byte space_char (after_particle (words na
 
 -- ---- articles
 
--- the text after the article, if it begins with the article and more follows
+-- the rest of the text after the article, if the text begins with the article and more follows
 abbrev pub strip_article : List ℕ → List ℕ → Option (List ℕ)
 strip_article article text = if starts_with ◌==◌ text article && nat_lt (length article) (length text) then Some (drop (length article) text) else None
 

@@ -47,7 +47,7 @@ impl Shortened<'_> {
     }
 
     /// Writes the initial of a piece, unless the piece is empty. Returns the position of the next
-    /// initial.
+    /// initial in the word.
     fn write_piece<S: Sink>(
         &self,
         sink: &mut S,
@@ -72,7 +72,8 @@ impl Shortened<'_> {
         }
     }
 
-    /// Writes the initials of a word. Returns the position of the next initial.
+    /// Writes the initials of a word. Returns the position that a further initial in the word would
+    /// have.
     fn write_word<S: Sink>(
         &self,
         sink: &mut S,

@@ -39,8 +39,8 @@ pub struct Clause<'a> {
     pub own: &'a [EntryType],
     /// The fields that the entry itself must have.
     pub fields: &'a [Field],
-    /// The types that a direct parent may have; one parent must have one of them. An empty list
-    /// means every type. `None` means that no parent is needed.
+    /// The types for a direct parent: at least one direct parent must have one of them. An empty
+    /// list means every type. `None` means that no parent is needed.
     pub parent: Option<&'a [EntryType]>,
     /// The selection for an entry that fits the clause.
     pub bind: Bind,

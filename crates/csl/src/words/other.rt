@@ -1,4 +1,4 @@
-//! Words in sentences, quotes, months and seasons (CSL 1.0.2, Appendix II: Terms).
+//! Quotes, months, seasons, and words in sentences (CSL 1.0.2, Appendix II: Terms).
 
 use crate::words::Row;
 use csl_style::{OtherTerm, Term, TermForm};

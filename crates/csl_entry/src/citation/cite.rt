@@ -85,8 +85,8 @@ pub struct CertainCiteProperties {
     pub is_first: bool,
     /// Whether a near note before it cites the same entry (CSL 1.0.2, Choose: position, near-note).
     pub is_near_note: bool,
-    /// The index of the cite, from 0, as the caller handed it in. The answer of a locator that the
-    /// caller writes holds this index.
+    /// The index, from 0, that the caller gave the cite when handing it in. The answer of a locator
+    /// that the caller writes holds this index.
     pub initial_idx: usize,
 }
 

@@ -191,7 +191,8 @@ fn is_recording(entry: &Entry) -> bool
     entry.entry_type == EntryType::Audio || entry.entry_type == EntryType::Video
 }
 
-/// Whether the entry is an audio with a direct parent that can be read, such as a book.
+/// Whether the entry is an audio in a book, a periodical, a work of reference, a miscellany, a blog
+/// or a site.
 fn is_musical_score(entry: &Entry) -> bool
     ensures { result ≡ is_musical_score (typing_of entry.now) }
 {

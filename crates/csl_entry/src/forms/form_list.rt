@@ -44,8 +44,8 @@ fn further(
     }
 }
 
-/// Gives the name at each of these places its next form, if there is one, place by place. Returns
-/// whether any form changed.
+/// Gives the name at each of these places its form by `further`, if there is one, place by place.
+/// Returns whether any form changed.
 pub(crate) fn disambiguate_forms(
     forms: &mut [Option<DisambiguatedNameForm>],
     default: DisambiguatedNameForm,

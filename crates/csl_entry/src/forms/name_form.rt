@@ -30,8 +30,9 @@ impl DisambiguatedNameForm {
         )
     }
 
-    /// Returns the next form that shows more of the name, or `None` if there is none. `full` allows
-    /// given names to be written out. At most two such steps are possible in a row.
+    /// Returns the fuller form, or `None` if there is none. It is `LongInitialized` for
+    /// `ShortInitialized`. If `full` allows given names to be written out, it is `LongFull` for
+    /// `ShortFull` and `LongInitialized`. At most two such steps are possible in a row.
     pub fn disambiguate(self, full: bool) -> Option<DisambiguatedNameForm>
         ensures form { result ≡ fuller_form full self }
         ensures fuller { IfSome result (λ form. form_place self < form_place form) }

@@ -128,9 +128,10 @@ impl NameDisambiguationProperties {
     }
 
     /// Disambiguates the names at these places of the variable's list, place by place. A name that
-    /// is not shown gets the default form, and any other the next form that shows more of it, if
-    /// there is one. Returns whether any form changed. Nothing changes if the variable is not
-    /// listed. [`can_disambiguate`](Self::can_disambiguate) returns whether the call is allowed.
+    /// is not shown gets the default form. Any other gets its fuller form
+    /// ([`DisambiguatedNameForm::disambiguate`] with `full`), if there is one. Returns whether any
+    /// form changed. Nothing changes if the variable is not listed.
+    /// [`can_disambiguate`](Self::can_disambiguate) returns whether the call is allowed.
     pub fn disambiguate_list(&mut self, variable: NameVariable, items: &[usize]) -> bool
         requires { CanDisambiguate variable items.now (name_properties self.old) }
         ensures told { name_properties self.new

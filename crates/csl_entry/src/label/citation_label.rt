@@ -45,8 +45,8 @@ impl Alphanumerical {
     /// more give the first letters of the first one and `+`. Without creators the label has the
     /// first letters of the organization, else of the title, else of the alphabetic characters of
     /// the key. The year is that of the first date along the work and its parents, else that of the
-    /// visit to the first address along them. The label has its last two digits, plus one if the
-    /// year is 0 or less: year -99 gives `100`. Without a date there is no year.
+    /// visit to the first address along them. The label has the year's last two digits, plus one if
+    /// the year is 0 or less: year -99 gives `100`. Without a date there is no year.
     ///
     /// # Errors
     /// [`Memory`]: out of memory.

@@ -40,7 +40,7 @@ fn is_pair(variables: &[NameVariable]) -> bool
 }
 
 /// Whether the lists of these variables may merge: they are the editors and the translators alone,
-/// and the style has a term for both.
+/// and the style has the long term `editortranslator`.
 fn may_merge<T>(ctx: &Context<'_, T>, variables: &[NameVariable]) -> bool
     ensures { result ≡ may_merge ctx.now.style variables.now }
 {

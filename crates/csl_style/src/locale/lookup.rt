@@ -21,7 +21,8 @@ static VERB_SHORT: [TermForm; 3] = [TermForm::VerbShort, TermForm::Verb, TermFor
 
 static SYMBOL: [TermForm; 3] = [TermForm::Symbol, TermForm::Short, TermForm::Long];
 
-/// The forms in which a term is looked up, in order. If no locale has a form, the next is tried.
+/// The forms in which a term is looked up, in order. If no locale has the term in one form, the
+/// next is tried.
 fn forms_for(form: TermForm) -> &'static [TermForm]
     ensures { result.now ≡ forms_for form }
 {
@@ -48,7 +49,7 @@ impl Locale {
         None
     }
 
-    /// The gender of the first long entry of a term that has one.
+    /// The gender of a term: that of its first long entry that has one.
     fn gender(&self, term: Term) -> Option<GrammarGender>
         ensures { result ≡ first_some (long_gender term) (terms_of self.now) }
     {
@@ -86,7 +87,7 @@ fn in_form(locales: &[Locale], term: Term, form: TermForm) -> Option<&TermEntry>
     None
 }
 
-/// The first entry of a term in a form, else in the first of its fallback forms that a locale has.
+/// The first entry of a term in a form, else in the first fallback form in which a locale has it.
 fn found_term(locales: &[Locale], term: Term, form: TermForm) -> Option<&TermEntry>
     ensures { option_map (λ entry. term_view entry.now) result
         ≡ found_term (map terms_of locales.now) term form }

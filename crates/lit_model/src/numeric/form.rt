@@ -110,10 +110,10 @@ fn write_numbers_in_form<S: Sink, O: Ordinals>(
 }
 
 impl Numeric {
-    /// Writes the number, or each number of several, in a form to a sink (CSL 1.0.2, Number). If a
-    /// number has no long ordinal, it writes the ordinal. If it has no ordinal suffix or no roman
-    /// numeral, it writes the number in decimal. A number with a prefix or a suffix is written as
-    /// `Display` writes it.
+    /// Writes the number, or each number of several, in a form to a sink (CSL 1.0.2, Number). A
+    /// number without a text in the form is written in the form's fallback. The fallback is the
+    /// ordinal for LongOrdinal, and the number in decimal for Ordinal and Roman. A number with a
+    /// prefix or a suffix is written as `Display` writes it.
     ///
     /// # Errors
     /// [`fmt::Error`]: the sink refused a text; the contents of the sink are then unspecified.

@@ -25,7 +25,7 @@ fn write_range<S: Sink>(sink: &mut S, first: &Numeric, last: &Numeric) -> fmt::R
     Ok(())
 }
 
-/// Writes the part, a separator with its spaces.
+/// Writes the part. A separator is written with its spaces.
 impl WriteTo for PageRangesPart {
     ghost text = { λ part. part_text (part_view part) };
 
