@@ -39,8 +39,8 @@ enum Holder {
     Names(NameVariable),
 }
 
-/// A macro of one node: its name, the node, the node's parts, and the parts that a choice renders
-/// otherwise.
+/// A macro of one node: its name, the node, the node's parts, and the parts of the `cs:else` if the
+/// node is a choice.
 struct Row {
     name: &'static str,
     holder: Holder,

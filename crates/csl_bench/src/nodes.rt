@@ -52,7 +52,7 @@ pub fn group(
     })
 }
 
-/// A group without a delimiter and affixes.
+/// A group without a delimiter or affixes.
 pub fn bare_group(children: Vec<LayoutRenderingElement>) -> LayoutRenderingElement {
     group(children, None, Affixes::default())
 }

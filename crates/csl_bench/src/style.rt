@@ -13,7 +13,7 @@ pub fn name(alloc: Global, number: usize) -> Result<String, Memory> {
     Ok(format!(in alloc; "macro {number}")?)
 }
 
-/// The macro with this number. It calls the macros with the numbers from `first` to before `end`.
+/// The macro with this number. It calls the macros with the numbers `first..end`.
 fn calls(alloc: Global, number: usize, first: usize, end: usize) -> Result<CslMacro, Memory> {
     let mut children = Vec::new(alloc);
     for called in first..end {

@@ -81,7 +81,7 @@ fn elem(children: Vec<ElemChild>, display: Option<Display>) -> ElemChild {
     })
 }
 
-/// A tree of `size` blocks, with an element without display and meta before each.
+/// A tree of `size` blocks, with an element without display or meta before each.
 fn wide(alloc: Global, size: usize) -> Result<ElemChildren, Memory> {
     let mut children = Vec::new(alloc);
     for _ in 0..size {

@@ -31,7 +31,8 @@ const VOLUME: Variable = Variable::Number(NumberVariable::Volume);
 
 const ISSUED: Variable = Variable::Date(DateVariable::Issued);
 
-/// The result of a dry run, and a flag: for most nodes, whether they show the variable `asked`.
+/// The result of a dry run, and a flag. For a text of a variable, a number or a date, the flag is
+/// whether the node shows the variable `asked`.
 type DryRun = ((bool, UsageInfo), bool);
 
 /// Renders a text of a variable. Returns its dry run, and whether it shows the variable `asked`.

@@ -39,7 +39,7 @@ fn is_refused<'s, T: EntryLike>(ctx: &mut Context<'s, T>, style: &'s Style) -> b
     asked && shown && rendered && peeked && named && dated && written && opened
 }
 
-/// Whether a context has failed, and each of its calls returns so.
+/// Whether a context has failed, and [`is_refused`] holds, and `finish` returns that it had failed.
 fn has_failed<'s, T: EntryLike>(mut ctx: Context<'s, T>, style: &'s Style) -> bool {
     let is_refused = is_refused(&mut ctx, style);
     if ctx.has_failed() {
@@ -56,7 +56,8 @@ fn has_failed<'s, T: EntryLike>(mut ctx: Context<'s, T>, style: &'s Style) -> bo
 ///
 /// # Errors
 /// [`RenderError::Memory`]: out of memory in the context's first or last call.
-/// [`RenderError::Failed`]: the rendering returned this error, or a call after it did not.
+/// [`RenderError::Failed`]: the rendering returned this error. Or memory ran out in the rendering,
+/// and a later call did not return this error.
 fn tried<T: EntryLike>(
     alloc: Global,
     style: &Style,

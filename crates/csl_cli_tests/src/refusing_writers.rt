@@ -231,7 +231,7 @@ fn assert_initials(rt: &impl Abort, alloc: Global, given: &str, wanted: &str) ->
     assert_written(rt, alloc, &initials, wanted)
 }
 
-/// Asserts the text of a given name, with a dot after each single letter.
+/// Asserts the text of a given name, with a dot after each word that is one uppercase letter.
 fn assert_given(rt: &impl Abort, alloc: Global, given: &str, wanted: &str) -> Result<(), Fail> {
     let person = Person::new(alloc, "x", given)?;
     let first = |w: &mut Few| person.first_name_with_delimiter(w, Some("."));

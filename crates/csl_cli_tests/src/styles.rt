@@ -82,8 +82,8 @@ fn built_in_styles_name_what_they_print(rt: HostRuntime) -> Result<(), Fail> {
     Ok(())
 }
 
-/// The disambiguation of the cite, its special form, and its plain text: a cite of the book in the
-/// style `author-date`.
+/// A cite of the book in the style `author-date`: its disambiguation, its special form, and its
+/// plain text.
 type Row = (Told, Option<SpecialForm>, &'static str);
 
 const DATE_ALONE: SpecialForm = SpecialForm::VarOnly(Variable::Date(DateVariable::Issued));

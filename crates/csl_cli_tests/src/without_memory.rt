@@ -13,7 +13,7 @@ use std::cell::Cell;
 #[derive(Drop)]
 pub(crate) struct WithoutMemory<'e, T> {
     entry: &'e T,
-    /// The number of lookups before the refused one, or `None` after it.
+    /// The number of lookups still answered before the refused one, or `None` after it.
     answers_left: Cell<Option<u32>>,
 }
 

@@ -13,8 +13,8 @@ use std::test::Fail;
 /// A text variable whose lookup in a film runs out of memory.
 pub(crate) const UNANSWERED: StandardVariable = StandardVariable::Annote;
 
-/// A film. It answers all variables of a sort the same way. Of the text variables it has only the
-/// title.
+/// A film. It answers all variables of a sort the same way, except the text variables: of these it
+/// has only the title.
 #[derive(Drop)]
 pub(crate) struct Film {
     number: Numeric,

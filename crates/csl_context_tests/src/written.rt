@@ -180,8 +180,9 @@ fn write_title(ctx: &mut Context<'_, Film>) -> Result<(), RenderError>
     }
 }
 
-/// Ensures a space before a text, and twice between it and a second one. Writes whether the part
-/// was empty at first and had text after the first call, and whether it has text and is empty now.
+/// Calls [`Context::ensure_space`] before a text, and twice between it and a second one. Writes
+/// whether the part was empty at first and had text after the first call. Then writes whether it
+/// has text and is empty now.
 pub(crate) fn space(ctx: &mut Context<'_, Film>) -> Result<(), RenderError>
     ensures { OnOk result (ctx.new.outer ≡ ctx.old.outer) }
 {

@@ -158,7 +158,7 @@ fn on_page_five() -> Result<CiteProperties<'static>, Fail> {
 }
 
 /// The certain properties of a cite: the first note of its entry, whether it is the entry's first
-/// cite, whether a near note cites the entry, and its index.
+/// cite, whether a near note before it cites the entry, and its index.
 type Certain = (Option<NoteNumber>, bool, bool, usize);
 
 /// The speculative properties of a cite: the name of its disambiguation, its locator, its number,

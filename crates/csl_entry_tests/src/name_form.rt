@@ -59,7 +59,7 @@ fn assert_long(rt: &impl Abort, &(form, wanted): &(DisambiguatedNameForm, bool))
     assert_of(rt, &form.is_long(), &wanted, &form);
 }
 
-/// A form, whether given names may be written out, and the next fuller form.
+/// A form, whether given names may be written out, and the fuller form if there is one.
 type Row = (DisambiguatedNameForm, bool, Option<DisambiguatedNameForm>);
 
 static FULLER_FORMS: [Row; 8] = [

@@ -183,7 +183,7 @@ fn say_left<'s, T: EntryLike>(scene: &Scene<'s, T>, said: &mut String) -> Result
     Ok(say_told(&told, said)?)
 }
 
-/// The word for the error of a call, if there is one.
+/// The word for the error of a call, or for no error.
 fn word_of(error: Option<RenderError>) -> &'static str {
     match error {
         None => "None",

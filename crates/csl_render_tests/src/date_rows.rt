@@ -210,7 +210,8 @@ static SUFFIXES: [Row; 17] = [
     ("@issued+year:short", "date 2014 @ letter:0", "14a"),
     // The suffix is inside the affixes of the year.
     ("@issued+year|<(|>)", "date 2014 @ letter:0", "(2014a)"),
-    // The suffix follows only the year of the first date. If that date has no year, none has it.
+    // The suffix follows only the year of the first date. If that date prints no year, no year has
+    // the suffix.
     (TWICE, "date 2014 @ letter:0", "2014a, 2014"),
     (YEAR, "date 2014 @ letter:0 dated", "2014"),
     ("@issued+day @issued+year", "date 2014 @ letter:0", "2014"),
@@ -263,7 +264,7 @@ static FORMS: [Row; 18] = [
     ("( 'x @issued+year )|,~", "book", ""),
 ];
 
-/// The trees and states of dates. A sort key is one text without an element.
+/// The trees and states of dates. The sort key of a date is one text without an element.
 static TREES: [Row; 38] = [
     (YEAR, "date 2014", "[ 2014 ]:date dated"),
     (
@@ -342,8 +343,8 @@ static TREES: [Row; 38] = [
         "P0000020140500",
     ),
     ("@issued+month", "date 2014/4 @ sorted", "05"),
-    // With a form, the key has the `date-parts` of the node, else all parts. Those of the locale do
-    // not count.
+    // With a form, the key has the `date-parts` of the node, or all parts if the node sets none.
+    // Those of the locale do not count.
     ("@issued:text", "date 2014 @ sorted", "P0000020140000"),
     ("@issued:text:year", "date 2014/4 @ sorted", "P000002014"),
     (

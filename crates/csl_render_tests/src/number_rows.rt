@@ -12,7 +12,8 @@ const PLACE: &str = "( &locator #locator )|,~";
 
 /// Rows of numbers and labels, with the plain text of each.
 static PLAIN: [Row; 50] = [
-    // The minimal format drops the front of an end that repeats the start, but not the last digit.
+    // The minimal format drops the front of an end if it repeats that of the start, but never the
+    // last digit.
     ("page", "pages 321-328 @ minimal", "321–8"),
     ("page", "pages 42-5 @ minimal", "42–5"),
     ("page", "pages 99-101 @ minimal", "99–101"),
@@ -25,7 +26,7 @@ static PLAIN: [Row; 50] = [
     ("page", "pages 321-328 @ minimal-two", "321–28"),
     ("page", "pages 42-5 @ minimal-two", "42–45"),
     ("page", "pages 3-3 @ minimal-two", "3–3"),
-    // The expanded format completes the end. It is the same in a style that sets no format.
+    // The expanded format completes the end. A style that sets no format does so too.
     ("page", "pages 42-5 @ expanded", "42–45"),
     ("page", "pages 321-8, 5 & 7 @ expanded", "321–328, 5 & 7"),
     ("page", "pages 42-5", "42–45"),
@@ -88,7 +89,8 @@ static TREES: [Row; 10] = [
     ("volume", "volume 20", "[ 20 ]:text"),
     ("#volume|/", "volume 20", "[ /20 ]:number"),
     ("&volume:short", "volume 20", "[ vol. ]:label"),
-    // A sort key is one text without an element: a number in four places or more, or pages in full.
+    // The sort key of a number node is one text without an element: a number in four places or
+    // more, or pages without a format.
     ("#volume|/", "volume 20 @ sorted", "0020"),
     ("#page", "pages 321-328 @ sorted", "321-328"),
     ("#volume", "volume 20 @ sorted after:k", "k0020"),

@@ -298,7 +298,7 @@ fn a_group_may_hold_a_date(rt: HostRuntime) -> Result<(), Memory> {
     Ok(())
 }
 
-/// Authors with a name, et al., a short label and a substitute.
+/// Authors with a name, et al., a long label and a substitute.
 fn authors(alloc: Global) -> Result<LayoutRenderingElement, Memory> {
     let mut children: Vec<NamesChild> = one(alloc, Name::new(alloc).into())?;
     put(&mut children, EtAl::default().into())?;

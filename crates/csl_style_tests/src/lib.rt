@@ -1,5 +1,5 @@
 //! The tests of `csl_style`: its public calls, with inputs and expected results that are written
-//! out by hand. Each module tests the module of the same name in `csl_style`.
+//! out by hand. A module tests the module of the same name in `csl_style`, if there is one.
 #![tactic(auto)]
 
 #[cfg(test)]

@@ -96,7 +96,7 @@ static NAMES: [Row; 10] = [
     (3, 1, false, 1, 2, false, false),
     (3, 1, false, usize::MAX, usize::MAX, true, true),
     (0, 0, false, 0, 0, false, true),
-    // The last name is kept only if another name is left out.
+    // The last name of an abbreviated list is kept exactly if another name is left out.
     (3, 1, true, 1, 3, false, true),
     (3, 1, true, 2, 3, false, false),
     (3, 2, true, 2, 3, false, true),

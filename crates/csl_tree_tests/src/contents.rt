@@ -72,7 +72,8 @@ fn with_between(alloc: Global, tree: &str, three: [&str; 3]) -> Result<ElemChild
     Ok(all)
 }
 
-/// A tree, the three contents, and the tree with them after it.
+/// A tree, the three contents, and the tree with them after it. If the middle one is empty, the
+/// tree is unchanged.
 type Between = (&'static str, [&'static str; 3], &'static str);
 
 static BETWEEN: [Between; 7] = [

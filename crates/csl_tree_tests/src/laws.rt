@@ -1,7 +1,7 @@
 //! Laws of contents. Two texts of one formatting in a row equal the joined text. Contents in a row,
 //! in an element, or between two others have the leaf texts of all their parts, in order. Between
 //! two others, this holds if the middle one is not empty. If no part has an empty leaf or an empty
-//! element, neither has the result.
+//! element, the result has none.
 
 ghost use Rattle.std.specs.Prelude.{◌≡◌, ◌<◌, ◌++◌, length, IfOk};
 ghost use Rattle.csl_tree.specs.Content.{text_content, IsContent};

@@ -5,7 +5,7 @@ use std::alloc::Global;
 use std::process::Abort;
 use std::test::Fail;
 
-/// A tree, and the tree after all links became their texts but those whose address begins with
+/// A tree, and the tree after each link became its text, unless its address begins with
 /// `https://x.y`.
 static ROWS: [(&str, &str); 6] = [
     ("a", "a"),

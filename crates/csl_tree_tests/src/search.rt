@@ -20,7 +20,7 @@ enum Asked {
     Any,
     /// The first element with a meta.
     Noted,
-    /// The first element that a test accepts which rejects all elements.
+    /// The first element by a test that rejects every element.
     Nothing,
     /// The last text.
     LastText,

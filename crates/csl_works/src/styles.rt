@@ -82,7 +82,7 @@ fn parts(alloc: Global, style: &Style) -> Result<String, WorkError> {
     Ok(said)
 }
 
-/// The text of a style's error, unless memory ran out.
+/// The text of a style's error if a macro leads back to itself. Any other error is an error here.
 fn refusal(alloc: Global, error: &StyleError) -> Result<String, WorkError> {
     match error {
         StyleError::Memory => Err(WorkError::Memory),

@@ -17,7 +17,7 @@ fn same_entry(a: &Entry, b: &Entry) -> bool
     *a == *b
 }
 
-/// A book with this title. Its parents are the last `parents` works before it.
+/// A book with this title. Its parents are the last `parents` works before it that have no child.
 const fn book(title: &'static str, parents: usize) -> Work {
     ("key", EntryType::Book, Shown::Title(title), parents)
 }

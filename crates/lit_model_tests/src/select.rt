@@ -21,7 +21,7 @@ enum Asked {
     Part,
     VolumeTitle,
     AudioVideo,
-    /// The selection by `DATED`: the first parent of a book with a date.
+    /// The selection by `DATED`: if a book has a date, its first parent.
     Dated,
 }
 

@@ -154,7 +154,7 @@ fn with_domain(alloc: Global) -> Result<QualifiedUrl, Memory> {
     })
 }
 
-/// An address with the same text. Its host is an IP address.
+/// An address with the same text as that of [`with_domain`]. Its host is an IP address.
 fn with_ip(alloc: Global) -> Result<QualifiedUrl, Memory> {
     let mut value = address(alloc, "foo://h/")?;
     let host = IpAddr::V4(Ipv4Addr::new(1, 2, 3, 4));

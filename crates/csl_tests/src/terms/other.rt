@@ -1,4 +1,4 @@
-//! The terms for words, quotes, months and seasons, and their expected texts.
+//! The other terms (words, quotes, months and seasons), and their expected texts.
 
 use crate::terms::Row;
 use csl::literature::Season;
