@@ -1,3 +1,5 @@
+//! Labels, and their equality.
+
 ghost use Rattle.std.specs.Prelude.{◌≡◌, ◌↔◌, IsTrue};
 
 use crate::asked::{assert_answer, only};

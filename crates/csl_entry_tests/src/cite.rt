@@ -1,3 +1,5 @@
+//! The properties of a cite: equality, copies, and those of a first cite.
+
 use crate::asserted::{assert_of, assert_same};
 use csl_entry::{
     CertainCiteProperties, CitationNumber, CiteProperties, DisambiguateState,

@@ -1,3 +1,5 @@
+//! The answers of a cite: those of the citation, and those of the entry.
+
 use crate::asked::{assert_answer, borrowed, only, result_said, text_said};
 use crate::asserted::assert_same;
 use crate::cite::{Told, state};

@@ -1,3 +1,5 @@
+//! Languages and regions, and whether an entry is English.
+
 use crate::asked::{assert_answer, only};
 use crate::asserted::assert_of;
 use crate::described::described;

@@ -1,3 +1,5 @@
+//! The letters of year suffixes.
+
 use crate::asked::assert_answer;
 use csl_entry::letter;
 use std::alloc::Global;

@@ -1,3 +1,5 @@
+//! The answers of a cite to a lookup, and whether two entries answer the same.
+
 use crate::asked::{assert_answer, borrowed, only, result_said};
 use crate::asserted::assert_of;
 use crate::described::described;

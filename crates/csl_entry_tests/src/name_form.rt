@@ -1,3 +1,5 @@
+//! The order of the forms of a name, and the fuller form of each.
+
 ghost use Rattle.std.specs.Prelude.{◌≡◌, ◌↔◌, ◌<◌, IsTrue};
 ghost use Rattle.csl_entry.specs.NameForm.{form_place, form_cmp};
 

@@ -1,3 +1,5 @@
+//! The name forms of a citation: equality, more names, fuller forms, and the fuller of two.
+
 ghost use Rattle.std.specs.Prelude.{◌≡◌, ◌↔◌, IsTrue};
 ghost use Rattle.csl_entry.specs.NameProperties.{name_properties, with_form};
 ghost use Rattle.csl_entry.specs.declared.forms.name_form.DisambiguatedNameForm.TheVariants.{Count};

@@ -1,3 +1,5 @@
+//! The order and the equality of answered numbers.
+
 ghost use Rattle.std.specs.Prelude.{◌≡◌, ◌↔◌, IsTrue};
 ghost use Rattle.csl_entry.specs.NumberResult.{result_view, number_or_page_view};
 

@@ -1,3 +1,5 @@
+//! The limits of citation and note numbers.
+
 use crate::asserted::assert_same;
 use csl_entry::{CitationNumber, NoteNumber};
 use std::process::Abort;

@@ -1,3 +1,5 @@
+//! The dates that an entry answers.
+
 use crate::asked::{borrowed, only};
 use crate::asserted::assert_of;
 use crate::described::described;

@@ -1,3 +1,5 @@
+//! The kinds of an entry.
+
 use crate::asked::{assert_answer, only};
 use crate::asserted::assert_of;
 use crate::described::described;

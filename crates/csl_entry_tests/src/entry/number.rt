@@ -1,3 +1,5 @@
+//! The numbers that an entry answers.
+
 use crate::asked::{assert_answer, number_said, only};
 use crate::described::described;
 use csl_entry::EntryLike;

@@ -1,3 +1,5 @@
+//! The pages that an entry answers.
+
 use crate::asked::{assert_answer, only};
 use crate::described::described;
 use csl_entry::EntryLike;

@@ -1,3 +1,5 @@
+//! The texts that an entry answers.
+
 use crate::asked::{assert_answer, borrowed, only, text_said};
 use crate::asserted::assert_of;
 use crate::described::described;
