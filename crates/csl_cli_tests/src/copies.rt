@@ -93,7 +93,7 @@ fn say_copied_text(alloc: Global, said: &mut String) -> Result<(), Fail> {
 }
 
 #[test]
-fn copies_say_the_same(rt: HostRuntime) -> Result<(), Fail> {
+fn copies_are_equal(rt: HostRuntime) -> Result<(), Fail> {
     let alloc = rt.alloc();
     let made = copy_made(alloc)?;
     let answer = assert_plain(&rt, alloc, &made, "(Kwan, 2014d)");

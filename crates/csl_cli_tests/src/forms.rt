@@ -73,7 +73,7 @@ fn assert_cites(rt: &impl Abort, alloc: Global, row: &Row) -> Result<(), Fail> {
 }
 
 #[test]
-fn forms_of_names_tell_cites_apart(rt: HostRuntime) -> Result<(), Fail> {
+fn forms_of_names_disambiguate_cites(rt: HostRuntime) -> Result<(), Fail> {
     let rows: &[Row] = &CITES;
     for row in rows {
         assert_cites(&rt, rt.alloc(), row)?;

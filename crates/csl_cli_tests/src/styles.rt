@@ -120,7 +120,7 @@ fn assert_cite(rt: &impl Abort, alloc: Global, row: &Row) -> Result<(), Fail> {
 }
 
 #[test]
-fn cites_of_which_more_is_said(rt: HostRuntime) -> Result<(), Fail> {
+fn cites_with_more_properties(rt: HostRuntime) -> Result<(), Fail> {
     let rows: &[Row] = &CITES;
     for row in rows {
         assert_cite(&rt, rt.alloc(), row)?;

@@ -369,12 +369,12 @@ fn assert_two_acts(
 }
 
 #[test]
-fn a_call_writes_or_answers_what_it_is_for(rt: HostRuntime) -> Result<(), Fail> {
+fn each_call_writes_or_returns_its_result(rt: HostRuntime) -> Result<(), Fail> {
     assert_acts(&rt, rt.alloc(), &ACTS)
 }
 
 #[test]
-fn a_resumed_context_begins_with_what_was_left_and_a_failed_one_answers_so(
+fn a_context_resumes_from_a_state_and_a_failed_one_returns_failed(
     rt: HostRuntime,
 ) -> Result<(), Fail> {
     assert_two_acts(&rt, rt.alloc(), &TWO_ACTS)?;

@@ -213,7 +213,7 @@ fn assert_alike(
 }
 
 #[test]
-fn entries_are_alike_where_all_that_is_named_is(rt: HostRuntime) -> Result<(), Fail> {
+fn entries_are_alike_if_all_named_answers_are(rt: HostRuntime) -> Result<(), Fail> {
     let rows: &[(
         &'static str,
         &'static str,

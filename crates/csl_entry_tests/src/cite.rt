@@ -31,7 +31,7 @@ fn assert_told_apart(rt: &impl Abort, &(kind, payload, wanted): &LocatorRow) {
 }
 
 #[test]
-fn locators_are_told_apart(rt: HostRuntime) {
+fn locators_are_distinguished(rt: HostRuntime) {
     let locators: &[LocatorRow] = &LOCATORS;
     for row in locators {
         assert_told_apart(&rt, row);
@@ -55,7 +55,7 @@ static FORMS: [(SpecialForm, SpecialForm, bool); 4] = [
 ];
 
 #[test]
-fn what_belongs_to_a_cite_is_told_apart(rt: HostRuntime) {
+fn parts_of_a_cite_are_distinguished(rt: HostRuntime) {
     let (ibid, with_locator) = (IbidState::Ibid, IbidState::IbidWithLocator);
     assert_same(&rt, &(ibid == with_locator), &false);
     assert_same(&rt, &(IbidState::Different == IbidState::Ibid), &false);
@@ -196,7 +196,7 @@ fn said_of_the_first() -> (Certain, Speculative<'static>) {
 }
 
 #[test]
-fn what_the_first_cite_says(rt: HostRuntime) {
+fn properties_of_a_first_cite(rt: HostRuntime) {
     let (certain, speculative) = said_of_the_first();
     assert_same(&rt, &certain, &(None, true, false, 0));
     assert_same(
@@ -218,7 +218,7 @@ fn copied(alloc: Global) -> Result<(Certain, Speculative<'static>), Fail> {
 }
 
 #[test]
-fn a_copy_of_what_a_citation_says(rt: HostRuntime) -> Result<(), Fail> {
+fn a_copy_of_the_properties_of_a_cite(rt: HostRuntime) -> Result<(), Fail> {
     let (certain, speculative) = copied(rt.alloc())?;
     assert_same(&rt, &certain, &(NoteNumber::new(6), true, false, 2));
     let page = SpecificLocator(Locator::Page, LocatorPayload::Str("5"));

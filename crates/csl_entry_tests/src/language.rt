@@ -35,7 +35,7 @@ fn is_english(alloc: Global, description: &str) -> Result<Option<bool>, Fail> {
 }
 
 #[test]
-fn a_region_stands_behind_its_language(rt: HostRuntime) -> Result<(), Fail> {
+fn a_region_follows_its_language(rt: HostRuntime) -> Result<(), Fail> {
     for (name, region, wanted) in [("en", Some("US"), "en-US"), ("de", None, "de")] {
         let printed = printed(rt.alloc(), name, region)?;
         assert_answer(&rt, printed.as_str(), wanted, name);
@@ -44,7 +44,7 @@ fn a_region_stands_behind_its_language(rt: HostRuntime) -> Result<(), Fail> {
 }
 
 #[test]
-fn english_is_told_from_other_languages(rt: HostRuntime) -> Result<(), Fail> {
+fn english_is_distinguished_from_other_languages(rt: HostRuntime) -> Result<(), Fail> {
     for (description, wanted) in [
         ("book", None),
         ("book; language en-US", Some(true)),

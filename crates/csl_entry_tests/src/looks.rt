@@ -154,7 +154,7 @@ fn assert_found(
 }
 
 #[test]
-fn what_a_cite_answers(rt: HostRuntime) -> Result<(), Fail> {
+fn answers_of_a_cite(rt: HostRuntime) -> Result<(), Fail> {
     let answers: &[(&'static str, Sought, &'static str)] = &ANSWERS;
     for row in answers {
         assert_found(&rt, rt.alloc(), row)?;
@@ -304,7 +304,7 @@ fn assert_compared(
 }
 
 #[test]
-fn answers_that_show_the_same(rt: HostRuntime) -> Result<(), Fail> {
+fn answers_of_two_entries_compared(rt: HostRuntime) -> Result<(), Fail> {
     let pairs: &[ComparedRow] = &PAIRS;
     for row in pairs {
         assert_compared(&rt, rt.alloc(), row)?;

@@ -31,7 +31,7 @@ fn order(a: DisambiguatedNameForm, b: DisambiguatedNameForm) -> Ordering
 }
 
 #[test]
-fn forms_stand_in_order(rt: HostRuntime) {
+fn forms_are_in_order(rt: HostRuntime) {
     let forms = [
         DisambiguatedNameForm::Count,
         DisambiguatedNameForm::ShortInitialized,

@@ -69,7 +69,7 @@ fn copy_equals(
 }
 
 #[test]
-fn parts_are_answered_and_equal_by_value(rt: HostRuntime) -> Result<(), Memory> {
+fn parts_are_returned_and_equal_by_value(rt: HostRuntime) -> Result<(), Memory> {
     let parts = parts(rt.alloc(), DisambiguatedNameForm::LongFull)?;
     let wanted = "ShortFull [Author, Editor] [Some(ShortFull), None] [Some(LongFull)]";
     assert_answer(&rt, parts.as_str(), wanted, "the parts");
@@ -243,7 +243,7 @@ fn assert_told(rt: &impl Abort, alloc: Global, rows: &[ToldRow]) -> Result<(), F
 }
 
 #[test]
-fn names_of_the_variable_are_told_apart(rt: HostRuntime) -> Result<(), Fail> {
+fn names_of_the_variable_are_disambiguated(rt: HostRuntime) -> Result<(), Fail> {
     assert_told(&rt, rt.alloc(), &TOLD)
 }
 

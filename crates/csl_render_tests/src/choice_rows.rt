@@ -216,7 +216,7 @@ fn assert_sorts(rt: &impl Abort, rows: &[Option<BranchConditionPos>]) {
 }
 
 #[test]
-fn choices_take_what_the_standard_says(rt: HostRuntime) -> Result<(), Fail> {
+fn choices_take_branches_as_the_standard_says(rt: HostRuntime) -> Result<(), Fail> {
     assert_cited(&rt, rt.alloc(), Sought::Plain, &PLAIN)?;
     assert_cited(&rt, rt.alloc(), Sought::Conditions, &CONDITIONS)?;
     assert_cited(&rt, rt.alloc(), Sought::Chosen, &CHOSEN)?;

@@ -237,7 +237,7 @@ static SAME: [Row; 5] = [
 ];
 
 #[test]
-fn forms_that_tell_a_cite_apart_are_taken_and_kept(rt: HostRuntime) -> Result<(), Fail> {
+fn forms_that_disambiguate_a_cite_are_taken_and_kept(rt: HostRuntime) -> Result<(), Fail> {
     assert_cited(&rt, rt.alloc(), Sought::Plain, &PLAIN)?;
     assert_cited(&rt, rt.alloc(), Sought::Tree, &TREES)?;
     assert_cited(&rt, rt.alloc(), Sought::Tree, &SAME)?;

@@ -339,7 +339,7 @@ fn assert_begun(
 }
 
 #[test]
-fn entries_that_answer_alike_are_told(rt: HostRuntime) -> Result<(), Fail> {
+fn alike_entries_are_recognized(rt: HostRuntime) -> Result<(), Fail> {
     let (alloc, at_first) = (rt.alloc(), (false, false));
     assert_begun(&rt, alloc, at_first, Source::Entry, &ENTRIES)?;
     assert_begun(&rt, alloc, at_first, Source::Entry, &NAMES)?;
@@ -347,7 +347,7 @@ fn entries_that_answer_alike_are_told(rt: HostRuntime) -> Result<(), Fail> {
 }
 
 #[test]
-fn both_begin_with_what_was_left(rt: HostRuntime) -> Result<(), Fail> {
+fn both_start_from_the_left_state(rt: HostRuntime) -> Result<(), Fail> {
     let alloc = rt.alloc();
     assert_begun(&rt, alloc, (true, false), Source::Entry, &SUPPRESSING)?;
     assert_begun(&rt, alloc, (true, true), Source::Work, &SUPPRESSED)

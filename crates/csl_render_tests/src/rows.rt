@@ -254,7 +254,7 @@ static ERRORS: [Row; 4] = [
 const BEGUN: &str = "after:a suppressing";
 
 #[test]
-fn nodes_make_what_the_standard_says(rt: HostRuntime) -> Result<(), Fail> {
+fn nodes_render_as_the_standard_says(rt: HostRuntime) -> Result<(), Fail> {
     assert_described(&rt, rt.alloc(), "", Sought::Tree, &TEXTS)?;
     assert_described(&rt, rt.alloc(), "", Sought::Tree, &FORMS)?;
     assert_described(&rt, rt.alloc(), "", Sought::Plain, &PLAIN)?;
@@ -262,7 +262,7 @@ fn nodes_make_what_the_standard_says(rt: HostRuntime) -> Result<(), Fail> {
 }
 
 #[test]
-fn nodes_leave_a_state_and_dry_runs_leave_all_as_it_was(rt: HostRuntime) -> Result<(), Fail> {
+fn nodes_leave_a_state_and_dry_runs_change_nothing(rt: HostRuntime) -> Result<(), Fail> {
     assert_described(&rt, rt.alloc(), BEGUN, Sought::Tree, &BEHIND)?;
     assert_described(&rt, rt.alloc(), BEGUN, Sought::Twice, &TWICE)?;
     assert_described(&rt, rt.alloc(), BEGUN, Sought::Left, &DRY)?;
@@ -345,7 +345,7 @@ fn assert_groups(rt: &impl Abort, rows: &[GroupRow]) {
 }
 
 #[test]
-fn groups_stand_in_groups_and_flags_join(rt: HostRuntime) -> Result<(), Fail> {
+fn groups_nest_and_flags_join(rt: HostRuntime) -> Result<(), Fail> {
     let text = plain_deep(rt.alloc())?;
     assert_text(&rt, text.as_str(), "x", "a hundred groups", TITLED);
     assert_groups(&rt, &GROUPS);

@@ -204,7 +204,7 @@ fn assert_row(rt: &impl Abort, alloc: Global, row: &Row) -> Result<(), Fail> {
 }
 
 #[test]
-fn styles_make_cites_and_bibliography_entries(rt: HostRuntime) -> Result<(), Fail> {
+fn styles_render_cites_and_bibliography_entries(rt: HostRuntime) -> Result<(), Fail> {
     let rows: &[Row] = &ROWS;
     for row in rows {
         assert_row(&rt, rt.alloc(), row)?;
@@ -261,7 +261,7 @@ fn assert_pair(rt: &impl Abort, alloc: Global, row: &PairRow) -> Result<(), Fail
 }
 
 #[test]
-fn styles_make_the_cites_of_pairs(rt: HostRuntime) -> Result<(), Fail> {
+fn styles_render_the_cites_of_pairs(rt: HostRuntime) -> Result<(), Fail> {
     let rows: &[PairRow] = &PAIRS;
     for row in rows {
         assert_pair(&rt, rt.alloc(), row)?;

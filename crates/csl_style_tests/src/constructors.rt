@@ -172,7 +172,7 @@ fn affixes(alloc: Global, prefix: Option<&str>, suffix: Option<&str>) -> Result<
 }
 
 #[test]
-fn affixes_stand_on_their_sides(rt: HostRuntime) -> Result<(), Memory> {
+fn affixes_are_on_their_sides(rt: HostRuntime) -> Result<(), Memory> {
     for (prefix, suffix) in [
         (None, None),
         (Some("in: "), None),

@@ -53,7 +53,7 @@ fn assert_settings(rt: &impl Abort, settings: StyleSettings) {
 }
 
 #[test]
-fn names_and_settings_of_which_nothing_is_said(rt: HostRuntime) {
+fn names_and_settings_without_options(rt: HostRuntime) {
     assert_name(&rt, Name::new(rt.alloc()));
     assert_same(&rt, &EtAl::default().term, &OtherTerm::EtAl);
     assert_same(&rt, &VariablelessLabel::default().form, &TermForm::Long);

@@ -70,7 +70,7 @@ fn assert_missing(
 }
 
 #[test]
-fn the_first_missing_macro_is_answered(rt: HostRuntime) -> Result<(), Fail> {
+fn the_first_missing_macro_is_returned(rt: HostRuntime) -> Result<(), Fail> {
     let rows: &[Row] = &ROWS;
     for row in rows {
         assert_missing(&rt, rt.alloc(), *row)?;

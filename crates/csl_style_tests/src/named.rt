@@ -86,7 +86,7 @@ fn assert_line(
 }
 
 #[test]
-fn nodes_are_named_wherever_they_stand(rt: HostRuntime) -> Result<(), Fail> {
+fn nodes_are_named_anywhere(rt: HostRuntime) -> Result<(), Fail> {
     let rows: &[(&'static str, &'static str)] = &ROWS;
     for (line, wanted) in rows {
         assert_line(&rt, rt.alloc(), *line, *wanted)?;
@@ -299,7 +299,7 @@ fn tests_of_branches_are_named(rt: HostRuntime) -> Result<(), Fail> {
 }
 
 #[test]
-fn what_the_citation_answers_is_not_named(rt: HostRuntime) -> Result<(), Fail> {
+fn variables_of_the_citation_are_not_named(rt: HostRuntime) -> Result<(), Fail> {
     assert_layout(
         &rt,
         rt.alloc(),

@@ -68,7 +68,7 @@ fn assert_own_options_count(
 }
 
 #[test]
-fn own_options_stand_over_inherited_ones(rt: HostRuntime) -> Result<(), Fail> {
+fn own_options_replace_inherited_ones(rt: HostRuntime) -> Result<(), Fail> {
     let around = around(rt.alloc())?;
     assert_own_options_count(&rt, own(rt.alloc()), around);
     Ok(())

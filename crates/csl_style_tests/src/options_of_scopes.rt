@@ -171,7 +171,7 @@ fn assert_by_locales(
 }
 
 #[test]
-fn the_first_locale_says(rt: HostRuntime) -> Result<(), Fail> {
+fn the_first_locale_decides(rt: HostRuntime) -> Result<(), Fail> {
     let rows: &[LocaleRow] = &LOCALES;
     for row in rows {
         assert_by_locales(&rt, rt.alloc(), row)?;

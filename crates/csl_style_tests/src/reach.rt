@@ -91,7 +91,7 @@ fn is_implicit<'s>(
 }
 
 #[test]
-fn a_text_of_the_suffix_is_reached_wherever_it_stands(rt: HostRuntime) -> Result<(), Fail> {
+fn a_text_of_the_suffix_is_reached_anywhere(rt: HostRuntime) -> Result<(), Fail> {
     let rows: &[Row] = &ROWS;
     for row in rows {
         let (scope, citation, bibliography, wanted) = *row;

@@ -218,7 +218,7 @@ fn assert_style_of_locale(rt: &impl Abort, alloc: Global) -> Result<(), StyleErr
 }
 
 #[test]
-fn a_style_hands_out_what_it_was_made_of_and_asks_its_locales(rt: HostRuntime) -> Result<(), Fail> {
+fn a_style_returns_its_parts_and_searches_its_locales(rt: HostRuntime) -> Result<(), Fail> {
     assert_style_of_parts(&rt, rt.alloc())?;
     assert_style_of_locale(&rt, rt.alloc())?;
     Ok(())

@@ -51,7 +51,7 @@ fn assert_pushed(
 }
 
 #[test]
-fn an_empty_leaf_writes_nothing_and_an_element_stands(rt: HostRuntime) -> Result<(), Fail> {
+fn an_empty_leaf_writes_nothing_and_an_element_stays(rt: HostRuntime) -> Result<(), Fail> {
     let pushed: &[(&str, &str, &str)] = &PUSHED;
     for row in pushed {
         assert_pushed(&rt, rt.alloc(), row)?;
@@ -95,7 +95,7 @@ fn assert_between(
 }
 
 #[test]
-fn nothing_stands_around_nothing(rt: HostRuntime) -> Result<(), Fail> {
+fn nothing_is_put_around_nothing(rt: HostRuntime) -> Result<(), Fail> {
     let between: &[Between] = &BETWEEN;
     for row in between {
         assert_between(&rt, rt.alloc(), row)?;

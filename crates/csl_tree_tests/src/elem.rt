@@ -180,7 +180,7 @@ fn assert_inlined(
 }
 
 #[test]
-fn an_element_that_says_something_stays(rt: HostRuntime) -> Result<(), Fail> {
+fn an_element_with_a_display_or_a_meta_stays(rt: HostRuntime) -> Result<(), Fail> {
     let inlined: &[(&str, bool)] = &INLINED;
     for row in inlined {
         assert_inlined(&rt, rt.alloc(), row)?;

@@ -128,7 +128,7 @@ fn assert_calls(
 }
 
 #[test]
-fn the_calls_of_a_script_make_a_tree(rt: HostRuntime) -> Result<(), Fail> {
+fn the_calls_of_a_script_build_a_tree(rt: HostRuntime) -> Result<(), Fail> {
     let calls: &[(&str, &str)] = &CALLS;
     for row in calls {
         assert_calls(&rt, rt.alloc(), row)?;
@@ -202,7 +202,7 @@ fn assert_flags(
 }
 
 #[test]
-fn what_is_said_of_the_innermost_part(rt: HostRuntime) -> Result<(), Fail> {
+fn readers_of_the_innermost_part(rt: HostRuntime) -> Result<(), Fail> {
     let rows: &[(&str, Flags)] = &FLAGS;
     for row in rows {
         assert_flags(&rt, rt.alloc(), row)?;

@@ -70,7 +70,7 @@ fn texts_and_formattings_are_equal_by_value(rt: HostRuntime) -> Result<(), Fail>
 }
 
 #[test]
-fn defaults_say_nothing_and_own_attributes_go_over_the_base(rt: HostRuntime) {
+fn defaults_set_nothing_and_own_attributes_replace_the_base(rt: HostRuntime) {
     assert_same(&rt, &Formatting::default(), &BARE);
     assert_same(&rt, &BARE.apply(formatting::Formatting::default()), &BARE);
     let own = formatting::Formatting {

@@ -27,7 +27,7 @@ fn assert_date(rt: &impl Abort, &(given, is_date): &(Parts, bool)) {
 }
 
 #[test]
-fn months_end_at_eleven_and_days_at_thirty_and_a_season_may_stand_alone(rt: HostRuntime) {
+fn months_end_at_eleven_and_days_at_thirty_and_a_season_may_be_alone(rt: HostRuntime) {
     let dates: &[(Parts, bool)] = &DATES;
     for row in dates {
         assert_date(&rt, row);

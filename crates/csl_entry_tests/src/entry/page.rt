@@ -40,7 +40,7 @@ fn assert_pages(
 }
 
 #[test]
-fn pages_on_which_a_work_stands(rt: HostRuntime) -> Result<(), Fail> {
+fn pages_of_a_work(rt: HostRuntime) -> Result<(), Fail> {
     let works: &[(&'static str, &'static str)] = &PAGES;
     for row in works {
         assert_pages(&rt, rt.alloc(), row)?;
