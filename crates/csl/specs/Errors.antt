@@ -10,7 +10,7 @@ use Rattle.csl_tree.specs.declared.html_error.HtmlError.TheVariants as html
 use Rattle.lit_model.specs.declared.numeric.error.NumericError.{NumericError}
 use Rattle.lit_model.specs.declared.numeric.error.NumericError.TheVariants as numeric
 use Rattle.csl.specs.declared.error.Error.{Error}
-use Rattle.csl.specs.declared.error.Error.TheVariants.{Memory, NotNumeric, NotHtml, NoSuchDay, Style, Refused}
+use Rattle.csl.specs.declared.error.Error.TheVariants.{Memory, NotNumeric, NotHtml, DateOutOfRange, Style, Refused}
 
 abbrev pub of_numeric : NumericError → Error
 of_numeric numeric.Memory = Memory
@@ -29,6 +29,6 @@ abbrev pub error_text : Error → List ℕ
 error_text Memory = codes "out of memory"
 error_text NotNumeric = codes "not numeric"
 error_text NotHtml = codes "not html"
-error_text NoSuchDay = codes "no such day"
+error_text DateOutOfRange = codes "month or day out of range"
 error_text (Style error) = refusal_text error
 error_text Refused = codes "a writer refused a text"

@@ -20,9 +20,9 @@ pub enum Error {
     NotNumeric,
     /// A text is not HTML as `write_buf` writes it.
     NotHtml,
-    /// A date is not on the calendar. No call returns this error: it is for a caller whose
-    /// `Date::new` returned `None`.
-    NoSuchDay,
+    /// The month or the day of a date is out of range. No call returns this error: it is for a
+    /// caller whose `Date::new` returned `None`.
+    DateOutOfRange,
     /// A style is rejected, for a cyclic macro or for its page format.
     Style(StyleError),
     /// A writer refused a text. A `String` does so if memory runs out.
@@ -37,7 +37,7 @@ impl fmt::Display for Error {
             Error::Memory => f.write_str("out of memory"),
             Error::NotNumeric => f.write_str("not numeric"),
             Error::NotHtml => f.write_str("not html"),
-            Error::NoSuchDay => f.write_str("no such day"),
+            Error::DateOutOfRange => f.write_str("month or day out of range"),
             Error::Style(error) => write!(f, "{}", error),
             Error::Refused => f.write_str("a writer refused a text"),
         }

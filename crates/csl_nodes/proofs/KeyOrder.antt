@@ -108,9 +108,9 @@ key_order a b h k m n d e =
     ∙ ap (λ o. ordering_then o (slice_cmp nat_cmp (place_key a.day) (place_key b.day))) (place_order a.month b.month m n)
     ∙ ap (ordering_then (option_cmp nat_cmp a.month b.month)) (place_order a.day b.day d e))
 
--- a month or a day of the calendar has at most two digits
-pub on_calendar : (o : Option ℕ) (most : ℕ) → most ≤ 30 → ForSome o (λ n. n ≤ most) → place o < 100
-on_calendar None most h k = omega arith
-on_calendar (Some n) most h k =
+-- a month or a day in range has at most two digits
+pub in_range : (o : Option ℕ) (most : ℕ) → most ≤ 30 → ForSome o (λ n. n ≤ most) → place o < 100
+in_range None most h k = omega arith
+in_range (Some n) most h k =
     let low : n ≤ most = k n refl in
     omega (arith, low, h)

@@ -43,11 +43,11 @@ fn style(alloc: Global, form: DateForm) -> Result<Style, Error> {
     Ok(Style::new(alloc, settings, Vec::new(alloc), citation, None, locales)?)
 }
 
-/// A date on the calendar: a day, a month or a year.
+/// A date whose month and day are in range.
 fn day(year: i32, month: Option<u8>, day: Option<u8>) -> Result<Day, Error> {
     match Day::new(year, month, day, None, false) {
         Some(date) => Ok(date),
-        None => Err(Error::NoSuchDay),
+        None => Err(Error::DateOutOfRange),
     }
 }
 

@@ -12,7 +12,7 @@ use std::alloc::Global;
 ///
 /// # Errors
 /// [`Error::Memory`]: out of memory.
-/// [`Error::NoSuchDay`]: the date is not on the calendar.
+/// [`Error::DateOutOfRange`]: the month or the day is out of range.
 /// [`Error::NotNumeric`]: the number of pages is not a number.
 pub fn the_c_book(alloc: Global) -> Result<Entry, Error>
     ensures { IfOk result IsTheCBook }
@@ -20,7 +20,7 @@ pub fn the_c_book(alloc: Global) -> Result<Entry, Error>
     let kernighan = Person::new(alloc, "Kernighan", "Brian W.")?;
     let ritchie = Person::new(alloc, "Ritchie", "Dennis M.")?;
     // Months count from 0: this is February.
-    let date = Date::new(1978, Some(1), None, None, false).ok_or(Error::NoSuchDay)?;
+    let date = Date::new(1978, Some(1), None, None, false).ok_or(Error::DateOutOfRange)?;
     let authors = vec![in alloc; kernighan, ritchie]?;
     let title = FormatString::plain(alloc, "The C Programming Language")?;
     let publisher = FormatString::plain(alloc, "Prentice Hall")?;

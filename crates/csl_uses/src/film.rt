@@ -106,12 +106,12 @@ impl EntryLike for Film {
 ///
 /// # Errors
 /// [`Error::Memory`]: out of memory.
-/// [`Error::NoSuchDay`]: the date is not on the calendar.
+/// [`Error::DateOutOfRange`]: the month or the day is out of range.
 pub fn metropolis(alloc: Global) -> Result<Film, Error>
     ensures { IfOk result IsMetropolis }
 {
     // Months and days count from 0: this is the tenth of January.
-    let shown = Date::new(1927, Some(0), Some(9), None, false).ok_or(Error::NoSuchDay)?;
+    let shown = Date::new(1927, Some(0), Some(9), None, false).ok_or(Error::DateOutOfRange)?;
     Ok(Film {
         key: String::from_str(alloc, "metropolis")?,
         title: ChunkedString::plain(alloc, "Metropolis")?,

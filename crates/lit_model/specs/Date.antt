@@ -1,15 +1,15 @@
 -- A date has a year, may have a month, a day and a season, and may be approximate. Year 0 is the
 -- year before year 1. Months and days count from 0: month 0 is January, month 11 is December, and
 -- day 0 is the first day.
--- A month and a day are on the calendar (`IsOnCalendar`) if the month is absent or at most 11, and
--- the day is absent or at most 30. The length of the month does not count.
+-- A month and a day are in range (`AreInRange`) if the month is absent or at most 11, and the day is
+-- absent or at most 30. The length of the month does not count.
 use Rattle.std.specs.Prelude.{ℕ, ℤ, ◌≤◌, Bool, false, Option, None, IfSome}
 use Rattle.lit_model.specs.declared.date.Date.{Date}
 use Rattle.csl_common.specs.declared.season.Season.{Season}
 
--- a month of a year and a day of a month, if they are given
-abbrev pub IsOnCalendar : Option ℕ → Option ℕ → Type 0
-IsOnCalendar month day = IfSome month (λ m. m ≤ 11) × IfSome day (λ d. d ≤ 30)
+-- a month of a year and a day of the longest months, if they are given
+abbrev pub AreInRange : Option ℕ → Option ℕ → Type 0
+AreInRange month day = IfSome month (λ m. m ≤ 11) × IfSome day (λ d. d ≤ 30)
 
 -- the parts of a date
 pub record DateView : Type 0 where

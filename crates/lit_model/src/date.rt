@@ -18,10 +18,10 @@ pub struct Date {
 }
 
 impl Date {
-    ghost use Rattle.lit_model.specs.Date.{IsOnCalendar, date_view, year_alone};
+    ghost use Rattle.lit_model.specs.Date.{AreInRange, date_view, year_alone};
 
     /// Returns a date if a given month is at most 11 and a given day at most 30, else `None`. Both
-    /// count from 0, so January is month 0.
+    /// count from 0, so January is month 0. The length of the month is not checked.
     pub fn new(
         year: i32,
         month: Option<u8>,
@@ -29,7 +29,7 @@ impl Date {
         season: Option<Season>,
         approximate: bool,
     ) -> Option<Date>
-        ensures calendar { IsSome result ↔ IsOnCalendar month day }
+        ensures range { IsSome result ↔ AreInRange month day }
         ensures value { IfSome result (λ d. date_view d ≡ record {
           year = year;
           month = month;
