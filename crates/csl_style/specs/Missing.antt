@@ -1,14 +1,14 @@
 -- The first macro name that a style calls but does not define (CSL 1.0.2, Macro), in the order of
 -- the style as written. The layout of citations comes first, then that of the bibliography, then
--- all macros in order, also unreached and hidden ones. In a choice, the branches come in order,
--- then `cs:else`. In a names node, only the substitutes may call macros. The search does not follow
--- calls.
-use Rattle.std.specs.Prelude.{ℕ, List, [], ◌∷◌, Option, Some, None}
-use Rattle.std.specs.Option.{option_or}
+-- all macros in order, also unreached ones, but without those that an earlier macro of the same
+-- name hides. In a choice, the branches come in order, then `cs:else`. In a names node, only the
+-- substitutes may call macros. The search does not follow calls.
+use Rattle.std.specs.Prelude.{ℕ, zero, suc, nat_eq, Bool, List, [], ◌∷◌, Option, Some, None, if◌then◌else◌}
+use Rattle.std.specs.Option.{option_or, option_eq}
 use Rattle.csl_style.specs.Node.{Node, text, call, number, label, date, names, choose, group, Nodes, no_nodes, node, Branches, no_branches, otherwise, branch, Substitutes, no_substitutes, substitute}
 use Rattle.csl_style.specs.declared.element.Layout.{Layout}
 use Rattle.csl_style.specs.View.{Definition, definitions, view_layout, NamesChildView, a_name, an_et_al, a_label, a_substitute}
-use Rattle.csl_style.specs.Expansion.{macro_body}
+use Rattle.csl_style.specs.Expansion.{macro_index, macro_body}
 use Rattle.csl_style.specs.Style.{StyleParts}
 
 abbrev unless_defined : Option Nodes → List ℕ → Option (List ℕ)
@@ -50,10 +50,14 @@ missing_in_child ds (an_et_al e) = None
 missing_in_child ds (a_label l) = None
 missing_in_child ds (a_substitute ns) = missing_in_all ds ns
 
--- in the nodes of macros
-abbrev pub missing_in_macros : List Definition → List Definition → Option (List ℕ)
-missing_in_macros ds [] = None
-missing_in_macros ds (m ∷ ms) = option_or (missing_in_all ds m.1) (missing_in_macros ds ms)
+-- whether the first macro of the name is at the place
+abbrev pub is_first_at : List Definition → ℕ → List ℕ → Bool
+is_first_at ds i name = option_eq nat_eq (macro_index name ds) (Some i)
+
+-- in the nodes of the macros from a place on, each the first of its name
+abbrev pub missing_in_macros : List Definition → ℕ → List Definition → Option (List ℕ)
+missing_in_macros ds i [] = None
+missing_in_macros ds i (m ∷ ms) = option_or (if is_first_at ds i m.0 then missing_in_all ds m.1 else None) (missing_in_macros ds (suc i) ms)
 
 -- in a layout, if there is one
 abbrev pub missing_in_layout : List Definition → Option Layout → Option (List ℕ)
@@ -63,4 +67,4 @@ missing_in_layout ds (Some l) = missing_in_all ds (view_layout l).elements
 abbrev pub missing_macro : StyleParts → Option (List ℕ)
 missing_macro style =
     let ds = definitions style.macros in
-    option_or (missing_in_layout ds (Some style.citation)) (option_or (missing_in_layout ds style.bibliography) (missing_in_macros ds ds))
+    option_or (missing_in_layout ds (Some style.citation)) (option_or (missing_in_layout ds style.bibliography) (missing_in_macros ds zero ds))

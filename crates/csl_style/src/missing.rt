@@ -94,14 +94,16 @@ fn missing_in_choose<'s>(style: &Style, choose: &'s Choose) -> Option<&'s str>
     }
 }
 
-/// The first missing name in the nodes of macros.
+/// The first missing name in the nodes of macros, each the first of its name in the style.
 fn missing_in_macros<'s>(style: &Style, macros: &'s [CslMacro]) -> Option<&'s str>
     ensures { option_map (λ name. name.now) result
-        ≡ missing_in_macros (definitions style.now.macros) (definitions macros.now) }
+        ≡ missing_in_macros (definitions style.now.macros) 0 (definitions macros.now) }
 {
-    for m in macros {
-        if let Some(name) = missing_in_all(style, &m.children) {
-            return Some(name);
+    for (i, m) in macros.iter().enumerate() {
+        if style.macro_index(m.name.as_str()) == Some(i) {
+            if let Some(name) = missing_in_all(style, &m.children) {
+                return Some(name);
+            }
         }
     }
     None
@@ -110,10 +112,11 @@ fn missing_in_macros<'s>(style: &Style, macros: &'s [CslMacro]) -> Option<&'s st
 impl Style {
     /// The first macro name that the style calls but does not define. The search goes through the
     /// layout of citations, that of the bibliography, and then all macros in order, also those that
-    /// no layout reaches. A call of a missing macro prints nothing, so check a style that you
-    /// wrote.
+    /// no layout reaches. It passes over macros that an earlier one of the same name hides. A call
+    /// of a missing macro prints nothing, so check a style that you wrote.
     ///
-    /// The search allocates nothing, and looks up the name of each call at most once.
+    /// The search allocates nothing, and looks up the name of each call and of each macro at most
+    /// once.
     pub fn missing_macro(&self) -> Option<&str>
         ensures { option_map (λ name. name.now) result ≡ missing_macro self.now }
     {

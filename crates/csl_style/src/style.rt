@@ -4,7 +4,7 @@
 ghost use Rattle.std.specs.Prelude.{◌≡◌, false, IfOk, OnOk, IfErr, map, find, option_map, option_copied};
 ghost use Rattle.csl_style.specs.Node.{expand_nodes};
 ghost use Rattle.csl_style.specs.View.{definitions, is_named, view_nodes};
-ghost use Rattle.csl_style.specs.Expansion.{macro_body, macro_expansion, IsAcyclic};
+ghost use Rattle.csl_style.specs.Expansion.{macro_body, macro_expansion, macro_index, IsAcyclic};
 ghost use Rattle.csl_style.specs.Calls.{ArePlacesByName};
 ghost use Rattle.csl_style.specs.Cyclic.{HasNoCycle};
 ghost use Rattle.csl_style.specs.Locale.{terms_of, ordinals_of};
@@ -209,6 +209,13 @@ impl Style {
         ensures { result.now ≡ self.now.locales }
     {
         &self.locales
+    }
+
+    /// The index of the first macro of a name.
+    pub(crate) fn macro_index(&self, name: &str) -> Option<usize>
+        ensures { result ≡ macro_index name.now (definitions self.now.macros) }
+    {
+        self.places.get(name).copied()
     }
 
     /// The first macro of a name (CSL 1.0.2, Macro).

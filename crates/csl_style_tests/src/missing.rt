@@ -15,7 +15,7 @@ type Row = (
     Option<&'static str>,
 );
 
-static ROWS: [Row; 23] = [
+static ROWS: [Row; 26] = [
     // No macro is missing.
     (&[], "", None, None),
     (&[], "'a @title; group", Some("'b"), None),
@@ -30,8 +30,11 @@ static ROWS: [Row; 23] = [
     (&["a"], "a", Some("a; b"), Some("b")),
     (&["a b"], "a", None, Some("b")),
     (&["a", "c b"], "a", None, Some("b")),
-    // The call is in a macro that an earlier macro of the same name hides.
-    (&["a", "a b"], "a", None, Some("b")),
+    // The search passes over a macro that an earlier macro of the same name hides.
+    (&["a", "a b"], "a", None, None),
+    (&["a", "a b", "c d"], "a", None, Some("d")),
+    (&["a", "a b", "a c", "d"], "a", None, None),
+    (&["a b", "a c"], "a", None, Some("b")),
     // The call is inside a node that holds nodes, at each place.
     (&[], "group 'a b", None, Some("b")),
     (&[], "substitute b", None, Some("b")),

@@ -3,5 +3,8 @@ use Rattle.csl_style.specs.View.{definitions}
 use Rattle.csl_style.specs.Missing.{missing_in_macros}
 use Rattle.csl_style.proofs.missing.missing_in_macros.Given as goal
 
-abbrev pub invariant-loop-m : goal.invariant-loop-m
-invariant-loop-m l = missing_in_macros (definitions l.style.macros) (definitions (drop l.m-index l.macros)) ≡ missing_in_macros (definitions l.style.macros) (definitions l.macros)
+-- the first missing name in the remaining macros is the first in all
+abbrev pub invariant-loop-i : goal.invariant-loop-i
+invariant-loop-i l =
+    let ds = definitions l.style.macros in
+    missing_in_macros ds l.i (definitions (drop l.i l.macros)) ≡ missing_in_macros ds 0 (definitions l.macros)
