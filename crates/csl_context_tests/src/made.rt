@@ -106,17 +106,7 @@ fn ordinals(alloc: Global) -> Result<Vec<OrdinalTerm>, AllocError> {
 
 /// The one localized date, in words and without parts.
 fn dates(alloc: Global) -> Result<Vec<Date>, AllocError> {
-    let date = Date {
-        variable: None,
-        form: Some(DateForm::Text),
-        parts: None,
-        date_part: Vec::new(alloc),
-        delimiter: None,
-        formatting: Formatting::default(),
-        affixes: Affixes::default(),
-        display: None,
-    };
-    alone(alloc, date)
+    alone(alloc, Date::localized(DateForm::Text, Vec::new(alloc)))
 }
 
 /// The one locale. A comma or period after a closing quote goes before it.

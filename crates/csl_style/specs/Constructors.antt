@@ -12,6 +12,7 @@ use Rattle.csl_style.specs.declared.number.Label.{Label}
 use Rattle.csl_style.specs.declared.number.VariablelessLabel.{VariablelessLabel}
 use Rattle.csl_style.specs.declared.number.LabelPluralize.TheVariants.{Contextual}
 use Rattle.csl_style.specs.declared.date.Date.{Date}
+use Rattle.csl_style.specs.declared.date.DateForm.{DateForm}
 use Rattle.csl_style.specs.declared.date.DatePart.{DatePart}
 use Rattle.csl_style.specs.declared.date.DatePartName.{DatePartName}
 use Rattle.csl_style.specs.declared.taxonomy.DateVariable.{DateVariable}
@@ -89,9 +90,9 @@ short_label_of v = record { variable = v; label = record plain_label { form = Sh
 abbrev pub date_part_of : DatePartName → DatePart
 date_part_of name = record { name = name; form = None; formatting = no_formatting; affixes = no_affixes; strip_periods = false }
 
-abbrev pub date_of : DateVariable → Vec DatePart Global → Date
-date_of v parts = record {
-  variable = Some v;
+abbrev pub date_of_parts : Vec DatePart Global → Date
+date_of_parts parts = record {
+  variable = None;
   form = None;
   parts = None;
   date_part = parts;
@@ -100,6 +101,13 @@ date_of v parts = record {
   affixes = no_affixes;
   display = None;
 }
+
+abbrev pub date_of : DateVariable → Vec DatePart Global → Date
+date_of v parts = record (date_of_parts parts) { variable = Some v }
+
+-- a date of a locale, which has no variable
+abbrev pub localized_date_of : DateForm → Vec DatePart Global → Date
+localized_date_of form parts = record (date_of_parts parts) { form = Some form }
 
 -- ---- layouts and branches
 

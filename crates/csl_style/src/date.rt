@@ -1,7 +1,7 @@
 //! Dates (CSL 1.0.2, Date).
 
 ghost use Rattle.std.specs.Prelude.{◌≡◌};
-ghost use Rattle.csl_style.specs.Constructors.{date_of, date_part_of};
+ghost use Rattle.csl_style.specs.Constructors.{date_of, date_of_parts, date_part_of, localized_date_of};
 
 use crate::affixes::Affixes;
 use crate::formatting::{Display, Formatting};
@@ -96,6 +96,26 @@ impl Date {
     {
         Date {
             variable: Some(variable),
+            ..Date::of_parts(parts)
+        }
+    }
+
+    /// A date of a locale, which has no variable. It sets only its form and its list `date_part`.
+    pub fn localized(form: DateForm, parts: Vec<DatePart>) -> Date
+        ensures { result ≡ localized_date_of form parts }
+    {
+        Date {
+            form: Some(form),
+            ..Date::of_parts(parts)
+        }
+    }
+
+    /// A date that sets only its list `date_part`.
+    fn of_parts(parts: Vec<DatePart>) -> Date
+        ensures { result ≡ date_of_parts parts }
+    {
+        Date {
+            variable: None,
             form: None,
             parts: None,
             date_part: parts,

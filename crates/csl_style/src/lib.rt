@@ -24,7 +24,7 @@ pub mod text;
 mod year_suffix;
 
 pub use affixes::Affixes;
-pub use csl_common::LongShortForm;
+pub use csl_common::{GrammarGender, LongShortForm, NumberForm, Season};
 pub use date::{Date, DateAnyForm, DateForm, DatePart, DatePartName, DateParts};
 pub use element::{
     Choose, ChooseBranch, ChooseMatch, CslMacro, Group, Layout, LayoutRenderingElement, Names,

@@ -3,7 +3,8 @@
 
 ghost use Rattle.std.specs.Prelude.{◌≡◌, IfOk, None, Some, [], ◌∷◌, codes, false, map, true};
 ghost use Rattle.csl_common.specs.declared.form.LongShortForm.TheVariants.{Long};
-ghost use Rattle.csl_style.specs.Constructors.{date_of, no_tests, short_label_of, texts_around, no_dressing};
+ghost use Rattle.csl_style.specs.declared.date.DateForm.TheVariants as in_form;
+ghost use Rattle.csl_style.specs.Constructors.{date_of, localized_date_of, no_tests, short_label_of, texts_around, no_dressing};
 ghost use Rattle.csl_style.specs.Names.{view_label};
 ghost use Rattle.csl_style.specs.Node as node;
 ghost use Rattle.csl_style.specs.Node.{of_value, of_variable};
@@ -13,7 +14,7 @@ ghost use Rattle.csl_style.specs.View.{branches_of, first_et_al, first_label, na
 use crate::asserted::{assert_same, assert_text};
 use crate::made::{one, put};
 use csl_style::{
-    Affixes, Choose, ChooseBranch, ChooseMatch, CslMacro, Date, DatePart, DatePartName,
+    Affixes, Choose, ChooseBranch, ChooseMatch, CslMacro, Date, DateForm, DatePart, DatePartName,
     DateVariable, EtAl, FontStyle, Formatting, Group, Kind, Label, Layout, LayoutRenderingElement,
     Locale, Name, NameVariable, Names, NamesChild, Number, NumberOrPageVariable, NumberVariable,
     OtherTerm, PageVariable, StandardVariable, Substitute, Term, TermEntry, TermForm, Text,
@@ -86,6 +87,18 @@ fn spaced_date(
         ..Date::new(variable, parts)
     }
     .into())
+}
+
+/// A localized date in words with these parts, and with spaces between them.
+fn spaced_in_words(alloc: Global, parts: Vec<DatePart>) -> Result<Date, Memory>
+    ensures { IfOk result (λ made. view_date made
+        ≡ record (view_date (localized_date_of in_form.Text parts)) { delimiter = Some (codes " ") }) }
+{
+    let delimiter = String::from_str(alloc, " ")?;
+    Ok(Date {
+        delimiter: Some(delimiter),
+        ..Date::localized(DateForm::Text, parts)
+    })
 }
 
 /// A group in parentheses, with commas between its children.
@@ -276,6 +289,19 @@ fn assert_date(rt: &impl Abort, element: LayoutRenderingElement) {
         assert_same(rt, &"another node", &"a date");
     }
     drop(element);
+}
+
+#[test]
+fn a_localized_date_has_a_form_and_no_variable(rt: HostRuntime) -> Result<(), Memory> {
+    let parts = one(rt.alloc(), DatePart::new(DatePartName::Year))?;
+    let date = spaced_in_words(rt.alloc(), parts)?;
+    assert_same(&rt, &date.variable, &None);
+    assert_same(&rt, &date.form, &Some(DateForm::Text));
+    assert_same(&rt, &date.parts, &None);
+    assert_text(&rt, date.delimiter.as_deref(), Some(" "));
+    assert_same(&rt, &date.date_part.len(), &1);
+    drop(date);
+    Ok(())
 }
 
 fn assert_group(rt: &impl Abort, element: LayoutRenderingElement) {

@@ -1,12 +1,11 @@
 //! Styles and locales from a short notation.
 
 use csl_style::{
-    Affixes, Choose, ChooseBranch, ChooseMatch, CslMacro, Date, DateForm, DateParts, DateVariable,
-    Formatting, Group, Layout, LayoutRenderingElement, Locale, NameVariable, Names, NamesChild,
+    Choose, ChooseBranch, ChooseMatch, CslMacro, Date, DateForm, DateParts, GrammarGender, Group,
+    Layout, LayoutRenderingElement, Locale, LongShortForm, NameVariable, Names, NamesChild,
     OrdinalMatch, OrdinalSlot, OrdinalTerm, PageRangeFormat, StandardVariable, Style, StyleError,
     StyleSettings, Substitute, Term, TermEntry, TermForm, Text, TextTarget, Variable,
 };
-use lit_model::{GrammarGender, LongShortForm};
 use std::alloc::{AllocError, Global};
 
 /// A term: its name, its form, the text in the singular, the text in the plural, and its gender.
@@ -44,25 +43,6 @@ pub(crate) const SILENT: LocaleRows<'static> = LocaleRows {
     punctuation_in_quote: false,
     limit_day_ordinals_to_day_1: false,
 };
-
-/// A date without parts of its own.
-pub(crate) fn date(
-    alloc: Global,
-    variable: Option<DateVariable>,
-    form: Option<DateForm>,
-    parts: Option<DateParts>,
-) -> Date {
-    Date {
-        variable,
-        form,
-        parts,
-        date_part: Vec::new(alloc),
-        delimiter: None,
-        formatting: Formatting::default(),
-        affixes: Affixes::default(),
-        display: None,
-    }
-}
 
 /// Appends an item.
 pub(crate) fn put<T: Drop>(items: &mut Vec<T>, item: T) -> Result<(), AllocError> {
@@ -128,7 +108,11 @@ fn ordinals(alloc: Global, rows: &[OrdinalRow<'_>]) -> Result<Vec<OrdinalTerm>, 
 fn dates(alloc: Global, rows: &[(DateForm, DateParts)]) -> Result<Vec<Date>, AllocError> {
     let mut dates = Vec::new(alloc);
     for (form, parts) in rows {
-        put(&mut dates, date(alloc, None, Some(*form), Some(*parts)))?;
+        let date = Date {
+            parts: Some(*parts),
+            ..Date::localized(*form, Vec::new(alloc))
+        };
+        put(&mut dates, date)?;
     }
     Ok(dates)
 }

@@ -7,10 +7,9 @@ ghost use Rattle.csl_style.specs.View.{view_node};
 
 use crate::asserted::assert_same;
 use csl_style::{
-    Affixes, Formatting, LayoutRenderingElement, Number, NumberOrPageVariable, NumberVariable,
-    PageVariable,
+    Affixes, Formatting, LayoutRenderingElement, Number, NumberForm, NumberOrPageVariable,
+    NumberVariable, PageVariable,
 };
-use lit_model::NumberForm;
 
 /// A number node. Its view has the same variable and form.
 fn number_node(

@@ -3,8 +3,7 @@
 ghost use Rattle.std.specs.Prelude.{◌≡◌, ◌↔◌, IsTrue};
 
 use crate::asserted::assert_same;
-use csl_style::{Locator, NumberVariable, OtherTerm, Term};
-use lit_model::Season;
+use csl_style::{Locator, NumberVariable, OtherTerm, Season, Term};
 use std::process::Abort;
 
 const SPRING: OtherTerm = OtherTerm::Season(Season::Spring);
