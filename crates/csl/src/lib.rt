@@ -2,7 +2,8 @@
 //!
 //! A style and its locale are values. Nodes, options and terms are in [`style`], a work and its
 //! parts in [`literature`], the output tree in [`tree`]. [`cite`] and [`bibliography_entry`] render
-//! an entry of any type that implements [`EntryLike`]. [`english`] returns a locale to begin with.
+//! an entry of any type that implements [`EntryLike`]. For a single node, [`context`] has the
+//! context and [`render`] the calls. [`english`] returns a locale to begin with.
 //! The errors of all calls convert into [`Error`]. `docs/CALLING.md` has a whole program.
 #![tactic(auto)]
 
@@ -11,6 +12,7 @@ mod locale;
 mod words;
 
 pub use csl_common::{Sink, TrackingFormatter, TrackingWriter};
+pub use csl_context as context;
 pub use csl_context::{Context, LeftState, RenderError, Rendered};
 pub use csl_entry as entry;
 pub use csl_entry::{
@@ -18,6 +20,7 @@ pub use csl_entry::{
     EntryLike, InstanceContext, NameDisambiguationProperties, NoteNumber, same_answers,
 };
 pub use csl_names::{write_name, write_name_list};
+pub use csl_render as render;
 pub use csl_render::{
     Pair, RenderCsl, bibliography_entry, choose_children, cite, cite_pair, render_pair,
 };

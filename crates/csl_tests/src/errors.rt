@@ -43,5 +43,10 @@ fn errors_of_the_crates_and_their_texts(rt: HostRuntime) -> Result<(), Fail> {
     assert_text_of(&rt, alloc, RenderError::Memory.into(), "out of memory")?;
     assert_text_of(&rt, alloc, RenderError::Failed.into(), "out of memory")?;
     assert_text_of(&rt, alloc, fmt::Error.into(), "a writer refused a text")?;
-    assert_text_of(&rt, alloc, Error::DateOutOfRange, "month or day out of range")
+    assert_text_of(
+        &rt,
+        alloc,
+        Error::DateOutOfRange,
+        "month or day out of range",
+    )
 }

@@ -1,10 +1,12 @@
-//! Tests of `csl`: its locale, its error, and a cite through it alone.
+//! Tests of `csl`: its locale, its error, and cites and contexts through it alone.
 #![tactic(auto)]
 
 #[cfg(test)]
 mod asserted;
 #[cfg(test)]
 mod cites;
+#[cfg(test)]
+mod contexts;
 #[cfg(test)]
 mod dates;
 #[cfg(test)]
