@@ -28,12 +28,12 @@ fn kept_digits(format: Option<PageRangeFormat>) -> Option<usize>
     }
 }
 
-/// Whether each byte of the text is an ASCII digit.
+/// Whether the text is a number of ASCII digits: at least one digit, and nothing else.
 fn is_digits(text: &str) -> bool
     ensures value { result ≡ is_digits text.now }
     ensures ascii { result ≡ true → IsAscii text.now }
 {
-    text.bytes().all(|b| b.is_ascii_digit())
+    !text.is_empty() && text.bytes().all(|b| b.is_ascii_digit())
 }
 
 /// The end of a range. If it is shorter than the start, the start's front completes it.
