@@ -5,7 +5,7 @@
 -- `minimal` drops the front that the second repeats of the first, but never the last digit of the
 -- second; `minimal-two` never drops the second's last two. An escaped range is only completed. Any
 -- other end stays unchanged, also an empty one.
-use Rattle.std.specs.Prelude.{ℕ, ◌-◌, min, Bool, false, ◌&&◌, ◌==◌, nat_eq, List, [], ◌∷◌, ◌++◌, length, take, drop, map, chars, encode_utf8_all, Option, Some, None, unwrap_or, codes, if◌then◌else◌}
+use Rattle.std.specs.Prelude.{ℕ, ◌-◌, min, Bool, false, not, ◌&&◌, ◌==◌, nat_eq, List, [], ◌∷◌, ◌++◌, length, take, drop, map, chars, encode_utf8_all, Option, Some, None, unwrap_or, codes, if◌then◌else◌}
 use Rattle.std.specs.Char.{is_ascii_digit}
 use Rattle.std.specs.List.{list_all, flat_map, common_prefix_len}
 use Rattle.lit_model.specs.Characters.{hyphen_char, en_dash_char}
@@ -27,8 +27,7 @@ en_dash = 0xE2 ∷ 0x80 ∷ 0x93 ∷ []
 
 -- at least one byte, and each is an ASCII digit
 abbrev pub is_digits : List ℕ → Bool
-is_digits [] = false
-is_digits (b ∷ bs) = list_all is_ascii_digit (b ∷ bs)
+is_digits bs = not (length bs == 0) && list_all is_ascii_digit bs
 
 -- an end; if it is shorter than the start, the start's front completes it
 abbrev pub completed_end : List ℕ → List ℕ → List ℕ
