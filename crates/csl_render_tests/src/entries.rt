@@ -8,6 +8,7 @@
 //! | `title T`, `title T\|S` | the title, with its short form `S` |
 //! | `volume 20`, `edition 2` | a number, or a text after `'` |
 //! | `pages 7-8` | pages, a text after `'`, or an escaped range after a backslash |
+//! | `pages 7-` | a range whose end has no number |
 //! | `date 2014/4/-/summer` | year, month, day and season; approximate after `~` |
 //! | `author A/B+C`, `editor A`, `translator A` | persons: a family name, a given name after `/` |
 //!
@@ -22,12 +23,13 @@ use crate::name_forms::forms_of;
 use crate::nodes::{alone, put, read, variable_named};
 use csl_entry::{
     CertainCiteProperties, CitationNumber, CiteProperties, DisambiguateState, IbidState,
-    LocatorPayload, Sorting, SpecialForm, SpecificLocator, SpeculativeCiteProperties,
+    LocatorPayload, NoteNumber, Sorting, SpecialForm, SpecificLocator, SpeculativeCiteProperties,
 };
 use csl_style::{PageRangeFormat, Scope};
 use lit_model::{
     ChunkKind, ChunkedString, Date, Entry, EntryType, FormatString, MaybeTyped, Memory, Numeric,
-    PageRanges, PageRangesPart, Person, PersonRole, PersonsWithRoles, Season, StringChunk,
+    NumericValue, PageRanges, PageRangesPart, Person, PersonRole, PersonsWithRoles, Season,
+    StringChunk,
 };
 use std::alloc::Global;
 use std::test::Fail;
@@ -69,6 +71,9 @@ fn pages(alloc: Global, value: &str) -> Result<MaybeTyped<PageRanges>, Fail> {
     if let Some(range) = value.strip_prefix('\\') {
         return Ok(MaybeTyped::Typed(escaped(alloc, range)?));
     }
+    if let Some(from) = value.strip_suffix('-') {
+        return Ok(MaybeTyped::Typed(endless(alloc, from)?));
+    }
     match value.strip_prefix('\'') {
         Some(text) => Ok(MaybeTyped::String(String::from_str(alloc, text)?)),
         None => Ok(MaybeTyped::Typed(PageRanges::parse(alloc, value)?)),
@@ -81,6 +86,18 @@ fn escaped(alloc: Global, range: &str) -> Result<PageRanges, Fail> {
     let from = Numeric::parse(alloc, from)?;
     let to = Numeric::parse(alloc, to)?;
     let ranges = alone(alloc, PageRangesPart::EscapedRange(from, to))?;
+    Ok(PageRanges { ranges })
+}
+
+/// A range whose end is a set without numbers. No text parses as one.
+fn endless(alloc: Global, from: &str) -> Result<PageRanges, Fail> {
+    let from = Numeric::parse(alloc, from)?;
+    let to = Numeric {
+        value: NumericValue::Set(Vec::new(alloc)),
+        prefix: None,
+        suffix: None,
+    };
+    let ranges = alone(alloc, PageRangesPart::Range(from, to))?;
     Ok(PageRanges { ranges })
 }
 
@@ -204,6 +221,8 @@ pub(crate) struct Setting {
     is_told: bool,
     /// The number of its year suffix, from 0, if it has one.
     suffix: Option<u16>,
+    /// The number of the note with its first cite, if there is one.
+    note: Option<NoteNumber>,
     /// The words of the forms of names that disambiguate it, if there are any.
     forms: Option<&'static str>,
 }
@@ -215,6 +234,10 @@ fn set(setting: &mut Setting, word: &'static str) -> Result<(), Fail> {
         "minimal" => setting.manner.format = Some(PageRangeFormat::Minimal),
         "minimal-two" => setting.manner.format = Some(PageRangeFormat::MinimalTwo),
         "limited" => setting.manner.is_limited = true,
+        "outside" => setting.manner.is_outside = true,
+        "unquoted" => setting.manner.lacks_quotes = true,
+        "second-inside" => setting.manner.is_second_outside = Some(false),
+        "second-outside" => setting.manner.is_second_outside = Some(true),
         "eras" => setting.manner.has_eras = true,
         "merging" => setting.manner.is_merging = true,
         "bibliography" => setting.scope = Scope::Bibliography,
@@ -246,15 +269,17 @@ fn payload(text: &'static str) -> LocatorPayload<'static> {
 
 /// Sets the field that a word with a colon describes. Of the cite: the text before its nodes
 /// (`after:k`), the only variable that it shows (`only:volume`), the number of its year suffix
-/// (`letter:0`), the forms of names that disambiguate it (`forms:S/author/L`), or its locator
-/// (`page:7`). Of the style: its localized date (`locale::text+year`), its citation layout
-/// (`layout:=suffix`), or its name options (`names:short`).
+/// (`letter:0`), the number of the note with its first cite (`note:6`), the forms of names that
+/// disambiguate it (`forms:S/author/L`), or its locator (`page:7`). Of the style: its localized
+/// date (`locale::text+year`), its citation layout (`layout:=suffix`), or its name options
+/// (`names:short`).
 fn set_text(setting: &mut Setting, word: &'static str) -> Result<(), Fail> {
     let (name, text) = word.split_once(':').ok_or("a word that no citation has")?;
     match name {
         "after" => setting.before = text,
         "only" => setting.form = Some(SpecialForm::VarOnly(variable_named(text)?)),
         "letter" => setting.suffix = Some(text.parse::<u16>()?),
+        "note" => setting.note = NoteNumber::new(text.parse::<u32>()?),
         "locale" => setting.manner.date = Some(text),
         "layout" => setting.manner.layout = text,
         "names" => setting.manner.names = text,
@@ -282,6 +307,7 @@ pub(crate) const SILENT: Setting = Setting {
     locator: None,
     is_told: false,
     suffix: None,
+    note: None,
     forms: None,
 };
 
@@ -317,7 +343,7 @@ pub(crate) fn properties(
     let disambiguation = told_by(alloc, setting)?;
     Ok(CiteProperties {
         certain: CertainCiteProperties {
-            first_note_number: None,
+            first_note_number: setting.note,
             is_first: setting.is_first,
             is_near_note: setting.is_near_note,
             initial_idx: 0,

@@ -12,7 +12,7 @@ use std::alloc::{AllocError, Global};
 use std::test::Fail;
 
 /// The macros, one a line: the name, and the words of the nodes.
-static MACROS: [&str; 10] = [
+static MACROS: [&str; 11] = [
     "both 'w title",
     "choice ( ( 'v ) ( =suffix ) )?all",
     "editors +editor:name",
@@ -22,6 +22,7 @@ static MACROS: [&str; 10] = [
     "quoted 'B|q",
     "stopped 'a|q|>.,",
     "suffix suffix",
+    "twice =quoted|q",
     "y 'y",
 ];
 
@@ -63,9 +64,7 @@ fn gender_of(term: Term) -> Option<GrammarGender> {
 /// A term, its form, and its texts in the singular and in the plural.
 type TermRow = (Term, TermForm, &'static str, &'static str);
 
-static TERMS: [TermRow; 20] = [
-    (Term::Other(OtherTerm::OpenQuote), TermForm::Long, "“", "“"),
-    (Term::Other(OtherTerm::CloseQuote), TermForm::Long, "”", "”"),
+static TERMS: [TermRow; 18] = [
     (
         Term::Other(OtherTerm::OpenInnerQuote),
         TermForm::Long,
@@ -111,6 +110,12 @@ static TERMS: [TermRow; 20] = [
     (AUTUMN, TermForm::Long, "Autumn", "Autumn"),
 ];
 
+/// The outer quotes.
+static QUOTES: [TermRow; 2] = [
+    (Term::Other(OtherTerm::OpenQuote), TermForm::Long, "“", "“"),
+    (Term::Other(OtherTerm::CloseQuote), TermForm::Long, "”", "”"),
+];
+
 /// The terms of the eras.
 static ERAS: [TermRow; 2] = [
     (Term::Other(OtherTerm::Ad), TermForm::Long, " A.D.", " A.D."),
@@ -147,6 +152,9 @@ fn add_terms(alloc: Global, rows: &[TermRow], terms: &mut Vec<TermEntry>) -> Res
 fn terms(alloc: Global, manner: &Manner) -> Result<Vec<TermEntry>, Memory> {
     let mut terms = Vec::new(alloc);
     add_terms(alloc, &TERMS, &mut terms)?;
+    if !manner.lacks_quotes {
+        add_terms(alloc, &QUOTES, &mut terms)?;
+    }
     if manner.has_eras {
         add_terms(alloc, &ERAS, &mut terms)?;
     }
@@ -194,6 +202,12 @@ pub(crate) struct Manner {
     pub(crate) bibliography: Option<&'static str>,
     /// Whether only the first day of a month is an ordinal.
     pub(crate) is_limited: bool,
+    /// Whether a comma or period after a closing quote stays there.
+    pub(crate) is_outside: bool,
+    /// The same of a second locale, which has nothing else, if there is one.
+    pub(crate) is_second_outside: Option<bool>,
+    /// Whether the style lacks the terms of the outer quotes.
+    pub(crate) lacks_quotes: bool,
     /// Whether the style has terms for AD and BC.
     pub(crate) has_eras: bool,
     /// Whether the style has a term for persons who are both editors and translators.
@@ -209,6 +223,9 @@ pub(crate) const PLAIN: Manner = Manner {
     layout: "",
     bibliography: None,
     is_limited: false,
+    is_outside: false,
+    is_second_outside: None,
+    lacks_quotes: false,
     has_eras: false,
     is_merging: false,
     names: "",
@@ -221,18 +238,30 @@ fn dates(alloc: Global, manner: &Manner) -> Result<Vec<Date>, Fail> {
     }
 }
 
-/// A list with the only locale. A comma or period after a closing quote moves before it.
-fn locales(alloc: Global, manner: &Manner) -> Result<Vec<Locale>, Fail> {
+/// The locale of this manner.
+fn first_locale(alloc: Global, manner: &Manner) -> Result<Locale, Fail> {
     let terms = terms(alloc, manner)?;
     let ordinals = ordinals(alloc, &ORDINALS)?;
-    let locale = Locale {
+    Ok(Locale {
         terms,
         ordinals,
         dates: dates(alloc, manner)?,
-        punctuation_in_quote: true,
+        punctuation_in_quote: !manner.is_outside,
         limit_day_ordinals_to_day_1: manner.is_limited,
-    };
-    Ok(alone(alloc, locale)?)
+    })
+}
+
+/// The locales. If there is a second one, it only sets where punctuation goes.
+fn locales(alloc: Global, manner: &Manner) -> Result<Vec<Locale>, Fail> {
+    let mut locales = alone(alloc, first_locale(alloc, manner)?)?;
+    if let Some(is_outside) = manner.is_second_outside {
+        let second = Locale {
+            punctuation_in_quote: !is_outside,
+            ..Locale::new(alloc)
+        };
+        put(&mut locales, second)?;
+    }
+    Ok(locales)
 }
 
 /// The layout of the bibliography, if there is one.
@@ -243,7 +272,7 @@ fn bibliography(alloc: Global, manner: &Manner) -> Result<Option<Layout>, Fail> 
     }
 }
 
-/// The style of this manner, with the macros of these tests and one locale.
+/// The style of this manner, with the macros of these tests.
 pub(crate) fn style(alloc: Global, manner: &Manner) -> Result<Style, Fail> {
     let names = name_options(alloc, manner.names)?;
     let macros = macros(alloc, &MACROS)?;

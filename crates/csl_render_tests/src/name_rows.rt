@@ -12,7 +12,7 @@ const BOTH: &str = "editor Weintraub/Stanley; translator Weintraub/Stanley";
 const TWO: &str = "editor Ottenstein/Peter; translator Warren/Rosanna";
 
 /// Rows of names, with the plain text of each.
-static PLAIN: [Row; 49] = [
+static PLAIN: [Row; 52] = [
     ("+author:name", "author Ferrante/Elena", "Elena Ferrante"),
     ("+author", "author Ferrante/Elena", "Elena Ferrante"),
     ("+author:name", "book", ""),
@@ -116,6 +116,19 @@ static PLAIN: [Row; 49] = [
         "editor Weintraub/Stanley; translator Weintraub/Stanley @ merging",
         "ed. & trans. et al.",
     ),
+    // Names without a name child take their own options. Of these names none is written, so a group
+    // leaves them out, and alone they are only `et al.`.
+    (
+        "( +author|=min-1;first-0 title )|,,~",
+        "author Kwan/Kevin; title T",
+        "T",
+    ),
+    (
+        "( +author:et-al|=min-1;first-0 title )|,,~",
+        "author Kwan/Kevin; title T",
+        "T",
+    ),
+    ("+author|=min-1;first-0", "author Kwan/Kevin", "et al."),
     // A substitute ends with the first child that adds text.
     ("( title 'Anon. )+author:name", "title T", "T"),
     ("( genre 'Anon. )+author:name", "title T", "Anon."),

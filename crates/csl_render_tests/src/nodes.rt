@@ -54,6 +54,7 @@ pub(crate) fn variable_named(name: &str) -> Result<Variable, Fail> {
         "volume" => Ok(Variable::Number(NumberVariable::Volume)),
         "edition" => Ok(Variable::Number(NumberVariable::Edition)),
         "locator" => Ok(Variable::Number(NumberVariable::Locator)),
+        "first-note" => Ok(Variable::Number(NumberVariable::FirstReferenceNoteNumber)),
         "citation-number" => Ok(Variable::Number(NumberVariable::CitationNumber)),
         "page" => Ok(Variable::Page(PageVariable::Page)),
         "author" => Ok(Variable::Name(NameVariable::Author)),

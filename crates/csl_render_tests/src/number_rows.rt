@@ -11,7 +11,7 @@ const PAGES: &str = "( &page:short page )|,~";
 const PLACE: &str = "( &locator #locator )|,~";
 
 /// Rows of numbers and labels, with the plain text of each.
-static PLAIN: [Row; 50] = [
+static PLAIN: [Row; 52] = [
     // The minimal format drops the front of an end if it repeats that of the start, but never the
     // last digit.
     ("page", "pages 321-328 @ minimal", "321–8"),
@@ -30,6 +30,9 @@ static PLAIN: [Row; 50] = [
     ("page", "pages 42-5 @ expanded", "42–45"),
     ("page", "pages 321-8, 5 & 7 @ expanded", "321–328, 5 & 7"),
     ("page", "pages 42-5", "42–45"),
+    // An end without a number stays empty.
+    ("page", "pages 4000-", "4000–"),
+    ("page", "pages 4000- @ minimal", "4000–"),
     // An escaped range is completed, but never shortened.
     ("page", "pages \\42-5 @ minimal", "42–45"),
     // A label of pages prints if the pages are found.

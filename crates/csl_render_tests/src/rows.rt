@@ -31,15 +31,17 @@ const IDENTIFIED: &str = "doi 10.1007/BF02731494";
 const TITLE: &str = "( 'Title title|/ )|<(|>)|,:~";
 
 /// The trees of texts and layouts.
-static TEXTS: [Row; 30] = [
+static TEXTS: [Row; 32] = [
     ("", TITLED, ""),
     ("title", TITLED, "[ T ]:text"),
     ("!title", TITLED, "[ T ]:text"),
     ("label", "label L", "[ L ]:citation-label"),
+    ("first-note", "title T @ note:6", "[ 6 ]:text"),
     // Affixes are inside a text's own formatting. Nothing prints around a text without content.
     ("title|<(|>)|/|b", TITLED, "[ /(T) ]block:text"),
     ("title|<(|>)|b", "title ", ""),
     ("genre|<(|>)", TITLED, ""),
+    ("title|<(|>)", "title $", ""),
     ("'|q|<(", TITLED, ""),
     ("|/ 'a|* 'b", TITLED, "[ /*a ] [ /b ]"),
     // The work answers none of these variables.
@@ -108,7 +110,7 @@ static FORMS: [Row; 7] = [
 ];
 
 /// Rows of texts and groups, with the plain text of each.
-static PLAIN: [Row; 15] = [
+static PLAIN: [Row; 19] = [
     (TITLE, TITLED, "(Title: T)"),
     (TITLE, TITLE_ALONE, "(T)"),
     // The suffix keeps its period.
@@ -119,7 +121,14 @@ static PLAIN: [Row; 15] = [
     ("'A|q|>,~", TITLED, "“A,” "),
     ("'A|q|>:~", TITLED, "“A”: "),
     ("'|q|>,~", TITLED, ""),
+    // The first locale decides where they go, whatever a second one sets.
+    ("'A|q|>,~", "title T @ outside second-inside", "“A”, "),
+    ("'A|q|>,~", "title T @ second-outside", "“A,” "),
+    // A quote without a term prints nothing. The comma moves all the same.
+    ("'A|q|>,~", "title T @ unquoted", "A, "),
+    // Quotes inside quotes are inner ones, and quotes inside those are outer ones again.
     ("=quoted|q", TITLED, "“‘B’”"),
+    ("=twice|q", TITLED, "“‘“B”’”"),
     // A text's own strip-periods applies to its body alone. That of a macro around it also applies
     // to the text's affixes and to moved punctuation.
     ("'a.b|q|s|>.", TITLED, "“ab.”"),
