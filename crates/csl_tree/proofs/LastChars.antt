@@ -1,12 +1,15 @@
--- The leaf text of every tree is UTF-8. Its last character, child by child.
+-- The leaf text of every tree is UTF-8. Its last character, child by child. The last character of a
+-- text, from its back.
 use Rattle.std.proofs.Common.{◌≡◌, ℕ, ◌+◌, ◌<◌, ◌≤◌, true, false, List, [], ◌∷◌, ◌++◌, length, get_or, take, map, refl, sym, subst, ap, ◌∙◌, arith}
-use Rattle.std.specs.Prelude.{Option, Some, None, is_some, string_bytes}
+use Rattle.std.specs.Prelude.{Option, Some, None, is_some, string_bytes, IfSome, MatchOption, encode_utf8}
+use Rattle.std.specs.Char.{IsScalar}
 use Rattle.std.specs.List.{flat_map, last_or}
 use Rattle.std.specs.Str.{IsUtf8, chars}
 use Rattle.std.proofs.lemmas.Grind.{flat_map-append}
-use Rattle.std.proofs.lemmas.List.{append-nil, take_more}
+use Rattle.std.proofs.Math.Seq.{take-append_seam}
+use Rattle.std.proofs.lemmas.List.{append-nil, take_more, nil_from_length}
 use Rattle.std.proofs.lemmas.List.Folds.{flat_map-map}
-use Rattle.std.proofs.lemmas.Str.{chars-append, chars-nil, IsUtf8-nil, IsUtf8-append, IsUtf8-string_bytes}
+use Rattle.std.proofs.lemmas.Str.{chars-append, chars-nil, chars_from_encodes, IsCharBoundary-at_seam, IsUtf8-nil, IsUtf8-append, IsUtf8-encode, IsUtf8-string_bytes, IsUtf8-take}
 use Rattle.csl_tree.specs.declared.elem.ElemChild.{ElemChild}
 use Rattle.csl_tree.specs.declared.elem.ElemChild.TheOpen.{ElemChild-F, Elem-F, ElemChildren-F, Text, Elem, Markup, Link, Transparent}
 use Rattle.csl_tree.specs.declared.elem.ElemChild.TheViews.{roll-ElemChild, roll-Elem, roll-ElemChildren}
@@ -117,3 +120,15 @@ take_none (x ∷ xs) = refl
 -- before the first child, there is no last character
 pub before_all : (xs : List ElemChild) (i : ℕ) → i ≤ 0 → last_char (leaf_of (take i xs)) ≡ None
 before_all xs i h = let zero : i ≡ 0 = omega (arith, h) in ap (λ (k : ℕ). last_char (leaf_of (take k xs))) zero ∙ ap (λ (ks : List ElemChild). last_char (leaf_of ks)) (take_none xs) ∙ last_char-none
+
+last_of_cut : (bs rest : List ℕ) (c : ℕ) → IsUtf8 bs → IsScalar c → bs ≡ rest ++ encode_utf8 c → last_char bs ≡ Some c
+last_of_cut bs rest c u s e =
+    let cut : take (length rest) bs ≡ rest = ap (take (length rest)) e ∙ take-append_seam rest (encode_utf8 c) in
+    let front : IsUtf8 rest = subst IsUtf8 cut (IsUtf8-take bs (length rest) u (IsCharBoundary-at_seam bs rest (encode_utf8 c) e (IsUtf8-encode c s))) in
+    let one : chars (encode_utf8 c) ≡ c ∷ [] = sym (chars_from_encodes (c ∷ []) (encode_utf8 c) (IsUtf8-encode c s) (append-nil (encode_utf8 c))) in
+    ap last_char e ∙ ap (last_or None) (chars-append rest (encode_utf8 c) front ∙ ap (λ (l : List ℕ). chars rest ++ l) one) ∙ last_or-append None (chars rest) (c ∷ [])
+
+-- the character that comes off the back of a text is its last
+pub last_from_back : (T : Type 0) (bs rest : List ℕ) (o : Option ℕ) → IsUtf8 bs → IfSome o IsScalar → MatchOption o ((length bs ≡ 0) × T) (λ c. bs ≡ rest ++ encode_utf8 c) → o ≡ last_char bs
+last_from_back T bs rest None u s h = sym (ap last_char (nil_from_length bs h.0) ∙ last_char-none)
+last_from_back T bs rest (Some c) u s h = sym (last_of_cut bs rest c u s h)

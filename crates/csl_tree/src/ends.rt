@@ -9,7 +9,7 @@ use crate::elem::{Elem, ElemChild, ElemChildren};
 fn last_char(text: &str) -> Option<char>
     ensures { result ≡ last_char text.now }
 {
-    text.chars().last()
+    text.chars().next_back()
 }
 
 impl ElemChildren {
