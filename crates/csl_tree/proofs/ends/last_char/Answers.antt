@@ -1,4 +1,4 @@
-use Rattle.std.proofs.Common.{rules, ◌≡◌, ◌∙◌, sym, ap, subst, IsUtf8, IfSome}
+use Rattle.std.proofs.Common.{rules, ◌∙◌, sym, ap, subst, IsUtf8, IfSome}
 use Rattle.std.specs.Char.{IsScalar}
 use Rattle.csl_tree.specs.Tokens.{last_char}
 use Rattle.csl_tree.proofs.LastChars.{last_from_back}
