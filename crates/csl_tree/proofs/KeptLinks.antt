@@ -1,7 +1,8 @@
 -- Trees in which links to addresses that are not allowed have become texts.
-use Rattle.std.proofs.Common.{◌≡◌, ◌<◌, ◌≤◌, ◌+◌, ℕ, suc, Bool, true, false, cond, List, [], ◌∷◌, ◌++◌, length, take, drop, get_or, set, length-append, Bor, String, Global, refl, sym, ap, ◌∙◌, arith}
+use Rattle.std.proofs.Common.{◌≡◌, ◌<◌, ◌≤◌, ◌+◌, ℕ, suc, Bool, true, false, cond, List, [], ◌∷◌, ◌++◌, length, take, drop, get_or, set, length-append, Bor, String, Global, refl, sym, ap, subst, ◌∙◌, arith}
 use Rattle.std.specs.Prelude.{Option, Some, unwrap_or}
-use Rattle.std.specs.List.{flat_map, list_all}
+use Rattle.std.specs.List.{flat_map, list_all, All}
+use Rattle.std.proofs.lemmas.List.Elements.{All-append, All-nil}
 use Rattle.std.proofs.lemmas.Grind.{flat_map-append}
 use Rattle.std.proofs.Math.Seq.{drop-cons, take-suc}
 use Rattle.std.specs.Vec.{with_items}
@@ -14,7 +15,7 @@ use Rattle.csl_tree.specs.declared.elem.ElemChild.TheViews.{out-ElemChild, roll-
 use Rattle.csl_tree.specs.declared.elem.ElemChild.TheVariants as variants
 use Rattle.csl_tree.specs.declared.elem.Elem as elem
 use Rattle.csl_tree.specs.declared.elem.ElemChildren.{ElemChildren}
-use Rattle.csl_tree.specs.Links.{layer_unlinked, child_without_link, kept_link, kept_links, link_address, addresses, AllowsBy}
+use Rattle.csl_tree.specs.Links.{layer_unlinked, child_without_link, kept_link, kept_links, link_address, addresses, AllowsBy, WasAccepted}
 use Rattle.csl_tree.specs.Places.{layer_children, children_of, layer_with, with_children}
 use Rattle.csl_tree.specs.Tokens.{Token, Meta, text, solid, markup, link, transparent, elem_start, elem_end, elem_around, optional_meta, child_tokens, token_text, leaf_text}
 use Rattle.csl_tree.specs.Tokens as tree
@@ -79,6 +80,13 @@ given_inside g k d w c e =
     ∙ ap (λ l. g (solid (elem_start a.display a.meta)) ++ l) (flat_map-append g (tree.tokens w) end ∙ ap (λ l. l ++ flat_map g end) e ∙ sym (flat_map-append g (tree.tokens d) end))
     ∙ ap (flat_map g) (sym a.was)
 
+pub accepted_inside : (P : List ℕ → Type 0) (k : ElemChild) (d w : ElemChildren) → Some d ≡ children_of k → All P (addresses (tree.tokens w)) → All P (addresses (child_tokens (with_children k w)))
+accepted_inside P k d w c h =
+    let a = around_of k d w (out-ElemChild k) refl c in
+    let end = solid (elem_end a.display) ∷ [] in
+    subst (λ (ts : List Token). All P (addresses ts)) (sym a.is)
+    (subst (λ (l : List (List ℕ)). All P l) (sym (flat_map-append link_address (tree.tokens w) end ∙ append-nil (addresses (tree.tokens w)))) h)
+
 -- ---- children, visited up to one of them
 
 -- the children in the loop: the first `i` are visited, the others unchanged
@@ -89,9 +97,10 @@ pub record Visited {F : Type 0} (step : F → Bor (List ℕ) → Bool → F → 
   pub kept : (allowed : List ℕ → Bool) → AllowsBy step allowed → flat_map child_tokens done ≡ kept_links allowed (flat_map child_tokens (take i xs))
   pub leaves : leaf_text (flat_map child_tokens done) ≡ leaf_text (flat_map child_tokens (take i xs))
   pub plains : plain_text (flat_map child_tokens done) ≡ plain_text (flat_map child_tokens (take i xs))
+  pub accepted : All (WasAccepted step) (addresses (flat_map child_tokens done))
 
 pub none_visited : {F : Type 0} (step : F → Bor (List ℕ) → Bool → F → Type 0) (xs : List ElemChild) → Visited step xs xs 0
-none_visited step xs = record { done = []; count = refl; items = refl; kept = λ allowed by. refl; leaves = refl; plains = refl }
+none_visited step xs = record { done = []; count = refl; items = refl; kept = λ allowed by. refl; leaves = refl; plains = refl; accepted = All-nil (WasAccepted step) }
 
 set_next : {A : Type 0} (done rest : List A) (x new : A) → set (done ++ (x ∷ rest)) (length done) new ≡ (done ++ (new ∷ [])) ++ rest
 set_next [] rest x new = refl
@@ -107,8 +116,9 @@ more_tokens ks k = flat_map-append child_tokens ks (k ∷ []) ∙ ap (λ l. flat
 
 pub one_visited : {F : Type 0} (step : F → Bor (List ℕ) → Bool → F → Type 0) (xs ys : List ElemChild) (i : ℕ) (x new : ElemChild) → Visited step xs ys i → i < length xs → x ≡ get_or ys i x
     → ((allowed : List ℕ → Bool) → AllowsBy step allowed → child_tokens new ≡ kept_links allowed (child_tokens x)) → leaf_text (child_tokens new) ≡ leaf_text (child_tokens x) → plain_text (child_tokens new) ≡ plain_text (child_tokens x)
+    → All (WasAccepted step) (addresses (child_tokens new))
     → Visited step xs (set ys i new) (suc i)
-one_visited step xs ys i x new v l is kept leaves plains =
+one_visited step xs ys i x new v l is kept leaves plains accepted =
     let here = get_or xs i x in
     let next : drop i xs ≡ here ∷ drop (suc i) xs = drop-cons xs i x l in
     let items : ys ≡ v.done ++ (here ∷ drop (suc i) xs) = v.items ∙ ap (λ l. v.done ++ l) next in
@@ -126,6 +136,10 @@ one_visited step xs ys i x new v l is kept leaves plains =
           ∙ ap (kept_links allowed) (sym old);
       leaves = given_more token_text v.done (take i xs) new x old v.leaves leaves;
       plains = given_more plain_of v.done (take i xs) new x old v.plains plains;
+      accepted =
+          subst (λ (l : List (List ℕ)). All (WasAccepted step) l)
+          (sym (ap addresses (more_tokens v.done new) ∙ flat_map-append link_address (flat_map child_tokens v.done) (child_tokens new)))
+          (All-append (WasAccepted step) (addresses (flat_map child_tokens v.done)) (addresses (child_tokens new)) v.accepted accepted);
     }
   where
     given_more : (g : Token → List ℕ) (done front : List ElemChild) (n o : ElemChild) → flat_map child_tokens (take (suc i) xs) ≡ flat_map child_tokens front ++ child_tokens o → flat_map g (flat_map child_tokens done) ≡ flat_map g (flat_map child_tokens front) → flat_map g (child_tokens n) ≡ flat_map g (child_tokens o) → flat_map g (flat_map child_tokens (done ++ (n ∷ []))) ≡ flat_map g (flat_map child_tokens (take (suc i) xs))
@@ -151,6 +165,9 @@ module _ {F : Type 0} (step : F → Bor (List ℕ) → Bool → F → Type 0) (c
 
   pub all_kept : (allowed : List ℕ → Bool) → AllowsBy step allowed → tree.tokens after ≡ kept_links allowed (tree.tokens c)
   all_kept allowed by = all_new ∙ v.kept allowed by ∙ ap (kept_links allowed) all_old
+
+  pub all_accepted : All (WasAccepted step) (addresses (tree.tokens after))
+  all_accepted = subst (λ (ts : List Token). All (WasAccepted step) (addresses ts)) (sym all_new) v.accepted
 
   pub all_leaves : leaf_text (tree.tokens after) ≡ leaf_text (tree.tokens c)
   all_leaves = ap leaf_text all_new ∙ v.leaves ∙ ap leaf_text all_old

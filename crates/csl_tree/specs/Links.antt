@@ -1,6 +1,6 @@
 -- If only some addresses are allowed, a link to any other address becomes its text. The text is not
 -- joined with a text beside it.
-use Rattle.std.specs.Prelude.{◌≡◌, ℕ, Bool, List, [], ◌∷◌, map, if◌then◌else◌}
+use Rattle.std.specs.Prelude.{◌≡◌, ℕ, Bool, true, List, [], ◌∷◌, map, if◌then◌else◌}
 use Rattle.std.specs.List.{flat_map}
 use Rattle.std.specs.Borrow.{Bor}
 use Rattle.csl_tree.specs.declared.elem.ElemChild.{ElemChild}
@@ -49,3 +49,7 @@ addresses ts = flat_map link_address ts
 -- each call of a closure returns the result of the test for the address
 abbrev pub AllowsBy : {F : Type 0} → (F → Bor (List ℕ) → Bool → F → Type 0) → (List ℕ → Bool) → Type 0
 AllowsBy {F} step allowed = (f after : F) (url : Bor (List ℕ)) (r : Bool) → step f url r after → r ≡ allowed url.now
+
+-- a call of a closure accepted the address
+abbrev pub WasAccepted : {F : Type 0} → (F → Bor (List ℕ) → Bool → F → Type 0) → List ℕ → Type 0
+WasAccepted {F} step address = (f : F) × (after : F) × (url : Bor (List ℕ)) × (url.now ≡ address) × step f url true after

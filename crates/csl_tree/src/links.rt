@@ -1,8 +1,8 @@
 //! Replaces links by their text if their address is not allowed.
 
 ghost use Rattle.std.specs.Prelude.{◌≡◌, Bool, List, ℕ, true};
-ghost use Rattle.std.specs.List.{list_all};
-ghost use Rattle.csl_tree.specs.Links.{AllowsBy, addresses, kept_links, child_without_link};
+ghost use Rattle.std.specs.List.{list_all, All};
+ghost use Rattle.csl_tree.specs.Links.{AllowsBy, WasAccepted, addresses, kept_links, child_without_link};
 ghost use Rattle.csl_tree.specs.Tokens.{child_tokens, leaf_text, tokens};
 ghost use Rattle.csl_tree.specs.Writing.{plain_text};
 
@@ -41,6 +41,7 @@ impl ElemChild {
         ensures callable { F.IsAlwaysCallable is_allowed.new }
         ensures kept { (allowed : List ℕ → Bool) → AllowsBy F.step allowed
             → child_tokens self.new ≡ kept_links allowed (child_tokens self.old) }
+        ensures accepted { All (WasAccepted F.step) (addresses (child_tokens self.new)) }
         ensures leaves { leaf_text (child_tokens self.new) ≡ leaf_text (child_tokens self.old) }
         ensures plain { plain_text (child_tokens self.new) ≡ plain_text (child_tokens self.old) }
     {
@@ -61,6 +62,7 @@ impl ElemChildren {
         ensures callable { F.IsAlwaysCallable is_allowed.new }
         ensures kept { (allowed : List ℕ → Bool) → AllowsBy F.step allowed
             → tokens self.new ≡ kept_links allowed (tokens self.old) }
+        ensures accepted { All (WasAccepted F.step) (addresses (tokens self.new)) }
         ensures leaves { leaf_text (tokens self.new) ≡ leaf_text (tokens self.old) }
         ensures plain { plain_text (tokens self.new) ≡ plain_text (tokens self.old) }
     {
@@ -79,6 +81,9 @@ impl ElemChildren {
             → tokens self.new ≡ kept_links allowed (tokens self.old) }
         ensures allowed { (allowed : List ℕ → Bool) → AllowsBy F.step allowed
             → list_all allowed (addresses (tokens self.new)) ≡ true }
+        // Whatever its result depends on, `is_allowed` accepted the address of each link that is
+        // left.
+        ensures accepted { All (WasAccepted F.step) (addresses (tokens self.new)) }
         ensures leaves { leaf_text (tokens self.new) ≡ leaf_text (tokens self.old) }
         ensures plain { plain_text (tokens self.new) ≡ plain_text (tokens self.old) }
     {
