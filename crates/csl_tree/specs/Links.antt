@@ -50,6 +50,6 @@ addresses ts = flat_map link_address ts
 abbrev pub AllowsBy : {F : Type 0} → (F → Bor (List ℕ) → Bool → F → Type 0) → (List ℕ → Bool) → Type 0
 AllowsBy {F} step allowed = (f after : F) (url : Bor (List ℕ)) (r : Bool) → step f url r after → r ≡ allowed url.now
 
--- a call of a closure accepted the address
+-- some call of a closure returned true for the address
 abbrev pub WasAccepted : {F : Type 0} → (F → Bor (List ℕ) → Bool → F → Type 0) → List ℕ → Type 0
 WasAccepted {F} step address = (f : F) × (after : F) × (url : Bor (List ℕ)) × (url.now ≡ address) × step f url true after
