@@ -1,5 +1,6 @@
 //! Writing trees.
 
+use crate::asserted::assert_same;
 use crate::trees::{MIXED, assert_text, read};
 use csl_style::{FontStyle, FontVariant, FontWeight, TextDecoration, VerticalAlign};
 use csl_tree::{BufWriteFormat, ElemChild, ElemChildren, Formatting};
@@ -124,6 +125,11 @@ const EVERY: Formatting = Formatting {
     text_decoration: TextDecoration::Underline,
     vertical_align: VerticalAlign::Sub,
 };
+
+#[test]
+fn the_default_format_is_plain(rt: HostRuntime) {
+    assert_same(&rt, &BufWriteFormat::default(), &BufWriteFormat::Plain);
+}
 
 #[test]
 fn declarations_in_order(rt: HostRuntime) -> Result<(), Fail> {
