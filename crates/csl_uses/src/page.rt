@@ -1,6 +1,9 @@
 //! A reference list as a whole web page: texts are escaped, and only web addresses are links.
 
 ghost use Rattle.std.specs.Prelude.{◌≡◌, IfOk, string_bytes};
+ghost use Rattle.std.specs.List.{All};
+ghost use Rattle.csl.specs.Literature.WebAddress.{IsWebAddress};
+ghost use Rattle.csl.specs.Tree.Links.{addresses};
 ghost use Rattle.csl.specs.Tree.Tokens.{tokens, leaf_text};
 ghost use Rattle.csl_uses.specs.Page.{answers_of, numbered_line};
 
@@ -208,14 +211,23 @@ pub fn number_style(alloc: Global) -> Result<Style, Error> {
     )?)
 }
 
-/// The content, with each link that leads to neither `http` nor `https` replaced by its text. If
-/// memory runs out, other links may be replaced too.
-fn with_web_links(alloc: Global, rendered: ElemChildren) -> ElemChildren
-    ensures { leaf_text (tokens result) ≡ leaf_text (tokens rendered) }
+/// The content, with each link that leads to neither `http` nor `https` replaced by its text.
+fn with_web_links(alloc: Global, rendered: ElemChildren) -> Result<ElemChildren, Memory>
+    ensures text { IfOk result (λ content.
+        leaf_text (tokens content) ≡ leaf_text (tokens rendered)) }
+    ensures web { IfOk result (λ content. All IsWebAddress (addresses (tokens content))) }
 {
     let mut content = rendered;
-    content.keep_links(|address: &str| is_web_address(alloc, address).unwrap_or(false));
-    content
+    let mut checked = Ok(());
+    content.keep_links(|address: &str| match is_web_address(alloc, address) {
+        Ok(is_web) => is_web,
+        Err(memory) => {
+            checked = Err(memory);
+            false
+        }
+    });
+    checked?;
+    Ok(content)
 }
 
 /// The line of the entry at this place of the list. It is empty if the style has no bibliography.
@@ -225,8 +237,9 @@ fn list_line<T: EntryLike>(
     entry: &T,
     place: usize,
 ) -> Result<ElemChildren, Error>
-    ensures { IfOk result (λ line. leaf_text (tokens line)
+    ensures text { IfOk result (λ line. leaf_text (tokens line)
         ≡ leaf_text (numbered_line style.now place (T.answers entry.now))) }
+    ensures web { IfOk result (λ line. All IsWebAddress (addresses (tokens line))) }
 {
     let Ok(place) = u32::try_from(place) else {
         return Err(Error::NotNumeric);
@@ -242,10 +255,11 @@ fn list_line<T: EntryLike>(
             ..first.speculative
         },
     };
-    match csl::bibliography_entry(alloc, style, entry, &cite)? {
-        Some(rendered) => Ok(with_web_links(alloc, rendered.content)),
-        None => Ok(ElemChildren::new(alloc)),
-    }
+    let content = match csl::bibliography_entry(alloc, style, entry, &cite)? {
+        Some(rendered) => rendered.content,
+        None => ElemChildren::new(alloc),
+    };
+    Ok(with_web_links(alloc, content)?)
 }
 
 /// A whole page of HTML: the bibliography of these entries in their order, numbered from 1.
