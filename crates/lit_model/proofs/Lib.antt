@@ -1,3 +1,4 @@
+pub mod Ancestors
 pub mod ChunkTexts
 pub mod Classes
 pub mod Complete

@@ -17,7 +17,10 @@ use csl_common::Memory;
 use std::alloc::Global;
 
 /// A work, with the works that it is a part of.
-#[derive(PartialEq, Eq, Drop)]
+///
+/// An entry has a `drop` of its own, so no field can be moved out of it, and no `..` takes the rest
+/// of a new entry from it. Set its fields one by one.
+#[derive(PartialEq, Eq)]
 pub struct Entry {
     /// The key that citations use.
     pub key: String,
@@ -75,6 +78,62 @@ pub struct Entry {
     pub genre: Option<FormatString>,
     /// The works that it is a part of.
     pub parents: Vec<Entry>,
+}
+
+/// Drops the parents, and theirs, in a loop: a long chain of parents takes no stack and no memory.
+/// Where entries with several parents need memory and there is none, one list drops by recursion.
+impl Drop for Entry {
+    #[tactic(auto, using(crate::proofs::Ancestors::lineage_out, crate::proofs::Ancestors::lineages_append, crate::proofs::Ancestors::parents_fall, crate::proofs::Ancestors::most_appended))]
+    fn drop(self) {
+        let mut remaining = self.into_parents();
+        while let Some(entry) = remaining.pop() {
+            let mut parents = entry.into_parents();
+            if remaining.is_empty() {
+                remaining = parents;
+            } else if remaining.append(&mut parents).is_err() {
+                drop(parents);
+            }
+        }
+    }
+}
+
+impl Entry {
+    /// The parents. Every other field is dropped.
+    fn into_parents(self) -> Vec<Entry>
+        ensures { result.items ≡ parents_of self }
+    {
+        let Entry {
+            key: _,
+            entry_type: _,
+            title: _,
+            authors: _,
+            editors: _,
+            date: _,
+            url: _,
+            affiliated: _,
+            publisher: _,
+            location: _,
+            organization: _,
+            issue: _,
+            volume: _,
+            edition: _,
+            chapter: _,
+            volume_total: _,
+            page_total: _,
+            page_range: _,
+            runtime: _,
+            serial_number: _,
+            language: _,
+            archive: _,
+            archive_location: _,
+            call_number: _,
+            note: _,
+            abstract_: _,
+            genre: _,
+            parents,
+        } = self;
+        parents
+    }
 }
 
 impl Entry {
