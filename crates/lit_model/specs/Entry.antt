@@ -2,13 +2,14 @@
 -- of an entry is the entry, then the preorder of its first parent, then that of the second, and so
 -- on. So a parent's parents come before the next parent. `Entry::map(f)` returns the first value
 -- that `f` returns along the preorder.
-use Rattle.std.specs.Prelude.{◌≡◌, ℕ, List, [], ◌∷◌, Option, None, Some, option_copied, option_and_then, flat_map, string_bytes, Vec}
+use Rattle.std.specs.Prelude.{◌≡◌, ℕ, List, [], ◌∷◌, Option, None, Some, option_copied, option_map, option_and_then, flat_map, string_bytes, Vec}
 use Rattle.std.specs.Borrow.{Bor}
 use Rattle.std.specs.declared.alloc.Global.{Global}
 use Rattle.lit_model.specs.declared.person.PersonsWithRoles.{PersonsWithRoles}
 use Rattle.lit_model.specs.Source.{serial}
 use Rattle.lit_model.specs.declared.entry_type.EntryType.{EntryType}
-use Rattle.lit_model.specs.declared.entry.Entry.{Entry, Entry-F, out-Entry, para-Entry}
+use Rattle.lit_model.specs.Text.{format_string_view, plain_forms}
+use Rattle.lit_model.specs.declared.entry.Entry.{Entry, Entry-F, out-Entry, roll-Entry, para-Entry}
 
 -- the direct parents, in order
 abbrev pub parents_of : Entry → List Entry
@@ -56,6 +57,15 @@ pub record IsBare (key : List ℕ) (entry_type : EntryType) (e : Entry) : Type 0
   pub no_abstract : (out-Entry e).abstract_ ≡ None
   pub no_genre : (out-Entry e).genre ≡ None
   pub no_parents : parents_of e ≡ []
+
+-- the entry with its title removed
+abbrev pub without_title : Entry → Entry
+without_title e = roll-Entry (record (out-Entry e) { title = None })
+
+-- an entry with only this key, this type and this title; the title is one text without a short form
+pub record IsTitled (key : List ℕ) (entry_type : EntryType) (title : List ℕ) (e : Entry) : Type 0 where
+  pub title_is : option_map format_string_view (out-Entry e).title ≡ Some (plain_forms title)
+  pub rest_is_bare : IsBare key entry_type (without_title e)
 
 -- the entry's own number under the name of a scheme, if there is one
 abbrev pub own_serial : List ℕ → Entry → Option (List ℕ)

@@ -16,10 +16,13 @@ use crate::text::FormatString;
 use csl_common::Memory;
 use std::alloc::Global;
 
+mod constructors;
+
 /// A work, with the works that it is a part of.
 ///
 /// An entry has a `drop` of its own, so no field can be moved out of it, and no `..` takes the rest
-/// of a new entry from it. Set its fields one by one.
+/// of a new entry from it. Set its fields one by one, or by calls that chain, as
+/// [`Entry::with_authors`].
 #[derive(PartialEq, Eq)]
 pub struct Entry {
     /// The key that citations use.
