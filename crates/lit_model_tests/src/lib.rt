@@ -6,9 +6,13 @@ mod asserted;
 #[cfg(test)]
 mod chunks;
 #[cfg(test)]
+mod constructors;
+#[cfg(test)]
 mod date;
 #[cfg(test)]
 mod defaults;
+#[cfg(test)]
+mod drops;
 #[cfg(test)]
 mod entry;
 #[cfg(test)]
