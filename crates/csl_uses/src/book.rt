@@ -1,4 +1,4 @@
-//! An entry that is built field by field, and its label.
+//! An entry that is built by calls that chain, and its label.
 
 ghost use Rattle.std.specs.Prelude.{◌≡◌, IfOk, string_bytes};
 ghost use Rattle.csl.specs.Entry.CitationLabel.{label};
@@ -22,19 +22,18 @@ pub fn the_c_book(alloc: Global) -> Result<Entry, Error>
     // Months count from 0: this is February.
     let date = Date::new(1978, Some(1), None, None, false).ok_or(Error::DateOutOfRange)?;
     let authors = vec![in alloc; kernighan, ritchie]?;
-    let title = FormatString::plain(alloc, "The C Programming Language")?;
-    let publisher = FormatString::plain(alloc, "Prentice Hall")?;
+    let publisher = Publisher {
+        name: Some(FormatString::plain(alloc, "Prentice Hall")?),
+        location: None,
+    };
     let pages = Numeric::parse(alloc, "228")?;
 
-    let mut book = Entry::new(alloc, "the-c-book", EntryType::Book)?;
-    book.title = Some(title);
-    book.authors = Some(authors);
-    book.date = Some(date);
-    book.publisher = Some(Publisher {
-        name: Some(publisher),
-        location: None,
-    });
-    book.page_total = Some(pages);
+    let title = "The C Programming Language";
+    let book = Entry::titled(alloc, "the-c-book", EntryType::Book, title)?
+        .with_authors(authors)
+        .with_date(date)
+        .with_publisher(publisher)
+        .with_page_total(pages);
     Ok(book)
 }
 

@@ -9,7 +9,7 @@ ghost use Rattle.csl.specs.Render.CiteContent.{cite_content, whole_cite};
 ghost use Rattle.csl_uses.specs.Cite.{cite_of_page};
 
 use csl::entry::{LocatorPayload, SpecificLocator, SpeculativeCiteProperties};
-use csl::literature::{self, Entry, EntryType, FormatString, Person};
+use csl::literature::{self, Entry, EntryType, Person};
 use csl::style::{
     Affixes, Choose, ChooseBranch, CslMacro, Date, DatePart, DatePartName, DateVariable, EtAl,
     Formatting, Group, InheritableNameOptions, Kind, Label, Layout, LayoutRenderingElement,
@@ -28,11 +28,10 @@ pub fn the_compilers_book(alloc: Global) -> Result<Entry, Error> {
     let sethi = Person::new(alloc, "Sethi", "Ravi")?;
     let ullman = Person::new(alloc, "Ullman", "Jeffrey D.")?;
     let authors = vec![in alloc; aho, sethi, ullman]?;
-    let title = FormatString::plain(alloc, "Compilers: Principles, Techniques, and Tools")?;
-    let mut book = Entry::new(alloc, "compilers", EntryType::Book)?;
-    book.authors = Some(authors);
-    book.title = Some(title);
-    book.date = Some(literature::Date::of_year(1986));
+    let title = "Compilers: Principles, Techniques, and Tools";
+    let book = Entry::titled(alloc, "compilers", EntryType::Book, title)?
+        .with_authors(authors)
+        .with_date(literature::Date::of_year(1986));
     Ok(book)
 }
 

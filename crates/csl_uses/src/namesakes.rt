@@ -24,9 +24,9 @@ use std::alloc::Global;
 /// [`Error::Memory`]: out of memory.
 pub fn book_by_miller(alloc: Global, given_name: &str) -> Result<Entry, Error> {
     let authors = vec![in alloc; Person::new(alloc, "Miller", given_name)?]?;
-    let mut book = Entry::new(alloc, given_name, EntryType::Book)?;
-    book.authors = Some(authors);
-    book.date = Some(literature::Date::of_year(2014));
+    let book = Entry::new(alloc, given_name, EntryType::Book)?
+        .with_authors(authors)
+        .with_date(literature::Date::of_year(2014));
     Ok(book)
 }
 

@@ -11,7 +11,7 @@ ghost use Rattle.csl.specs.Entry.Alike.{SameNamedAnswers};
 ghost use Rattle.csl.specs.Render.CiteContent.{cite_content};
 ghost use Rattle.csl.specs.Render.PairOutput.{PrintsSame};
 
-use csl::literature::{Entry, EntryType, FormatString, Person};
+use csl::literature::{Entry, EntryType, Person};
 use csl::style::{Formatting, Layout, StandardVariable, Style, StyleSettings, Text};
 use csl::{CiteProperties, DisambiguateState, EntryLike, Error, Pair};
 use std::alloc::Global;
@@ -22,11 +22,8 @@ use std::alloc::Global;
 /// [`Error::Memory`]: out of memory.
 pub fn the_novel(alloc: Global) -> Result<Entry, Error> {
     let authors = vec![in alloc; Person::new(alloc, "von Harbou", "Thea")?]?;
-    let title = FormatString::plain(alloc, "Metropolis")?;
-    let mut novel = Entry::new(alloc, "metropolis-novel", EntryType::Book)?;
-    novel.authors = Some(authors);
-    novel.title = Some(title);
-    Ok(novel)
+    let novel = Entry::titled(alloc, "metropolis-novel", EntryType::Book, "Metropolis")?;
+    Ok(novel.with_authors(authors))
 }
 
 /// A style that cites by the title alone, in italics.
