@@ -8,6 +8,7 @@ pub mod NameOptions
 pub mod Names
 pub mod Node
 pub mod View
+pub mod Inside
 pub mod Constructors
 pub mod Missing
 pub mod Expansion
