@@ -24,7 +24,8 @@ mod conversions;
 
 /// A node that a layout, a macro or a group may hold.
 ///
-/// A node has a `drop` of its own, so a pattern takes its parts by reference alone (`match &mut node`).
+/// A node has a `drop` of its own, so a pattern takes it apart by reference alone, as in
+/// `match &mut node`.
 #[cycle(element)]
 pub enum LayoutRenderingElement {
     Text(Text),
@@ -93,10 +94,9 @@ struct Inside {
 
 /// Moves all of `more` to the end of a list. Returns what is left of `more`: nothing, or all of it if
 /// there is no memory.
-fn append<T>(list: &mut Vec<T>, more: Vec<T>) -> Vec<T>
+fn append<T>(list: &mut Vec<T>, mut more: Vec<T>) -> Vec<T>
     ensures { list.new.items ++ result.items ≡ list.old.items ++ more.items }
 {
-    let mut more = more;
     if list.is_empty() {
         swap(list, &mut more);
         return more;
