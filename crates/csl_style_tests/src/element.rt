@@ -1,9 +1,10 @@
 //! Nodes that hold nodes.
 
 use crate::asserted::assert_same;
-use crate::made::{branch, put};
-use csl_style::{Choose, ChooseMatch};
+use crate::made::{branch, group, nested, put};
+use csl_style::{Choose, ChooseMatch, LayoutRenderingElement};
 use std::alloc::{AllocError, Global};
+use std::mem::swap;
 use std::process::Abort;
 use std::test::Fail;
 
@@ -62,5 +63,64 @@ fn branches_come_in_order(rt: HostRuntime) -> Result<(), Fail> {
     let others = [ChooseMatch::None, ChooseMatch::Any];
     let wanted = [ChooseMatch::All, ChooseMatch::None, ChooseMatch::Any];
     assert_in_order(&rt, rt.alloc(), (ChooseMatch::All, &others), &wanted)?;
+    Ok(())
+}
+
+/// How often the nodes of a row are nested. Recursion at each level would need more stack than a
+/// test has.
+const TIMES: usize = 20_000;
+
+/// Nodes around each other, from the outside in.
+static NESTED: [&'static str; 6] = [
+    "group",
+    "if",
+    "else-if",
+    "else",
+    "substitute",
+    "group if else-if else substitute",
+];
+
+/// Asserts that nested nodes drop, with `count` nodes at each time.
+fn assert_drop(rt: &HostRuntime, words: &str, others: &str, count: usize) -> Result<(), Fail> {
+    let nodes = nested(rt.alloc(), words, TIMES, others)?;
+    let answer = nodes.len();
+    drop(nodes);
+    assert_same(rt, &answer, &count);
+    Ok(())
+}
+
+#[test]
+fn deeply_nested_nodes_drop(rt: HostRuntime) -> Result<(), Fail> {
+    for words in &NESTED {
+        assert_drop(&rt, *words, "", 1)?;
+    }
+    Ok(())
+}
+
+#[test]
+fn deeply_nested_nodes_with_others_beside_them_drop(rt: HostRuntime) -> Result<(), Fail> {
+    for words in &NESTED {
+        assert_drop(&rt, *words, "'a 'b", 3)?;
+    }
+    Ok(())
+}
+
+/// Moves the children out of a group. Any other node has none.
+fn take_children(alloc: Global, node: &mut LayoutRenderingElement) -> Vec<LayoutRenderingElement> {
+    let mut children = Vec::new(alloc);
+    if let LayoutRenderingElement::Group(group) = node {
+        swap(&mut group.children, &mut children);
+    }
+    children
+}
+
+#[test]
+fn a_group_is_taken_apart_through_a_reference(rt: HostRuntime) -> Result<(), Fail> {
+    let alloc = rt.alloc();
+    let mut node = group(nested(alloc, "if", 1, "'a")?);
+    let first = take_children(alloc, &mut node).len();
+    let again = take_children(alloc, &mut node).len();
+    drop(node);
+    assert_same(&rt, &(first, again), &(2, 0));
     Ok(())
 }

@@ -295,6 +295,25 @@ fn nodes_around(
     Ok(nodes)
 }
 
+/// Nested nodes: `times` times the nodes that the words put around each other. At each time the
+/// other nodes stand beside the nested ones.
+pub(crate) fn nested(
+    alloc: Global,
+    words: &str,
+    times: usize,
+    others: &str,
+) -> Result<Vec<LayoutRenderingElement>, AllocError> {
+    let words: Vec<&str> = words.split_whitespace().collect(alloc)?;
+    let others: Vec<&str> = others.split_whitespace().collect(alloc)?;
+    let mut inside = Vec::new(alloc);
+    for _ in 0..times {
+        let mut nodes = nodes_around(alloc, &words, inside)?;
+        nodes.append(&mut texts(alloc, &others)?)?;
+        inside = nodes;
+    }
+    Ok(inside)
+}
+
 /// The nodes that words describe: first the words for nodes around others, from the outside in, and
 /// then the texts.
 fn nodes(alloc: Global, words: &str) -> Result<Vec<LayoutRenderingElement>, AllocError> {
