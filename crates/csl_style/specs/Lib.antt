@@ -22,6 +22,8 @@ pub mod Taxonomy
 pub mod Term
 pub mod YearSuffix
 pub mod Expanded
+pub mod Depth
+pub mod Weight
 pub mod Scopes
 pub mod OfCitation
 pub mod NamesParts

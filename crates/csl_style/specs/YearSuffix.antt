@@ -2,15 +2,19 @@
 -- Macro; Disambiguation). The text may be in any group, in any branch of a choice, also one that is
 -- never chosen, and in any substitute, also one that is never rendered. A scope whose layout
 -- reaches none, and a scope without a layout, render the suffix implicitly, after the first year.
-use Rattle.std.specs.Prelude.{ℕ, Bool, true, false, not, ◌||◌, List, Option, Some, None, option_map}
+use Rattle.std.specs.Prelude.{◌≡◌, ℕ, Bool, true, false, not, ◌||◌, List, length, Option, Some, None, option_map}
+use Rattle.csl_style.specs.declared.element.Layout.{Layout}
 use Rattle.csl_style.specs.declared.taxonomy.Variable.{Variable}
 use Rattle.csl_style.specs.declared.taxonomy.Variable.TheVariants as variable
 use Rattle.csl_style.specs.declared.taxonomy.StandardVariable.TheVariants.{YearSuffix}
 use Rattle.csl_style.specs.declared.style.settings.Scope.{Scope}
 use Rattle.csl_style.specs.Style.{StyleParts, layout_of}
-use Rattle.csl_style.specs.View.{view_layout, NamesChildView, a_name, an_et_al, a_label, a_substitute}
+use Rattle.csl_style.specs.View.{Definition, view_layout, NamesChildView, a_name, an_et_al, a_label, a_substitute}
 use Rattle.csl_style.specs.Node.{Target, of_variable, of_term, of_value, ExpandedNode, expanded_text, expanded_macro, unknown_macro, expanded_number, expanded_label, expanded_date, expanded_names, shorthand, expanded_choose, expanded_group, ExpandedNodes, no_expanded_nodes, expanded_node, ExpandedBranches, no_expanded_branches, expanded_otherwise, expanded_branch, ExpandedSubstitutes, no_expanded_substitutes, expanded_substitute, ExpandedLayout, expand_nodes, expand_layout}
 use Rattle.csl_style.specs.Expanded.{macro_env}
+use Rattle.csl_style.specs.Expansion.{macro_expansion}
+use Rattle.csl_style.specs.Calls.{children_at}
+use Rattle.csl_style.specs.GraphReach.{is_marked}
 
 -- the layout of a scope, with all macros expanded
 abbrev pub reached_layout : Scope → StyleParts → Option ExpandedLayout
@@ -61,7 +65,22 @@ child_has_year_suffix env (an_et_al e) = false
 child_has_year_suffix env (a_label l) = false
 child_has_year_suffix env (a_substitute ns) = any_has_year_suffix (expand_nodes env ns)
 
+-- whether a text of the year suffix is in the nodes that a name stands for; only private contracts
+-- cite it
+abbrev pub macro_has_year_suffix : Option ExpandedNodes → Bool
+macro_has_year_suffix None = false
+macro_has_year_suffix (Some fs) = any_has_year_suffix fs
+
 -- no text of the year suffix is in the layout, or there is no layout
 abbrev pub is_year_suffix_implicit : Option ExpandedLayout → Bool
 is_year_suffix_implicit None = true
 is_year_suffix_implicit (Some l) = not (any_has_year_suffix l.elements)
+
+-- the answer for a layout of a style with these macros
+abbrev pub is_implicit_in : List Definition → Option Layout → Bool
+is_implicit_in ds layout = is_year_suffix_implicit (option_map (λ l. expand_layout (macro_expansion ds) (view_layout l)) layout)
+
+-- No macro of a marked place reaches a text of the year suffix. Only private contracts cite it.
+pub record AreWithoutSuffix (ds : List Definition) (marked : List Bool) : Type 0 where
+  pub each : length marked ≡ length ds
+  pub none : (i : ℕ) → is_marked marked i ≡ true → any_has_year_suffix (expand_nodes (macro_expansion ds) (children_at ds i)) ≡ false

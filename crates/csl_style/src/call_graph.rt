@@ -1,6 +1,6 @@
 //! The call graph of a style's macros. The place of a macro is its index in the style's list.
 
-ghost use Rattle.std.specs.Prelude.{◌≡◌, ◌<◌, [], ◌∷◌, ◌++◌, length, IfOk, OnOk, IfSome};
+ghost use Rattle.std.specs.Prelude.{◌≡◌, ◌<◌, [], ◌∷◌, ◌++◌, length, IfOk, OnOk};
 ghost use Rattle.std.specs.Option.{option_to_list};
 ghost use Rattle.csl_style.specs.GraphReach.{InRange};
 ghost use Rattle.csl_style.specs.View.{definitions, view_node, view_choose, view_child, view_nodes, substitutes};
@@ -11,26 +11,65 @@ use crate::element::{Choose, CslMacro, LayoutRenderingElement, NamesChild};
 use crate::text::TextTarget;
 use std::alloc::{AllocError, Global};
 use std::collections::HashMap;
+use std::marker::Model;
 
-/// The place of the first macro of a name.
-fn macro_index(name: &str, macros: &[CslMacro]) -> Option<usize>
-    ensures value { result ≡ macro_index name.now (definitions macros.now) }
-    ensures within { IfSome result (λ i. i < length macros.now) }
-{
-    for (i, m) in macros.iter().enumerate() {
-        if m.name.as_str() == name {
-            return Some(i);
-        }
+/// The macros of a style, with the place of the first macro of each name.
+#[derive(Drop)]
+pub(crate) struct PlacedMacros<'s> {
+    items: &'s [CslMacro],
+    places: &'s HashMap<String, usize>,
+}
+
+impl<'s> Model for PlacedMacros<'s> {
+    ghost use Rattle.std.specs.Prelude.{List};
+    ghost use Rattle.std.specs.Coded.{codes};
+    ghost use Rattle.csl_style.specs.contracts.element.CslMacro as of_macro;
+    ghost use Rattle.csl_style.specs.declared.element.CslMacro.{CslMacro};
+    ghost use Rattle.csl_style.specs.View.{definitions};
+    ghost use Rattle.csl_style.specs.Calls.{ArePlacesByName};
+
+    ghost Value = { List CslMacro };
+
+    ghost coded = { Prim.hlevel (codes, of_macro.the_row.coded) };
+
+    ghost view = { λ m. m.items.now };
+
+    ghost invariant = { λ m. ArePlacesByName m.places.now (definitions m.items.now) };
+}
+
+impl<'s> PlacedMacros<'s> {
+    pub(crate) fn new(
+        items: &'s [CslMacro],
+        places: &'s HashMap<String, usize>,
+    ) -> PlacedMacros<'s>
+        requires { ArePlacesByName places.now (definitions items.now) }
+        ensures { result ≡ items.now }
+    {
+        PlacedMacros { items, places }
     }
-    None
+
+    /// The macros, in order.
+    fn items(&self) -> &'s [CslMacro]
+        ensures { result.now ≡ self.now }
+    {
+        self.items
+    }
+
+    /// The place of the first macro of a name.
+    fn place(&self, name: &str) -> Option<usize>
+        ensures { result ≡ macro_index name.now (definitions self.now) }
+    {
+        let i = *self.places.get(name)?;
+        Some(i)
+    }
 }
 
 /// Adds the place of the first macro of a name, if there is one.
-fn add_place(name: &str, macros: &[CslMacro], places: &mut Vec<usize>) -> Result<(), AllocError>
+fn add_place(name: &str, macros: &PlacedMacros<'_>, places: &mut Vec<usize>) -> Result<(), AllocError>
     ensures { OnOk result (places.new.items ≡ places.old.items
         ++ option_to_list (macro_index name.now (definitions macros.now))) }
 {
-    if let Some(i) = macro_index(name, macros) {
+    if let Some(i) = macros.place(name) {
         places.push(i)?;
     }
     Ok(())
@@ -40,7 +79,7 @@ fn add_place(name: &str, macros: &[CslMacro], places: &mut Vec<usize>) -> Result
 #[cycle(calls)]
 fn add_calls(
     element: &LayoutRenderingElement,
-    macros: &[CslMacro],
+    macros: &PlacedMacros<'_>,
     places: &mut Vec<usize>,
 ) -> Result<(), AllocError>
     ensures { OnOk result (places.new.items ≡ places.old.items
@@ -71,7 +110,7 @@ fn add_calls(
 #[cycle(calls)]
 fn add_all_calls(
     elements: &Vec<LayoutRenderingElement>,
-    macros: &[CslMacro],
+    macros: &PlacedMacros<'_>,
     places: &mut Vec<usize>,
 ) -> Result<(), AllocError>
     ensures { OnOk result (places.new.items ≡ places.old.items
@@ -87,7 +126,7 @@ fn add_all_calls(
 #[cycle(calls)]
 fn add_choose_calls(
     choose: &Choose,
-    macros: &[CslMacro],
+    macros: &PlacedMacros<'_>,
     places: &mut Vec<usize>,
 ) -> Result<(), AllocError>
     ensures { OnOk result (places.new.items ≡ places.old.items
@@ -107,7 +146,7 @@ fn add_choose_calls(
 #[cycle(calls)]
 fn add_child_calls(
     child: &NamesChild,
-    macros: &[CslMacro],
+    macros: &PlacedMacros<'_>,
     places: &mut Vec<usize>,
 ) -> Result<(), AllocError>
     ensures { OnOk result (places.new.items ≡ places.old.items
@@ -123,12 +162,12 @@ fn add_child_calls(
 }
 
 /// The calls of each macro: row i lists the places that the macro at place i calls.
-pub(crate) fn call_graph(alloc: Global, macros: &[CslMacro]) -> Result<Vec<Vec<usize>>, AllocError>
+pub(crate) fn call_graph(alloc: Global, macros: &PlacedMacros<'_>) -> Result<Vec<Vec<usize>>, AllocError>
     ensures calls { IfOk result (λ graph. IsCallGraph (definitions macros.now) graph.items) }
     ensures range { IfOk result (λ graph. InRange graph.items (length graph.items)) }
 {
     let mut graph = Vec::new(alloc);
-    for m in macros {
+    for m in macros.items() {
         let mut row = Vec::new(alloc);
         add_all_calls(&m.children, macros, &mut row)?;
         graph.push(row)?;

@@ -5,6 +5,7 @@ pub mod affixes;
 mod call_graph;
 mod cycles;
 pub mod date;
+mod depth;
 pub mod element;
 pub mod formatting;
 pub mod locale;

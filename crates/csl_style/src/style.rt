@@ -12,13 +12,15 @@ ghost use Rattle.csl_style.specs.Term.{term_text, term_gender};
 ghost use Rattle.csl_style.specs.Ordinal.{ordinals};
 ghost use Rattle.csl_style.specs.Date.{date_in_form};
 ghost use Rattle.csl_style.specs.Style.{style_of, layout_of, is_chicago, IsRefusal};
+ghost use Rattle.csl_style.specs.YearSuffix.{is_year_suffix_implicit, reached_layout};
 
-use crate::call_graph::{call_graph, places_by_name};
+use crate::call_graph::{PlacedMacros, call_graph, places_by_name};
 use crate::cycles::first_cyclic;
 use crate::date::{Date, DateForm};
 use crate::element::{CslMacro, Layout};
 use crate::locale::{Locale, lookup, ordinals};
 use crate::term::{Term, TermForm};
+use crate::year_suffix::{ImplicitSuffix, implicit_suffix};
 use csl_common::GrammarGender;
 use std::alloc::Global;
 use std::collections::HashMap;
@@ -40,10 +42,11 @@ pub struct Style {
     locales: Vec<Locale>,
     /// The index in `macros` of the first macro of each name.
     places: HashMap<String, usize>,
+    implicit: ImplicitSuffix,
 }
 
 impl Model for Style {
-    ghost use Rattle.std.specs.Prelude.{◌≡◌, false};
+    ghost use Rattle.std.specs.Prelude.{◌≡◌, false, Some};
     ghost use Rattle.std.specs.Coded.{codes};
     ghost use Rattle.csl_style.specs.contracts.element.CslMacro as of_macro;
     ghost use Rattle.csl_style.specs.contracts.element.Layout as of_layout;
@@ -57,6 +60,7 @@ impl Model for Style {
     ghost use Rattle.csl_style.specs.Expansion.{IsAcyclic};
     ghost use Rattle.csl_style.specs.Style.{is_chicago};
     ghost use Rattle.csl_style.specs.Calls.{ArePlacesByName};
+    ghost use Rattle.csl_style.specs.YearSuffix.{is_implicit_in};
 
     ghost view = { λ s. record {
       settings = s.settings;
@@ -68,7 +72,10 @@ impl Model for Style {
 
     ghost invariant = { λ s. IsAcyclic (definitions s.macros.items)
         × (is_chicago s.settings.page_range_format ≡ false)
-        × ArePlacesByName s.places (definitions s.macros.items) };
+        × ArePlacesByName s.places (definitions s.macros.items)
+        × (s.implicit.in_citation ≡ is_implicit_in (definitions s.macros.items) (Some s.citation))
+        × (s.implicit.in_bibliography ≡ is_implicit_in (definitions s.macros.items)
+            s.bibliography) };
 }
 
 /// Whether the page format is one of the two Chicago formats, which are not supported.
@@ -94,7 +101,7 @@ fn checked_places(
     ensures refused { IfErr result (IsRefusal format (definitions macros.now)) }
 {
     let places = places_by_name(alloc, macros)?;
-    let graph = call_graph(alloc, macros)?;
+    let graph = call_graph(alloc, &PlacedMacros::new(macros, &places))?;
     if let Some(i) = first_cyclic(alloc, &graph)? {
         return Err(StyleError::CyclicMacro(macros[i].name.clone()?));
     }
@@ -146,6 +153,7 @@ impl Style {
             (definitions macros.items)) }
     {
         let places = checked_places(alloc, settings.page_range_format, &macros)?;
+        let implicit = implicit_suffix(alloc, &macros, &places, &citation, &bibliography)?;
         Ok(Style {
             settings,
             macros,
@@ -153,6 +161,7 @@ impl Style {
             bibliography,
             locales,
             places,
+            implicit,
         })
     }
 
@@ -201,6 +210,18 @@ impl Style {
         match scope {
             Scope::Citation => Some(&self.citation),
             Scope::Bibliography => self.bibliography.as_ref(),
+        }
+    }
+
+    /// Whether the year suffix comes after the first year that is printed. It does if the scope has
+    /// no layout, or if the layout reaches no text of that variable through macros, substitutes and
+    /// all branches.
+    pub fn renders_year_suffix_implicitly(&self, scope: Scope) -> bool
+        ensures { result ≡ is_year_suffix_implicit (reached_layout scope self.now) }
+    {
+        match scope {
+            Scope::Citation => self.implicit.in_citation,
+            Scope::Bibliography => self.implicit.in_bibliography,
         }
     }
 

@@ -1,16 +1,19 @@
 //! Whether a layout reaches a text of the year suffix (CSL 1.0.2, Disambiguation). If it does, that
 //! text renders the suffix. Otherwise the suffix comes after the first year.
 
-ghost use Rattle.std.specs.Prelude.{◌≡◌};
+ghost use Rattle.std.specs.Prelude.{◌≡◌, ◌<◌, false, length, IfSome, IfOk, None, Some, option_copied};
 ghost use Rattle.csl_style.specs.Node.{expand, expand_nodes};
-ghost use Rattle.csl_style.specs.View.{view_node, view_nodes, view_names, view_child, view_choose};
-ghost use Rattle.csl_style.specs.YearSuffix.{is_year_suffix, has_year_suffix, any_has_year_suffix, child_has_year_suffix, is_year_suffix_implicit, reached_layout};
-ghost use Rattle.csl_style.specs.Expanded.{macro_env};
+ghost use Rattle.csl_style.specs.View.{definitions, view_node, view_nodes, view_names, view_child, view_choose};
+ghost use Rattle.csl_style.specs.Expansion.{macro_expansion, IsAcyclic};
+ghost use Rattle.csl_style.specs.Calls.{children_at, ArePlacesByName};
+ghost use Rattle.csl_style.specs.YearSuffix.{is_year_suffix, has_year_suffix, any_has_year_suffix, child_has_year_suffix, macro_has_year_suffix, is_implicit_in};
 
-use crate::element::{Choose, LayoutRenderingElement, Names, NamesChild};
-use crate::style::{Scope, Style};
+use crate::element::{Choose, CslMacro, Layout, LayoutRenderingElement, Names, NamesChild};
 use crate::taxonomy::{StandardVariable, Variable};
 use crate::text::TextTarget;
+use std::alloc::{AllocError, Global};
+use std::collections::HashMap;
+use std::marker::Model;
 
 /// Whether the variable is the year suffix.
 fn is_year_suffix(variable: Variable) -> bool
@@ -19,16 +22,119 @@ fn is_year_suffix(variable: Variable) -> bool
     matches!(variable, Variable::Standard(StandardVariable::YearSuffix))
 }
 
+/// The nodes of the macro at a place.
+fn nodes_at(macros: &[CslMacro], i: usize) -> &Vec<LayoutRenderingElement>
+    requires { i < length macros.now }
+    ensures { view_nodes result.now.items ≡ children_at (definitions macros.now) i }
+{
+    &macros[i].children
+}
+
+/// A search for texts of the year suffix in layouts of a style. It goes through no macro twice, for
+/// it ends at the first such text, and notes each macro that it went through without one.
+#[derive(Drop)]
+struct Search<'s> {
+    macros: &'s [CslMacro],
+    places: &'s HashMap<String, usize>,
+    /// Whether the macro at each place is known to reach no text of the year suffix.
+    without: Vec<bool>,
+}
+
+impl<'s> Model for Search<'s> {
+    ghost use Rattle.std.specs.Prelude.{◌≡◌, List};
+    ghost use Rattle.std.specs.Coded.{codes};
+    ghost use Rattle.csl_style.specs.contracts.element.CslMacro as of_macro;
+    ghost use Rattle.csl_style.specs.declared.element.CslMacro.{CslMacro};
+    ghost use Rattle.csl_style.specs.View.{definitions};
+    ghost use Rattle.csl_style.specs.Expansion.{IsAcyclic};
+    ghost use Rattle.csl_style.specs.Calls.{ArePlacesByName};
+    ghost use Rattle.csl_style.specs.YearSuffix.{AreWithoutSuffix};
+
+    ghost Value = { List CslMacro };
+
+    ghost coded = { Prim.hlevel (codes, of_macro.the_row.coded) };
+
+    ghost view = { λ s. s.macros.now };
+
+    ghost invariant = { λ s. IsAcyclic (definitions s.macros.now)
+        × ArePlacesByName s.places.now (definitions s.macros.now)
+        × AreWithoutSuffix (definitions s.macros.now) s.without.items };
+}
+
+impl<'s> Search<'s> {
+    /// A search that went through no macro yet.
+    fn new(
+        alloc: Global,
+        macros: &'s [CslMacro],
+        places: &'s HashMap<String, usize>,
+    ) -> Result<Search<'s>, AllocError>
+        requires ranks { IsAcyclic (definitions macros.now) }
+        requires places { ArePlacesByName places.now (definitions macros.now) }
+        ensures { IfOk result (λ search. search ≡ macros.now) }
+    {
+        let without = vec![in alloc; false; macros.len()]?;
+        Ok(Search {
+            macros,
+            places,
+            without,
+        })
+    }
+
+    /// The place of a macro to go through. `None` if the macro of the name is known to reach no
+    /// text of the year suffix, or if there is none of the name.
+    fn next(&self, name: &str) -> Option<usize>
+        ensures within { IfSome result (λ i. i < length self.now) }
+        ensures meaning { IfSome result (λ i. macro_expansion (definitions self.now) name.now
+            ≡ Some (expand_nodes (macro_expansion (definitions self.now))
+            (children_at (definitions self.now) i))) }
+        ensures none { result ≡ None
+            → macro_has_year_suffix (macro_expansion (definitions self.now) name.now) ≡ false }
+    {
+        let i = *self.places.get(name)?;
+        if self.without[i] {
+            return None;
+        }
+        Some(i)
+    }
+
+    /// The nodes of the macro at a place.
+    fn nodes_at(&self, i: usize) -> &'s Vec<LayoutRenderingElement>
+        requires { i < length self.now }
+        ensures { view_nodes result.now.items ≡ children_at (definitions self.now) i }
+    {
+        nodes_at(self.macros, i)
+    }
+
+    /// Notes that the macro at a place reaches no text of the year suffix.
+    fn note(&mut self, i: usize)
+        requires within { i < length self.old }
+        requires none { any_has_year_suffix (expand_nodes (macro_expansion (definitions self.old))
+            (children_at (definitions self.old) i)) ≡ false }
+        ensures { self.new ≡ self.old }
+    {
+        self.without[i] = true;
+    }
+}
+
 /// Whether a text of the year suffix is in an element or in a macro that it reaches.
 #[cycle(reach)]
-fn has_year_suffix(style: &Style, element: &LayoutRenderingElement) -> bool
-    ensures { result ≡ has_year_suffix (expand (macro_env style.now) (view_node element.now)) }
+fn has_year_suffix<'s>(search: &mut Search<'s>, element: &'s LayoutRenderingElement) -> bool
+    ensures kept { search.new ≡ search.old }
+    ensures value { result ≡ has_year_suffix (expand (macro_expansion (definitions search.old))
+        (view_node element.now)) }
 {
     match element {
         LayoutRenderingElement::Text(text) => match &text.target {
             TextTarget::Variable { var, .. } => is_year_suffix(*var),
-            TextTarget::Macro { name } => match style.get_macro(name.as_str()) {
-                Some(found) => any_has_year_suffix(style, &found.children),
+            TextTarget::Macro { name } => match search.next(name.as_str()) {
+                Some(i) => {
+                    let nodes = search.nodes_at(i);
+                    if any_has_year_suffix(search, nodes) {
+                        return true;
+                    }
+                    search.note(i);
+                    false
+                }
                 None => false,
             },
             TextTarget::Term { .. } | TextTarget::Value { .. } => false,
@@ -36,20 +142,21 @@ fn has_year_suffix(style: &Style, element: &LayoutRenderingElement) -> bool
         LayoutRenderingElement::Number(_)
         | LayoutRenderingElement::Label(_)
         | LayoutRenderingElement::Date(_) => false,
-        LayoutRenderingElement::Names(names) => names_have_year_suffix(style, names),
-        LayoutRenderingElement::Choose(choose) => choose_has_year_suffix(style, choose),
-        LayoutRenderingElement::Group(group) => any_has_year_suffix(style, &group.children),
+        LayoutRenderingElement::Names(names) => names_have_year_suffix(search, names),
+        LayoutRenderingElement::Choose(choose) => choose_has_year_suffix(search, choose),
+        LayoutRenderingElement::Group(group) => any_has_year_suffix(search, &group.children),
     }
 }
 
 /// Whether a text of the year suffix is in any of the elements.
 #[cycle(reach)]
-fn any_has_year_suffix(style: &Style, elements: &[LayoutRenderingElement]) -> bool
-    ensures { result ≡ any_has_year_suffix (expand_nodes (macro_env style.now)
-        (view_nodes elements.now)) }
+fn any_has_year_suffix<'s>(search: &mut Search<'s>, elements: &'s [LayoutRenderingElement]) -> bool
+    ensures kept { search.new ≡ search.old }
+    ensures value { result ≡ any_has_year_suffix
+        (expand_nodes (macro_expansion (definitions search.old)) (view_nodes elements.now)) }
 {
     for element in elements {
-        if has_year_suffix(style, element) {
+        if has_year_suffix(search, element) {
             return true;
         }
     }
@@ -58,11 +165,13 @@ fn any_has_year_suffix(style: &Style, elements: &[LayoutRenderingElement]) -> bo
 
 /// Whether a text of the year suffix is in a substitute of the names.
 #[cycle(reach)]
-fn names_have_year_suffix(style: &Style, names: &Names) -> bool
-    ensures { result ≡ has_year_suffix (expand (macro_env style.now) (view_names names.now)) }
+fn names_have_year_suffix<'s>(search: &mut Search<'s>, names: &'s Names) -> bool
+    ensures kept { search.new ≡ search.old }
+    ensures value { result ≡ has_year_suffix (expand (macro_expansion (definitions search.old))
+        (view_names names.now)) }
 {
     for child in &names.children {
-        if child_has_year_suffix(style, child) {
+        if child_has_year_suffix(search, child) {
             return true;
         }
     }
@@ -71,45 +180,77 @@ fn names_have_year_suffix(style: &Style, names: &Names) -> bool
 
 /// Whether a text of the year suffix is in a child of names. Only a substitute may have one.
 #[cycle(reach)]
-fn child_has_year_suffix(style: &Style, child: &NamesChild) -> bool
-    ensures { result ≡ child_has_year_suffix (macro_env style.now) (view_child child.now) }
+fn child_has_year_suffix<'s>(search: &mut Search<'s>, child: &'s NamesChild) -> bool
+    ensures kept { search.new ≡ search.old }
+    ensures value { result ≡ child_has_year_suffix (macro_expansion (definitions search.old))
+        (view_child child.now) }
 {
     match child {
         NamesChild::Name(_) | NamesChild::EtAl(_) | NamesChild::Label(_) => false,
-        NamesChild::Substitute(substitute) => any_has_year_suffix(style, &substitute.children),
+        NamesChild::Substitute(substitute) => any_has_year_suffix(search, &substitute.children),
     }
 }
 
 /// Whether a text of the year suffix is in a branch of the choice, chosen or not, or in its
 /// `otherwise` nodes.
 #[cycle(reach)]
-fn choose_has_year_suffix(style: &Style, choose: &Choose) -> bool
-    ensures { result ≡ has_year_suffix (expand (macro_env style.now) (view_choose choose.now)) }
+fn choose_has_year_suffix<'s>(search: &mut Search<'s>, choose: &'s Choose) -> bool
+    ensures kept { search.new ≡ search.old }
+    ensures value { result ≡ has_year_suffix (expand (macro_expansion (definitions search.old))
+        (view_choose choose.now)) }
 {
-    if any_has_year_suffix(style, &choose.if_.children) {
+    if any_has_year_suffix(search, &choose.if_.children) {
         return true;
     }
     for branch in &choose.else_if {
-        if any_has_year_suffix(style, &branch.children) {
+        if any_has_year_suffix(search, &branch.children) {
             return true;
         }
     }
     match &choose.otherwise {
-        Some(otherwise) => any_has_year_suffix(style, otherwise),
+        Some(otherwise) => any_has_year_suffix(search, otherwise),
         None => false,
     }
 }
 
-impl Style {
-    /// Whether the year suffix comes after the first year that is printed. It does if the scope has
-    /// no layout, or if the layout reaches no text of that variable through macros, substitutes and
-    /// all branches.
-    pub fn renders_year_suffix_implicitly(&self, scope: Scope) -> bool
-        ensures { result ≡ is_year_suffix_implicit (reached_layout scope self.now) }
-    {
-        match self.layout(scope) {
-            Some(layout) => !any_has_year_suffix(self, &layout.elements),
-            None => true,
-        }
+/// Whether the suffix comes after the first year in a layout, or in a scope without one.
+fn is_implicit<'s>(search: &mut Search<'s>, layout: Option<&'s Layout>) -> bool
+    ensures kept { search.new ≡ search.old }
+    ensures value { result ≡ is_implicit_in (definitions search.old) (option_copied layout.entry) }
+{
+    match layout {
+        Some(layout) => !any_has_year_suffix(search, &layout.elements),
+        None => true,
     }
+}
+
+/// For each scope, whether the year suffix comes after the first year that is printed.
+#[derive(Drop)]
+pub(crate) struct ImplicitSuffix {
+    pub(crate) in_citation: bool,
+    pub(crate) in_bibliography: bool,
+}
+
+/// Searches the layouts of a style for texts of the year suffix, in one walk over its macros.
+pub(crate) fn implicit_suffix<'s>(
+    alloc: Global,
+    macros: &'s [CslMacro],
+    places: &'s HashMap<String, usize>,
+    citation: &'s Layout,
+    bibliography: &'s Option<Layout>,
+) -> Result<ImplicitSuffix, AllocError>
+    requires ranks { IsAcyclic (definitions macros.now) }
+    requires places { ArePlacesByName places.now (definitions macros.now) }
+    ensures citation { IfOk result (λ implicit. implicit.in_citation
+        ≡ is_implicit_in (definitions macros.now) (Some citation.now)) }
+    ensures bibliography { IfOk result (λ implicit. implicit.in_bibliography
+        ≡ is_implicit_in (definitions macros.now) bibliography.now) }
+{
+    let mut search = Search::new(alloc, macros, places)?;
+    let in_citation = is_implicit(&mut search, Some(citation));
+    let in_bibliography = is_implicit(&mut search, bibliography.as_ref());
+    Ok(ImplicitSuffix {
+        in_citation,
+        in_bibliography,
+    })
 }

@@ -1,16 +1,16 @@
-//! The size of layouts with their macros expanded.
+//! The size and the depth of layouts with their macros expanded.
 
 use crate::asserted::assert_of;
 use crate::made::{EMPTY, StyleRows, layout_of, names, one, put, style};
 use crate::named::{author_date, reference};
 use csl_style::{
-    Layout, Name, NameVariable, NamesChild, Style, StyleError, Substitute, VariablelessLabel,
+    Layout, Name, NameVariable, NamesChild, Scope, Style, StyleError, Substitute, VariablelessLabel,
 };
 use std::alloc::{AllocError, Global};
 use std::process::Abort;
 use std::test::Fail;
 
-/// The elements of `inner` have size 5, those of `outer` 15, and those of the first macro `word` 1.
+/// The elements of `inner` have size 6, those of `outer` 17, and those of the first macro `word` 1.
 const MACROS: &[&str] = &[
     "outer inner inner lacking",
     "inner substitute @title @year-suffix",
@@ -18,30 +18,39 @@ const MACROS: &[&str] = &[
     "word 'word 'word",
 ];
 
-/// A line of the layout, and its size. The layout counts one, and so does each node of a list. Each
-/// group, names node, choose, branch and substitute adds one, and so does each call of a macro that
-/// the style has.
-static ROWS: [(&str, u64); 18] = [
-    ("", 1),
-    ("'word", 2),
-    ("@title; @title", 3),
-    ("lacking", 2),
-    ("word", 4),
-    ("inner", 8),
-    ("outer", 18),
-    ("word; outer; word", 24),
-    ("group", 3),
-    ("group @title 'word", 5),
-    ("if @title", 5),
-    ("else-if", 5),
+/// A line of the layout, its size and its depth. The layout counts one, and so does each node of a
+/// list. Each group, names node, choose, branch and substitute adds one to the size, and so does
+/// each call of a macro that the style has, and the variable of a names node.
+static ROWS: [(&str, u64, usize); 18] = [
+    ("", 1, 1),
+    ("'word", 2, 2),
+    ("@title; @title", 3, 2),
+    ("lacking", 2, 2),
+    ("word", 4, 3),
+    ("inner", 9, 4),
+    ("outer", 20, 5),
+    ("word; outer; word", 26, 5),
+    ("group", 3, 2),
+    ("group @title 'word", 5, 3),
+    ("if @title", 5, 3),
+    ("else-if", 5, 2),
     // The empty `if` branch counts.
-    ("else-if @title", 6),
-    ("else", 5),
-    ("else @title", 6),
-    ("substitute @title", 5),
-    ("substitute substitute @title", 8),
-    ("group told-if substitute outer; lacking; 'word", 28),
+    ("else-if @title", 6, 3),
+    ("else", 5, 2),
+    ("else @title", 6, 3),
+    ("substitute @title", 6, 3),
+    ("substitute substitute @title", 10, 4),
+    ("group told-if substitute outer; lacking; 'word", 31, 8),
 ];
+
+/// Asserts that the layout has this depth within a limit of this depth and within the largest
+/// limit, and that it is above the limit below its depth.
+fn assert_depth(rt: &impl Abort, style: &Style, layout: &Layout, depth: usize, of: &str) {
+    assert_of(rt, &style.expanded_depth(layout, depth), &Some(depth), of);
+    assert_of(rt, &style.expanded_depth(layout, usize::MAX), &Some(depth), of);
+    let below = depth.saturating_sub(1);
+    assert_of(rt, &style.expanded_depth(layout, below), &None, of);
+}
 
 /// Asserts that the layout has this size within a limit of this size and within the largest limit,
 /// and that it is above the limit below its size.
@@ -57,6 +66,7 @@ fn assert_line(
     alloc: Global,
     line: &'static str,
     size: u64,
+    depth: usize,
 ) -> Result<(), StyleError> {
     let rows = StyleRows {
         macros: MACROS,
@@ -65,15 +75,16 @@ fn assert_line(
     };
     let style = style(alloc, &rows)?;
     assert_size(rt, &style, style.citation(), size, line);
+    assert_depth(rt, &style, style.citation(), depth, line);
     drop(style);
     Ok(())
 }
 
 #[test]
 fn each_node_branch_and_expanded_macro_counts(rt: HostRuntime) -> Result<(), Fail> {
-    let rows: &[(&'static str, u64)] = &ROWS;
-    for (line, size) in rows {
-        assert_line(&rt, rt.alloc(), *line, *size)?;
+    let rows: &[(&'static str, u64, usize)] = &ROWS;
+    for (line, size, depth) in rows {
+        assert_line(&rt, rt.alloc(), *line, *size, *depth)?;
     }
     Ok(())
 }
@@ -108,12 +119,12 @@ fn assert_layout(
 }
 
 #[test]
-fn only_the_substitutes_of_names_count(rt: HostRuntime) -> Result<(), Fail> {
+fn variables_name_children_and_substitutes_of_names_count(rt: HostRuntime) -> Result<(), Fail> {
     let alloc = rt.alloc();
-    assert_layout(&rt, alloc, editor(alloc)?, 4, "editor")?;
-    assert_layout(&rt, alloc, author_date(alloc)?, 6, "author and date")?;
-    // The childless names node in the substitute counts one as a node and adds one, as elsewhere.
-    assert_layout(&rt, alloc, reference(alloc)?, 22, "reference")?;
+    assert_layout(&rt, alloc, editor(alloc)?, 6, "editor")?;
+    assert_layout(&rt, alloc, author_date(alloc)?, 7, "author and date")?;
+    // The childless names node in the substitute counts as elsewhere.
+    assert_layout(&rt, alloc, reference(alloc)?, 24, "reference")?;
     Ok(())
 }
 
@@ -197,5 +208,25 @@ fn doubling_macros_are_above_the_limit_at_once(rt: HostRuntime) -> Result<(), Fa
     for (line, most, wanted) in rows {
         assert_doubled(&rt, rt.alloc(), *line, *most, *wanted)?;
     }
+    Ok(())
+}
+
+/// Forty macros that each call the next twice are searched once each for the year suffix.
+fn assert_searched_once(rt: &impl Abort, alloc: Global) -> Result<(), StyleError> {
+    let rows = StyleRows {
+        macros: DOUBLING,
+        citation: "0",
+        ..EMPTY
+    };
+    let style = style(alloc, &rows)?;
+    let implicit = style.renders_year_suffix_implicitly(Scope::Citation);
+    drop(style);
+    assert_of(rt, &implicit, &true, "0");
+    Ok(())
+}
+
+#[test]
+fn doubling_macros_are_searched_once(rt: HostRuntime) -> Result<(), Fail> {
+    assert_searched_once(&rt, rt.alloc())?;
     Ok(())
 }

@@ -1,4 +1,4 @@
-use Rattle.std.proofs.Common.{◌≡◌, ◌<◌, None, IfSome, length, string_bytes, sym, ap, ◌∙◌, subst, arith, rules}
+use Rattle.std.proofs.Common.{◌≡◌, ◌<◌, List, None, IfSome, length, string_bytes, sym, ap, ◌∙◌, subst, arith, rules}
 use Rattle.csl_style.specs.GraphReach.{Graph, HasRanks, IsFirstCyclicPlace}
 use Rattle.csl_style.specs.declared.element.CslMacro.{CslMacro}
 use Rattle.csl_style.specs.View.{definitions}
@@ -15,7 +15,7 @@ returns-in-Some-clause-refused c =
     let ds = definitions ms in
     let g = c.in_ok-graph.graph.items in
     let i = c.in-Some.i in
-    let is : IsCallGraph ds g = c.in_ok-graph.ensures.calls in
+    let is : IsCallGraph ds g = subst (λ (xs : List CslMacro). IsCallGraph (definitions xs) g) c.new.ensures c.in_ok-graph.ensures.calls in
     let same : c.deref.result.now ≡ g = c.deref.ensures.value in
     let place : IsFirstCyclicPlace g i = subst (λ (h : Graph). IsFirstCyclicPlace h i) same (subst (λ o. IfSome o (IsFirstCyclicPlace c.deref.result.now)) c.in-Some.is c.in_ok-i.ensures.cyclic) in
     let lens = length-definitions ms in
@@ -26,11 +26,11 @@ returns-in-Some-clause-refused c =
 pub returns-clause-ranks : goal.returns-clause-ranks
 returns-clause-ranks c =
     let none : c.in_ok-i.field-0 ≡ None = search rules in
-    acyclic (definitions c.args.macros.now) c.in_ok-graph.graph.items c.in_ok-graph.ensures.calls (subst HasRanks c.deref.ensures.value (c.in_ok-i.ensures.ranks none))
+    acyclic (definitions c.args.macros.now) c.in_ok-graph.graph.items (subst (λ (xs : List CslMacro). IsCallGraph (definitions xs) c.in_ok-graph.graph.items) c.new.ensures c.in_ok-graph.ensures.calls) (subst HasRanks c.deref.ensures.value (c.in_ok-i.ensures.ranks none))
 
 pub returns-then-is_chicago-clause-refused : goal.returns-then-is_chicago-clause-refused
 returns-then-is_chicago-clause-refused c =
     let ds = definitions c.args.macros.now in
     let none : c.in_ok-i.field-0 ≡ None = search rules in
-    let ranks = acyclic ds c.in_ok-graph.graph.items c.in_ok-graph.ensures.calls (subst HasRanks c.deref.ensures.value (c.in_ok-i.ensures.ranks none)) in
+    let ranks = acyclic ds c.in_ok-graph.graph.items (subst (λ (xs : List CslMacro). IsCallGraph (definitions xs) c.in_ok-graph.graph.items) c.new.ensures c.in_ok-graph.ensures.calls) (subst HasRanks c.deref.ensures.value (c.in_ok-i.ensures.ranks none)) in
     (none-returns ds ranks, sym c.is_chicago.ensures ∙ c.if-is_chicago.true)

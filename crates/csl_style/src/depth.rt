@@ -1,0 +1,133 @@
+//! The depth of a layout with all macros expanded (CSL 1.0.2, Macro).
+
+ghost use Rattle.std.specs.Prelude.{◌≡◌, ◌<◌, ◌≤◌, max, IfSome, IfNone};
+ghost use Rattle.csl_style.specs.Node.{expand, expand_nodes, expand_layout};
+ghost use Rattle.csl_style.specs.View.{view_node, view_nodes, view_names, view_child, view_choose, view_layout};
+ghost use Rattle.csl_style.specs.Expanded.{macro_env};
+ghost use Rattle.csl_style.specs.Depth.{node_depth, nodes_depth, child_depth, layout_depth};
+
+use crate::element::{Choose, Layout, LayoutRenderingElement, Names, NamesChild};
+use crate::style::Style;
+use crate::text::TextTarget;
+
+/// The greater of two depths.
+fn deeper(a: usize, b: usize) -> usize
+    ensures { result ≡ max a b }
+{
+    if a < b { b } else { a }
+}
+
+/// The depth of an element, or `None` if it is above `most`.
+#[cycle(depth)]
+fn depth(style: &Style, element: &LayoutRenderingElement, most: usize) -> Option<usize>
+    ensures some { IfSome result (λ depth. (depth
+        ≡ node_depth (expand (macro_env style.now) (view_node element.now))) × (depth ≤ most)) }
+    ensures none { IfNone result (most < node_depth
+        (expand (macro_env style.now) (view_node element.now))) }
+{
+    let inside = most.checked_sub(1)?;
+    match element {
+        LayoutRenderingElement::Text(text) => match &text.target {
+            TextTarget::Macro { name } => match style.get_macro(name.as_str()) {
+                Some(found) => Some(depth_of_all(style, &found.children, inside)? + 1),
+                None => Some(1),
+            },
+            TextTarget::Variable { .. } | TextTarget::Term { .. } | TextTarget::Value { .. } => {
+                Some(1)
+            }
+        },
+        LayoutRenderingElement::Number(_)
+        | LayoutRenderingElement::Label(_)
+        | LayoutRenderingElement::Date(_) => Some(1),
+        LayoutRenderingElement::Names(names) => depth_of_names(style, names, most),
+        LayoutRenderingElement::Choose(choose) => depth_of_choose(style, choose, most),
+        LayoutRenderingElement::Group(group) => {
+            Some(depth_of_all(style, &group.children, inside)? + 1)
+        }
+    }
+}
+
+/// The depth of the deepest of a list of elements, or `None` if it is above `most`.
+#[cycle(depth)]
+fn depth_of_all(style: &Style, elements: &[LayoutRenderingElement], most: usize) -> Option<usize>
+    ensures some { IfSome result (λ depth. (depth
+        ≡ nodes_depth (expand_nodes (macro_env style.now) (view_nodes elements.now)))
+        × (depth ≤ most)) }
+    ensures none { IfNone result (most < nodes_depth
+        (expand_nodes (macro_env style.now) (view_nodes elements.now))) }
+{
+    let mut deepest = 0;
+    for element in elements {
+        deepest = deeper(deepest, depth(style, element, most)?);
+    }
+    Some(deepest)
+}
+
+/// The depth of a names node, or `None` if it is above `most`. Only its substitutes add to one.
+#[cycle(depth)]
+fn depth_of_names(style: &Style, names: &Names, most: usize) -> Option<usize>
+    ensures some { IfSome result (λ depth. (depth
+        ≡ node_depth (expand (macro_env style.now) (view_names names.now))) × (depth ≤ most)) }
+    ensures none { IfNone result (most < node_depth
+        (expand (macro_env style.now) (view_names names.now))) }
+{
+    let inside = most.checked_sub(1)?;
+    let mut deepest = 0;
+    for child in &names.children {
+        deepest = deeper(deepest, depth_in_child(style, child, inside)?);
+    }
+    Some(deepest + 1)
+}
+
+/// The depth of the nodes in a child of names, or `None` if it is above `most`.
+#[cycle(depth)]
+fn depth_in_child(style: &Style, child: &NamesChild, most: usize) -> Option<usize>
+    ensures some { IfSome result (λ depth. (depth
+        ≡ child_depth (macro_env style.now) (view_child child.now)) × (depth ≤ most)) }
+    ensures none { IfNone result (most < child_depth (macro_env style.now) (view_child child.now)) }
+{
+    match child {
+        NamesChild::Name(_) | NamesChild::EtAl(_) | NamesChild::Label(_) => Some(0),
+        NamesChild::Substitute(substitute) => depth_of_all(style, &substitute.children, most),
+    }
+}
+
+/// The depth of a choose, or `None` if it is above `most`: one more than that of the deepest node
+/// in its branches.
+#[cycle(depth)]
+fn depth_of_choose(style: &Style, choose: &Choose, most: usize) -> Option<usize>
+    ensures some { IfSome result (λ depth. (depth
+        ≡ node_depth (expand (macro_env style.now) (view_choose choose.now))) × (depth ≤ most)) }
+    ensures none { IfNone result (most < node_depth
+        (expand (macro_env style.now) (view_choose choose.now))) }
+{
+    let inside = most.checked_sub(1)?;
+    let mut deepest = depth_of_all(style, &choose.if_.children, inside)?;
+    for branch in &choose.else_if {
+        deepest = deeper(deepest, depth_of_all(style, &branch.children, inside)?);
+    }
+    match &choose.otherwise {
+        Some(otherwise) => Some(deeper(deepest, depth_of_all(style, otherwise, inside)?) + 1),
+        None => Some(deepest + 1),
+    }
+}
+
+impl Style {
+    /// The depth of a layout with all macros expanded (CSL 1.0.2, Macro), or `None` if the depth is
+    /// above `most`.
+    ///
+    /// The layout counts one, and so does each node of the longest chain of nodes in one another. A
+    /// call of a macro that the style has holds the nodes of the macro.
+    ///
+    /// Check [`Style::expanded_size`] before this: the number of steps grows with the size, also
+    /// if the depth is small. The function allocates nothing, and goes no deeper than `most`.
+    pub fn expanded_depth(&self, layout: &Layout, most: usize) -> Option<usize>
+        ensures some { IfSome result (λ depth. (depth
+            ≡ layout_depth (expand_layout (macro_env self.now) (view_layout layout.now)))
+            × (depth ≤ most)) }
+        ensures none { IfNone result (most
+            < layout_depth (expand_layout (macro_env self.now) (view_layout layout.now))) }
+    {
+        Some(depth_of_all(self, &layout.elements, most.checked_sub(1)?)? + 1)
+    }
+}
