@@ -2,7 +2,7 @@
 use Rattle.std.proofs.Common.{◌≡◌, ℕ, ◌+◌, ◌<◌, suc, List, [], ◌∷◌, length, drop, get_or, Bool, true, false, Option, Some, None, option_map, is_some, if◌then◌else◌, cond, String, Global, string_bytes, refl, sym, ap, ◌∙◌, arith}
 use Rattle.std.specs.Option.{option_or}
 use Rattle.std.specs.List.{find}
-use Rattle.std.specs.HashMap.{HashMap, get_by_text}
+use Rattle.std.specs.BTreeMap.{BTreeMap, get_by_text}
 use Rattle.std.specs.Map.{update}
 use Rattle.std.specs.Str.{bytes_eq}
 use Rattle.std.proofs.lemmas.Slice.Eq.{bytes_eq-Decides}
@@ -14,7 +14,7 @@ use Rattle.csl_style.proofs.Meanings.{body-none}
 use Rattle.csl_style.proofs.Called.{place-is, children-read, length-definitions}
 
 -- the place of a name: from the map so far, else from the remaining macros
-abbrev pub found : {S : Type 0} → HashMap (String Global) ℕ S → ℕ → List CslMacro → List ℕ → Option ℕ
+abbrev pub found : BTreeMap (String Global) ℕ → ℕ → List CslMacro → List ℕ → Option ℕ
 found places i rest q = option_or (get_by_text places q) (option_map (λ k. i + k) (macro_index q (definitions rest)))
 
 module _ (i : ℕ) where
@@ -33,7 +33,7 @@ module _ (i : ℕ) where
   new_cases false None None h = refl
   new_cases false None (Some k) h = ap Some (omega arith)
 
-  module _ (ms : List CslMacro) (m : CslMacro) (within : i < length ms) (is : m ≡ get_or ms i m) {S : Type 0} (places : HashMap (String Global) ℕ S) (q : List ℕ) where
+  module _ (ms : List CslMacro) (m : CslMacro) (within : i < length ms) (is : m ≡ get_or ms i m) (places : BTreeMap (String Global) ℕ) (q : List ℕ) where
     -- if an earlier macro has the name of this one, the map stays the same
     pub with_seen_name : is_some (get_by_text places (string_bytes m.name)) ≡ true → found places (i + 1) (drop (i + 1) ms) q ≡ found places i (drop i ms) q
     with_seen_name h = seen_cases (bytes_eq (string_bytes m.name) q) (get_by_text places q) (macro_index q (definitions (drop (i + 1) ms)))
@@ -42,7 +42,7 @@ module _ (i : ℕ) where
         ∙ sym (at_drop_more (λ rest. found places i rest q) ms i m within)
 
     -- else this macro is the first of its name, and its place is added
-    pub with_new_name : (new : HashMap (String Global) ℕ S) → get_by_text places (string_bytes m.name) ≡ None → get_by_text new q ≡ update bytes_eq (get_by_text places) (string_bytes m.name) (Some i) q
+    pub with_new_name : (new : BTreeMap (String Global) ℕ) → get_by_text places (string_bytes m.name) ≡ None → get_by_text new q ≡ update bytes_eq (get_by_text places) (string_bytes m.name) (Some i) q
         → found new (i + 1) (drop (i + 1) ms) q ≡ found places i (drop i ms) q
     with_new_name new none put = ap (λ o. option_or o (option_map (λ k. (i + 1) + k) (macro_index q (definitions (drop (i + 1) ms))))) put
         ∙ new_cases (bytes_eq (string_bytes m.name) q) (get_by_text places q) (macro_index q (definitions (drop (i + 1) ms)))

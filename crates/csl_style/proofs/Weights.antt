@@ -7,7 +7,7 @@ use Rattle.csl_style.specs.declared.element.Choose.{Choose, out-Choose}
 use Rattle.csl_style.specs.declared.element.ChooseBranch.{ChooseBranch, out-ChooseBranch}
 use Rattle.csl_style.specs.declared.element.LayoutRenderingElement.TheFolds.{fold_out-Names, fold_out-ChooseBranch}
 use Rattle.csl_style.specs.View.{view_nodes, view_choose, view_branch, view_names, view_child, substitutes, name_children, NamesChildView, a_name, a_substitute, BranchView, element_step, child_step, choose_step, branch_step, group_step, names_step, substitute_step}
-use Rattle.csl_style.specs.Weight.{list_weight, tests_weight, weight, weights, branches_weight, substitutes_weight, child_weight, branch_weight}
+use Rattle.csl_style.specs.Size.{list_weight, tests_weight, name_children_weight, weight, weights, branches_weight, substitutes_weight, child_weight, branch_weight}
 use Rattle.csl_style.proofs.YearSuffixes.{behind, choose_out, nodes_out}
 
 -- the weight of the substitutes of a names node as written
@@ -17,7 +17,7 @@ written_weight env (substitute ns ss) = suc (weights (expand_nodes env ns) + wri
 
 -- what the children of a names node as written add
 abbrev pub children_weight : (List ℕ → Option ExpandedNodes) → List NamesChildView → ℕ
-children_weight env cs = length (name_children cs) + written_weight env (substitutes cs)
+children_weight env cs = name_children_weight (name_children cs) + written_weight env (substitutes cs)
 
 pub tests_heavy : (b : ChooseBranch) → tests_weight (view_branch b).tests ≡ list_weight (option_map (λ v. v.items) (out-ChooseBranch b).is_numeric) + (list_weight (option_map (λ v. v.items) (out-ChooseBranch b).is_uncertain_date) + (list_weight (option_map (λ v. v.items) (out-ChooseBranch b).locator) + (list_weight (option_map (λ v. v.items) (out-ChooseBranch b).position) + (list_weight (option_map (λ v. v.items) (out-ChooseBranch b).type_) + list_weight (option_map (λ v. v.items) (out-ChooseBranch b).variable)))))
 tests_heavy b = rw (fold_out-ChooseBranch Node NamesChildView Node BranchView Node Node Nodes element_step child_step choose_step branch_step group_step names_step substitute_step b) refl
@@ -45,7 +45,7 @@ module _ (env : List ℕ → Option ExpandedNodes) where
   names_heavy x =
       let cs = map view_child (out-Names x).children.items in
       let v = length (out-Names x).variable.items in
-      rw (fold_out-Names Node NamesChildView Node BranchView Node Node Nodes element_step child_step choose_step branch_step group_step names_step substitute_step x) (ap (λ k. suc (v + length (name_children cs) + k)) (insteads_same _ (substitutes cs)) ∙ together v (length (name_children cs)) (written_weight env (substitutes cs)))
+      rw (fold_out-Names Node NamesChildView Node BranchView Node Node Nodes element_step child_step choose_step branch_step group_step names_step substitute_step x) (ap (λ k. suc (v + name_children_weight (name_children cs) + k)) (insteads_same _ (substitutes cs)) ∙ together v (name_children_weight (name_children cs)) (written_weight env (substitutes cs)))
     where
       together : (a b c : ℕ) → suc (a + b + c) ≡ suc (a + (b + c))
       together a b c = omega arith

@@ -4,7 +4,7 @@
 -- `calls_in_branches`, `calls_in_substitutes`, `name_at`, `children_at` and `IsCallGraph`.
 use Rattle.std.specs.Prelude.{◌≡◌, ℕ, zero, suc, ◌<◌, List, [], ◌∷◌, ◌++◌, length, String}
 use Rattle.std.specs.Option.{option_to_list}
-use Rattle.std.specs.HashMap.{HashMap, get_by_text}
+use Rattle.std.specs.BTreeMap.{BTreeMap, get_by_text}
 use Rattle.std.specs.declared.alloc.Global.{Global}
 use Rattle.csl_style.specs.GraphReach.{Graph, row_at}
 use Rattle.csl_style.specs.Node.{Node, text, call, number, label, date, names, choose, group, Nodes, no_nodes, node, Branches, no_branches, otherwise, branch, Substitutes, no_substitutes, substitute}
@@ -51,5 +51,5 @@ pub record IsCallGraph (ds : List Definition) (g : Graph) : Type 0 where
   pub rows : (i : ℕ) → i < length ds → row_at g i ≡ calls_in_all ds (children_at ds i)
 
 -- The map has at each name the place of its first macro, and nothing at a name without a macro.
-abbrev pub ArePlacesByName : {S : Type 0} → HashMap (String Global) ℕ S → List Definition → Type 0
+abbrev pub ArePlacesByName : BTreeMap (String Global) ℕ → List Definition → Type 0
 ArePlacesByName places ds = (name : List ℕ) → get_by_text places name ≡ macro_index name ds

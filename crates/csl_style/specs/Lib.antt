@@ -23,7 +23,7 @@ pub mod Term
 pub mod YearSuffix
 pub mod Expanded
 pub mod Depth
-pub mod Weight
+pub mod Size
 pub mod Scopes
 pub mod OfCitation
 pub mod NamesParts

@@ -2,7 +2,7 @@
 -- Macro; Disambiguation). The text may be in any group, in any branch of a choice, also one that is
 -- never chosen, and in any substitute, also one that is never rendered. A scope whose layout
 -- reaches none, and a scope without a layout, render the suffix implicitly, after the first year.
-use Rattle.std.specs.Prelude.{◌≡◌, ℕ, Bool, true, false, not, ◌||◌, List, length, Option, Some, None, option_map}
+use Rattle.std.specs.Prelude.{◌≡◌, ℕ, Bool, true, false, not, ◌||◌, List, length, slice_index_or, Option, Some, None, option_map}
 use Rattle.csl_style.specs.declared.element.Layout.{Layout}
 use Rattle.csl_style.specs.declared.taxonomy.Variable.{Variable}
 use Rattle.csl_style.specs.declared.taxonomy.Variable.TheVariants as variable
@@ -14,7 +14,6 @@ use Rattle.csl_style.specs.Node.{Target, of_variable, of_term, of_value, Expande
 use Rattle.csl_style.specs.Expanded.{macro_env}
 use Rattle.csl_style.specs.Expansion.{macro_expansion}
 use Rattle.csl_style.specs.Calls.{children_at}
-use Rattle.csl_style.specs.GraphReach.{is_marked}
 
 -- the layout of a scope, with all macros expanded
 abbrev pub reached_layout : Scope → StyleParts → Option ExpandedLayout
@@ -80,7 +79,7 @@ is_year_suffix_implicit (Some l) = not (any_has_year_suffix l.elements)
 abbrev pub is_implicit_in : List Definition → Option Layout → Bool
 is_implicit_in ds layout = is_year_suffix_implicit (option_map (λ l. expand_layout (macro_expansion ds) (view_layout l)) layout)
 
--- No macro of a marked place reaches a text of the year suffix. Only private contracts cite it.
-pub record AreWithoutSuffix (ds : List Definition) (marked : List Bool) : Type 0 where
-  pub each : length marked ≡ length ds
-  pub none : (i : ℕ) → is_marked marked i ≡ true → any_has_year_suffix (expand_nodes (macro_expansion ds) (children_at ds i)) ≡ false
+-- what is known of the macro at each place is so; only private contracts cite it
+pub record AreKnown (ds : List Definition) (known : List (Option Bool)) : Type 0 where
+  pub each : length known ≡ length ds
+  pub holds : (i : ℕ) (has : Bool) → slice_index_or known i None ≡ Some has → any_has_year_suffix (expand_nodes (macro_expansion ds) (children_at ds i)) ≡ has

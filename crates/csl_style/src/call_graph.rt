@@ -10,14 +10,14 @@ ghost use Rattle.csl_style.specs.Calls.{calls_in, calls_in_all, calls_in_substit
 use crate::element::{Choose, CslMacro, LayoutRenderingElement, NamesChild};
 use crate::text::TextTarget;
 use std::alloc::{AllocError, Global};
-use std::collections::HashMap;
+use std::collections::BTreeMap;
 use std::marker::Model;
 
 /// The macros of a style, with the place of the first macro of each name.
 #[derive(Drop)]
 pub(crate) struct PlacedMacros<'s> {
     items: &'s [CslMacro],
-    places: &'s HashMap<String, usize>,
+    places: &'s BTreeMap<String, usize>,
 }
 
 impl<'s> Model for PlacedMacros<'s> {
@@ -38,9 +38,10 @@ impl<'s> Model for PlacedMacros<'s> {
 }
 
 impl<'s> PlacedMacros<'s> {
+    /// The macros with their places.
     pub(crate) fn new(
         items: &'s [CslMacro],
-        places: &'s HashMap<String, usize>,
+        places: &'s BTreeMap<String, usize>,
     ) -> PlacedMacros<'s>
         requires { ArePlacesByName places.now (definitions items.now) }
         ensures { result ≡ items.now }
@@ -65,7 +66,11 @@ impl<'s> PlacedMacros<'s> {
 }
 
 /// Adds the place of the first macro of a name, if there is one.
-fn add_place(name: &str, macros: &PlacedMacros<'_>, places: &mut Vec<usize>) -> Result<(), AllocError>
+fn add_place(
+    name: &str,
+    macros: &PlacedMacros<'_>,
+    places: &mut Vec<usize>,
+) -> Result<(), AllocError>
     ensures { OnOk result (places.new.items ≡ places.old.items
         ++ option_to_list (macro_index name.now (definitions macros.now))) }
 {
@@ -162,7 +167,10 @@ fn add_child_calls(
 }
 
 /// The calls of each macro: row i lists the places that the macro at place i calls.
-pub(crate) fn call_graph(alloc: Global, macros: &PlacedMacros<'_>) -> Result<Vec<Vec<usize>>, AllocError>
+pub(crate) fn call_graph(
+    alloc: Global,
+    macros: &PlacedMacros<'_>,
+) -> Result<Vec<Vec<usize>>, AllocError>
     ensures calls { IfOk result (λ graph. IsCallGraph (definitions macros.now) graph.items) }
     ensures range { IfOk result (λ graph. InRange graph.items (length graph.items)) }
 {
@@ -179,10 +187,10 @@ pub(crate) fn call_graph(alloc: Global, macros: &PlacedMacros<'_>) -> Result<Vec
 pub(crate) fn places_by_name(
     alloc: Global,
     macros: &[CslMacro],
-) -> Result<HashMap<String, usize>, AllocError>
+) -> Result<BTreeMap<String, usize>, AllocError>
     ensures { IfOk result (λ places. ArePlacesByName places (definitions macros.now)) }
 {
-    let mut places = HashMap::new(alloc);
+    let mut places = BTreeMap::new(alloc);
     for (i, m) in macros.iter().enumerate() {
         if !places.contains_key(m.name.as_str()) {
             places.insert(m.name.clone()?, i)?;

@@ -28,42 +28,65 @@ fn reach(alloc: Global, graph: &[Vec<usize>], from: usize) -> Result<Vec<bool>, 
     Ok(seen)
 }
 
-/// Numbers for the places, in one walk over the edges: each place without edges into it that are
-/// left has the next lower number, and its edges are taken away. On a circle no place is reached.
-fn numbers(alloc: Global, graph: &[Vec<usize>]) -> Result<Vec<usize>, AllocError> {
-    let mut into = vec![in alloc; 0usize; graph.len()]?;
+/// How many edges lead to each place.
+fn counts_of_edges_to(alloc: Global, graph: &[Vec<usize>]) -> Result<Vec<usize>, AllocError> {
+    let mut counts = vec![in alloc; 0usize; graph.len()]?;
     for row in graph {
         for to in row {
-            if let Some(count) = into.get_mut(*to) {
+            if let Some(count) = counts.get_mut(*to) {
                 *count = count.saturating_add(1);
             }
         }
     }
-    let mut order = Vec::new(alloc);
-    for (i, count) in into.iter().enumerate() {
-        if *count == 0 {
-            order.push(i)?;
+    Ok(counts)
+}
+
+/// Takes away the edges of a row. A place that no edge leads to any more is next in the order.
+fn take_row(
+    row: &[usize],
+    counts: &mut Vec<usize>,
+    order: &mut Vec<usize>,
+) -> Result<(), AllocError> {
+    for to in row {
+        if let Some(count) = counts.get_mut(*to) {
+            *count = count.saturating_sub(1);
+            if *count == 0 {
+                order.push(*to)?;
+            }
         }
     }
-    let mut numbers = vec![in alloc; 0usize; graph.len()]?;
-    let mut left = graph.len();
+    Ok(())
+}
+
+/// An order of the places in which each comes before those that its edges lead to. It lacks the
+/// places that lead back to themselves, and those that they lead to. It takes time in proportion to
+/// the places and edges.
+pub(crate) fn callers_first(alloc: Global, graph: &[Vec<usize>]) -> Result<Vec<usize>, AllocError> {
+    let mut counts = counts_of_edges_to(alloc, graph)?;
+    let mut order = Vec::new(alloc);
+    for (place, count) in counts.iter().enumerate() {
+        if *count == 0 {
+            order.push(place)?;
+        }
+    }
     for next in 0..graph.len() {
+        if let Some(place) = order.get(next) {
+            if let Some(row) = graph.get(*place) {
+                take_row(row, &mut counts, &mut order)?;
+            }
+        }
+    }
+    Ok(order)
+}
+
+/// A number for each place of an order, which falls from place to place.
+fn numbers_of(alloc: Global, order: &[usize]) -> Result<Vec<usize>, AllocError> {
+    let mut numbers = vec![in alloc; 0usize; order.len()]?;
+    let mut left = order.len();
+    for place in order {
         left = left.saturating_sub(1);
-        if let Some(at) = order.get(next) {
-            let at = *at;
-            if let Some(number) = numbers.get_mut(at) {
-                *number = left;
-            }
-            if let Some(row) = graph.get(at) {
-                for to in row {
-                    if let Some(count) = into.get_mut(*to) {
-                        *count = count.saturating_sub(1);
-                        if *count == 0 {
-                            order.push(*to)?;
-                        }
-                    }
-                }
-            }
+        if let Some(number) = numbers.get_mut(*place) {
+            *number = left;
         }
     }
     Ok(numbers)
@@ -91,15 +114,19 @@ fn are_ranks(graph: &[Vec<usize>], numbers: &[usize]) -> bool
     true
 }
 
-/// The first place that leads back to itself, if there is one. If the numbers of one walk fall
-/// along each edge, there is none. Else a search from each place in order finds the first. Row i of the graph lists the places
-/// that the edges from place i lead to.
-pub(crate) fn first_cyclic(alloc: Global, graph: &[Vec<usize>]) -> Result<Option<usize>, AllocError>
+/// The first place that leads back to itself, if there is one. If the numbers of an order fall along
+/// each edge, there is none. Otherwise a search from each place in turn finds the first. Row i of
+/// the graph lists the places that the edges from place i lead to.
+pub(crate) fn first_cyclic(
+    alloc: Global,
+    graph: &[Vec<usize>],
+    order: &[usize],
+) -> Result<Option<usize>, AllocError>
     requires { InRange graph.now (length graph.now) }
     ensures cyclic { IfOk result (λ found. IfSome found (IsFirstCyclicPlace graph.now)) }
     ensures ranks { IfOk result (λ found. found ≡ None → HasRanks graph.now) }
 {
-    if are_ranks(graph, &numbers(alloc, graph)?) {
+    if are_ranks(graph, &numbers_of(alloc, order)?) {
         return Ok(None);
     }
     for i in 0..graph.len() {

@@ -119,8 +119,10 @@ impl Style {
     /// The layout counts one, and so does each node of the longest chain of nodes in one another. A
     /// call of a macro that the style has holds the nodes of the macro.
     ///
-    /// Check [`Style::expanded_size`] before this: the number of steps grows with the size, also
-    /// if the depth is small. The function allocates nothing, and goes no deeper than `most`.
+    /// Ask this only of a layout that [`Style::expanded_size`] limits: the number of steps grows
+    /// with the size, even if the depth is small. For a style from a stranger,
+    /// [`Style::expanded_within`] checks both at once. The function allocates nothing, and its stack
+    /// grows with the smaller of the depth and `most`.
     pub fn expanded_depth(&self, layout: &Layout, most: usize) -> Option<usize>
         ensures some { IfSome result (λ depth. (depth
             ≡ layout_depth (expand_layout (macro_env self.now) (view_layout layout.now)))

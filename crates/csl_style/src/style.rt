@@ -15,7 +15,7 @@ ghost use Rattle.csl_style.specs.Style.{style_of, layout_of, is_chicago, IsRefus
 ghost use Rattle.csl_style.specs.YearSuffix.{is_year_suffix_implicit, reached_layout};
 
 use crate::call_graph::{PlacedMacros, call_graph, places_by_name};
-use crate::cycles::first_cyclic;
+use crate::cycles::{callers_first, first_cyclic};
 use crate::date::{Date, DateForm};
 use crate::element::{CslMacro, Layout};
 use crate::locale::{Locale, lookup, ordinals};
@@ -23,7 +23,7 @@ use crate::term::{Term, TermForm};
 use crate::year_suffix::{ImplicitSuffix, implicit_suffix};
 use csl_common::GrammarGender;
 use std::alloc::Global;
-use std::collections::HashMap;
+use std::collections::BTreeMap;
 use std::marker::Model;
 
 mod error;
@@ -41,7 +41,8 @@ pub struct Style {
     bibliography: Option<Layout>,
     locales: Vec<Locale>,
     /// The index in `macros` of the first macro of each name.
-    places: HashMap<String, usize>,
+    places: BTreeMap<String, usize>,
+    /// Whether each layout reaches no text of the year suffix.
     implicit: ImplicitSuffix,
 }
 
@@ -75,7 +76,7 @@ impl Model for Style {
         × ArePlacesByName s.places (definitions s.macros.items)
         × (s.implicit.in_citation ≡ is_implicit_in (definitions s.macros.items) (Some s.citation))
         × (s.implicit.in_bibliography ≡ is_implicit_in (definitions s.macros.items)
-            s.bibliography) };
+        s.bibliography) };
 }
 
 /// Whether the page format is one of the two Chicago formats, which are not supported.
@@ -88,33 +89,45 @@ fn is_chicago(format: Option<PageRangeFormat>) -> bool
     )
 }
 
-/// Checks the macros and the page format of a style. Returns the index of the first macro of each
-/// name.
-fn checked_places(
+/// What the checks of a style find of its macros.
+#[derive(Drop)]
+struct CheckedMacros {
+    /// The index of the first macro of each name.
+    places: BTreeMap<String, usize>,
+    /// The indices of the macros, callers before the macros that they call.
+    callers_first: Vec<usize>,
+}
+
+/// Checks the macros and the page format of a style.
+fn checked_macros(
     alloc: Global,
     format: Option<PageRangeFormat>,
     macros: &[CslMacro],
-) -> Result<HashMap<String, usize>, StyleError>
-    ensures places { IfOk result (λ places. ArePlacesByName places (definitions macros.now)) }
+) -> Result<CheckedMacros, StyleError>
+    ensures places { IfOk result (λ checked. ArePlacesByName checked.places (definitions macros.now)) }
     ensures ranks { OnOk result (IsAcyclic (definitions macros.now)) }
     ensures format { OnOk result (is_chicago format ≡ false) }
     ensures refused { IfErr result (IsRefusal format (definitions macros.now)) }
 {
     let places = places_by_name(alloc, macros)?;
     let graph = call_graph(alloc, &PlacedMacros::new(macros, &places))?;
-    if let Some(i) = first_cyclic(alloc, &graph)? {
+    let callers_first = callers_first(alloc, &graph)?;
+    if let Some(i) = first_cyclic(alloc, &graph, &callers_first)? {
         return Err(StyleError::CyclicMacro(macros[i].name.clone()?));
     }
     if is_chicago(format) {
         return Err(StyleError::ChicagoPageFormat);
     }
-    Ok(places)
+    Ok(CheckedMacros {
+        places,
+        callers_first,
+    })
 }
 
 /// Returns the first macro of a name, found by its index.
 fn first_macro<'s>(
     macros: &'s [CslMacro],
-    places: &HashMap<String, usize>,
+    places: &BTreeMap<String, usize>,
     name: &str,
 ) -> Option<&'s CslMacro>
     requires { ArePlacesByName places.now (definitions macros.now) }
@@ -128,7 +141,8 @@ fn first_macro<'s>(
 
 impl Style {
     /// Returns a style of these parts. If several macros have one name, calls use the first. On an
-    /// error, the parts are dropped.
+    /// error, the parts are dropped. The number of steps is in proportion to the nodes of the style,
+    /// unless a macro leads back to itself.
     ///
     /// # Errors
     /// [`StyleError::Memory`]: out of memory. It may come instead of either of the others.
@@ -152,8 +166,19 @@ impl Style {
         ensures refused { IfErr result (IsRefusal settings.page_range_format
             (definitions macros.items)) }
     {
-        let places = checked_places(alloc, settings.page_range_format, &macros)?;
-        let implicit = implicit_suffix(alloc, &macros, &places, &citation, &bibliography)?;
+        let checked = checked_macros(alloc, settings.page_range_format, &macros)?;
+        let CheckedMacros {
+            places,
+            callers_first,
+        } = checked;
+        let implicit = implicit_suffix(
+            alloc,
+            &macros,
+            &places,
+            &callers_first,
+            &citation,
+            &bibliography,
+        )?;
         Ok(Style {
             settings,
             macros,
@@ -215,7 +240,7 @@ impl Style {
 
     /// Whether the year suffix comes after the first year that is printed. It does if the scope has
     /// no layout, or if the layout reaches no text of that variable through macros, substitutes and
-    /// all branches.
+    /// all branches. [`Style::new`] finds it out once.
     pub fn renders_year_suffix_implicitly(&self, scope: Scope) -> bool
         ensures { result ≡ is_year_suffix_implicit (reached_layout scope self.now) }
     {

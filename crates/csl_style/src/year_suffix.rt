@@ -1,7 +1,7 @@
 //! Whether a layout reaches a text of the year suffix (CSL 1.0.2, Disambiguation). If it does, that
 //! text renders the suffix. Otherwise the suffix comes after the first year.
 
-ghost use Rattle.std.specs.Prelude.{◌≡◌, ◌<◌, false, length, IfSome, IfOk, None, Some, option_copied};
+ghost use Rattle.std.specs.Prelude.{◌≡◌, ◌<◌, false, length, IfSome, IfOk, IsTrue, None, Some, option_copied};
 ghost use Rattle.csl_style.specs.Node.{expand, expand_nodes};
 ghost use Rattle.csl_style.specs.View.{definitions, view_node, view_nodes, view_names, view_child, view_choose};
 ghost use Rattle.csl_style.specs.Expansion.{macro_expansion, IsAcyclic};
@@ -12,7 +12,7 @@ use crate::element::{Choose, CslMacro, Layout, LayoutRenderingElement, Names, Na
 use crate::taxonomy::{StandardVariable, Variable};
 use crate::text::TextTarget;
 use std::alloc::{AllocError, Global};
-use std::collections::HashMap;
+use std::collections::BTreeMap;
 use std::marker::Model;
 
 /// Whether the variable is the year suffix.
@@ -30,14 +30,14 @@ fn nodes_at(macros: &[CslMacro], i: usize) -> &Vec<LayoutRenderingElement>
     &macros[i].children
 }
 
-/// A search for texts of the year suffix in layouts of a style. It goes through no macro twice, for
-/// it ends at the first such text, and notes each macro that it went through without one.
+/// A search for texts of the year suffix in layouts of a style. It goes through no macro twice: it
+/// keeps for each one whether such a text is in it.
 #[derive(Drop)]
 struct Search<'s> {
     macros: &'s [CslMacro],
-    places: &'s HashMap<String, usize>,
-    /// Whether the macro at each place is known to reach no text of the year suffix.
-    without: Vec<bool>,
+    places: &'s BTreeMap<String, usize>,
+    /// Whether a text of the year suffix is in the macro at each place, if that is known.
+    known: Vec<Option<bool>>,
 }
 
 impl<'s> Model for Search<'s> {
@@ -48,7 +48,7 @@ impl<'s> Model for Search<'s> {
     ghost use Rattle.csl_style.specs.View.{definitions};
     ghost use Rattle.csl_style.specs.Expansion.{IsAcyclic};
     ghost use Rattle.csl_style.specs.Calls.{ArePlacesByName};
-    ghost use Rattle.csl_style.specs.YearSuffix.{AreWithoutSuffix};
+    ghost use Rattle.csl_style.specs.YearSuffix.{AreKnown};
 
     ghost Value = { List CslMacro };
 
@@ -58,7 +58,7 @@ impl<'s> Model for Search<'s> {
 
     ghost invariant = { λ s. IsAcyclic (definitions s.macros.now)
         × ArePlacesByName s.places.now (definitions s.macros.now)
-        × AreWithoutSuffix (definitions s.macros.now) s.without.items };
+        × AreKnown (definitions s.macros.now) s.known.items };
 }
 
 impl<'s> Search<'s> {
@@ -66,23 +66,22 @@ impl<'s> Search<'s> {
     fn new(
         alloc: Global,
         macros: &'s [CslMacro],
-        places: &'s HashMap<String, usize>,
+        places: &'s BTreeMap<String, usize>,
     ) -> Result<Search<'s>, AllocError>
         requires ranks { IsAcyclic (definitions macros.now) }
         requires places { ArePlacesByName places.now (definitions macros.now) }
         ensures { IfOk result (λ search. search ≡ macros.now) }
     {
-        let without = vec![in alloc; false; macros.len()]?;
+        let known = vec![in alloc; None; macros.len()]?;
         Ok(Search {
             macros,
             places,
-            without,
+            known,
         })
     }
 
-    /// The place of a macro to go through. `None` if the macro of the name is known to reach no
-    /// text of the year suffix, or if there is none of the name.
-    fn next(&self, name: &str) -> Option<usize>
+    /// The place of the first macro of a name.
+    fn place(&self, name: &str) -> Option<usize>
         ensures within { IfSome result (λ i. i < length self.now) }
         ensures meaning { IfSome result (λ i. macro_expansion (definitions self.now) name.now
             ≡ Some (expand_nodes (macro_expansion (definitions self.now))
@@ -91,10 +90,23 @@ impl<'s> Search<'s> {
             → macro_has_year_suffix (macro_expansion (definitions self.now) name.now) ≡ false }
     {
         let i = *self.places.get(name)?;
-        if self.without[i] {
-            return None;
-        }
         Some(i)
+    }
+
+    /// Whether the style has a macro at a place.
+    fn has_macro(&self, i: usize) -> bool
+        ensures { IsTrue result → i < length self.now }
+    {
+        i < self.macros.len()
+    }
+
+    /// Whether a text of the year suffix is in the macro at a place, if that is known.
+    fn known(&self, i: usize) -> Option<bool>
+        requires { i < length self.now }
+        ensures { IfSome result (λ has. any_has_year_suffix (expand_nodes
+            (macro_expansion (definitions self.now)) (children_at (definitions self.now) i)) ≡ has) }
+    {
+        self.known[i]
     }
 
     /// The nodes of the macro at a place.
@@ -105,14 +117,14 @@ impl<'s> Search<'s> {
         nodes_at(self.macros, i)
     }
 
-    /// Notes that the macro at a place reaches no text of the year suffix.
-    fn note(&mut self, i: usize)
+    /// Keeps whether a text of the year suffix is in the macro at a place.
+    fn note(&mut self, i: usize, has: bool)
         requires within { i < length self.old }
-        requires none { any_has_year_suffix (expand_nodes (macro_expansion (definitions self.old))
-            (children_at (definitions self.old) i)) ≡ false }
+        requires has { any_has_year_suffix (expand_nodes (macro_expansion (definitions self.old))
+            (children_at (definitions self.old) i)) ≡ has }
         ensures { self.new ≡ self.old }
     {
-        self.without[i] = true;
+        self.known[i] = Some(has);
     }
 }
 
@@ -126,15 +138,8 @@ fn has_year_suffix<'s>(search: &mut Search<'s>, element: &'s LayoutRenderingElem
     match element {
         LayoutRenderingElement::Text(text) => match &text.target {
             TextTarget::Variable { var, .. } => is_year_suffix(*var),
-            TextTarget::Macro { name } => match search.next(name.as_str()) {
-                Some(i) => {
-                    let nodes = search.nodes_at(i);
-                    if any_has_year_suffix(search, nodes) {
-                        return true;
-                    }
-                    search.note(i);
-                    false
-                }
+            TextTarget::Macro { name } => match search.place(name.as_str()) {
+                Some(i) => has_year_suffix_at(search, i),
                 None => false,
             },
             TextTarget::Term { .. } | TextTarget::Value { .. } => false,
@@ -146,6 +151,23 @@ fn has_year_suffix<'s>(search: &mut Search<'s>, element: &'s LayoutRenderingElem
         LayoutRenderingElement::Choose(choose) => choose_has_year_suffix(search, choose),
         LayoutRenderingElement::Group(group) => any_has_year_suffix(search, &group.children),
     }
+}
+
+/// Whether a text of the year suffix is in the macro at a place.
+#[cycle(reach)]
+fn has_year_suffix_at<'s>(search: &mut Search<'s>, i: usize) -> bool
+    requires { i < length search.old }
+    ensures kept { search.new ≡ search.old }
+    ensures value { result ≡ any_has_year_suffix (expand_nodes
+        (macro_expansion (definitions search.old)) (children_at (definitions search.old) i)) }
+{
+    if let Some(has) = search.known(i) {
+        return has;
+    }
+    let nodes = search.nodes_at(i);
+    let has = any_has_year_suffix(search, nodes);
+    search.note(i, has);
+    has
 }
 
 /// Whether a text of the year suffix is in any of the elements.
@@ -213,6 +235,18 @@ fn choose_has_year_suffix<'s>(search: &mut Search<'s>, choose: &'s Choose) -> bo
     }
 }
 
+/// Searches the macros in the reverse of an order. If callers come first in the order, what a macro
+/// calls is known before it is searched, so that long chains of macros need no stack.
+fn search_macros<'s>(search: &mut Search<'s>, callers_first: &[usize])
+    ensures { search.new ≡ search.old }
+{
+    for at in callers_first.iter().rev() {
+        if search.has_macro(*at) {
+            let _has = has_year_suffix_at(search, *at);
+        }
+    }
+}
+
 /// Whether the suffix comes after the first year in a layout, or in a scope without one.
 fn is_implicit<'s>(search: &mut Search<'s>, layout: Option<&'s Layout>) -> bool
     ensures kept { search.new ≡ search.old }
@@ -231,11 +265,13 @@ pub(crate) struct ImplicitSuffix {
     pub(crate) in_bibliography: bool,
 }
 
-/// Searches the layouts of a style for texts of the year suffix, in one walk over its macros.
+/// Searches the layouts of a style for texts of the year suffix, in one walk over its macros. The
+/// order of the macros changes no result.
 pub(crate) fn implicit_suffix<'s>(
     alloc: Global,
     macros: &'s [CslMacro],
-    places: &'s HashMap<String, usize>,
+    places: &'s BTreeMap<String, usize>,
+    callers_first: &[usize],
     citation: &'s Layout,
     bibliography: &'s Option<Layout>,
 ) -> Result<ImplicitSuffix, AllocError>
@@ -247,6 +283,7 @@ pub(crate) fn implicit_suffix<'s>(
         ≡ is_implicit_in (definitions macros.now) bibliography.now) }
 {
     let mut search = Search::new(alloc, macros, places)?;
+    search_macros(&mut search, callers_first);
     let in_citation = is_implicit(&mut search, Some(citation));
     let in_bibliography = is_implicit(&mut search, bibliography.as_ref());
     Ok(ImplicitSuffix {

@@ -192,7 +192,7 @@ pub(crate) fn reference(alloc: Global) -> Result<Layout, AllocError> {
 }
 
 /// A branch for books with a numeric edition.
-fn numeric_book(alloc: Global) -> Result<ChooseBranch, AllocError> {
+pub(crate) fn numeric_book(alloc: Global) -> Result<ChooseBranch, AllocError> {
     let numbers = vec![in alloc; Variable::Number(NumberVariable::Edition)]?;
     let kinds = vec![in alloc; Kind::Book]?;
     let mut if_ = branch(ChooseMatch::All, None, Vec::new(alloc));
@@ -202,7 +202,7 @@ fn numeric_book(alloc: Global) -> Result<ChooseBranch, AllocError> {
 }
 
 /// A branch for an uncertain date of issue, or for pages or a locator.
-fn uncertain_or_placed(alloc: Global) -> Result<ChooseBranch, AllocError> {
+pub(crate) fn uncertain_or_placed(alloc: Global) -> Result<ChooseBranch, AllocError> {
     let dates = vec![in alloc; DateVariable::Issued]?;
     let variables = vec![in alloc;
         Variable::Page(PageVariable::Page),
@@ -215,7 +215,7 @@ fn uncertain_or_placed(alloc: Global) -> Result<ChooseBranch, AllocError> {
 }
 
 /// A layout of a choice of one branch.
-fn choice(alloc: Global, if_: ChooseBranch) -> Result<Layout, AllocError> {
+pub(crate) fn choice(alloc: Global, if_: ChooseBranch) -> Result<Layout, AllocError> {
     let choose = Choose::new(alloc, if_);
     Ok(layout_of(one(alloc, choose.into())?))
 }

@@ -2,9 +2,11 @@
 
 use crate::asserted::assert_of;
 use crate::made::{EMPTY, StyleRows, layout_of, names, one, put, style};
-use crate::named::{author_date, reference};
+use crate::named::{author_date, choice, numeric_book, reference, uncertain_or_placed};
 use csl_style::{
-    Layout, Name, NameVariable, NamesChild, Scope, Style, StyleError, Substitute, VariablelessLabel,
+    Affixes, Date, DatePart, DatePartName, DateVariable, Formatting, Layout, Name, NamePart,
+    NamePartName, NameVariable, Names, NamesChild, Scope, Style, StyleError, Substitute,
+    VariablelessLabel,
 };
 use std::alloc::{AllocError, Global};
 use std::process::Abort;
@@ -20,7 +22,8 @@ const MACROS: &[&str] = &[
 
 /// A line of the layout, its size and its depth. The layout counts one, and so does each node of a
 /// list. Each group, names node, choose, branch and substitute adds one to the size, and so does
-/// each call of a macro that the style has, and the variable of a names node.
+/// each call of a macro that the style has, and the variable of a names node. The depth counts the
+/// layout, and the nodes of the longest chain of nodes in one another.
 static ROWS: [(&str, u64, usize); 18] = [
     ("", 1, 1),
     ("'word", 2, 2),
@@ -47,7 +50,12 @@ static ROWS: [(&str, u64, usize); 18] = [
 /// limit, and that it is above the limit below its depth.
 fn assert_depth(rt: &impl Abort, style: &Style, layout: &Layout, depth: usize, of: &str) {
     assert_of(rt, &style.expanded_depth(layout, depth), &Some(depth), of);
-    assert_of(rt, &style.expanded_depth(layout, usize::MAX), &Some(depth), of);
+    assert_of(
+        rt,
+        &style.expanded_depth(layout, usize::MAX),
+        &Some(depth),
+        of,
+    );
     let below = depth.saturating_sub(1);
     assert_of(rt, &style.expanded_depth(layout, below), &None, of);
 }
@@ -59,6 +67,22 @@ fn assert_size(rt: &impl Abort, style: &Style, layout: &Layout, size: u64, of: &
     assert_of(rt, &style.expanded_size(layout, u64::MAX), &Some(size), of);
     let below = size.saturating_sub(1);
     assert_of(rt, &style.expanded_size(layout, below), &None, of);
+}
+
+/// Asserts that the layout is within these two limits, and not if either is one less.
+fn assert_within(
+    rt: &impl Abort,
+    style: &Style,
+    layout: &Layout,
+    size: u64,
+    depth: usize,
+    of: &str,
+) {
+    assert_of(rt, &style.expanded_within(layout, size, depth), &true, of);
+    let less = size.saturating_sub(1);
+    assert_of(rt, &style.expanded_within(layout, less, depth), &false, of);
+    let less = depth.saturating_sub(1);
+    assert_of(rt, &style.expanded_within(layout, size, less), &false, of);
 }
 
 fn assert_line(
@@ -76,6 +100,7 @@ fn assert_line(
     let style = style(alloc, &rows)?;
     assert_size(rt, &style, style.citation(), size, line);
     assert_depth(rt, &style, style.citation(), depth, line);
+    assert_within(rt, &style, style.citation(), size, depth, line);
     drop(style);
     Ok(())
 }
@@ -125,6 +150,53 @@ fn variables_name_children_and_substitutes_of_names_count(rt: HostRuntime) -> Re
     assert_layout(&rt, alloc, author_date(alloc)?, 7, "author and date")?;
     // The childless names node in the substitute counts as elsewhere.
     assert_layout(&rt, alloc, reference(alloc)?, 24, "reference")?;
+    Ok(())
+}
+
+/// A date of issue with a year and a month.
+fn year_and_month(alloc: Global) -> Result<Layout, AllocError> {
+    let mut parts = one(alloc, DatePart::new(DatePartName::Year))?;
+    put(&mut parts, DatePart::new(DatePartName::Month))?;
+    let issued = Date::new(DateVariable::Issued, parts);
+    Ok(layout_of(one(alloc, issued.into())?))
+}
+
+/// A part of a name without formatting.
+fn name_part(name: NamePartName) -> NamePart {
+    NamePart {
+        name,
+        formatting: Formatting::default(),
+        affixes: Affixes::default(),
+    }
+}
+
+/// Names of authors and editors, with a name of two parts.
+fn authors_and_editors(alloc: Global) -> Result<Layout, AllocError> {
+    let mut name = Name::new(alloc);
+    put(&mut name.parts, name_part(NamePartName::Given))?;
+    put(&mut name.parts, name_part(NamePartName::Family))?;
+    let variables = vec![in alloc; NameVariable::Author, NameVariable::Editor]?;
+    let children = one(alloc, NamesChild::Name(name))?;
+    let names = Names {
+        children,
+        ..Names::new(alloc, variables)
+    };
+    Ok(layout_of(one(alloc, names.into())?))
+}
+
+#[test]
+fn items_of_lists_count(rt: HostRuntime) -> Result<(), Fail> {
+    let alloc = rt.alloc();
+    // The layout, the date, and its two parts.
+    assert_layout(&rt, alloc, year_and_month(alloc)?, 4, "year and month")?;
+    // The layout; the choose, which counts two; its branch; and the items of its two tests.
+    let book = choice(alloc, numeric_book(alloc)?)?;
+    assert_layout(&rt, alloc, book, 6, "numeric edition of a book")?;
+    let placed = choice(alloc, uncertain_or_placed(alloc)?)?;
+    assert_layout(&rt, alloc, placed, 7, "uncertain date, pages or locator")?;
+    // The layout; the names, which count two; two variables; the name and its two parts.
+    let names = authors_and_editors(alloc)?;
+    assert_layout(&rt, alloc, names, 8, "authors and editors")?;
     Ok(())
 }
 
@@ -211,7 +283,7 @@ fn doubling_macros_are_above_the_limit_at_once(rt: HostRuntime) -> Result<(), Fa
     Ok(())
 }
 
-/// Forty macros that each call the next twice are searched once each for the year suffix.
+/// Asserts that no text of the year suffix is in forty macros that each call the next twice.
 fn assert_searched_once(rt: &impl Abort, alloc: Global) -> Result<(), StyleError> {
     let rows = StyleRows {
         macros: DOUBLING,

@@ -14,9 +14,9 @@ loop-at-preserved c =
     let there : at < length graph = omega arith in
     let same : row_at graph at ≡ row = row-read graph at c.index-graph-at.result there c.index-graph-at.is ∙ sym c.deref-to-items.ensures.value in
     falls-more graph numbers at c.loop-at.invariant (record {
-        small = grind (arith, common_steps);
-        fall = λ b edge. along-all numbers row at (λ k less. c.loop-to.invariant k (omega arith)) b (subst (λ tos. Contains tos b) same edge);
-      })
+      small = grind (arith, common_steps);
+      fall = λ b edge. along-all numbers row at (λ k less. c.loop-to.invariant k (omega arith)) b (subst (λ tos. Contains tos b) same edge);
+    })
 
 pub returns : goal.returns
 returns c _ = all-fall c.args.graph.now c.args.numbers.now (omega arith) (λ k less. c.loop-at.invariant k (omega arith))

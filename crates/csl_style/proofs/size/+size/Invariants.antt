@@ -1,10 +1,12 @@
-use Rattle.std.proofs.Common.{◌≡◌, ◌+◌, ◌*◌, ◌≤◌, drop, map, option_map}
+use Rattle.std.proofs.Common.{◌≡◌, ◌+◌, ◌*◌, ◌≤◌, max, drop, map, option_map}
 use Rattle.csl_style.specs.declared.element.Choose.{out-Choose}
 use Rattle.csl_style.specs.Node.{size, sizes, expanded_branches_size, expand, expand_nodes, expand_branches}
 use Rattle.csl_style.specs.View.{view_node, view_nodes, view_names, view_child, view_choose, view_branch, substitutes, branches_of}
 use Rattle.csl_style.specs.Expanded.{child_size, macro_env}
-use Rattle.csl_style.specs.Weight.{weight, weights, branches_weight}
+use Rattle.csl_style.specs.Depth.{node_depth, nodes_depth, branches_depth}
+use Rattle.csl_style.specs.Size.{weight, weights, branches_weight}
 use Rattle.csl_style.proofs.YearSuffixes.{substitutes_size}
+use Rattle.csl_style.proofs.Depths.{written_depth}
 use Rattle.csl_style.proofs.Weights.{children_weight}
 use Rattle.csl_style.proofs.size.+size.Given as goal
 
@@ -26,7 +28,8 @@ decreases-room_after_branch l = 2 * sizes (expand_nodes (macro_env l.style.now) 
 abbrev pub decreases-room_after_choose : goal.decreases-room_after_choose
 decreases-room_after_choose l = 2 * size (expand (macro_env l.style.now) (view_choose l.choose.now))
 
--- the room left is the given room without the weights of the elements before this one
+-- The room that is left is the given room without the weights of the elements so far. All of them
+-- are within the limit of depth if the remaining ones are.
 abbrev pub invariant-room_after_all-loop-element : goal.invariant-room_after_all-loop-element
 invariant-room_after_all-loop-element l =
     let rest = expand_nodes (macro_env l.style) (view_nodes (drop l.element-index l.elements)) in
@@ -34,6 +37,7 @@ invariant-room_after_all-loop-element l =
     record {
       taken : l.left + weights all ≡ l.room + weights rest;
       lighter : weights rest ≤ weights all;
+      deep : max l.most (nodes_depth rest) ≡ max l.most (nodes_depth all);
       inside : sizes rest ≤ sizes all;
     }
 
@@ -45,6 +49,7 @@ invariant-room_after_names-loop-child l =
     record {
       taken : l.left + weight all ≡ l.room + children_weight env rest;
       lighter : children_weight env rest + 1 ≤ weight all;
+      deep : max l.most (written_depth env (substitutes rest) + 1) ≡ max l.most (node_depth all);
       inside : substitutes_size env (substitutes rest) + 1 ≤ size all;
     }
 
@@ -57,5 +62,6 @@ invariant-room_after_choose-loop-branch l =
     record {
       taken : l.left + weight all ≡ l.room + branches_weight rest;
       lighter : branches_weight rest + 1 ≤ weight all;
+      deep : max l.most (branches_depth rest + 1) ≡ max l.most (node_depth all);
       inside : expanded_branches_size rest + 1 ≤ size all;
     }

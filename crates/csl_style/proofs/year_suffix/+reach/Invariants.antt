@@ -2,6 +2,7 @@ use Rattle.std.proofs.Common.{◌≡◌, ◌+◌, ◌*◌, ◌≤◌, drop, map,
 use Rattle.csl_style.specs.declared.element.Choose.{out-Choose}
 use Rattle.csl_style.specs.Node.{size, sizes, expanded_branches_size, expand, expand_nodes, expand_branches}
 use Rattle.csl_style.specs.View.{definitions, view_node, view_nodes, view_names, view_child, view_choose, view_branch, substitutes, branches_of}
+use Rattle.csl_style.specs.Calls.{children_at}
 use Rattle.csl_style.specs.YearSuffix.{has_year_suffix, any_has_year_suffix, branches_have_year_suffix}
 use Rattle.csl_style.specs.Expanded.{child_size}
 use Rattle.csl_style.specs.Expansion.{macro_expansion}
@@ -10,6 +11,9 @@ use Rattle.csl_style.proofs.year_suffix.+reach.Given as goal
 
 abbrev pub decreases-has_year_suffix : goal.decreases-has_year_suffix
 decreases-has_year_suffix l = 2 * size (expand (macro_expansion (definitions l.search.now)) (view_node l.element.now)) + 1
+
+abbrev pub decreases-has_year_suffix_at : goal.decreases-has_year_suffix_at
+decreases-has_year_suffix_at l = 2 * sizes (expand_nodes (macro_expansion (definitions l.search.now)) (children_at (definitions l.search.now) l.i)) + 1
 
 abbrev pub decreases-any_has_year_suffix : goal.decreases-any_has_year_suffix
 decreases-any_has_year_suffix l = 2 * sizes (expand_nodes (macro_expansion (definitions l.search.now)) (view_nodes l.elements.now))

@@ -1,11 +1,15 @@
--- The size of nodes with all macros expanded, as a limit for styles from strangers counts it. To
--- the count of the nodes inside (`size`), it adds the lists that a node holds: the parts of a date,
--- the tests of a branch, and the variables and name children of a names node.
-use Rattle.std.specs.Prelude.{ℕ, ◌+◌, suc, List, length, Option, Some, None}
-use Rattle.csl_style.specs.Names.{NamesNode}
+-- The size of a layout with all macros expanded (CSL 1.0.2, Rendering Elements; Macro), which limits
+-- what rendering with a style from a stranger costs. The layout counts one, and so does each node of
+-- a list. A group, a names node, a choose and a text of a macro that the style has count one more.
+-- So does each branch, `cs:else` included, and each substitute. The lists that a node holds count
+-- too: the parts of a date, the items of a test, the variables of a names node, and its names with
+-- their parts. The weight of a node is its size without the one that it counts in its list.
+use Rattle.std.specs.Prelude.{ℕ, ◌+◌, suc, List, [], ◌∷◌, length, Option, Some, None}
+use Rattle.csl_style.specs.Names.{NamesNode, NameNode}
 use Rattle.csl_style.specs.View.{NamesChildView, a_name, an_et_al, a_label, a_substitute, BranchView}
 use Rattle.csl_style.specs.Node.{Tests, ExpandedNode, expanded_text, expanded_macro, unknown_macro, expanded_number, expanded_label, expanded_date, expanded_names, shorthand, expanded_choose, expanded_group, ExpandedNodes, no_expanded_nodes, expanded_node, ExpandedBranches, no_expanded_branches, expanded_otherwise, expanded_branch, ExpandedSubstitutes, no_expanded_substitutes, expanded_substitute, ExpandedLayout, expand_nodes}
 
+-- the items of a test, if the branch has it
 abbrev pub list_weight : {A : Type 0} → Option (List A) → ℕ
 list_weight None = 0
 list_weight (Some xs) = length xs
@@ -13,8 +17,16 @@ list_weight (Some xs) = length xs
 abbrev pub tests_weight : Tests → ℕ
 tests_weight ts = list_weight ts.is_numeric + (list_weight ts.is_uncertain_date + (list_weight ts.locator + (list_weight ts.position + (list_weight ts.type_ + list_weight ts.variable))))
 
+-- a name, and its parts
+abbrev pub name_weight : NameNode → ℕ
+name_weight n = suc (length n.parts)
+
+abbrev pub name_children_weight : List NameNode → ℕ
+name_children_weight [] = 0
+name_children_weight (n ∷ ns) = name_weight n + name_children_weight ns
+
 abbrev pub names_weight : NamesNode → ℕ
-names_weight n = length n.variables + length n.name_children
+names_weight n = length n.variables + name_children_weight n.name_children
 
 abbrev mutual
   pub weight : ExpandedNode → ℕ
@@ -43,12 +55,12 @@ abbrev mutual
   substitutes_weight (expanded_substitute fs is) = suc (weights fs + substitutes_weight is)
 
 -- A layout counts like a group: one more than its elements.
-abbrev pub layout_weight : ExpandedLayout → ℕ
-layout_weight l = suc (weights l.elements)
+abbrev pub layout_size : ExpandedLayout → ℕ
+layout_size l = suc (weights l.elements)
 
 -- what a child of names as written adds; an et-al or a label adds nothing
 abbrev pub child_weight : (List ℕ → Option ExpandedNodes) → NamesChildView → ℕ
-child_weight env (a_name n) = 1
+child_weight env (a_name n) = name_weight n
 child_weight env (an_et_al e) = 0
 child_weight env (a_label l) = 0
 child_weight env (a_substitute ns) = suc (weights (expand_nodes env ns))
