@@ -1,8 +1,7 @@
 -- The map from names to the places of macros, one macro at a time.
-use Rattle.std.proofs.Common.{◌≡◌, ℕ, ◌+◌, ◌<◌, suc, List, [], ◌∷◌, length, drop, get_or, Bool, true, false, Option, Some, None, option_map, is_some, if◌then◌else◌, cond, String, Global, string_bytes, refl, sym, ap, ◌∙◌, arith}
+use Rattle.std.proofs.Common.{◌≡◌, ℕ, ◌+◌, ◌<◌, suc, List, [], ◌∷◌, length, drop, get_or, Bool, true, false, Option, Some, None, option_map, is_some, IfSome, if◌then◌else◌, cond, string_bytes, refl, sym, ap, ◌∙◌, arith}
 use Rattle.std.specs.Option.{option_or}
 use Rattle.std.specs.List.{find}
-use Rattle.std.specs.BTreeMap.{BTreeMap, get_by_text}
 use Rattle.std.specs.Map.{update}
 use Rattle.std.specs.Str.{bytes_eq}
 use Rattle.std.proofs.lemmas.Slice.Eq.{bytes_eq-Decides}
@@ -13,9 +12,9 @@ use Rattle.csl_style.specs.Expansion.{macro_index, macro_body}
 use Rattle.csl_style.proofs.Meanings.{body-none}
 use Rattle.csl_style.proofs.Called.{place-is, children-read, length-definitions}
 
--- the place of a name: from the map so far, else from the remaining macros
-abbrev pub found : BTreeMap (String Global) ℕ → ℕ → List CslMacro → List ℕ → Option ℕ
-found places i rest q = option_or (get_by_text places q) (option_map (λ k. i + k) (macro_index q (definitions rest)))
+-- the place of a name: from the places so far, else from the remaining macros
+abbrev pub found : (List ℕ → Option ℕ) → ℕ → List CslMacro → List ℕ → Option ℕ
+found places i rest q = option_or (places q) (option_map (λ k. i + k) (macro_index q (definitions rest)))
 
 module _ (i : ℕ) where
   seen_cases : (b : Bool) (o p : Option ℕ) → (b ≡ true → o ≡ None → ⊥)
@@ -33,21 +32,21 @@ module _ (i : ℕ) where
   new_cases false None None h = refl
   new_cases false None (Some k) h = ap Some (omega arith)
 
-  module _ (ms : List CslMacro) (m : CslMacro) (within : i < length ms) (is : m ≡ get_or ms i m) (places : BTreeMap (String Global) ℕ) (q : List ℕ) where
-    -- if an earlier macro has the name of this one, the map stays the same
-    pub with_seen_name : is_some (get_by_text places (string_bytes m.name)) ≡ true → found places (i + 1) (drop (i + 1) ms) q ≡ found places i (drop i ms) q
-    with_seen_name h = seen_cases (bytes_eq (string_bytes m.name) q) (get_by_text places q) (macro_index q (definitions (drop (i + 1) ms)))
-        (λ same none. let e = (bytes_eq-Decides (string_bytes m.name) q).0 same in let o : get_by_text places (string_bytes m.name) ≡ None = ap (get_by_text places) e ∙ none in grind arith)
-        ∙ ap (λ x. option_or (get_by_text places q) (option_map (λ k. i + k) (macro_index q (definitions (x ∷ drop (i + 1) ms))))) is
+  module _ (ms : List CslMacro) (m : CslMacro) (within : i < length ms) (is : m ≡ get_or ms i m) (places : List ℕ → Option ℕ) (q : List ℕ) where
+    -- if an earlier macro has the name of this one, the places stay the same
+    pub with_seen_name : is_some (places (string_bytes m.name)) ≡ true → found places (i + 1) (drop (i + 1) ms) q ≡ found places i (drop i ms) q
+    with_seen_name h = seen_cases (bytes_eq (string_bytes m.name) q) (places q) (macro_index q (definitions (drop (i + 1) ms)))
+        (λ same none. let e = (bytes_eq-Decides (string_bytes m.name) q).0 same in let o : places (string_bytes m.name) ≡ None = ap places e ∙ none in grind arith)
+        ∙ ap (λ x. option_or (places q) (option_map (λ k. i + k) (macro_index q (definitions (x ∷ drop (i + 1) ms))))) is
         ∙ sym (at_drop_more (λ rest. found places i rest q) ms i m within)
 
     -- else this macro is the first of its name, and its place is added
-    pub with_new_name : (new : BTreeMap (String Global) ℕ) → get_by_text places (string_bytes m.name) ≡ None → get_by_text new q ≡ update bytes_eq (get_by_text places) (string_bytes m.name) (Some i) q
+    pub with_new_name : (new : List ℕ → Option ℕ) → places (string_bytes m.name) ≡ None → new q ≡ update bytes_eq places (string_bytes m.name) (Some i) q
         → found new (i + 1) (drop (i + 1) ms) q ≡ found places i (drop i ms) q
     with_new_name new none put = ap (λ o. option_or o (option_map (λ k. (i + 1) + k) (macro_index q (definitions (drop (i + 1) ms))))) put
-        ∙ new_cases (bytes_eq (string_bytes m.name) q) (get_by_text places q) (macro_index q (definitions (drop (i + 1) ms)))
-        (λ same. ap (get_by_text places) (sym ((bytes_eq-Decides (string_bytes m.name) q).0 same)) ∙ none)
-        ∙ ap (λ x. option_or (get_by_text places q) (option_map (λ k. i + k) (macro_index q (definitions (x ∷ drop (i + 1) ms))))) is
+        ∙ new_cases (bytes_eq (string_bytes m.name) q) (places q) (macro_index q (definitions (drop (i + 1) ms)))
+        (λ same. ap places (sym ((bytes_eq-Decides (string_bytes m.name) q).0 same)) ∙ none)
+        ∙ ap (λ x. option_or (places q) (option_map (λ k. i + k) (macro_index q (definitions (x ∷ drop (i + 1) ms))))) is
         ∙ sym (at_drop_more (λ rest. found places i rest q) ms i m within)
 
 -- the nodes that a name stands for, by the place of its first macro
@@ -59,6 +58,11 @@ placed ms name i h = let here = place-is name (definitions ms) i h in let len = 
 
 pub read : (ms : List CslMacro) (name : List ℕ) (i : ℕ) (m : CslMacro) → macro_index name (definitions ms) ≡ Some i → m ≡ get_or ms i m → macro_body name (definitions ms) ≡ Some (view_nodes m.children.items)
 read ms name i m h is = (place-is name (definitions ms) i h).holds ∙ ap Some (children-read ms i m (placed ms name i h) is)
+
+-- the places that are found are those of macros
+pub within-list : (ms : List CslMacro) (name : List ℕ) (o : Option ℕ) → macro_index name (definitions ms) ≡ o → IfSome o (λ i. i < length ms)
+within-list ms name None h = tt
+within-list ms name (Some i) h = placed ms name i h
 
 -- the first macro of a name is the one at the place of the name
 find_cases : (x m : CslMacro) (ms : List CslMacro) (i : ℕ) (b : Bool) (o : Option ℕ) (f : Option CslMacro) → ((k : ℕ) → o ≡ Some k → m ≡ get_or ms k m → f ≡ Some m)

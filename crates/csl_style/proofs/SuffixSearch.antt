@@ -15,6 +15,11 @@ module _ (ds : List Definition) (name : List ℕ) (ok : IsAcyclic ds) where
   pub meaning-at : (i : ℕ) → macro_index name ds ≡ Some i → macro_expansion ds name ≡ Some (expand_nodes (macro_expansion ds) (children_at ds i))
   meaning-at i h = meaning-unfolds ds name ok ∙ ap (option_map (expand_nodes (macro_expansion ds))) (place-is name ds i h).holds
 
+pub meaning-if : (ds : List Definition) (name : List ℕ) → IsAcyclic ds → (o : Option ℕ) → macro_index name ds ≡ o
+    → IfSome o (λ i. macro_expansion ds name ≡ Some (expand_nodes (macro_expansion ds) (children_at ds i)))
+meaning-if ds name ok None h = tt
+meaning-if ds name ok (Some i) h = meaning-at ds name ok i h
+
 pub known-is : (ds : List Definition) (known : List (Option Bool)) → AreKnown ds known → (i : ℕ) (o : Option Bool) → slice_index_or known i None ≡ o
     → IfSome o (λ has. any_has_year_suffix (expand_nodes (macro_expansion ds) (children_at ds i)) ≡ has)
 known-is ds known is i None e = tt

@@ -2,10 +2,12 @@
 -- places of the macros in the list. Each call of a macro that the style has is one edge. The code
 -- searches this graph for cycles. Only private contracts cite `calls_in`, `calls_in_all`,
 -- `calls_in_branches`, `calls_in_substitutes`, `name_at`, `children_at` and `IsCallGraph`.
-use Rattle.std.specs.Prelude.{◌≡◌, ℕ, zero, suc, ◌<◌, List, [], ◌∷◌, ◌++◌, length, String}
+use Rattle.std.specs.Prelude.{◌≡◌, ℕ, zero, suc, ◌<◌, List, [], ◌∷◌, ◌++◌, length, Option}
 use Rattle.std.specs.Option.{option_to_list}
-use Rattle.std.specs.BTreeMap.{BTreeMap, get_by_text}
-use Rattle.std.specs.declared.alloc.Global.{Global}
+use Rattle.std.specs.HashMap as hash
+use Rattle.std.specs.BTreeMap as tree
+use Rattle.csl_style.specs.declared.places.Places.{Places}
+use Rattle.csl_style.specs.declared.places.Places.TheVariants.{Few, Many}
 use Rattle.csl_style.specs.GraphReach.{Graph, row_at}
 use Rattle.csl_style.specs.Node.{Node, text, call, number, label, date, names, choose, group, Nodes, no_nodes, node, Branches, no_branches, otherwise, branch, Substitutes, no_substitutes, substitute}
 use Rattle.csl_style.specs.View.{Definition}
@@ -50,6 +52,11 @@ pub record IsCallGraph (ds : List Definition) (g : Graph) : Type 0 where
   pub each : length g ≡ length ds
   pub rows : (i : ℕ) → i < length ds → row_at g i ≡ calls_in_all ds (children_at ds i)
 
--- The map has at each name the place of its first macro, and nothing at a name without a macro.
-abbrev pub ArePlacesByName : BTreeMap (String Global) ℕ → List Definition → Type 0
-ArePlacesByName places ds = (name : List ℕ) → get_by_text places name ≡ macro_index name ds
+-- the place that is kept for a name; only private contracts cite it
+abbrev pub place_in : Places → List ℕ → Option ℕ
+place_in (Few places) name = hash.get_by_text places name
+place_in (Many places) name = tree.get_by_text places name
+
+-- At each name there is the place of its first macro, and nothing at a name without a macro.
+abbrev pub ArePlacesByName : Places → List Definition → Type 0
+ArePlacesByName places ds = (name : List ℕ) → place_in places name ≡ macro_index name ds

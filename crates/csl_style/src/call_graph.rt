@@ -8,16 +8,16 @@ ghost use Rattle.csl_style.specs.Expansion.{macro_index};
 ghost use Rattle.csl_style.specs.Calls.{calls_in, calls_in_all, calls_in_substitutes, IsCallGraph, ArePlacesByName};
 
 use crate::element::{Choose, CslMacro, LayoutRenderingElement, NamesChild};
+use crate::places::Places;
 use crate::text::TextTarget;
 use std::alloc::{AllocError, Global};
-use std::collections::BTreeMap;
 use std::marker::Model;
 
 /// The macros of a style, with the place of the first macro of each name.
 #[derive(Drop)]
 pub(crate) struct PlacedMacros<'s> {
     items: &'s [CslMacro],
-    places: &'s BTreeMap<String, usize>,
+    places: &'s Places,
 }
 
 impl<'s> Model for PlacedMacros<'s> {
@@ -39,10 +39,7 @@ impl<'s> Model for PlacedMacros<'s> {
 
 impl<'s> PlacedMacros<'s> {
     /// The macros with their places.
-    pub(crate) fn new(
-        items: &'s [CslMacro],
-        places: &'s BTreeMap<String, usize>,
-    ) -> PlacedMacros<'s>
+    pub(crate) fn new(items: &'s [CslMacro], places: &'s Places) -> PlacedMacros<'s>
         requires { ArePlacesByName places.now (definitions items.now) }
         ensures { result ≡ items.now }
     {
@@ -60,8 +57,7 @@ impl<'s> PlacedMacros<'s> {
     fn place(&self, name: &str) -> Option<usize>
         ensures { result ≡ macro_index name.now (definitions self.now) }
     {
-        let i = *self.places.get(name)?;
-        Some(i)
+        self.places.get(name)
     }
 }
 
@@ -181,20 +177,4 @@ pub(crate) fn call_graph(
         graph.push(row)?;
     }
     Ok(graph)
-}
-
-/// The place of the first macro of each name.
-pub(crate) fn places_by_name(
-    alloc: Global,
-    macros: &[CslMacro],
-) -> Result<BTreeMap<String, usize>, AllocError>
-    ensures { IfOk result (λ places. ArePlacesByName places (definitions macros.now)) }
-{
-    let mut places = BTreeMap::new(alloc);
-    for (i, m) in macros.iter().enumerate() {
-        if !places.contains_key(m.name.as_str()) {
-            places.insert(m.name.clone()?, i)?;
-        }
-    }
-    Ok(places)
 }

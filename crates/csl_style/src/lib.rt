@@ -15,6 +15,7 @@ pub mod names;
 mod names_parts;
 pub mod number;
 mod of_citation;
+mod places;
 mod scopes;
 mod size;
 pub mod style;

@@ -14,16 +14,16 @@ ghost use Rattle.csl_style.specs.Date.{date_in_form};
 ghost use Rattle.csl_style.specs.Style.{style_of, layout_of, is_chicago, IsRefusal};
 ghost use Rattle.csl_style.specs.YearSuffix.{is_year_suffix_implicit, reached_layout};
 
-use crate::call_graph::{PlacedMacros, call_graph, places_by_name};
+use crate::call_graph::{PlacedMacros, call_graph};
 use crate::cycles::{callers_first, first_cyclic};
 use crate::date::{Date, DateForm};
 use crate::element::{CslMacro, Layout};
 use crate::locale::{Locale, lookup, ordinals};
+use crate::places::{Places, places_by_name};
 use crate::term::{Term, TermForm};
 use crate::year_suffix::{ImplicitSuffix, implicit_suffix};
 use csl_common::GrammarGender;
 use std::alloc::Global;
-use std::collections::BTreeMap;
 use std::marker::Model;
 
 mod error;
@@ -41,7 +41,7 @@ pub struct Style {
     bibliography: Option<Layout>,
     locales: Vec<Locale>,
     /// The index in `macros` of the first macro of each name.
-    places: BTreeMap<String, usize>,
+    places: Places,
     /// Whether each layout reaches no text of the year suffix.
     implicit: ImplicitSuffix,
 }
@@ -93,7 +93,7 @@ fn is_chicago(format: Option<PageRangeFormat>) -> bool
 #[derive(Drop)]
 struct CheckedMacros {
     /// The index of the first macro of each name.
-    places: BTreeMap<String, usize>,
+    places: Places,
     /// The indices of the macros, callers before the macros that they call.
     callers_first: Vec<usize>,
 }
@@ -125,17 +125,13 @@ fn checked_macros(
 }
 
 /// Returns the first macro of a name, found by its index.
-fn first_macro<'s>(
-    macros: &'s [CslMacro],
-    places: &BTreeMap<String, usize>,
-    name: &str,
-) -> Option<&'s CslMacro>
+fn first_macro<'s>(macros: &'s [CslMacro], places: &Places, name: &str) -> Option<&'s CslMacro>
     requires { ArePlacesByName places.now (definitions macros.now) }
     ensures found { option_copied result ≡ find (is_named name.now) macros.now }
     ensures holds { option_map (λ m. view_nodes m.now.children.items) result
         ≡ macro_body name.now (definitions macros.now) }
 {
-    let i = *places.get(name)?;
+    let i = places.get(name)?;
     Some(&macros[i])
 }
 

@@ -9,10 +9,10 @@ ghost use Rattle.csl_style.specs.Calls.{children_at, ArePlacesByName};
 ghost use Rattle.csl_style.specs.YearSuffix.{is_year_suffix, has_year_suffix, any_has_year_suffix, child_has_year_suffix, macro_has_year_suffix, is_implicit_in};
 
 use crate::element::{Choose, CslMacro, Layout, LayoutRenderingElement, Names, NamesChild};
+use crate::places::Places;
 use crate::taxonomy::{StandardVariable, Variable};
 use crate::text::TextTarget;
 use std::alloc::{AllocError, Global};
-use std::collections::BTreeMap;
 use std::marker::Model;
 
 /// Whether the variable is the year suffix.
@@ -35,7 +35,7 @@ fn nodes_at(macros: &[CslMacro], i: usize) -> &Vec<LayoutRenderingElement>
 #[derive(Drop)]
 struct Search<'s> {
     macros: &'s [CslMacro],
-    places: &'s BTreeMap<String, usize>,
+    places: &'s Places,
     /// Whether a text of the year suffix is in the macro at each place, if that is known.
     known: Vec<Option<bool>>,
 }
@@ -66,7 +66,7 @@ impl<'s> Search<'s> {
     fn new(
         alloc: Global,
         macros: &'s [CslMacro],
-        places: &'s BTreeMap<String, usize>,
+        places: &'s Places,
     ) -> Result<Search<'s>, AllocError>
         requires ranks { IsAcyclic (definitions macros.now) }
         requires places { ArePlacesByName places.now (definitions macros.now) }
@@ -89,8 +89,7 @@ impl<'s> Search<'s> {
         ensures none { result ≡ None
             → macro_has_year_suffix (macro_expansion (definitions self.now) name.now) ≡ false }
     {
-        let i = *self.places.get(name)?;
-        Some(i)
+        self.places.get(name)
     }
 
     /// Whether the style has a macro at a place.
@@ -270,7 +269,7 @@ pub(crate) struct ImplicitSuffix {
 pub(crate) fn implicit_suffix<'s>(
     alloc: Global,
     macros: &'s [CslMacro],
-    places: &'s BTreeMap<String, usize>,
+    places: &'s Places,
     callers_first: &[usize],
     citation: &'s Layout,
     bibliography: &'s Option<Layout>,

@@ -3,21 +3,21 @@ use Rattle.csl_style.proofs.PlacesByName.{placed, unplaced, read, found_at, none
 use Rattle.csl_style.proofs.style.first_macro.Goals as goal
 
 pub returns-in_err-i-clause-found : goal.returns-in_err-i-clause-found
-returns-in_err-i-clause-found c = rw c.from_residual.ensures (sym (none_named c.args.macros.now c.args.name.now (sym (c.requires c.args.name.now) ∙ sym c.in_err-i.ensures.value)))
+returns-in_err-i-clause-found c = rw c.from_residual.ensures (sym (none_named c.args.macros.now c.args.name.now (sym (c.requires c.args.name.now) ∙ sym c.in_err-i.ensures)))
 
 pub returns-in_err-i-clause-holds : goal.returns-in_err-i-clause-holds
-returns-in_err-i-clause-holds c = rw c.from_residual.ensures (sym (unplaced c.args.macros.now c.args.name.now (sym (c.requires c.args.name.now) ∙ sym c.in_err-i.ensures.value)))
+returns-in_err-i-clause-holds c = rw c.from_residual.ensures (sym (unplaced c.args.macros.now c.args.name.now (sym (c.requires c.args.name.now) ∙ sym c.in_err-i.ensures)))
 
 pub offset_bounds-macros-i : goal.offset_bounds-macros-i
 offset_bounds-macros-i c =
-    let within : c.in_ok-i.field-0.now < length c.args.macros.now = placed c.args.macros.now c.args.name.now c.in_ok-i.field-0.now (sym (c.requires c.args.name.now) ∙ sym c.in_ok-i.ensures.value) in
+    let within : c.in_ok-i.field-0 < length c.args.macros.now = placed c.args.macros.now c.args.name.now c.in_ok-i.field-0 (sym (c.requires c.args.name.now) ∙ sym c.in_ok-i.ensures) in
     omega arith
 
 pub bounds-macros-i : goal.bounds-macros-i
-bounds-macros-i c = placed c.args.macros.now c.args.name.now c.in_ok-i.field-0.now (sym (c.requires c.args.name.now) ∙ sym c.in_ok-i.ensures.value)
+bounds-macros-i c = placed c.args.macros.now c.args.name.now c.in_ok-i.field-0 (sym (c.requires c.args.name.now) ∙ sym c.in_ok-i.ensures)
 
 pub returns-clause-found : goal.returns-clause-found
-returns-clause-found c = sym (found_at c.args.macros.now c.args.name.now c.in_ok-i.field-0.now c.index-macros-i.result (sym (c.requires c.args.name.now) ∙ sym c.in_ok-i.ensures.value) c.index-macros-i.is)
+returns-clause-found c = sym (found_at c.args.macros.now c.args.name.now c.in_ok-i.field-0 c.index-macros-i.result (sym (c.requires c.args.name.now) ∙ sym c.in_ok-i.ensures) c.index-macros-i.is)
 
 pub returns-clause-holds : goal.returns-clause-holds
-returns-clause-holds c = sym (read c.args.macros.now c.args.name.now c.in_ok-i.field-0.now c.index-macros-i.result (sym (c.requires c.args.name.now) ∙ sym c.in_ok-i.ensures.value) c.index-macros-i.is)
+returns-clause-holds c = sym (read c.args.macros.now c.args.name.now c.in_ok-i.field-0 c.index-macros-i.result (sym (c.requires c.args.name.now) ∙ sym c.in_ok-i.ensures) c.index-macros-i.is)

@@ -1,23 +1,14 @@
 use Rattle.std.proofs.Common.{sym, ◌∙◌}
 use Rattle.csl_style.specs.View.{definitions}
-use Rattle.csl_style.proofs.PlacesByName.{placed}
-use Rattle.csl_style.proofs.SuffixSearch.{none-has, meaning-at}
+use Rattle.csl_style.proofs.PlacesByName.{within-list}
+use Rattle.csl_style.proofs.SuffixSearch.{none-has, meaning-if}
 use Rattle.csl_style.proofs.year_suffix.Search.place.Goals as goal
 
-pub returns-in_err-i-clause-none : goal.returns-in_err-i-clause-none
-returns-in_err-i-clause-none c _ =
-    let ds = definitions c.self.inside.macros.now in
-    let name = c.args.name.now in
-    rw (← c.self.view_is) (none-has ds name c.self.invariant.0 (sym (c.self.invariant.1 name) ∙ sym c.in_err-i.ensures.value))
-
 pub returns-clause-within : goal.returns-clause-within
-returns-clause-within c =
-    let ms = c.self.inside.macros.now in
-    let name = c.args.name.now in
-    rw (← c.self.view_is) (placed ms name c.in_ok-i.field-0.now (sym (c.self.invariant.1 name) ∙ sym c.in_ok-i.ensures.value))
+returns-clause-within c = rw (← c.self.view_is) (within-list c.self.inside.macros.now c.args.name.now c.get.result (sym (c.self.invariant.1 c.args.name.now) ∙ sym c.get.ensures))
 
 pub returns-clause-meaning : goal.returns-clause-meaning
-returns-clause-meaning c =
-    let ds = definitions c.self.inside.macros.now in
-    let name = c.args.name.now in
-    rw (← c.self.view_is) (meaning-at ds name c.self.invariant.0 c.in_ok-i.field-0.now (sym (c.self.invariant.1 name) ∙ sym c.in_ok-i.ensures.value))
+returns-clause-meaning c = rw (← c.self.view_is) (meaning-if (definitions c.self.inside.macros.now) c.args.name.now c.self.invariant.0 c.get.result (sym (c.self.invariant.1 c.args.name.now) ∙ sym c.get.ensures))
+
+pub returns-clause-none : goal.returns-clause-none
+returns-clause-none c none = rw (← c.self.view_is) (none-has (definitions c.self.inside.macros.now) c.args.name.now c.self.invariant.0 (sym (c.self.invariant.1 c.args.name.now) ∙ sym c.get.ensures ∙ none))

@@ -1,8 +1,9 @@
 use Rattle.std.proofs.Common.{◌≡◌, ℕ, List, drop}
+use Rattle.std.specs.BTreeMap.{get_by_text}
 use Rattle.csl_style.specs.View.{definitions}
 use Rattle.csl_style.specs.Expansion.{macro_index}
 use Rattle.csl_style.proofs.PlacesByName.{found}
-use Rattle.csl_style.proofs.call_graph.places_by_name.Given as goal
+use Rattle.csl_style.proofs.places.ordered_places.Given as goal
 
 abbrev pub invariant-loop-i : goal.invariant-loop-i
-invariant-loop-i l = (q : List ℕ) → found l.places l.i (drop l.i l.macros) q ≡ macro_index q (definitions l.macros)
+invariant-loop-i l = (q : List ℕ) → found (get_by_text l.places) l.i (drop l.i l.macros) q ≡ macro_index q (definitions l.macros)
