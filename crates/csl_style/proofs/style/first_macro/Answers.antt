@@ -10,14 +10,14 @@ returns-in_err-i-clause-holds c = rw c.from_residual.ensures (sym (unplaced c.ar
 
 pub offset_bounds-macros-i : goal.offset_bounds-macros-i
 offset_bounds-macros-i c =
-    let within : c.in_ok-i.field-0 < length c.args.macros.now = placed c.args.macros.now c.args.name.now c.in_ok-i.field-0 (sym (c.requires c.args.name.now) ∙ sym c.in_ok-i.ensures) in
+    let within : c.in_ok-i.i < length c.args.macros.now = placed c.args.macros.now c.args.name.now c.in_ok-i.i (sym (c.requires c.args.name.now) ∙ sym c.in_ok-i.ensures) in
     omega arith
 
 pub bounds-macros-i : goal.bounds-macros-i
-bounds-macros-i c = placed c.args.macros.now c.args.name.now c.in_ok-i.field-0 (sym (c.requires c.args.name.now) ∙ sym c.in_ok-i.ensures)
+bounds-macros-i c = placed c.args.macros.now c.args.name.now c.in_ok-i.i (sym (c.requires c.args.name.now) ∙ sym c.in_ok-i.ensures)
 
 pub returns-clause-found : goal.returns-clause-found
-returns-clause-found c = sym (found_at c.args.macros.now c.args.name.now c.in_ok-i.field-0 c.index-macros-i.result (sym (c.requires c.args.name.now) ∙ sym c.in_ok-i.ensures) c.index-macros-i.is)
+returns-clause-found c = sym (found_at c.args.macros.now c.args.name.now c.in_ok-i.i c.index-macros-i.result (sym (c.requires c.args.name.now) ∙ sym c.in_ok-i.ensures) c.index-macros-i.is)
 
 pub returns-clause-holds : goal.returns-clause-holds
-returns-clause-holds c = sym (read c.args.macros.now c.args.name.now c.in_ok-i.field-0 c.index-macros-i.result (sym (c.requires c.args.name.now) ∙ sym c.in_ok-i.ensures) c.index-macros-i.is)
+returns-clause-holds c = sym (read c.args.macros.now c.args.name.now c.in_ok-i.i c.index-macros-i.result (sym (c.requires c.args.name.now) ∙ sym c.in_ok-i.ensures) c.index-macros-i.is)
