@@ -15,6 +15,8 @@ mod locale;
 #[cfg(test)]
 mod made;
 #[cfg(test)]
+mod many_macros;
+#[cfg(test)]
 mod missing;
 #[cfg(test)]
 mod named;
