@@ -77,14 +77,17 @@ fn ordinals(alloc: Global) -> Result<Vec<OrdinalTerm>, Memory> {
     Ok(ordinals)
 }
 
-/// The date format in numbers, as 1/5/2026.
+/// The date format in numbers, as 01/05/2026.
 fn numeric_date(alloc: Global) -> Result<Date, Memory> {
     let delimiter = String::from_str(alloc, "/")?;
     let month = DatePart {
-        form: Some(DateAnyForm::Numeric),
+        form: Some(DateAnyForm::NumericLeadingZeros),
         ..DatePart::new(DatePartName::Month)
     };
-    let day = DatePart::new(DatePartName::Day);
+    let day = DatePart {
+        form: Some(DateAnyForm::NumericLeadingZeros),
+        ..DatePart::new(DatePartName::Day)
+    };
     let year = DatePart::new(DatePartName::Year);
     Ok(Date {
         variable: None,
@@ -121,10 +124,14 @@ fn text_date(alloc: Global) -> Result<Date, Memory> {
     })
 }
 
-/// Returns the English locale. It has each term in the long form, and in the short, verb and symbol
-/// forms that English has (CSL 1.0.2, Terms; Appendix II). It has ordinal suffixes, ordinal words
-/// up to `tenth` (Ordinals), and both localized dates (Localized Date Formats). Commas and periods
-/// go before a closing quote.
+/// Returns the English locale. It has the words of CSL's own locale `en-US` (CSL 1.0.2; the file
+/// `locales-en-US.xml` of Debian's `citation-style-language-locales` 0~20230122) for each term that
+/// a [`Term`] names, unless they are empty there. Ordinals, both dates and the place of punctuation,
+/// inside a closing quote, are those of `en-US` too.
+///
+/// As in `en-US`, authors have no noun: styles label the names of `author`, so that the editors
+/// whom a substitute puts in their place are labelled. A label of the authors prints nothing, and
+/// so does one of any other role or number that has no term there, such as `collection-number`.
 ///
 /// # Errors
 /// [`Memory`]: out of memory.

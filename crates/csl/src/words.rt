@@ -1,4 +1,5 @@
-//! The words of the English locale, as rows (CSL 1.0.2, Appendix II: Terms).
+//! The words of the English locale, as rows (CSL 1.0.2, Appendix II: Terms). They are those of CSL's
+//! own locale `en-US`; `tools/compare_english` lists the rows that differ.
 
 use csl_style::{Term, TermForm};
 

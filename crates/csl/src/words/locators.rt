@@ -3,8 +3,9 @@
 use crate::words::Row;
 use csl_style::{Locator, Term, TermForm};
 
-/// The terms for locators. A custom locator has no term.
-pub(crate) static LOCATORS: [Row; 54] = [
+/// The terms for locators. A custom locator has none, nor have those without words in `en-US`:
+/// number, supplement and timestamp.
+pub(crate) static LOCATORS: [Row; 47] = [
     (
         Term::Locator(Locator::Act),
         TermForm::Long,
@@ -40,12 +41,6 @@ pub(crate) static LOCATORS: [Row; 54] = [
         TermForm::Long,
         "canon",
         Some("canons"),
-    ),
-    (
-        Term::Locator(Locator::Canon),
-        TermForm::Short,
-        "can.",
-        Some("cann."),
     ),
     (
         Term::Locator(Locator::Chapter),
@@ -110,8 +105,8 @@ pub(crate) static LOCATORS: [Row; 54] = [
     (
         Term::Locator(Locator::Issue),
         TermForm::Long,
-        "issue",
-        Some("issues"),
+        "number",
+        Some("numbers"),
     ),
     (
         Term::Locator(Locator::Issue),
@@ -142,18 +137,6 @@ pub(crate) static LOCATORS: [Row; 54] = [
         TermForm::Short,
         "n.",
         Some("nn."),
-    ),
-    (
-        Term::Locator(Locator::Number),
-        TermForm::Long,
-        "number",
-        Some("numbers"),
-    ),
-    (
-        Term::Locator(Locator::Number),
-        TermForm::Short,
-        "no.",
-        Some("nos."),
     ),
     (
         Term::Locator(Locator::Opus),
@@ -264,18 +247,6 @@ pub(crate) static LOCATORS: [Row; 54] = [
         Some("s.vv."),
     ),
     (
-        Term::Locator(Locator::Supplement),
-        TermForm::Long,
-        "supplement",
-        Some("supplements"),
-    ),
-    (
-        Term::Locator(Locator::Supplement),
-        TermForm::Short,
-        "suppl.",
-        Some("suppls."),
-    ),
-    (
         Term::Locator(Locator::Table),
         TermForm::Long,
         "table",
@@ -286,12 +257,6 @@ pub(crate) static LOCATORS: [Row; 54] = [
         TermForm::Short,
         "tbl.",
         Some("tbls."),
-    ),
-    (
-        Term::Locator(Locator::Timestamp),
-        TermForm::Long,
-        "timestamp",
-        Some("timestamps"),
     ),
     (
         Term::Locator(Locator::Verse),
@@ -309,13 +274,7 @@ pub(crate) static LOCATORS: [Row; 54] = [
         Term::Locator(Locator::Version),
         TermForm::Long,
         "version",
-        Some("versions"),
-    ),
-    (
-        Term::Locator(Locator::Version),
-        TermForm::Short,
-        "v.",
-        Some("vv."),
+        None,
     ),
     (
         Term::Locator(Locator::Volume),

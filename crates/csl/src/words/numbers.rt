@@ -3,44 +3,8 @@
 use crate::words::Row;
 use csl_style::{NumberVariable, PageVariable, Term, TermForm};
 
-/// The terms for variables that hold a number or pages.
-pub(crate) static NUMBERS: [Row; 37] = [
-    (
-        Term::Number(NumberVariable::ChapterNumber),
-        TermForm::Long,
-        "chapter",
-        Some("chapters"),
-    ),
-    (
-        Term::Number(NumberVariable::ChapterNumber),
-        TermForm::Short,
-        "chap.",
-        Some("chaps."),
-    ),
-    (
-        Term::Number(NumberVariable::CitationNumber),
-        TermForm::Long,
-        "citation",
-        Some("citations"),
-    ),
-    (
-        Term::Number(NumberVariable::CitationNumber),
-        TermForm::Short,
-        "cit.",
-        Some("cits."),
-    ),
-    (
-        Term::Number(NumberVariable::CollectionNumber),
-        TermForm::Long,
-        "number",
-        Some("numbers"),
-    ),
-    (
-        Term::Number(NumberVariable::CollectionNumber),
-        TermForm::Short,
-        "no.",
-        Some("nos."),
-    ),
+/// The terms for variables that hold a number or pages. `en-US` has none for the others.
+pub(crate) static NUMBERS: [Row; 14] = [
     (
         Term::Number(NumberVariable::Edition),
         TermForm::Long,
@@ -51,52 +15,16 @@ pub(crate) static NUMBERS: [Row; 37] = [
         Term::Number(NumberVariable::Edition),
         TermForm::Short,
         "ed.",
-        Some("eds."),
-    ),
-    (
-        Term::Number(NumberVariable::FirstReferenceNoteNumber),
-        TermForm::Long,
-        "note",
-        Some("notes"),
-    ),
-    (
-        Term::Number(NumberVariable::FirstReferenceNoteNumber),
-        TermForm::Short,
-        "n.",
-        Some("nn."),
+        None,
     ),
     (
         Term::Number(NumberVariable::Issue),
-        TermForm::Long,
-        "issue",
-        Some("issues"),
-    ),
-    (
-        Term::Number(NumberVariable::Issue),
-        TermForm::Short,
-        "no.",
-        Some("nos."),
-    ),
-    (
-        Term::Number(NumberVariable::Locator),
-        TermForm::Long,
-        "locator",
-        Some("locators"),
-    ),
-    (
-        Term::Number(NumberVariable::Locator),
-        TermForm::Short,
-        "loc.",
-        Some("locs."),
-    ),
-    (
-        Term::Number(NumberVariable::Number),
         TermForm::Long,
         "number",
         Some("numbers"),
     ),
     (
-        Term::Number(NumberVariable::Number),
+        Term::Number(NumberVariable::Issue),
         TermForm::Short,
         "no.",
         Some("nos."),
@@ -112,54 +40,6 @@ pub(crate) static NUMBERS: [Row; 37] = [
         TermForm::Short,
         "p.",
         Some("pp."),
-    ),
-    (
-        Term::Number(NumberVariable::NumberOfVolumes),
-        TermForm::Long,
-        "volume",
-        Some("volumes"),
-    ),
-    (
-        Term::Number(NumberVariable::NumberOfVolumes),
-        TermForm::Short,
-        "vol.",
-        Some("vols."),
-    ),
-    (
-        Term::Number(NumberVariable::PageFirst),
-        TermForm::Long,
-        "page",
-        Some("pages"),
-    ),
-    (
-        Term::Number(NumberVariable::PageFirst),
-        TermForm::Short,
-        "p.",
-        Some("pp."),
-    ),
-    (
-        Term::Number(NumberVariable::PartNumber),
-        TermForm::Long,
-        "part",
-        Some("parts"),
-    ),
-    (
-        Term::Number(NumberVariable::PartNumber),
-        TermForm::Short,
-        "pt.",
-        Some("pts."),
-    ),
-    (
-        Term::Number(NumberVariable::PrintingNumber),
-        TermForm::Long,
-        "printing",
-        Some("printings"),
-    ),
-    (
-        Term::Number(NumberVariable::PrintingNumber),
-        TermForm::Short,
-        "print.",
-        Some("prints."),
     ),
     (
         Term::Number(NumberVariable::Section),
@@ -180,28 +60,10 @@ pub(crate) static NUMBERS: [Row; 37] = [
         Some("§§"),
     ),
     (
-        Term::Number(NumberVariable::SupplementNumber),
-        TermForm::Long,
-        "supplement",
-        Some("supplements"),
-    ),
-    (
-        Term::Number(NumberVariable::SupplementNumber),
-        TermForm::Short,
-        "suppl.",
-        Some("suppls."),
-    ),
-    (
         Term::Number(NumberVariable::Version),
         TermForm::Long,
         "version",
-        Some("versions"),
-    ),
-    (
-        Term::Number(NumberVariable::Version),
-        TermForm::Short,
-        "v.",
-        Some("vv."),
+        None,
     ),
     (
         Term::Number(NumberVariable::Volume),

@@ -7,7 +7,6 @@ use lit_model::Season;
 /// The terms that name neither a variable nor a locator.
 pub(crate) static OTHER: [Row; 65] = [
     (Term::Other(OtherTerm::And), TermForm::Long, "and", None),
-    (Term::Other(OtherTerm::And), TermForm::Symbol, "&", None),
     (Term::Other(OtherTerm::EtAl), TermForm::Long, "et al.", None),
     (Term::Other(OtherTerm::Ad), TermForm::Long, "AD", None),
     (Term::Other(OtherTerm::Bc), TermForm::Long, "BC", None),
@@ -141,13 +140,13 @@ pub(crate) static OTHER: [Row; 65] = [
     (
         Term::Other(OtherTerm::Month(5)),
         TermForm::Short,
-        "June",
+        "Jun.",
         None,
     ),
     (
         Term::Other(OtherTerm::Month(6)),
         TermForm::Short,
-        "July",
+        "Jul.",
         None,
     ),
     (
@@ -159,7 +158,7 @@ pub(crate) static OTHER: [Row; 65] = [
     (
         Term::Other(OtherTerm::Month(8)),
         TermForm::Short,
-        "Sept.",
+        "Sep.",
         None,
     ),
     (
@@ -183,25 +182,25 @@ pub(crate) static OTHER: [Row; 65] = [
     (
         Term::Other(OtherTerm::Season(Season::Spring)),
         TermForm::Long,
-        "spring",
+        "Spring",
         None,
     ),
     (
         Term::Other(OtherTerm::Season(Season::Summer)),
         TermForm::Long,
-        "summer",
+        "Summer",
         None,
     ),
     (
         Term::Other(OtherTerm::Season(Season::Autumn)),
         TermForm::Long,
-        "autumn",
+        "Autumn",
         None,
     ),
     (
         Term::Other(OtherTerm::Season(Season::Winter)),
         TermForm::Long,
-        "winter",
+        "Winter",
         None,
     ),
     (
@@ -267,6 +266,12 @@ pub(crate) static OTHER: [Row; 65] = [
         None,
     ),
     (
+        Term::Other(OtherTerm::Interview),
+        TermForm::Short,
+        "interv.",
+        None,
+    ),
+    (
         Term::Other(OtherTerm::Letter),
         TermForm::Long,
         "letter",
@@ -319,6 +324,6 @@ pub(crate) static OTHER: [Row; 65] = [
         Term::Other(OtherTerm::Version),
         TermForm::Long,
         "version",
-        Some("versions"),
+        None,
     ),
 ];

@@ -3,15 +3,8 @@
 use crate::words::Row;
 use csl_style::{NameVariable, Term, TermForm};
 
-/// The terms for the roles of persons.
-pub(crate) static PEOPLE: [Row; 93] = [
-    (
-        Term::Name(NameVariable::Author),
-        TermForm::Long,
-        "author",
-        Some("authors"),
-    ),
-    (Term::Name(NameVariable::Author), TermForm::Verb, "by", None),
+/// The terms for the roles of persons. Authors have none, and some roles have only a verb.
+pub(crate) static PEOPLE: [Row; 76] = [
     (
         Term::Name(NameVariable::Chair),
         TermForm::Long,
@@ -22,30 +15,6 @@ pub(crate) static PEOPLE: [Row; 93] = [
         Term::Name(NameVariable::Chair),
         TermForm::Verb,
         "chaired by",
-        None,
-    ),
-    (
-        Term::Name(NameVariable::CollectionEditor),
-        TermForm::Long,
-        "series editor",
-        Some("series editors"),
-    ),
-    (
-        Term::Name(NameVariable::CollectionEditor),
-        TermForm::Short,
-        "ser. ed.",
-        Some("ser. eds."),
-    ),
-    (
-        Term::Name(NameVariable::CollectionEditor),
-        TermForm::Verb,
-        "series edited by",
-        None,
-    ),
-    (
-        Term::Name(NameVariable::CollectionEditor),
-        TermForm::VerbShort,
-        "ser. ed. by",
         None,
     ),
     (
@@ -73,36 +42,6 @@ pub(crate) static PEOPLE: [Row; 93] = [
         None,
     ),
     (
-        Term::Name(NameVariable::Composer),
-        TermForm::Long,
-        "composer",
-        Some("composers"),
-    ),
-    (
-        Term::Name(NameVariable::Composer),
-        TermForm::Short,
-        "comp.",
-        Some("comps."),
-    ),
-    (
-        Term::Name(NameVariable::Composer),
-        TermForm::Verb,
-        "composed by",
-        None,
-    ),
-    (
-        Term::Name(NameVariable::Composer),
-        TermForm::VerbShort,
-        "comp. by",
-        None,
-    ),
-    (
-        Term::Name(NameVariable::ContainerAuthor),
-        TermForm::Long,
-        "author",
-        Some("authors"),
-    ),
-    (
         Term::Name(NameVariable::ContainerAuthor),
         TermForm::Verb,
         "by",
@@ -123,13 +62,13 @@ pub(crate) static PEOPLE: [Row; 93] = [
     (
         Term::Name(NameVariable::Contributor),
         TermForm::Verb,
-        "with contributions by",
+        "with",
         None,
     ),
     (
         Term::Name(NameVariable::Contributor),
         TermForm::VerbShort,
-        "with",
+        "w.",
         None,
     ),
     (
@@ -207,49 +146,49 @@ pub(crate) static PEOPLE: [Row; 93] = [
     (
         Term::Name(NameVariable::EditorialDirector),
         TermForm::Long,
-        "editorial director",
-        Some("editorial directors"),
+        "editor",
+        Some("editors"),
     ),
     (
         Term::Name(NameVariable::EditorialDirector),
         TermForm::Short,
-        "ed. dir.",
-        Some("ed. dirs."),
+        "ed.",
+        Some("eds."),
     ),
     (
         Term::Name(NameVariable::EditorialDirector),
         TermForm::Verb,
-        "editorial direction by",
+        "edited by",
         None,
     ),
     (
         Term::Name(NameVariable::EditorialDirector),
         TermForm::VerbShort,
-        "ed. dir. by",
+        "ed. by",
         None,
     ),
     (
         Term::Name(NameVariable::EditorTranslator),
         TermForm::Long,
-        "editor and translator",
-        Some("editors and translators"),
+        "editor & translator",
+        Some("editors & translators"),
     ),
     (
         Term::Name(NameVariable::EditorTranslator),
         TermForm::Short,
-        "ed. and trans.",
-        Some("eds. and trans."),
+        "ed. & tran.",
+        Some("eds. & trans."),
     ),
     (
         Term::Name(NameVariable::EditorTranslator),
         TermForm::Verb,
-        "edited and translated by",
+        "edited & translated by",
         None,
     ),
     (
         Term::Name(NameVariable::EditorTranslator),
         TermForm::VerbShort,
-        "ed. and trans. by",
+        "ed. & trans. by",
         None,
     ),
     (
@@ -267,7 +206,7 @@ pub(crate) static PEOPLE: [Row; 93] = [
     (
         Term::Name(NameVariable::ExecutiveProducer),
         TermForm::Verb,
-        "executive production by",
+        "executive produced by",
         None,
     ),
     (
@@ -291,7 +230,7 @@ pub(crate) static PEOPLE: [Row; 93] = [
     (
         Term::Name(NameVariable::Guest),
         TermForm::VerbShort,
-        "with",
+        "w. guest",
         None,
     ),
     (
@@ -303,6 +242,12 @@ pub(crate) static PEOPLE: [Row; 93] = [
     (
         Term::Name(NameVariable::Host),
         TermForm::Verb,
+        "hosted by",
+        None,
+    ),
+    (
+        Term::Name(NameVariable::Host),
+        TermForm::VerbShort,
         "hosted by",
         None,
     ),
@@ -327,31 +272,13 @@ pub(crate) static PEOPLE: [Row; 93] = [
     (
         Term::Name(NameVariable::Illustrator),
         TermForm::VerbShort,
-        "ill. by",
+        "illus. by",
         None,
-    ),
-    (
-        Term::Name(NameVariable::Interviewer),
-        TermForm::Long,
-        "interviewer",
-        Some("interviewers"),
-    ),
-    (
-        Term::Name(NameVariable::Interviewer),
-        TermForm::Short,
-        "int.",
-        Some("ints."),
     ),
     (
         Term::Name(NameVariable::Interviewer),
         TermForm::Verb,
-        "interviewed by",
-        None,
-    ),
-    (
-        Term::Name(NameVariable::Interviewer),
-        TermForm::VerbShort,
-        "int. by",
+        "interview by",
         None,
     ),
     (
@@ -400,30 +327,6 @@ pub(crate) static PEOPLE: [Row; 93] = [
         Term::Name(NameVariable::Organizer),
         TermForm::VerbShort,
         "org. by",
-        None,
-    ),
-    (
-        Term::Name(NameVariable::OriginalAuthor),
-        TermForm::Long,
-        "original author",
-        Some("original authors"),
-    ),
-    (
-        Term::Name(NameVariable::OriginalAuthor),
-        TermForm::Short,
-        "orig. author",
-        Some("orig. authors"),
-    ),
-    (
-        Term::Name(NameVariable::OriginalAuthor),
-        TermForm::Verb,
-        "originally by",
-        None,
-    ),
-    (
-        Term::Name(NameVariable::OriginalAuthor),
-        TermForm::VerbShort,
-        "orig. by",
         None,
     ),
     (
@@ -476,21 +379,9 @@ pub(crate) static PEOPLE: [Row; 93] = [
     ),
     (
         Term::Name(NameVariable::Recipient),
-        TermForm::Long,
-        "recipient",
-        Some("recipients"),
-    ),
-    (
-        Term::Name(NameVariable::Recipient),
         TermForm::Verb,
         "to",
         None,
-    ),
-    (
-        Term::Name(NameVariable::ReviewedAuthor),
-        TermForm::Long,
-        "reviewed author",
-        Some("reviewed authors"),
     ),
     (
         Term::Name(NameVariable::ReviewedAuthor),
@@ -501,14 +392,14 @@ pub(crate) static PEOPLE: [Row; 93] = [
     (
         Term::Name(NameVariable::ScriptWriter),
         TermForm::Long,
-        "screenwriter",
-        Some("screenwriters"),
+        "writer",
+        Some("writers"),
     ),
     (
         Term::Name(NameVariable::ScriptWriter),
         TermForm::Short,
-        "scr.",
-        Some("scrs."),
+        "writ.",
+        Some("writs."),
     ),
     (
         Term::Name(NameVariable::ScriptWriter),
@@ -519,7 +410,7 @@ pub(crate) static PEOPLE: [Row; 93] = [
     (
         Term::Name(NameVariable::ScriptWriter),
         TermForm::VerbShort,
-        "scr. by",
+        "writ. by",
         None,
     ),
     (
@@ -530,8 +421,20 @@ pub(crate) static PEOPLE: [Row; 93] = [
     ),
     (
         Term::Name(NameVariable::SeriesCreator),
+        TermForm::Short,
+        "cre.",
+        Some("cres."),
+    ),
+    (
+        Term::Name(NameVariable::SeriesCreator),
         TermForm::Verb,
         "created by",
+        None,
+    ),
+    (
+        Term::Name(NameVariable::SeriesCreator),
+        TermForm::VerbShort,
+        "cre. by",
         None,
     ),
     (
@@ -543,7 +446,7 @@ pub(crate) static PEOPLE: [Row; 93] = [
     (
         Term::Name(NameVariable::Translator),
         TermForm::Short,
-        "trans.",
+        "tran.",
         Some("trans."),
     ),
     (

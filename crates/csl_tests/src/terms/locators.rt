@@ -3,7 +3,7 @@
 use crate::terms::Row;
 use csl::style::{Locator, Term, TermForm};
 
-pub(crate) static LOCATORS: [Row; 54] = [
+pub(crate) static LOCATORS: [Row; 47] = [
     (Term::Locator(Locator::Act), TermForm::Long, "act", "acts"),
     (
         Term::Locator(Locator::Appendix),
@@ -29,12 +29,6 @@ pub(crate) static LOCATORS: [Row; 54] = [
         TermForm::Long,
         "canon",
         "canons",
-    ),
-    (
-        Term::Locator(Locator::Canon),
-        TermForm::Short,
-        "can.",
-        "cann.",
     ),
     (
         Term::Locator(Locator::Chapter),
@@ -99,8 +93,8 @@ pub(crate) static LOCATORS: [Row; 54] = [
     (
         Term::Locator(Locator::Issue),
         TermForm::Long,
-        "issue",
-        "issues",
+        "number",
+        "numbers",
     ),
     (
         Term::Locator(Locator::Issue),
@@ -122,18 +116,6 @@ pub(crate) static LOCATORS: [Row; 54] = [
         "notes",
     ),
     (Term::Locator(Locator::Note), TermForm::Short, "n.", "nn."),
-    (
-        Term::Locator(Locator::Number),
-        TermForm::Long,
-        "number",
-        "numbers",
-    ),
-    (
-        Term::Locator(Locator::Number),
-        TermForm::Short,
-        "no.",
-        "nos.",
-    ),
     (
         Term::Locator(Locator::Opus),
         TermForm::Long,
@@ -218,18 +200,6 @@ pub(crate) static LOCATORS: [Row; 54] = [
         "s.vv.",
     ),
     (
-        Term::Locator(Locator::Supplement),
-        TermForm::Long,
-        "supplement",
-        "supplements",
-    ),
-    (
-        Term::Locator(Locator::Supplement),
-        TermForm::Short,
-        "suppl.",
-        "suppls.",
-    ),
-    (
         Term::Locator(Locator::Table),
         TermForm::Long,
         "table",
@@ -242,12 +212,6 @@ pub(crate) static LOCATORS: [Row; 54] = [
         "tbls.",
     ),
     (
-        Term::Locator(Locator::Timestamp),
-        TermForm::Long,
-        "timestamp",
-        "timestamps",
-    ),
-    (
         Term::Locator(Locator::Verse),
         TermForm::Long,
         "verse",
@@ -258,13 +222,7 @@ pub(crate) static LOCATORS: [Row; 54] = [
         Term::Locator(Locator::Version),
         TermForm::Long,
         "version",
-        "versions",
-    ),
-    (
-        Term::Locator(Locator::Version),
-        TermForm::Short,
-        "v.",
-        "vv.",
+        "version",
     ),
     (
         Term::Locator(Locator::Volume),

@@ -3,43 +3,7 @@
 use crate::terms::Row;
 use csl::style::{NumberVariable, PageVariable, Term, TermForm};
 
-pub(crate) static NUMBERS: [Row; 37] = [
-    (
-        Term::Number(NumberVariable::ChapterNumber),
-        TermForm::Long,
-        "chapter",
-        "chapters",
-    ),
-    (
-        Term::Number(NumberVariable::ChapterNumber),
-        TermForm::Short,
-        "chap.",
-        "chaps.",
-    ),
-    (
-        Term::Number(NumberVariable::CitationNumber),
-        TermForm::Long,
-        "citation",
-        "citations",
-    ),
-    (
-        Term::Number(NumberVariable::CitationNumber),
-        TermForm::Short,
-        "cit.",
-        "cits.",
-    ),
-    (
-        Term::Number(NumberVariable::CollectionNumber),
-        TermForm::Long,
-        "number",
-        "numbers",
-    ),
-    (
-        Term::Number(NumberVariable::CollectionNumber),
-        TermForm::Short,
-        "no.",
-        "nos.",
-    ),
+pub(crate) static NUMBERS: [Row; 14] = [
     (
         Term::Number(NumberVariable::Edition),
         TermForm::Long,
@@ -50,52 +14,16 @@ pub(crate) static NUMBERS: [Row; 37] = [
         Term::Number(NumberVariable::Edition),
         TermForm::Short,
         "ed.",
-        "eds.",
-    ),
-    (
-        Term::Number(NumberVariable::FirstReferenceNoteNumber),
-        TermForm::Long,
-        "note",
-        "notes",
-    ),
-    (
-        Term::Number(NumberVariable::FirstReferenceNoteNumber),
-        TermForm::Short,
-        "n.",
-        "nn.",
+        "ed.",
     ),
     (
         Term::Number(NumberVariable::Issue),
-        TermForm::Long,
-        "issue",
-        "issues",
-    ),
-    (
-        Term::Number(NumberVariable::Issue),
-        TermForm::Short,
-        "no.",
-        "nos.",
-    ),
-    (
-        Term::Number(NumberVariable::Locator),
-        TermForm::Long,
-        "locator",
-        "locators",
-    ),
-    (
-        Term::Number(NumberVariable::Locator),
-        TermForm::Short,
-        "loc.",
-        "locs.",
-    ),
-    (
-        Term::Number(NumberVariable::Number),
         TermForm::Long,
         "number",
         "numbers",
     ),
     (
-        Term::Number(NumberVariable::Number),
+        Term::Number(NumberVariable::Issue),
         TermForm::Short,
         "no.",
         "nos.",
@@ -111,54 +39,6 @@ pub(crate) static NUMBERS: [Row; 37] = [
         TermForm::Short,
         "p.",
         "pp.",
-    ),
-    (
-        Term::Number(NumberVariable::NumberOfVolumes),
-        TermForm::Long,
-        "volume",
-        "volumes",
-    ),
-    (
-        Term::Number(NumberVariable::NumberOfVolumes),
-        TermForm::Short,
-        "vol.",
-        "vols.",
-    ),
-    (
-        Term::Number(NumberVariable::PageFirst),
-        TermForm::Long,
-        "page",
-        "pages",
-    ),
-    (
-        Term::Number(NumberVariable::PageFirst),
-        TermForm::Short,
-        "p.",
-        "pp.",
-    ),
-    (
-        Term::Number(NumberVariable::PartNumber),
-        TermForm::Long,
-        "part",
-        "parts",
-    ),
-    (
-        Term::Number(NumberVariable::PartNumber),
-        TermForm::Short,
-        "pt.",
-        "pts.",
-    ),
-    (
-        Term::Number(NumberVariable::PrintingNumber),
-        TermForm::Long,
-        "printing",
-        "printings",
-    ),
-    (
-        Term::Number(NumberVariable::PrintingNumber),
-        TermForm::Short,
-        "print.",
-        "prints.",
     ),
     (
         Term::Number(NumberVariable::Section),
@@ -179,28 +59,10 @@ pub(crate) static NUMBERS: [Row; 37] = [
         "§§",
     ),
     (
-        Term::Number(NumberVariable::SupplementNumber),
-        TermForm::Long,
-        "supplement",
-        "supplements",
-    ),
-    (
-        Term::Number(NumberVariable::SupplementNumber),
-        TermForm::Short,
-        "suppl.",
-        "suppls.",
-    ),
-    (
         Term::Number(NumberVariable::Version),
         TermForm::Long,
         "version",
-        "versions",
-    ),
-    (
-        Term::Number(NumberVariable::Version),
-        TermForm::Short,
-        "v.",
-        "vv.",
+        "version",
     ),
     (
         Term::Number(NumberVariable::Volume),

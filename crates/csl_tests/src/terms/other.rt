@@ -6,7 +6,6 @@ use csl::style::{OtherTerm, Term, TermForm};
 
 pub(crate) static OTHER: [Row; 65] = [
     (Term::Other(OtherTerm::And), TermForm::Long, "and", "and"),
-    (Term::Other(OtherTerm::And), TermForm::Symbol, "&", "&"),
     (
         Term::Other(OtherTerm::EtAl),
         TermForm::Long,
@@ -140,14 +139,14 @@ pub(crate) static OTHER: [Row; 65] = [
     (
         Term::Other(OtherTerm::Month(5)),
         TermForm::Short,
-        "June",
-        "June",
+        "Jun.",
+        "Jun.",
     ),
     (
         Term::Other(OtherTerm::Month(6)),
         TermForm::Short,
-        "July",
-        "July",
+        "Jul.",
+        "Jul.",
     ),
     (
         Term::Other(OtherTerm::Month(7)),
@@ -158,8 +157,8 @@ pub(crate) static OTHER: [Row; 65] = [
     (
         Term::Other(OtherTerm::Month(8)),
         TermForm::Short,
-        "Sept.",
-        "Sept.",
+        "Sep.",
+        "Sep.",
     ),
     (
         Term::Other(OtherTerm::Month(9)),
@@ -182,26 +181,26 @@ pub(crate) static OTHER: [Row; 65] = [
     (
         Term::Other(OtherTerm::Season(Season::Spring)),
         TermForm::Long,
-        "spring",
-        "spring",
+        "Spring",
+        "Spring",
     ),
     (
         Term::Other(OtherTerm::Season(Season::Summer)),
         TermForm::Long,
-        "summer",
-        "summer",
+        "Summer",
+        "Summer",
     ),
     (
         Term::Other(OtherTerm::Season(Season::Autumn)),
         TermForm::Long,
-        "autumn",
-        "autumn",
+        "Autumn",
+        "Autumn",
     ),
     (
         Term::Other(OtherTerm::Season(Season::Winter)),
         TermForm::Long,
-        "winter",
-        "winter",
+        "Winter",
+        "Winter",
     ),
     (
         Term::Other(OtherTerm::Accessed),
@@ -281,6 +280,12 @@ pub(crate) static OTHER: [Row; 65] = [
         "interview",
     ),
     (
+        Term::Other(OtherTerm::Interview),
+        TermForm::Short,
+        "interv.",
+        "interv.",
+    ),
+    (
         Term::Other(OtherTerm::Letter),
         TermForm::Long,
         "letter",
@@ -338,6 +343,6 @@ pub(crate) static OTHER: [Row; 65] = [
         Term::Other(OtherTerm::Version),
         TermForm::Long,
         "version",
-        "versions",
+        "version",
     ),
 ];

@@ -3,14 +3,7 @@
 use crate::terms::Row;
 use csl::style::{NameVariable, Term, TermForm};
 
-pub(crate) static PEOPLE: [Row; 93] = [
-    (
-        Term::Name(NameVariable::Author),
-        TermForm::Long,
-        "author",
-        "authors",
-    ),
-    (Term::Name(NameVariable::Author), TermForm::Verb, "by", "by"),
+pub(crate) static PEOPLE: [Row; 76] = [
     (
         Term::Name(NameVariable::Chair),
         TermForm::Long,
@@ -22,30 +15,6 @@ pub(crate) static PEOPLE: [Row; 93] = [
         TermForm::Verb,
         "chaired by",
         "chaired by",
-    ),
-    (
-        Term::Name(NameVariable::CollectionEditor),
-        TermForm::Long,
-        "series editor",
-        "series editors",
-    ),
-    (
-        Term::Name(NameVariable::CollectionEditor),
-        TermForm::Short,
-        "ser. ed.",
-        "ser. eds.",
-    ),
-    (
-        Term::Name(NameVariable::CollectionEditor),
-        TermForm::Verb,
-        "series edited by",
-        "series edited by",
-    ),
-    (
-        Term::Name(NameVariable::CollectionEditor),
-        TermForm::VerbShort,
-        "ser. ed. by",
-        "ser. ed. by",
     ),
     (
         Term::Name(NameVariable::Compiler),
@@ -72,36 +41,6 @@ pub(crate) static PEOPLE: [Row; 93] = [
         "comp. by",
     ),
     (
-        Term::Name(NameVariable::Composer),
-        TermForm::Long,
-        "composer",
-        "composers",
-    ),
-    (
-        Term::Name(NameVariable::Composer),
-        TermForm::Short,
-        "comp.",
-        "comps.",
-    ),
-    (
-        Term::Name(NameVariable::Composer),
-        TermForm::Verb,
-        "composed by",
-        "composed by",
-    ),
-    (
-        Term::Name(NameVariable::Composer),
-        TermForm::VerbShort,
-        "comp. by",
-        "comp. by",
-    ),
-    (
-        Term::Name(NameVariable::ContainerAuthor),
-        TermForm::Long,
-        "author",
-        "authors",
-    ),
-    (
         Term::Name(NameVariable::ContainerAuthor),
         TermForm::Verb,
         "by",
@@ -122,14 +61,14 @@ pub(crate) static PEOPLE: [Row; 93] = [
     (
         Term::Name(NameVariable::Contributor),
         TermForm::Verb,
-        "with contributions by",
-        "with contributions by",
+        "with",
+        "with",
     ),
     (
         Term::Name(NameVariable::Contributor),
         TermForm::VerbShort,
-        "with",
-        "with",
+        "w.",
+        "w.",
     ),
     (
         Term::Name(NameVariable::Curator),
@@ -206,50 +145,50 @@ pub(crate) static PEOPLE: [Row; 93] = [
     (
         Term::Name(NameVariable::EditorialDirector),
         TermForm::Long,
-        "editorial director",
-        "editorial directors",
+        "editor",
+        "editors",
     ),
     (
         Term::Name(NameVariable::EditorialDirector),
         TermForm::Short,
-        "ed. dir.",
-        "ed. dirs.",
+        "ed.",
+        "eds.",
     ),
     (
         Term::Name(NameVariable::EditorialDirector),
         TermForm::Verb,
-        "editorial direction by",
-        "editorial direction by",
+        "edited by",
+        "edited by",
     ),
     (
         Term::Name(NameVariable::EditorialDirector),
         TermForm::VerbShort,
-        "ed. dir. by",
-        "ed. dir. by",
+        "ed. by",
+        "ed. by",
     ),
     (
         Term::Name(NameVariable::EditorTranslator),
         TermForm::Long,
-        "editor and translator",
-        "editors and translators",
+        "editor & translator",
+        "editors & translators",
     ),
     (
         Term::Name(NameVariable::EditorTranslator),
         TermForm::Short,
-        "ed. and trans.",
-        "eds. and trans.",
+        "ed. & tran.",
+        "eds. & trans.",
     ),
     (
         Term::Name(NameVariable::EditorTranslator),
         TermForm::Verb,
-        "edited and translated by",
-        "edited and translated by",
+        "edited & translated by",
+        "edited & translated by",
     ),
     (
         Term::Name(NameVariable::EditorTranslator),
         TermForm::VerbShort,
-        "ed. and trans. by",
-        "ed. and trans. by",
+        "ed. & trans. by",
+        "ed. & trans. by",
     ),
     (
         Term::Name(NameVariable::ExecutiveProducer),
@@ -266,8 +205,8 @@ pub(crate) static PEOPLE: [Row; 93] = [
     (
         Term::Name(NameVariable::ExecutiveProducer),
         TermForm::Verb,
-        "executive production by",
-        "executive production by",
+        "executive produced by",
+        "executive produced by",
     ),
     (
         Term::Name(NameVariable::ExecutiveProducer),
@@ -290,8 +229,8 @@ pub(crate) static PEOPLE: [Row; 93] = [
     (
         Term::Name(NameVariable::Guest),
         TermForm::VerbShort,
-        "with",
-        "with",
+        "w. guest",
+        "w. guest",
     ),
     (
         Term::Name(NameVariable::Host),
@@ -302,6 +241,12 @@ pub(crate) static PEOPLE: [Row; 93] = [
     (
         Term::Name(NameVariable::Host),
         TermForm::Verb,
+        "hosted by",
+        "hosted by",
+    ),
+    (
+        Term::Name(NameVariable::Host),
+        TermForm::VerbShort,
         "hosted by",
         "hosted by",
     ),
@@ -326,32 +271,14 @@ pub(crate) static PEOPLE: [Row; 93] = [
     (
         Term::Name(NameVariable::Illustrator),
         TermForm::VerbShort,
-        "ill. by",
-        "ill. by",
-    ),
-    (
-        Term::Name(NameVariable::Interviewer),
-        TermForm::Long,
-        "interviewer",
-        "interviewers",
-    ),
-    (
-        Term::Name(NameVariable::Interviewer),
-        TermForm::Short,
-        "int.",
-        "ints.",
+        "illus. by",
+        "illus. by",
     ),
     (
         Term::Name(NameVariable::Interviewer),
         TermForm::Verb,
-        "interviewed by",
-        "interviewed by",
-    ),
-    (
-        Term::Name(NameVariable::Interviewer),
-        TermForm::VerbShort,
-        "int. by",
-        "int. by",
+        "interview by",
+        "interview by",
     ),
     (
         Term::Name(NameVariable::Narrator),
@@ -400,30 +327,6 @@ pub(crate) static PEOPLE: [Row; 93] = [
         TermForm::VerbShort,
         "org. by",
         "org. by",
-    ),
-    (
-        Term::Name(NameVariable::OriginalAuthor),
-        TermForm::Long,
-        "original author",
-        "original authors",
-    ),
-    (
-        Term::Name(NameVariable::OriginalAuthor),
-        TermForm::Short,
-        "orig. author",
-        "orig. authors",
-    ),
-    (
-        Term::Name(NameVariable::OriginalAuthor),
-        TermForm::Verb,
-        "originally by",
-        "originally by",
-    ),
-    (
-        Term::Name(NameVariable::OriginalAuthor),
-        TermForm::VerbShort,
-        "orig. by",
-        "orig. by",
     ),
     (
         Term::Name(NameVariable::Performer),
@@ -475,21 +378,9 @@ pub(crate) static PEOPLE: [Row; 93] = [
     ),
     (
         Term::Name(NameVariable::Recipient),
-        TermForm::Long,
-        "recipient",
-        "recipients",
-    ),
-    (
-        Term::Name(NameVariable::Recipient),
         TermForm::Verb,
         "to",
         "to",
-    ),
-    (
-        Term::Name(NameVariable::ReviewedAuthor),
-        TermForm::Long,
-        "reviewed author",
-        "reviewed authors",
     ),
     (
         Term::Name(NameVariable::ReviewedAuthor),
@@ -500,14 +391,14 @@ pub(crate) static PEOPLE: [Row; 93] = [
     (
         Term::Name(NameVariable::ScriptWriter),
         TermForm::Long,
-        "screenwriter",
-        "screenwriters",
+        "writer",
+        "writers",
     ),
     (
         Term::Name(NameVariable::ScriptWriter),
         TermForm::Short,
-        "scr.",
-        "scrs.",
+        "writ.",
+        "writs.",
     ),
     (
         Term::Name(NameVariable::ScriptWriter),
@@ -518,8 +409,8 @@ pub(crate) static PEOPLE: [Row; 93] = [
     (
         Term::Name(NameVariable::ScriptWriter),
         TermForm::VerbShort,
-        "scr. by",
-        "scr. by",
+        "writ. by",
+        "writ. by",
     ),
     (
         Term::Name(NameVariable::SeriesCreator),
@@ -529,9 +420,21 @@ pub(crate) static PEOPLE: [Row; 93] = [
     ),
     (
         Term::Name(NameVariable::SeriesCreator),
+        TermForm::Short,
+        "cre.",
+        "cres.",
+    ),
+    (
+        Term::Name(NameVariable::SeriesCreator),
         TermForm::Verb,
         "created by",
         "created by",
+    ),
+    (
+        Term::Name(NameVariable::SeriesCreator),
+        TermForm::VerbShort,
+        "cre. by",
+        "cre. by",
     ),
     (
         Term::Name(NameVariable::Translator),
@@ -542,7 +445,7 @@ pub(crate) static PEOPLE: [Row; 93] = [
     (
         Term::Name(NameVariable::Translator),
         TermForm::Short,
-        "trans.",
+        "tran.",
         "trans.",
     ),
     (
