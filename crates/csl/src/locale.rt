@@ -126,7 +126,7 @@ fn text_date(alloc: Global) -> Result<Date, Memory> {
 
 /// Returns the English locale. It has the words of CSL's own locale `en-US` (CSL 1.0.2; the file
 /// `locales-en-US.xml` of Debian's `citation-style-language-locales` 0~20230122) for each term that
-/// a [`Term`] names, unless they are empty there. Ordinals, both dates and the place of punctuation,
+/// a `Term` names, unless they are empty there. Ordinals, both dates and the place of punctuation,
 /// inside a closing quote, are those of `en-US` too.
 ///
 /// As in `en-US`, authors have no noun: styles label the names of `author`, so that the editors

@@ -14,9 +14,9 @@ type Row = (DateForm, i32, Option<u8>, Option<u8>, &'static str);
 /// Each form of a whole date, of a month and of a year. The comma belongs to the day, so a month
 /// alone has none.
 static DATES: [Row; 9] = [
-    (DateForm::Numeric, 2026, Some(0), Some(4), "1/5/2026"),
+    (DateForm::Numeric, 2026, Some(0), Some(4), "01/05/2026"),
     (DateForm::Numeric, 1987, Some(11), Some(30), "12/31/1987"),
-    (DateForm::Numeric, 2026, Some(0), None, "1/2026"),
+    (DateForm::Numeric, 2026, Some(0), None, "01/2026"),
     (DateForm::Numeric, 2026, None, None, "2026"),
     (DateForm::Text, 2026, Some(0), Some(4), "January 5, 2026"),
     (

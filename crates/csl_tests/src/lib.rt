@@ -14,4 +14,6 @@ mod english;
 #[cfg(test)]
 mod errors;
 #[cfg(test)]
+mod labels;
+#[cfg(test)]
 mod terms;

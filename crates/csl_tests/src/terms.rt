@@ -8,11 +8,13 @@ use std::alloc::Global;
 use std::process::Abort;
 use std::test::Fail;
 
+mod absent;
 mod locators;
 mod numbers;
 mod other;
 mod people;
 
+use absent::ABSENT;
 use locators::LOCATORS;
 use numbers::NUMBERS;
 use other::OTHER;
@@ -54,4 +56,20 @@ fn what_numbers_and_pages_are_called(rt: HostRuntime) -> Result<(), Fail> {
 #[test]
 fn what_locators_are_called(rt: HostRuntime) -> Result<(), Fail> {
     assert_terms(&rt, rt.alloc(), &LOCATORS)
+}
+
+/// Asserts that a term has no text, neither in this form nor in those that replace it.
+fn assert_absent(rt: &impl Abort, style: &Style, &(term, form): &(Term, TermForm)) {
+    assert_text(rt, style.term(term, form, false), None);
+    assert_text(rt, style.term(term, form, true), None);
+}
+
+#[test]
+fn roles_numbers_and_locators_without_a_term(rt: HostRuntime) -> Result<(), Fail> {
+    let style = style(rt.alloc())?;
+    for row in &ABSENT {
+        assert_absent(&rt, &style, row);
+    }
+    drop(style);
+    Ok(())
 }
