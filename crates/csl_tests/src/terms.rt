@@ -1,4 +1,5 @@
-//! Tests of the terms of English. A row is one term in one form.
+//! Tests of the terms of English. A row is one term in one form. The expected texts are those of
+//! CSL's own locale `en-US`.
 
 use crate::asserted::assert_text;
 use crate::english::style;
