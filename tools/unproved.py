@@ -1,28 +1,26 @@
-"""Rattle sources that nothing proves stand outside of the crates, as FOLDER/src/*.rs, since `rt ci` takes each `.rt` file for a crate's.
+"""Rattle sources that nothing proves stand outside of the crates, as `.rs` files in FOLDER/src, since `rt ci` takes each `.rt` file for a crate's.
 FOLDER/uses names the libraries that they use. This module lays them out as a crate, named after the folder, in a copy of the checkout.
 
 As a command, `python3 tools/unproved.py FOLDER..` formats the files of the folders where they stand."""
-import os, subprocess, sys, tempfile
+import glob, os, subprocess, sys, tempfile
 
 TOP = os.path.dirname(os.path.dirname(os.path.realpath(__file__)))
 
 
-def unpack(paths, commit, to):
-    """Copies paths of the checkout, or of a commit, to a folder, without what is built."""
+def unpack(paths, commit, to, renamed=()):
+    """Copies paths of the checkout, or of a commit, to a folder, without what is built. `renamed` has expressions of sed for the new names."""
     pack = ["git", "-C", TOP, "archive", commit] if commit else ["tar", "-c", "-C", TOP, "--exclude=out"]
     packed = subprocess.run([*pack, *paths], check=True, stdout=subprocess.PIPE).stdout
-    subprocess.run(["tar", "-x", "-C", to], input=packed, check=True)
+    subprocess.run(["tar", "-x", "-C", to, *(f"--transform={it}" for it in renamed)], input=packed, check=True)
 
 
 def lay_out(folder, room, commit=None, sources=None):
     """The crate of a folder: its sources as they stand, or those of the commit `sources`, in a copy of the checkout, or of a commit."""
     name, to = os.path.basename(folder), f"{room}/checkout"
-    os.makedirs(f"{to}/crates/{name}/src")
+    os.mkdir(to)
     unpack(["crates", "crates.txt"], commit, to)
-    unpack([folder], sources, to)
-    for it in os.listdir(f"{to}/{folder}/src"):
-        os.rename(f"{to}/{folder}/src/{it}", f"{to}/crates/{name}/src/{it.removesuffix('.rs')}.rt")
-    with open(f"{to}/{folder}/uses") as uses, open(f"{to}/crates.txt", "a") as crates:
+    unpack([folder], sources, to, [f"s,^{folder}/,crates/{name}/,", r"s,\.rs$,.rt,"])
+    with open(f"{to}/crates/{name}/uses") as uses, open(f"{to}/crates.txt", "a") as crates:
         crates.write(f"{name}: {uses.read()}")
     return f"{to}/crates/{name}"
 
@@ -31,11 +29,12 @@ def formatted(folder, crate):
     """Formats a crate that was laid out, and returns the files of its folder that the format changes, each with its new text."""
     subprocess.run(["rt", "fmt"], cwd=crate, check=True, stdout=subprocess.DEVNULL)
     texts = {}
-    for it in os.listdir(f"{TOP}/{folder}/src"):
-        with open(f"{TOP}/{folder}/src/{it}") as old, open(f"{crate}/src/{it.removesuffix('.rs')}.rt") as new:
+    for file in glob.glob(f"{TOP}/{folder}/src/**/*.rs", recursive=True):
+        laid_out = f"{crate}/{os.path.relpath(file, f'{TOP}/{folder}')}"
+        with open(file) as old, open(f"{laid_out.removesuffix('.rs')}.rt") as new:
             text = new.read()
             if old.read() != text:
-                texts[f"{TOP}/{folder}/src/{it}"] = text
+                texts[file] = text
     return texts
 
 
