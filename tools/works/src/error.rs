@@ -1,8 +1,7 @@
 //! The reasons why a work fails.
 
-use csl_context::RenderError;
-use csl_style::StyleError;
-use lit_model::{Memory, NumericError};
+use csl::literature::NumericError;
+use csl::{HtmlError, Memory, RenderError, StyleError};
 use std::alloc::{AllocError, AllocFailed};
 use std::fmt;
 
@@ -45,6 +44,15 @@ impl From<NumericError> for WorkError {
         match error {
             NumericError::Memory => WorkError::Memory,
             NumericError::NotNumeric => WorkError::Unexpected("not numeric"),
+        }
+    }
+}
+
+impl From<HtmlError> for WorkError {
+    fn from(error: HtmlError) -> WorkError {
+        match error {
+            HtmlError::Memory => WorkError::Memory,
+            HtmlError::NotHtml => WorkError::Unexpected("not html"),
         }
     }
 }

@@ -1,10 +1,8 @@
-//! Benchmarks of HTML.
+//! HTML, written and read.
 
 use crate::error::WorkError;
-use crate::style::put;
-use crate::tree::text;
-use csl_tree::{BufWriteFormat, ElemChildren, leaf_text_of_html};
-use lit_model::Memory;
+use crate::trees::text;
+use csl::{BufWriteFormat, ElemChildren, leaf_text_of_html};
 use std::alloc::Global;
 
 /// A text with every reserved character of HTML.
@@ -13,23 +11,13 @@ const RESERVED: &str = "a<b & \"c\">";
 /// A text of the same length without reserved characters.
 const PLAIN: &str = "a-b - .c._";
 
-/// A tree of `size` copies of a text.
-fn copies(alloc: Global, words: &str, size: usize) -> Result<ElemChildren, Memory> {
+/// The HTML of a tree of `size` copies of a text.
+fn html_of(alloc: Global, words: &str, size: usize) -> Result<String, WorkError> {
     let mut children = Vec::new(alloc);
     for _ in 0..size {
-        put(&mut children, text(alloc, words)?)?;
+        children.push(text(alloc, words)?)?;
     }
-    Ok(ElemChildren(children))
-}
-
-/// The HTML of `size` copies of a text.
-fn html_of(alloc: Global, words: &str, size: usize) -> Result<String, WorkError> {
-    let children = copies(alloc, words, size)?;
-    let mut html = String::new(alloc);
-    let written = children.write_buf(&mut html, BufWriteFormat::Html);
-    drop(children);
-    written?;
-    Ok(html)
+    Ok(ElemChildren(children).to_text(alloc, BufWriteFormat::Html)?)
 }
 
 /// Writes a tree of texts with reserved characters as HTML and reads it back. Counts the bytes of
@@ -37,7 +25,7 @@ fn html_of(alloc: Global, words: &str, size: usize) -> Result<String, WorkError>
 pub fn html(alloc: Global, size: usize) -> Result<usize, WorkError> {
     let html = html_of(alloc, RESERVED, size)?;
     let leaves = leaf_text_of_html(alloc, html.as_str())?;
-    Ok(html.len().wrapping_add(leaves.len()))
+    Ok(html.len() + leaves.len())
 }
 
 /// Writes a tree of texts without reserved characters as HTML, and counts the bytes.

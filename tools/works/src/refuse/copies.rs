@@ -1,26 +1,27 @@
-//! Each `clone` that allocates. Each copy is compared with its original.
+//! Each `clone` that allocates. Each copy is compared with its original. If memory runs out, a work
+//! makes all its copies once more.
 
-use crate::cites::forms;
 use crate::error::WorkError;
-use crate::nodes::alone;
-use crate::trees::{formatted, texts};
-use csl_context::LeftState;
-use csl_entry::{
-    CiteProperties, DisambiguateState, NameDisambiguationProperties, NumberOrPageVariableResult,
-    NumberVariableResult, SpeculativeCiteProperties,
+use crate::refuse::cites::forms;
+use crate::refuse::twice;
+use crate::trees::{text, texts};
+use csl::entry::{
+    NameDisambiguationProperties, NumberOrPageVariableResult, NumberVariableResult,
+    SpeculativeCiteProperties,
 };
+use csl::literature::{
+    FormatString, LanguageIdentifier, MaybeTyped, Numeric, PageRanges, PageRangesPart, Person,
+    PersonRole, PersonsWithRoles,
+};
+use csl::style::{NameVariable, StandardVariable};
+use csl::tree::{Elem, ElemChild, ElemMeta};
+use csl::{CiteProperties, DisambiguateState, ElemChildren, Entry, LeftState, Memory};
 use csl_samples::BuiltIn;
-use csl_style::{NameVariable, StandardVariable, Variable};
-use csl_tree::{Elem, ElemChild, ElemChildren, ElemMeta};
-use lit_model::{
-    Entry, FormatString, LanguageIdentifier, MaybeTyped, Memory, Numeric, PageRanges,
-    PageRangesPart, Person, PersonRole, PersonsWithRoles, Publisher, QualifiedUrl,
-};
 use std::alloc::Global;
 use std::borrow::Cow;
 
 /// Appends the type of a copy, and whether it equals the original.
-fn say(said: &mut String, name: &str, is_equal: bool) -> Result<(), Memory> {
+fn say(said: &mut String, name: &str, is_equal: bool) -> Result<(), WorkError> {
     if !said.is_empty() {
         said.push_str(", ")?;
     }
@@ -35,40 +36,18 @@ fn tell<T: PartialEq + Drop>(
     name: &str,
     value: &T,
     copy: Result<T, Memory>,
-) -> Result<(), Memory> {
-    let copy = copy?;
-    let is_equal = copy == *value;
-    drop(copy);
-    say(said, name, is_equal)
-}
-
-/// The publisher of a book.
-fn publisher(alloc: Global) -> Result<Option<Publisher>, Memory> {
-    let mut book = BuiltIn::CrazyRich.entry(alloc)?;
-    let publisher = book.publisher.take();
-    drop(book);
-    Ok(publisher)
-}
-
-/// The address of an essay.
-fn url(alloc: Global) -> Result<Option<QualifiedUrl>, Memory> {
-    let mut essay = BuiltIn::Feminism.entry(alloc)?;
-    let url = essay.url.take();
-    drop(essay);
-    Ok(url)
+) -> Result<(), WorkError> {
+    say(said, name, copy? == *value)
 }
 
 /// A person in a role that [`PersonRole`] does not name.
-fn adviser(alloc: Global) -> Result<PersonsWithRoles, Memory> {
-    let names = alone(alloc, Person::institution(alloc, "Kwan")?)?;
-    let name = String::from_str(alloc, "adviser")?;
-    Ok(PersonsWithRoles {
-        names,
-        role: PersonRole::Unknown(name),
-    })
+fn adviser(alloc: Global) -> Result<PersonsWithRoles, WorkError> {
+    let names = vec![in alloc; Person::institution(alloc, "Kwan")?]?;
+    let role = PersonRole::Unknown(String::from_str(alloc, "adviser")?);
+    Ok(PersonsWithRoles { names, role })
 }
 
-fn language(alloc: Global) -> Result<LanguageIdentifier, Memory> {
+fn language(alloc: Global) -> Result<LanguageIdentifier, WorkError> {
     let region = String::from_str(alloc, "US")?;
     Ok(LanguageIdentifier {
         language: String::from_str(alloc, "en")?,
@@ -76,24 +55,32 @@ fn language(alloc: Global) -> Result<LanguageIdentifier, Memory> {
     })
 }
 
+/// A set of three numbers.
+fn numeric(alloc: Global) -> Result<Numeric, WorkError> {
+    Ok(Numeric::parse(alloc, "4-6, 9")?)
+}
+
 /// Page ranges with one part of several numbers, so that copying the part allocates.
 fn pages(alloc: Global) -> Result<PageRanges, WorkError> {
-    let ranges = alone(alloc, PageRangesPart::SinglePage(numeric(alloc)?))?;
+    let ranges = vec![in alloc; PageRangesPart::SinglePage(numeric(alloc)?)]?;
     Ok(PageRanges { ranges })
 }
 
-/// Sets the pages, volume, publisher, address, adviser and language of an article.
-fn add(alloc: Global, article: &mut Entry) -> Result<(), WorkError> {
+/// An article with many fields.
+fn article(alloc: Global) -> Result<Entry, WorkError> {
+    let mut book = BuiltIn::CrazyRich.entry(alloc)?;
+    let mut essay = BuiltIn::Feminism.entry(alloc)?;
+    let mut article = BuiltIn::QuantizedVortex.entry(alloc)?;
     article.page_range = Some(MaybeTyped::Typed(pages(alloc)?));
     article.volume = Some(MaybeTyped::Typed(numeric(alloc)?));
-    article.publisher = publisher(alloc)?;
-    article.url = url(alloc)?;
-    article.affiliated = Some(alone(alloc, adviser(alloc)?)?);
+    article.publisher = book.publisher.take();
+    article.url = essay.url.take();
+    article.affiliated = Some(vec![in alloc; adviser(alloc)?]?);
     article.language = Some(language(alloc)?);
-    Ok(())
+    Ok(article)
 }
 
-fn tell_texts(alloc: Global, said: &mut String, title: &FormatString) -> Result<(), Memory> {
+fn tell_texts(alloc: Global, said: &mut String, title: &FormatString) -> Result<(), WorkError> {
     tell(said, "FormatString", title, title.clone(alloc))?;
     tell(
         said,
@@ -111,7 +98,7 @@ fn tell_pages(
     alloc: Global,
     said: &mut String,
     pages: &MaybeTyped<PageRanges>,
-) -> Result<(), Memory> {
+) -> Result<(), WorkError> {
     tell(said, "MaybeTyped<PageRanges>", pages, pages.clone(alloc))?;
     let MaybeTyped::Typed(pages) = pages else {
         return Ok(());
@@ -123,7 +110,7 @@ fn tell_pages(
     }
 }
 
-fn tell_adviser(alloc: Global, said: &mut String, it: &PersonsWithRoles) -> Result<(), Memory> {
+fn tell_adviser(alloc: Global, said: &mut String, it: &PersonsWithRoles) -> Result<(), WorkError> {
     tell(said, "PersonsWithRoles", it, it.clone(alloc))?;
     tell(said, "PersonRole", &it.role, it.role.clone(alloc))?;
     match it.names.first() {
@@ -133,7 +120,7 @@ fn tell_adviser(alloc: Global, said: &mut String, it: &PersonsWithRoles) -> Resu
 }
 
 /// Copies the publisher, address, serial numbers and language of an entry.
-fn tell_sources(alloc: Global, said: &mut String, work: &Entry) -> Result<(), Memory> {
+fn tell_sources(alloc: Global, said: &mut String, work: &Entry) -> Result<(), WorkError> {
     if let Some(it) = &work.publisher {
         tell(said, "Publisher", it, it.clone(alloc))?;
     }
@@ -150,7 +137,7 @@ fn tell_sources(alloc: Global, said: &mut String, work: &Entry) -> Result<(), Me
 }
 
 /// Copies an entry and its parts, and returns which copies are equal.
-fn tell_entry(alloc: Global, work: &Entry) -> Result<String, Memory> {
+fn tell_entry(alloc: Global, work: &Entry) -> Result<String, WorkError> {
     let mut said = String::new(alloc);
     tell(&mut said, "Entry", work, work.clone(alloc))?;
     if let Some(volume) = &work.volume {
@@ -174,28 +161,10 @@ fn tell_entry(alloc: Global, work: &Entry) -> Result<String, Memory> {
     Ok(said)
 }
 
-/// Copies an article and its parts. If memory runs out, copies them once more.
-fn tell_article(alloc: Global, article: &Entry) -> Result<String, WorkError> {
-    match tell_entry(alloc, article) {
-        Err(Memory) => Ok(tell_entry(alloc, article)?),
-        said => Ok(said?),
-    }
-}
-
 /// Copies an article with many fields, and its parts.
 pub fn entry(alloc: Global) -> Result<String, WorkError> {
-    let mut article = BuiltIn::QuantizedVortex.entry(alloc)?;
-    let said = match add(alloc, &mut article) {
-        Ok(()) => tell_article(alloc, &article),
-        Err(error) => Err(error),
-    };
-    drop(article);
-    said
-}
-
-/// A set of three numbers.
-fn numeric(alloc: Global) -> Result<Numeric, WorkError> {
-    Ok(Numeric::parse(alloc, "4-6, 9")?)
+    let article = article(alloc)?;
+    twice(|| tell_entry(alloc, &article))
 }
 
 /// Copies an answer to a number variable, and the number that it owns.
@@ -203,7 +172,7 @@ fn tell_number(
     alloc: Global,
     said: &mut String,
     answer: &NumberVariableResult<'_>,
-) -> Result<(), Memory> {
+) -> Result<(), WorkError> {
     tell(said, "NumberVariableResult", answer, answer.clone(alloc))?;
     match answer {
         NumberVariableResult::Regular(MaybeTyped::Typed(Cow::Owned(number))) => {
@@ -217,7 +186,7 @@ fn tell_number(
 fn tell_answers(
     alloc: Global,
     answers: &[NumberOrPageVariableResult<'_>],
-) -> Result<String, Memory> {
+) -> Result<String, WorkError> {
     let mut said = String::new(alloc);
     for answer in answers {
         tell(
@@ -233,15 +202,12 @@ fn tell_answers(
     Ok(said)
 }
 
-/// Copies an answer that owns its number, and its parts. If memory runs out, copies them once more.
+/// Copies an answer that owns its number, and its parts.
 pub fn answers(alloc: Global) -> Result<String, WorkError> {
     let number = MaybeTyped::Typed(Cow::Owned(numeric(alloc)?));
     let answer = NumberVariableResult::from_regular(number);
-    let answers = alone(alloc, NumberOrPageVariableResult::Number(answer))?;
-    match tell_answers(alloc, &answers) {
-        Err(Memory) => Ok(tell_answers(alloc, &answers)?),
-        said => Ok(said?),
-    }
+    let answers = vec![in alloc; NumberOrPageVariableResult::Number(answer)]?;
+    twice(|| tell_answers(alloc, &answers))
 }
 
 /// The name forms of a disambiguation state, if it has any.
@@ -252,10 +218,13 @@ fn forms_in(state: &DisambiguateState) -> Option<&NameDisambiguationProperties> 
     }
 }
 
-fn tell_state(alloc: Global, said: &mut String, state: &DisambiguateState) -> Result<(), Memory> {
+fn tell_state(
+    alloc: Global,
+    said: &mut String,
+    state: &DisambiguateState,
+) -> Result<(), WorkError> {
     let copy = state.clone(alloc)?;
     let is_equal = forms_in(&copy) == forms_in(state);
-    drop(copy);
     say(said, "DisambiguateState", is_equal)?;
     match forms_in(state) {
         Some(forms) => tell(
@@ -279,78 +248,51 @@ fn tell_speculative(
     alloc: Global,
     said: &mut String,
     props: &SpeculativeCiteProperties<'_>,
-) -> Result<(), Memory> {
+) -> Result<(), WorkError> {
     let copy = props.clone(alloc)?;
     let is_equal = is_same(&copy, props);
-    drop(copy);
     say(said, "SpeculativeCiteProperties", is_equal)?;
     tell_state(alloc, said, &props.disambiguation)
 }
 
 /// Copies the properties of a cite and their parts, and returns which copies are equal.
-fn tell_cite(alloc: Global, props: &CiteProperties<'_>) -> Result<String, Memory> {
+fn tell_cite(alloc: Global, props: &CiteProperties<'_>) -> Result<String, WorkError> {
     let mut said = String::new(alloc);
     let copy = props.clone(alloc)?;
     let is_equal = is_same(&copy.speculative, &props.speculative);
-    drop(copy);
     say(&mut said, "CiteProperties", is_equal)?;
     tell_speculative(alloc, &mut said, &props.speculative)?;
     Ok(said)
 }
 
-/// Copies the properties of a cite and their parts. If memory runs out, copies them once more.
+/// Copies the properties of a cite and their parts.
 pub fn cite(alloc: Global) -> Result<String, WorkError> {
     let state = DisambiguateState::NameDisambiguation(forms(alloc)?);
     let props = CiteProperties::first(state);
-    let said = match tell_cite(alloc, &props) {
-        Err(Memory) => tell_cite(alloc, &props),
-        said => said,
-    };
-    drop(props);
-    Ok(said?)
+    twice(|| tell_cite(alloc, &props))
 }
 
 /// Copies the left state of a rendering, and returns whether both are equal.
-fn tell_left(alloc: Global, left: &LeftState) -> Result<String, Memory> {
+fn tell_left(alloc: Global, left: &LeftState) -> Result<String, WorkError> {
     let mut said = String::new(alloc);
     let copy = left.clone(alloc)?;
     let is_equal = copy.suppressed == left.suppressed && copy.first_names == left.first_names;
-    drop(copy);
     say(&mut said, "LeftState", is_equal)?;
     Ok(said)
-}
-
-/// Adds a suppressed variable and name forms to a left state.
-fn fill(alloc: Global, left: &mut LeftState) -> Result<(), Memory> {
-    left.suppressed
-        .insert(Variable::Standard(StandardVariable::Title))?;
-    left.first_names = Some(forms(alloc)?);
-    Ok(())
-}
-
-/// Copies a left state. If memory runs out, copies it once more.
-fn tell_filled(alloc: Global, left: &LeftState) -> Result<String, Memory> {
-    match tell_left(alloc, left) {
-        Err(Memory) => tell_left(alloc, left),
-        said => said,
-    }
 }
 
 /// Copies a left state with a suppressed variable and name forms.
 pub fn left(alloc: Global) -> Result<String, WorkError> {
     let mut left = LeftState::new(alloc);
-    let said = match fill(alloc, &mut left) {
-        Ok(()) => tell_filled(alloc, &left),
-        Err(Memory) => Err(Memory),
-    };
-    drop(left);
-    Ok(said?)
+    left.suppressed.insert(StandardVariable::Title.into())?;
+    left.first_names = Some(forms(alloc)?);
+    twice(|| tell_left(alloc, &left))
 }
 
 /// An element of two texts, marked as the content of names.
-fn names_elem(alloc: Global) -> Result<Elem, Memory> {
-    let persons = alone(alloc, Person::institution(alloc, "Kwan")?)?;
-    let names = alone(alloc, (persons, NameVariable::Author))?;
+fn names_elem(alloc: Global) -> Result<Elem, WorkError> {
+    let persons = vec![in alloc; Person::institution(alloc, "Kwan")?]?;
+    let names = vec![in alloc; (persons, NameVariable::Author)]?;
     Ok(Elem {
         children: ElemChildren(texts(alloc)?),
         display: None,
@@ -359,7 +301,7 @@ fn names_elem(alloc: Global) -> Result<Elem, Memory> {
 }
 
 /// Copies an element and its parts.
-fn tell_elem(alloc: Global, said: &mut String, elem: &Elem) -> Result<(), Memory> {
+fn tell_elem(alloc: Global, said: &mut String, elem: &Elem) -> Result<(), WorkError> {
     tell(said, "Elem", elem, elem.clone(alloc))?;
     tell(
         said,
@@ -373,7 +315,7 @@ fn tell_elem(alloc: Global, said: &mut String, elem: &Elem) -> Result<(), Memory
     }
 }
 
-fn tell_children(alloc: Global, children: &[ElemChild]) -> Result<String, Memory> {
+fn tell_children(alloc: Global, children: &[ElemChild]) -> Result<String, WorkError> {
     let mut said = String::new(alloc);
     for child in children {
         tell(&mut said, "ElemChild", child, child.clone(alloc))?;
@@ -386,12 +328,9 @@ fn tell_children(alloc: Global, children: &[ElemChild]) -> Result<String, Memory
     Ok(said)
 }
 
-/// Copies a tree and its parts. If memory runs out, copies them once more.
+/// Copies a tree and its parts.
 pub fn tree(alloc: Global) -> Result<String, WorkError> {
-    let mut children = alone(alloc, ElemChild::Elem(names_elem(alloc)?))?;
-    children.push(ElemChild::Text(formatted(alloc, "a")?))?;
-    match tell_children(alloc, &children) {
-        Err(Memory) => Ok(tell_children(alloc, &children)?),
-        said => Ok(said?),
-    }
+    let names = ElemChild::Elem(names_elem(alloc)?);
+    let children = vec![in alloc; names, text(alloc, "a")?]?;
+    twice(|| tell_children(alloc, &children))
 }

@@ -2,20 +2,17 @@
 //! return [`RenderError::Failed`].
 
 use crate::error::WorkError;
-use csl_context::{Context, Mark, RenderError};
-use csl_entry::EntryLike;
-use csl_render::RenderCsl;
-use csl_style::{
+use csl::context::Mark;
+use csl::literature::ChunkedString;
+use csl::style::{
     Affixes, DateVariable, Formatting, LongShortForm, NameVariable, NumberVariable, PageVariable,
-    StandardVariable, Variable,
+    StandardVariable,
 };
-use lit_model::ChunkedString;
+use csl::{Context, EntryLike, RenderCsl, RenderError};
 
 /// Whether a call returned that the context had failed already.
 fn says_failed<A: Drop>(answer: Result<A, RenderError>) -> bool {
-    let said = matches!(&answer, Err(RenderError::Failed));
-    drop(answer);
-    said
+    matches!(answer, Err(RenderError::Failed))
 }
 
 /// Whether each call that writes returns that the context has failed.
@@ -40,33 +37,14 @@ fn opening_fails<'s, T>(ctx: &mut Context<'s, T>) -> bool {
         && says_failed(ctx.push_name_options(&style.settings().names))
 }
 
-/// Whether the call that closes affixes returns that the context has failed.
-fn affixing_fails<T>(ctx: &mut Context<'_, T>, mark: Mark) -> bool {
-    if !ctx.has_failed() {
-        return false;
-    }
-    let affixes = Affixes::default();
-    let answer = ctx.apply_suffix(&affixes, mark, false);
-    drop(affixes);
-    says_failed(answer)
-}
-
 /// Whether each call that closes a part returns that the context has failed. A failed context takes
 /// any mark.
 fn closing_fails<T>(ctx: &mut Context<'_, T>, mark: Mark) -> bool {
-    if !ctx.has_failed() || !says_failed(ctx.commit_elem(mark, None, None)) {
-        return false;
-    }
-    if !ctx.has_failed() || !says_failed(ctx.splice(mark)) {
-        return false;
-    }
-    if !ctx.has_failed() || !says_failed(ctx.splice_affixed(mark, None, None)) {
-        return false;
-    }
-    if !affixing_fails(ctx, mark) || !ctx.has_failed() {
-        return false;
-    }
-    says_failed(ctx.pop_quotes(mark, None))
+    says_failed(ctx.commit_elem(mark, None, None))
+        && says_failed(ctx.splice(mark))
+        && says_failed(ctx.splice_affixed(mark, None, None))
+        && says_failed(ctx.apply_suffix(&Affixes::default(), mark, false))
+        && says_failed(ctx.pop_quotes(mark, None))
 }
 
 /// Whether each silent lookup returns that the context has failed.
@@ -92,7 +70,7 @@ fn rendering_fails<'s, T: EntryLike>(ctx: &mut Context<'s, T>) -> bool {
     let layout = ctx.style().citation();
     says_failed(layout.render(ctx))
         && says_failed(layout.will_have_info(ctx))
-        && says_failed(layout.will_render(ctx, Variable::Date(DateVariable::Issued)))
+        && says_failed(layout.will_render(ctx, DateVariable::Issued.into()))
 }
 
 /// Whether each call of a context except `finish` returns that it has failed. The mark for the
@@ -113,15 +91,10 @@ fn all_fail<'s, T: EntryLike>(ctx: &mut Context<'s, T>) -> Result<bool, WorkErro
 /// The error of a failed rendering: out of memory, unless a later call of the context does not
 /// return that it has failed.
 pub fn refusal<'s, T: EntryLike>(mut ctx: Context<'s, T>) -> WorkError {
-    let unexpected = WorkError::Unexpected("a call went on after a refusal");
-    let failed = all_fail(&mut ctx);
-    if !ctx.has_failed() {
-        drop(ctx);
-        return unexpected;
-    }
-    if says_failed(ctx.finish()) && !matches!(failed, Ok(false)) {
+    let all_fail = all_fail(&mut ctx);
+    if ctx.has_failed() && says_failed(ctx.finish()) && !matches!(all_fail, Ok(false)) {
         WorkError::Memory
     } else {
-        unexpected
+        WorkError::Unexpected("a call went on after a refusal")
     }
 }

@@ -1,19 +1,16 @@
-//! A benchmark of the bibliography of an author-date style, as in large styles: twenty macros,
-//! nodes nested up to fifteen deep with the macros expanded, choices and substitutes.
+//! The bibliography of an author-date style, as in large styles: twenty macros, nodes nested up to
+//! fifteen deep with the macros expanded, choices and substitutes.
 
-use crate::author_date::with_terms;
+use crate::bench::cites::{in_english, joined_by_and, year};
+use crate::bench::render::text_size;
 use crate::error::WorkError;
-use crate::nodes::{group, macro_text, name, names, substitute, text, variable_text, year};
-use crate::render::text_size;
-use crate::style::{one_item, put};
-use csl_samples::{BuiltIn, BuiltInStyle};
-use csl_style::{
-    Affixes, Choose, ChooseBranch, ChooseMatch, CslMacro, DateVariable, Formatting, Kind, Label,
-    LabelPluralize, LayoutRenderingElement, NameAsSortOrder, NameVariable, Number,
-    NumberOrPageVariable, NumberVariable, PageVariable, StandardVariable, Style, TermForm,
-    TextTarget, Variable, VariablelessLabel,
+use csl::style::{
+    Choose, ChooseBranch, CslMacro, DateVariable, Group, InheritableNameOptions, Kind, Label,
+    LayoutRenderingElement, Name, NameAsSortOrder, NameVariable, Names, Number,
+    NumberOrPageVariable, NumberVariable, PageVariable, StandardVariable, Substitute, Text,
+    Variable,
 };
-use lit_model::{Entry, LongShortForm, Memory, NumberForm};
+use csl_samples::BuiltIn;
 use std::alloc::Global;
 
 /// A node without children.
@@ -201,85 +198,43 @@ static MACROS: [Row; 20] = [
     },
 ];
 
-/// A text of a variable in its long form, in quotes.
-fn quoted(var: Variable) -> LayoutRenderingElement {
-    let form = LongShortForm::Long;
-    text(TextTarget::Variable { var, form }, true)
-}
-
-/// A number in numeric form.
-fn number(variable: NumberVariable) -> LayoutRenderingElement {
-    LayoutRenderingElement::Number(Number {
-        variable: NumberOrPageVariable::Number(variable),
-        form: NumberForm::Numeric,
-        formatting: Formatting::default(),
-        affixes: Affixes::default(),
-        display: None,
-    })
-}
-
-/// The short label of a number or of pages.
-fn label(variable: NumberOrPageVariable) -> LayoutRenderingElement {
-    LayoutRenderingElement::Label(Label {
-        variable,
-        label: VariablelessLabel {
-            form: TermForm::Short,
-            plural: LabelPluralize::Contextual,
-            formatting: Formatting::default(),
-            affixes: Affixes::default(),
-            strip_periods: false,
-        },
-    })
-}
-
 /// The node of a part.
-fn node(alloc: Global, part: &Part) -> Result<LayoutRenderingElement, Memory> {
+fn node(alloc: Global, part: &Part) -> Result<LayoutRenderingElement, WorkError> {
     match part {
-        Part::Text(variable) => Ok(variable_text(*variable)),
-        Part::Quoted(variable) => Ok(quoted(*variable)),
-        Part::Value(words) => {
-            let val = String::from_str(alloc, words)?;
-            Ok(text(TextTarget::Value { val }, false))
+        Part::Text(variable) => Ok(Text::variable(*variable).into()),
+        Part::Quoted(variable) => Ok(Text {
+            quotes: true,
+            ..Text::variable(*variable)
         }
-        Part::Macro(name) => Ok(macro_text(String::from_str(alloc, name)?)),
-        Part::Number(variable) => Ok(number(*variable)),
-        Part::Label(variable) => Ok(label(*variable)),
+        .into()),
+        Part::Value(words) => Ok(Text::value(alloc, words)?.into()),
+        Part::Macro(name) => Ok(Text::macro_call(alloc, name)?.into()),
+        Part::Number(variable) => Ok(Number::new((*variable).into()).into()),
+        Part::Label(variable) => Ok(Label::short(*variable).into()),
         Part::Year(variable) => year(alloc, *variable),
     }
 }
 
 /// The nodes of the parts.
-fn nodes(alloc: Global, parts: &[Part]) -> Result<Vec<LayoutRenderingElement>, Memory> {
+fn nodes(alloc: Global, parts: &[Part]) -> Result<Vec<LayoutRenderingElement>, WorkError> {
     let mut nodes = Vec::new(alloc);
     for part in parts {
-        put(&mut nodes, node(alloc, part)?)?;
+        nodes.push(node(alloc, part)?)?;
     }
     Ok(nodes)
 }
 
-/// A choice: a branch by variables or kinds, the branches of `else_if`, and the `cs:else` nodes.
+/// A choice of one branch and the `cs:else` nodes.
 fn choice(
-    variable: Option<Vec<Variable>>,
-    type_: Option<Vec<Kind>>,
-    children: Vec<LayoutRenderingElement>,
-    else_if: Vec<ChooseBranch>,
+    alloc: Global,
+    branch: ChooseBranch,
     otherwise: Vec<LayoutRenderingElement>,
 ) -> LayoutRenderingElement {
-    LayoutRenderingElement::Choose(Choose {
-        if_: ChooseBranch {
-            disambiguate: None,
-            is_numeric: None,
-            is_uncertain_date: None,
-            locator: None,
-            position: None,
-            type_,
-            variable,
-            match_: ChooseMatch::All,
-            children,
-        },
-        else_if,
+    Choose {
         otherwise: Some(otherwise),
-    })
+        ..Choose::new(alloc, branch)
+    }
+    .into()
 }
 
 /// The names of a variable, the first with the family name first, and their substitute.
@@ -287,96 +242,67 @@ fn persons(
     alloc: Global,
     variable: NameVariable,
     instead: Vec<LayoutRenderingElement>,
-) -> Result<LayoutRenderingElement, Memory> {
-    let mut children = one_item(alloc, name(alloc, None, Some(NameAsSortOrder::First)))?;
-    put(&mut children, substitute(instead))?;
-    names(alloc, variable, children)
+) -> Result<LayoutRenderingElement, WorkError> {
+    let options = InheritableNameOptions {
+        name_as_sort_order: Some(NameAsSortOrder::First),
+        ..joined_by_and()
+    };
+    let name = Name {
+        options,
+        ..Name::new(alloc)
+    };
+    let substitute = Substitute { children: instead };
+    let variables = vec![in alloc; variable]?;
+    let names = Names {
+        children: vec![in alloc; name.into(), substitute.into()]?,
+        ..Names::new(alloc, variables)
+    };
+    Ok(names.into())
 }
 
 /// The node of a row's macro.
-fn held(alloc: Global, row: &Row) -> Result<LayoutRenderingElement, Memory> {
+fn held(alloc: Global, row: &Row) -> Result<LayoutRenderingElement, WorkError> {
     let parts = nodes(alloc, row.parts)?;
     let otherwise = nodes(alloc, row.otherwise)?;
-    let no_more = Vec::new(alloc);
     match &row.holder {
-        Holder::Group(delimiter) => {
-            let delimiter = String::from_str(alloc, delimiter)?;
-            Ok(group(parts, Some(delimiter), Affixes::default()))
-        }
+        Holder::Group(delimiter) => Ok(Group::delimited(alloc, delimiter, parts)?.into()),
         Holder::Given(variable) => {
-            let variables = one_item(alloc, *variable)?;
-            Ok(choice(Some(variables), None, parts, no_more, otherwise))
+            let branch = ChooseBranch {
+                variable: Some(vec![in alloc; *variable]?),
+                ..ChooseBranch::new(parts)
+            };
+            Ok(choice(alloc, branch, otherwise))
         }
         Holder::Kind(kind) => {
-            let kinds = one_item(alloc, *kind)?;
-            Ok(choice(None, Some(kinds), parts, no_more, otherwise))
+            let branch = ChooseBranch {
+                type_: Some(vec![in alloc; *kind]?),
+                ..ChooseBranch::new(parts)
+            };
+            Ok(choice(alloc, branch, otherwise))
         }
         Holder::Names(variable) => persons(alloc, *variable, parts),
     }
 }
 
-/// The macro of a row.
-fn csl_macro(alloc: Global, row: &Row) -> Result<CslMacro, Memory> {
-    let children = one_item(alloc, held(alloc, row)?)?;
-    Ok(CslMacro {
-        name: String::from_str(alloc, row.name)?,
-        children,
-    })
-}
-
 /// All macros of the style.
-fn macros(alloc: Global) -> Result<Vec<CslMacro>, Memory> {
-    let rows: &[Row] = &MACROS;
+fn macros(alloc: Global) -> Result<Vec<CslMacro>, WorkError> {
     let mut macros = Vec::new(alloc);
-    for row in rows {
-        put(&mut macros, csl_macro(alloc, row)?)?;
+    for row in &MACROS {
+        let nodes = vec![in alloc; held(alloc, row)?]?;
+        macros.push(CslMacro::new(alloc, row.name, nodes)?)?;
     }
     Ok(macros)
-}
-
-/// The style, with the terms of another style.
-fn style(alloc: Global, english: &Style) -> Result<Style, WorkError> {
-    let macros = macros(alloc)?;
-    let entry = macro_text(String::from_str(alloc, "entry")?);
-    with_terms(alloc, macros, entry, english, 0)
-}
-
-/// Cites an article `size` times, and counts the bytes of the plain texts.
-fn cite_sizes(
-    alloc: Global,
-    style: &Style,
-    article: &Entry,
-    size: usize,
-) -> Result<usize, WorkError> {
-    let mut bytes: usize = 0;
-    for _ in 0..size {
-        bytes = bytes.saturating_add(text_size(alloc, style, article)?);
-    }
-    Ok(bytes)
-}
-
-/// Cites an article of a journal `size` times, and counts the bytes of the plain texts.
-fn article_sizes(alloc: Global, style: &Style, size: usize) -> Result<usize, WorkError> {
-    let article = BuiltIn::QuantizedVortex.entry(alloc)?;
-    let bytes = cite_sizes(alloc, style, &article, size);
-    drop(article);
-    bytes
-}
-
-/// Cites an article of a journal `size` times in the style with the terms of another style, and
-/// counts the bytes of the plain texts.
-fn sizes_with_terms(alloc: Global, english: &Style, size: usize) -> Result<usize, WorkError> {
-    let style = style(alloc, english)?;
-    let bytes = article_sizes(alloc, &style, size);
-    drop(style);
-    bytes
 }
 
 /// Cites an article of a journal `size` times in the style, in English, and counts the bytes of the
 /// plain texts.
 pub fn bibliography(alloc: Global, size: usize) -> Result<usize, WorkError> {
-    let english = BuiltInStyle::AuthorDate.style(alloc)?;
-    let bytes = sizes_with_terms(alloc, &english, size);
-    drop(english);
-    bytes
+    let entry = Text::macro_call(alloc, "entry")?;
+    let style = in_english(alloc, macros(alloc)?, entry.into(), 0)?;
+    let article = BuiltIn::QuantizedVortex.entry(alloc)?;
+    let mut bytes = 0;
+    for _ in 0..size {
+        bytes += text_size(alloc, &style, &article)?;
+    }
+    Ok(bytes)
 }

@@ -1,0 +1,52 @@
+//! Works of a size. Each returns a checksum of what it made.
+
+mod bibliography;
+mod cites;
+mod entry;
+mod html;
+mod literature;
+mod nested;
+mod render;
+mod styles;
+mod tree;
+
+use crate::error::WorkError;
+use std::alloc::Global;
+
+/// Does the work with this name at a size, and returns its checksum.
+pub fn count(alloc: Global, name: &str, size: usize) -> Result<usize, WorkError> {
+    match name {
+        "numeric" => literature::numeric(alloc, size),
+        "pages" => literature::pages(alloc, size),
+        "initials" => literature::initials(alloc, size),
+        "particle" => literature::particle(alloc, size),
+        "clone_entry" => literature::clone_entry(alloc, size),
+        "stack" => tree::stack(alloc, size),
+        "drain" => tree::drain(alloc, size),
+        "search" => tree::search(alloc, size),
+        "search_deep" => tree::search_deep(alloc, size),
+        "simplify" => tree::simplify(alloc, size),
+        "simplify_deep" => tree::simplify_deep(alloc, size),
+        "html" => html::html(alloc, size),
+        "html_plain" => html::html_plain(alloc, size),
+        "style_chain" => styles::macro_chain(alloc, size),
+        "style_dense" => styles::dense(alloc, size),
+        "answers" => entry::answers(alloc, size),
+        "labels" => entry::labels(alloc, size),
+        "render" => render::render(alloc, size),
+        "pages_rendered" => render::pages_rendered(alloc, size),
+        "named" => render::named(alloc, size),
+        "pair" => render::pair(alloc, size),
+        "cite" => cites::cite(alloc, size),
+        "reference" => cites::reference(alloc, size),
+        "terms" => cites::terms(alloc, size),
+        "groups" => nested::groups(alloc, size),
+        "macros" => nested::macros(alloc, size),
+        "substitutes" => nested::substitutes(alloc, size),
+        "bibliography" => bibliography::bibliography(alloc, size),
+        "doubling" => nested::doubling(alloc, size),
+        "doubling_named" => nested::doubling_named(alloc, size),
+        "doubling_size" => nested::doubling_size(alloc, size),
+        _ => Err(WorkError::Unexpected("no such work")),
+    }
+}

@@ -1,0 +1,90 @@
+//! Layouts with deeply nested nodes.
+
+use crate::bench::entry::article;
+use crate::bench::render::{named_count, text_size};
+use crate::bench::styles::{call, linked};
+use crate::error::WorkError;
+use crate::nodes::{names_or, style, title};
+use csl::style::{
+    CslMacro, Group, LayoutRenderingElement, NameVariable, Names, StandardVariable, Style,
+};
+use std::alloc::Global;
+
+/// The limit of a layout's expanded size: above the size of each published style.
+const MOST: u64 = 16_384;
+
+/// Renders a style's citation layout for an article of one author, and counts the bytes of the plain
+/// text.
+fn size_for_one(alloc: Global, style: &Style) -> Result<usize, WorkError> {
+    text_size(alloc, style, &article(alloc, 1)?)
+}
+
+/// Renders a title in `size` nested groups, and counts the bytes of the plain text.
+pub fn groups(alloc: Global, size: usize) -> Result<usize, WorkError> {
+    let mut nodes = vec![in alloc; title()]?;
+    for _ in 0..size {
+        nodes = vec![in alloc; Group::new(nodes).into()]?;
+    }
+    size_for_one(alloc, &style(alloc, Vec::new(alloc), nodes)?)
+}
+
+/// A style of these macros, whose citation layout calls the first.
+fn first_of(alloc: Global, macros: Vec<CslMacro>) -> Result<Style, WorkError> {
+    let nodes = vec![in alloc; call(alloc, 0)?]?;
+    style(alloc, macros, nodes)
+}
+
+/// Renders a chain of `size` macros, the last with a title, and counts the bytes of the plain text.
+pub fn macros(alloc: Global, size: usize) -> Result<usize, WorkError> {
+    let macros = linked(alloc, size, 1, StandardVariable::Title.into())?;
+    size_for_one(alloc, &first_of(alloc, macros)?)
+}
+
+/// The authors.
+fn authors(alloc: Global) -> Result<LayoutRenderingElement, WorkError> {
+    let variables = vec![in alloc; NameVariable::Author]?;
+    Ok(Names::new(alloc, variables).into())
+}
+
+/// Renders the author of an article without editors, in `size` nested substitutes of editors, and
+/// counts the bytes of the plain text.
+pub fn substitutes(alloc: Global, size: usize) -> Result<usize, WorkError> {
+    let mut nodes = vec![in alloc; authors(alloc)?]?;
+    for _ in 0..size {
+        let editors = vec![in alloc; NameVariable::Editor]?;
+        nodes = vec![in alloc; names_or(alloc, editors, nodes)?]?;
+    }
+    size_for_one(alloc, &style(alloc, Vec::new(alloc), nodes)?)
+}
+
+/// A style of `size` macros. Each calls the next twice. The last has two texts of the genre, which
+/// no entry here has. The citation layout calls the first macro. Expanded it has `2^size` texts.
+fn doubling_style(alloc: Global, size: usize) -> Result<Style, WorkError> {
+    first_of(
+        alloc,
+        linked(alloc, size, 2, StandardVariable::Genre.into())?,
+    )
+}
+
+/// Renders a layout of `size` macros, each of which calls the next twice, and counts the bytes of
+/// the plain text. There are none. Without the memory of its macros a dry run would not end.
+pub fn doubling(alloc: Global, size: usize) -> Result<usize, WorkError> {
+    size_for_one(alloc, &doubling_style(alloc, size)?)
+}
+
+/// Collects the variables and kinds that this layout names, and counts the standard variables.
+/// Nothing is rendered.
+pub fn doubling_named(alloc: Global, size: usize) -> Result<usize, WorkError> {
+    named_count(alloc, &doubling_style(alloc, size)?)
+}
+
+/// The size of a style's citation layout with each macro expanded, or 0 if it is larger than
+/// [`MOST`]. `tools/speed` counts this call alone.
+fn expanded_size(style: &Style) -> u64 {
+    style.expanded_size(style.citation(), MOST).unwrap_or(0)
+}
+
+/// The expanded size of this layout. Nothing is rendered.
+pub fn doubling_size(alloc: Global, size: usize) -> Result<usize, WorkError> {
+    Ok(expanded_size(&doubling_style(alloc, size)?) as usize)
+}

@@ -1,0 +1,100 @@
+//! The macros of a style.
+
+use crate::error::WorkError;
+use crate::nodes::style;
+use csl::style::{CslMacro, LayoutRenderingElement, Text, Variable};
+use std::alloc::Global;
+
+/// The name of the macro with this number.
+fn name(alloc: Global, number: usize) -> Result<String, WorkError> {
+    Ok(format!(in alloc; "macro {number}")?)
+}
+
+/// A text that calls the macro with this number.
+pub fn call(alloc: Global, number: usize) -> Result<LayoutRenderingElement, WorkError> {
+    Ok(Text::macro_call(alloc, name(alloc, number)?.as_str())?.into())
+}
+
+/// The macro with this number, of these nodes.
+fn numbered(
+    alloc: Global,
+    number: usize,
+    nodes: Vec<LayoutRenderingElement>,
+) -> Result<CslMacro, WorkError> {
+    Ok(CslMacro::new(alloc, name(alloc, number)?.as_str(), nodes)?)
+}
+
+/// Calls of the macros with the numbers `first..end`.
+fn calls(
+    alloc: Global,
+    first: usize,
+    end: usize,
+) -> Result<Vec<LayoutRenderingElement>, WorkError> {
+    let mut nodes = Vec::new(alloc);
+    for number in first..end {
+        nodes.push(call(alloc, number)?)?;
+    }
+    Ok(nodes)
+}
+
+/// `size` macros. Each calls the next `reach` macros, up to the last macro.
+fn macros(alloc: Global, size: usize, reach: usize) -> Result<Vec<CslMacro>, WorkError> {
+    let mut macros = Vec::new(alloc);
+    for number in 0..size {
+        let next = number + 1;
+        let nodes = calls(alloc, next, size.min(next + reach))?;
+        macros.push(numbered(alloc, number, nodes)?)?;
+    }
+    Ok(macros)
+}
+
+/// The nodes of the macro with this number, out of `size` macros: `times` calls of the next macro.
+/// The last macro has `times` texts of a variable instead.
+fn links(
+    alloc: Global,
+    number: usize,
+    size: usize,
+    times: usize,
+    end: Variable,
+) -> Result<Vec<LayoutRenderingElement>, WorkError> {
+    let mut nodes = Vec::new(alloc);
+    for _ in 0..times {
+        if number + 1 < size {
+            nodes.push(call(alloc, number + 1)?)?;
+        } else {
+            nodes.push(Text::variable(end).into())?;
+        }
+    }
+    Ok(nodes)
+}
+
+/// `size` macros, each of which calls the next `times` times. The last has `times` texts of a
+/// variable instead.
+pub fn linked(
+    alloc: Global,
+    size: usize,
+    times: usize,
+    end: Variable,
+) -> Result<Vec<CslMacro>, WorkError> {
+    let mut macros = Vec::new(alloc);
+    for number in 0..size {
+        let nodes = links(alloc, number, size, times, end)?;
+        macros.push(numbered(alloc, number, nodes)?)?;
+    }
+    Ok(macros)
+}
+
+/// Makes a style of the macros, and counts them. `tools/speed` counts this call alone.
+fn macro_count(alloc: Global, macros: Vec<CslMacro>) -> Result<usize, WorkError> {
+    Ok(style(alloc, macros, Vec::new(alloc))?.macros().len())
+}
+
+/// Makes a style in which each macro calls the next, and counts the macros.
+pub fn macro_chain(alloc: Global, size: usize) -> Result<usize, WorkError> {
+    macro_count(alloc, macros(alloc, size, 1)?)
+}
+
+/// Makes a style in which each macro calls every later one, and counts the macros.
+pub fn dense(alloc: Global, size: usize) -> Result<usize, WorkError> {
+    macro_count(alloc, macros(alloc, size, size)?)
+}

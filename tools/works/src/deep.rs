@@ -1,0 +1,99 @@
+//! Works over deep values. Each returns a count.
+
+use crate::error::WorkError;
+use crate::nodes::{letter, names_or, style};
+use crate::refuse::text_of;
+use crate::trees::{elem, texts};
+use csl::literature::{EntryType, FormatString};
+use csl::style::{Choose, ChooseBranch, Display, Group, LayoutRenderingElement};
+use csl::tree::simplify_fully;
+use csl::{
+    BufWriteFormat, CiteProperties, DisambiguateState, ElemChildren, Entry, InstanceContext,
+};
+use std::alloc::Global;
+
+/// `depth` nested blocks around two texts.
+fn blocks(alloc: Global, depth: usize) -> Result<ElemChildren, WorkError> {
+    let mut children = texts(alloc)?;
+    for _ in 0..depth {
+        children = vec![in alloc; elem(children, Some(Display::Block), None)]?;
+    }
+    Ok(ElemChildren(children))
+}
+
+/// Makes a tree of this depth, does what the name says, and drops it.
+fn of_tree(alloc: Global, name: &str, depth: usize) -> Result<usize, WorkError> {
+    let tree = blocks(alloc, depth)?;
+    match name {
+        "tree-copy" => Ok(tree.clone(alloc)?.0.len()),
+        "tree-compare" => Ok(usize::from(blocks(alloc, depth)? == tree)),
+        "tree-write" => Ok(tree.to_text(alloc, BufWriteFormat::Plain)?.len()),
+        "tree-simplify" => Ok(simplify_fully(alloc, &tree)?.0.len()),
+        _ => Ok(tree.0.len()),
+    }
+}
+
+/// Makes a chain of `depth` entries, each the parent of the next, and drops it.
+fn of_parents(alloc: Global, depth: usize) -> Result<usize, WorkError> {
+    let mut parents = Vec::new(alloc);
+    for _ in 0..depth {
+        let mut book = Entry::new(alloc, "book", EntryType::Book)?;
+        book.parents = parents;
+        parents = vec![in alloc; book]?;
+    }
+    Ok(parents.len())
+}
+
+/// A node around others. The name of the work selects its sort.
+fn around(
+    alloc: Global,
+    name: &str,
+    nodes: Vec<LayoutRenderingElement>,
+) -> Result<LayoutRenderingElement, WorkError> {
+    match name {
+        "groups" | "groups-render" => Ok(Group::new(nodes).into()),
+        "choices" | "choices-render" => Ok(Choose::new(alloc, ChooseBranch::new(nodes)).into()),
+        _ => names_or(alloc, Vec::new(alloc), nodes),
+    }
+}
+
+/// Renders nodes for a title, and counts the bytes of the plain text.
+fn rendered(alloc: Global, nodes: Vec<LayoutRenderingElement>) -> Result<usize, WorkError> {
+    let style = style(alloc, Vec::new(alloc), nodes)?;
+    let mut entry = Entry::new(alloc, "book", EntryType::Book)?;
+    entry.title = Some(FormatString::plain(alloc, "a")?);
+    let cite_props = CiteProperties::first(DisambiguateState::None);
+    let instance = InstanceContext {
+        entry: &entry,
+        cite_props: &cite_props,
+        sorting: None,
+        kind: None,
+    };
+    Ok(text_of(alloc, &style, instance)?.len())
+}
+
+/// Makes `depth` nested nodes around the text `a`, renders them if the name says so, and drops them.
+fn of_nodes(alloc: Global, name: &str, depth: usize) -> Result<usize, WorkError> {
+    let mut nodes = letter(alloc)?;
+    for _ in 0..depth {
+        nodes = vec![in alloc; around(alloc, name, nodes)?]?;
+    }
+    if name.ends_with("-render") {
+        return rendered(alloc, nodes);
+    }
+    Ok(nodes.len())
+}
+
+/// Does the work with this name at a depth, and returns its count.
+pub fn count(alloc: Global, name: &str, depth: usize) -> Result<usize, WorkError> {
+    match name {
+        "tree" | "tree-copy" | "tree-compare" | "tree-write" | "tree-simplify" => {
+            of_tree(alloc, name, depth)
+        }
+        "parents" => of_parents(alloc, depth),
+        "groups" | "groups-render" | "choices" | "choices-render" | "names" | "names-render" => {
+            of_nodes(alloc, name, depth)
+        }
+        _ => Err(WorkError::Unexpected("no such work")),
+    }
+}

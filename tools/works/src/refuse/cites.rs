@@ -1,0 +1,116 @@
+//! Cites in several manners, a pair of cites, and a label.
+
+use crate::error::WorkError;
+use crate::refuse::failed::refusal;
+use crate::refuse::twice;
+use csl::entry::{NameDisambiguationProperties, SpecialForm};
+use csl::literature::ChunkedString;
+use csl::style::{DateVariable, NameVariable};
+use csl::{
+    Alphanumerical, BufWriteFormat, CiteProperties, Context, DisambiguateState,
+    DisambiguatedNameForm, EntryLike, InstanceContext, Pair, RenderCsl, Rendered, Scope, Style,
+    cite_pair,
+};
+use csl_samples::{BuiltIn, BuiltInStyle, TitleOnly, title_style};
+use std::alloc::Global;
+
+/// Renders the citation layout of a style for a cite. If it fails, checks that later calls of the
+/// context return that it has failed.
+fn rendered<'s, T: EntryLike>(
+    alloc: Global,
+    style: &'s Style,
+    instance: InstanceContext<'s, T>,
+) -> Result<Rendered, WorkError> {
+    let mut ctx = Context::new(alloc, style, instance, Scope::Citation)?;
+    match style.citation().render(&mut ctx) {
+        Ok(()) => Ok(ctx.finish()?),
+        Err(_) => Err(refusal(ctx)),
+    }
+}
+
+/// Renders the citation layout of a style for a cite, as plain text.
+pub fn text_of<'s, T: EntryLike>(
+    alloc: Global,
+    style: &'s Style,
+    instance: InstanceContext<'s, T>,
+) -> Result<String, WorkError> {
+    let rendered = rendered(alloc, style, instance)?;
+    Ok(rendered.content.to_text(alloc, BufWriteFormat::Plain)?)
+}
+
+/// Cites an entry for the first time, by its authors and the year, in a disambiguation state and a
+/// special form. If memory runs out, cites it once more in a new context.
+fn cite(
+    alloc: Global,
+    entry: BuiltIn,
+    state: DisambiguateState,
+    kind: Option<SpecialForm>,
+) -> Result<String, WorkError> {
+    let style = BuiltInStyle::AuthorDate.style(alloc)?;
+    let entry = entry.entry(alloc)?;
+    let cite_props = CiteProperties::first(state);
+    let instance = InstanceContext {
+        entry: &entry,
+        cite_props: &cite_props,
+        sorting: None,
+        kind,
+    };
+    twice(|| text_of(alloc, &style, instance))
+}
+
+/// The whole cite.
+pub fn whole(alloc: Global) -> Result<String, WorkError> {
+    cite(alloc, BuiltIn::CrazyRich, DisambiguateState::None, None)
+}
+
+/// With a year suffix of three letters.
+pub fn suffixed(alloc: Global) -> Result<String, WorkError> {
+    let state = DisambiguateState::YearSuffix(702);
+    cite(alloc, BuiltIn::CrazyRich, state, None)
+}
+
+/// Without the author.
+pub fn suppressed(alloc: Global) -> Result<String, WorkError> {
+    let kind = Some(SpecialForm::SuppressAuthor);
+    cite(alloc, BuiltIn::CrazyRich, DisambiguateState::None, kind)
+}
+
+/// The date of issue alone.
+pub fn date_only(alloc: Global) -> Result<String, WorkError> {
+    let kind = Some(SpecialForm::VarOnly(DateVariable::Issued.into()));
+    cite(alloc, BuiltIn::CrazyRich, DisambiguateState::None, kind)
+}
+
+/// Name forms of the authors: the first in the short form, and no others.
+pub fn forms(alloc: Global) -> Result<NameDisambiguationProperties, WorkError> {
+    let form = DisambiguatedNameForm::ShortFull;
+    let lists = vec![in alloc; vec![in alloc; Some(form)]?]?;
+    let variables = vec![in alloc; NameVariable::Author]?;
+    Ok(NameDisambiguationProperties::new(form, variables, lists))
+}
+
+/// With name forms.
+pub fn shortened(alloc: Global) -> Result<String, WorkError> {
+    let state = DisambiguateState::NameDisambiguation(forms(alloc)?);
+    cite(alloc, BuiltIn::Dependence, state, None)
+}
+
+/// The label of an article of three authors. If memory runs out, labels it once more.
+pub fn label(alloc: Global) -> Result<String, WorkError> {
+    let entry = BuiltIn::Dependence.entry(alloc)?;
+    twice(|| Ok(Alphanumerical::new().citation(alloc, &entry)?))
+}
+
+/// Cites a book and an entry with only its title in the style of titles, and compares them. If
+/// memory runs out, cites the pair once more.
+pub fn pair(alloc: Global) -> Result<String, WorkError> {
+    let style = title_style(alloc)?;
+    let book = BuiltIn::CrazyRich.entry(alloc)?;
+    let title = TitleOnly {
+        title: ChunkedString::plain(alloc, "Crazy Rich Asians")?,
+    };
+    let cite_props = CiteProperties::first(DisambiguateState::None);
+    let pair: Pair = twice(|| Ok(cite_pair(alloc, &style, &cite_props, &book, &title)?))?;
+    let alike = if pair.alike { "alike" } else { "not alike" };
+    Ok(format!(in alloc; "{alike}, {} and {}", pair.left_html, pair.right_html)?)
+}
