@@ -31,7 +31,7 @@ use Rattle.csl_cli.specs.Content.{IsTitleContent, title_text}
 -- the input of a first cite of a title
 abbrev title_input : StyleParts → List ℕ → RenderInput
 title_input style title =
-    cite_input style Citation (first_cite no_disambiguation) None None (title_answers (in_one_piece title))
+    cite_input style Citation (first_cite no_disambiguation) None None (title_answers (Some (in_one_piece title)))
 
 -- the content of the cite of a title, in a style with this layout
 abbrev made_by : StyleParts → List ℕ → LayoutNode → List Token

@@ -5,7 +5,7 @@
 -- The cite of a title is written as `(Title: `, the title and `)` (`title_text`). In HTML the title
 -- is escaped, in a span that declares italics. If the title is empty, the group around it does not
 -- print, and nothing is written.
-use Rattle.std.specs.Prelude.{◌≡◌, ℕ, List, [], ◌∷◌, ◌++◌, codes}
+use Rattle.std.specs.Prelude.{◌≡◌, ℕ, List, [], ◌∷◌, ◌++◌, Some, codes}
 use Rattle.csl_style.specs.Style.{StyleParts}
 use Rattle.csl_tree.specs.Escapes.{escape_all}
 use Rattle.csl_tree.specs.Tokens.{Token}
@@ -23,7 +23,7 @@ use Rattle.csl_samples.specs.declared.styles.BuiltInStyle.{BuiltInStyle}
 
 -- the content of the first cite of an entry with only this title, in the style of titles
 abbrev pub IsTitleContent : List ℕ → List Token → Type 0
-IsTitleContent title content = (style : StyleParts) × CitesTitles style × (content ≡ cite_content style (title_answers (in_one_piece title)))
+IsTitleContent title content = (style : StyleParts) × CitesTitles style × (content ≡ cite_content style (title_answers (Some (in_one_piece title))))
 
 -- the text of the cite of a title, in a format
 abbrev pub title_text : List ℕ → BufWriteFormat → List ℕ

@@ -37,7 +37,8 @@ pub fn title_content(alloc: Global, title: &str) -> Result<ElemChildren, Memory>
 {
     let title = ChunkedString::plain(alloc, title)?;
     let style = title_style(alloc)?;
-    let made = first_cite(alloc, &style, &TitleOnly { title });
+    let entry = TitleOnly { title: Some(title) };
+    let made = first_cite(alloc, &style, &entry);
     drop(style);
     match made {
         Ok(made) => Ok(made.content),

@@ -39,6 +39,8 @@ mod table;
 #[cfg(test)]
 mod tables;
 #[cfg(test)]
+mod titles;
+#[cfg(test)]
 mod without_memory;
 #[cfg(test)]
 mod words;

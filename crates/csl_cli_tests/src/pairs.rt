@@ -1,16 +1,13 @@
-//! Tests of pairs of entries: whether they are alike for a layout, and the renderings of both. The
-//! expected texts are written by hand.
+//! Tests of pairs of built-in entries: whether they are alike for a layout, and the renderings of
+//! both. The expected texts are written by hand.
 
 use crate::asserted::assert_text;
 use crate::cited::entries;
 use crate::cites::{BOOK, DEPENDENCE_HTML, ESSAY_HTML, THREE, VORTEX_HTML};
-use crate::nodes::{layout, text_of};
-use csl_context::{LeftState, RenderError};
-use csl_entry::{CiteProperties, DisambiguateState, EntryLike};
-use csl_render::{Pair, cite_pair, render_pair};
-use csl_samples::{BuiltIn, BuiltInStyle, TitleOnly, title_style};
-use csl_style::{Layout, Scope, StandardVariable, Style};
-use lit_model::{ChunkedString, Entry};
+use csl_entry::{CiteProperties, DisambiguateState};
+use csl_render::{Pair, cite_pair};
+use csl_samples::{BuiltIn, BuiltInStyle};
+use lit_model::Entry;
 use std::alloc::Global;
 use std::process::Abort;
 use std::test::Fail;
@@ -32,25 +29,6 @@ static REFERENCES: [Row; 4] = [
     ("quantized-vortex", VORTEX_HTML),
 ];
 
-/// Renders two entries by a layout, each in a first cite.
-fn paired<T: EntryLike, U: EntryLike>(
-    alloc: Global,
-    style: &Style,
-    layout: &Layout,
-    left: &T,
-    right: &U,
-) -> Result<Pair, RenderError> {
-    let start = LeftState::new(alloc);
-    let cite = CiteProperties::first(DisambiguateState::None);
-    let scope = Scope::Citation;
-    let pair = render_pair(
-        alloc, style, layout, scope, &cite, None, None, &start, left, right,
-    );
-    drop(start);
-    drop(cite);
-    pair
-}
-
 /// Whether two entries are alike and whether their contents are equal, in words.
 fn likeness(alike: bool, same: bool) -> &'static str {
     match (alike, same) {
@@ -61,11 +39,16 @@ fn likeness(alike: bool, same: bool) -> &'static str {
     }
 }
 
-/// Asserts both HTML texts of a pair, and that the entries are alike and the contents equal, each
-/// exactly if `is_one`.
-fn assert_pair(rt: &impl Abort, pair: &Pair, is_one: bool, left: &str, right: &str, of: &[&str]) {
+/// Asserts the likeness of a pair, in words, and both HTML texts.
+pub(crate) fn assert_pair(
+    rt: &impl Abort,
+    pair: &Pair,
+    wanted: &str,
+    left: &str,
+    right: &str,
+    of: &[&str],
+) {
     let same = pair.left.content == pair.right.content;
-    let wanted = likeness(is_one, is_one);
     assert_text(rt, likeness(pair.alike, same), wanted, of);
     assert_text(rt, pair.left_html.as_str(), left, of);
     assert_text(rt, pair.right_html.as_str(), right, of);
@@ -106,9 +89,10 @@ fn assert_rows(
     right: &Row,
 ) -> Result<(), Fail> {
     let is_one = left.0 == right.0;
+    let wanted = likeness(is_one, is_one);
     let pair = pair_of_keys(alloc, style, left.0, right.0)?;
     let keys = [left.0, right.0];
-    assert_pair(rt, &pair, is_one, line(left.1), line(right.1), &keys);
+    assert_pair(rt, &pair, wanted, line(left.1), line(right.1), &keys);
     drop(pair);
     Ok(())
 }
@@ -141,47 +125,4 @@ fn built_in_entries_by_author_and_date(rt: HostRuntime) -> Result<(), Fail> {
 #[test]
 fn built_in_entries_in_full(rt: HostRuntime) -> Result<(), Fail> {
     assert_pairs(&rt, rt.alloc(), BuiltInStyle::Reference, &REFERENCES)
-}
-
-/// Renders a book and an entry with only a title in a style, by a layout of the title.
-fn titles_in(alloc: Global, style: &Style, book: &Entry, title: &TitleOnly) -> Result<Pair, Fail> {
-    let layout = layout(alloc, text_of(StandardVariable::Title))?;
-    Ok(paired(alloc, style, &layout, book, title)?)
-}
-
-/// Renders a book and an entry with only a title in the style of titles, by a layout of the title.
-fn titles(alloc: Global, book: &Entry, title: &TitleOnly) -> Result<Pair, Fail> {
-    let style = title_style(alloc)?;
-    let pair = titles_in(alloc, &style, book, title);
-    drop(style);
-    pair
-}
-
-/// Renders the built-in book and an entry with only this title, by a layout of the title.
-fn titles_of(alloc: Global, title: &str) -> Result<Pair, Fail> {
-    let title = TitleOnly {
-        title: ChunkedString::plain(alloc, title)?,
-    };
-    titles_with(alloc, &title)
-}
-
-/// Renders the built-in book and an entry with only a title, by a layout of the title.
-fn titles_with(alloc: Global, title: &TitleOnly) -> Result<Pair, Fail> {
-    let book = BuiltIn::of_key("crazy-rich").ok_or("a book")?;
-    let books = entries(alloc, &[book])?;
-    let book = books.first().ok_or("a book")?;
-    titles(alloc, book, title)
-}
-
-fn assert_titles(rt: &impl Abort, alloc: Global, title: &str, is_one: bool) -> Result<(), Fail> {
-    let pair = titles_of(alloc, title)?;
-    assert_pair(rt, &pair, is_one, "Crazy Rich Asians", title, &[title]);
-    drop(pair);
-    Ok(())
-}
-
-#[test]
-fn a_book_and_its_title_alone(rt: HostRuntime) -> Result<(), Fail> {
-    assert_titles(&rt, rt.alloc(), "Crazy Rich Asians", true)?;
-    assert_titles(&rt, rt.alloc(), "She swoons to conquer", false)
 }

@@ -154,9 +154,8 @@ fn titled(alloc: Global, style: &Style, title: &TitleOnly) -> Result<Rendered, F
 
 /// Renders an entry with only a title, in the style of titles.
 fn content(alloc: Global) -> Result<Rendered, Fail> {
-    let title = TitleOnly {
-        title: ChunkedString::plain(alloc, "R&D")?,
-    };
+    let title = ChunkedString::plain(alloc, "R&D")?;
+    let title = TitleOnly { title: Some(title) };
     let style = title_style(alloc)?;
     let made = titled(alloc, &style, &title);
     drop(style);

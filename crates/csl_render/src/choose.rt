@@ -128,8 +128,8 @@ fn first_taken<'a, 's, T: EntryLike>(
 /// [`RenderError::Memory`]: out of memory, here or in the entry. The context has failed.
 /// [`RenderError::Failed`]: the context had failed already.
 pub fn choose_children<'a, 's, T: EntryLike>(
-    ctx: &mut Context<'s, T>,
     choose: &'a Choose,
+    ctx: &mut Context<'s, T>,
 ) -> Result<Option<&'a [LayoutRenderingElement]>, RenderError>
     ensures { Reads (option_map (λ ns. view_nodes ns.now)) result
         (chosen_children (render_input T.answers ctx.old)

@@ -237,7 +237,7 @@ fn say_conditions<'s, T: EntryLike>(scene: &Scene<'s, T>, said: &mut String) -> 
 fn say_chosen<'s, T: EntryLike>(scene: &Scene<'s, T>, said: &mut String) -> Result<(), Fail> {
     let choose = choice_of(scene.element)?;
     let mut ctx = context(scene, None)?;
-    let chosen = choose_children(&mut ctx, choose);
+    let chosen = choose_children(choose, &mut ctx);
     drop(ctx);
     match chosen? {
         Some(nodes) => Ok(write!(said, "{}", nodes.len())?),

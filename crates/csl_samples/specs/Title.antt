@@ -1,4 +1,5 @@
--- An entry with only a title, and the style that it is cited in (`CitesTitles`). The style has no
+-- An entry that has a title or nothing at all, and the style that it is cited in (`CitesTitles`).
+-- The entry answers the variable `title` in both forms, exactly if it has a title. The style has no
 -- macros and no locales. Its layout is a group in parentheses, delimited by `: `, of the word
 -- `Title` and the title in italics.
 use Rattle.std.specs.Prelude.{◌≡◌, List, [], Option, Some, None, false, codes}
@@ -17,11 +18,11 @@ use Rattle.csl_samples.specs.Nodes.{only_affixes, formatted_dressing}
 
 -- ---- the entry
 
-abbrev pub title_of : List Chunk → StandardVariable → Option (List Chunk)
-title_of title Title = Some title
+abbrev pub title_of : Option (List Chunk) → StandardVariable → Option (List Chunk)
+title_of title Title = title
 title_of title _ = None
 
-abbrev pub title_answers : List Chunk → Answers
+abbrev pub title_answers : Option (List Chunk) → Answers
 title_answers title = record {
   numbers = λ _. None;
   pages = λ _. None;

@@ -16,18 +16,18 @@ use lit_model::{
 use std::alloc::Global;
 use std::borrow::{Cow, CowStr};
 
-/// An entry with only a title.
+/// An entry with only a title. Without one it answers nothing.
 #[derive(Drop)]
 pub struct TitleOnly {
-    pub title: ChunkedString,
+    pub title: Option<ChunkedString>,
 }
 
 impl EntryLike for TitleOnly {
-    ghost use Rattle.std.specs.Prelude.{[], None};
+    ghost use Rattle.std.specs.Prelude.{[], None, option_map};
     ghost use Rattle.lit_model.specs.Text.{chunks};
     ghost use Rattle.csl_samples.specs.Title.{title_answers};
 
-    ghost answers = { λ entry. title_answers (chunks entry.title) };
+    ghost answers = { λ entry. title_answers (option_map chunks entry.title) };
 
     ghost key_text = { λ _. [] };
 
@@ -56,7 +56,10 @@ impl EntryLike for TitleOnly {
         variable: StandardVariable,
     ) -> Result<Option<Cow<'_, ChunkedString>>, Memory> {
         match variable {
-            StandardVariable::Title => Ok(Some(Cow::Borrowed(&self.title))),
+            StandardVariable::Title => match &self.title {
+                Some(title) => Ok(Some(Cow::Borrowed(title))),
+                None => Ok(None),
+            },
             _ => Ok(None),
         }
     }

@@ -1,4 +1,4 @@
-use Rattle.std.proofs.Common.{ap, ◌∙◌}
+use Rattle.std.proofs.Common.{Some, ap, ◌∙◌}
 use Rattle.csl_render.specs.CiteContent.{cite_content}
 use Rattle.csl_samples.specs.Title.{title_answers}
 use Rattle.csl_cli.proofs.content.title_content.Goals as goal
@@ -7,4 +7,4 @@ use Rattle.csl_cli.proofs.content.title_content.Goals as goal
 pub returns-in-Ok : goal.returns-in-Ok
 returns-in-Ok c =
     let style = c.in_ok-style.style in
-    (style, c.in_ok-style.ensures, c.in-Ok.ensures ∙ ap (λ title. cite_content style (title_answers title)) c.in_ok-title.ensures)
+    (style, c.in_ok-style.ensures, c.in-Ok.ensures ∙ ap (λ title. cite_content style (title_answers (Some title))) c.in_ok-title.ensures)
