@@ -1,0 +1,45 @@
+//! The calls of `csl_style`.
+
+use crate::bounds::has_type;
+use csl_style::{
+    Choose, ChooseBranch, CslMacro, Date, DateForm, Formatting, Kind, Layout, Locale, NameOptions,
+    Named, Scope, Style, StyleError, StyleSettings, Term, TermForm,
+};
+use lit_model::{GrammarGender, Memory};
+use std::alloc::Global;
+use std::iter::{Chain, Once};
+use std::slice::Iter;
+
+fn values() {
+    let _: fn(Formatting, Formatting) -> Formatting = Formatting::apply;
+    let _: fn(&str) -> Option<Kind> = Kind::from_name;
+    let _: for<'a> fn(&'a Choose) -> Chain<Once<&'a ChooseBranch>, Iter<'a, ChooseBranch>> =
+        Choose::branches;
+}
+
+fn styles() {
+    let _: fn(
+        Global,
+        StyleSettings,
+        Vec<CslMacro>,
+        Layout,
+        Option<Layout>,
+        Vec<Locale>,
+    ) -> Result<Style, StyleError> = Style::new;
+    let _: fn(&Style) -> &StyleSettings = Style::settings;
+    let _: fn(&Style) -> &[CslMacro] = Style::macros;
+    let _: fn(&Style) -> &Layout = Style::citation;
+    let _: fn(&Style) -> Option<&Layout> = Style::bibliography;
+    let _: fn(&Style) -> &[Locale] = Style::locales;
+    let _: for<'a> fn(&'a Style, &str) -> Option<&'a CslMacro> = Style::get_macro;
+    let _: fn(&Style, Term, TermForm, bool) -> Option<&str> = Style::term;
+    let _: fn(&Style, Term) -> Option<GrammarGender> = Style::gender;
+    let _: fn(&Style, i32, Option<GrammarGender>) -> Option<&str> = Style::ordinal;
+    let _: fn(&Style, DateForm) -> Option<&Date> = Style::localized_date;
+    let _: fn(&Style, Scope) -> bool = Style::renders_year_suffix_implicitly;
+    let _: fn(Global, &Style, &Layout) -> Result<Named, Memory> = csl_style::named_by;
+}
+
+fn is_suppressed(options: NameOptions<'_>, idx: usize, len: usize, subsequent: bool) {
+    has_type::<bool, _>(&options.is_suppressed(idx, len, subsequent));
+}
