@@ -68,8 +68,7 @@ fn stacks<T: Default + Drop>() {
     let _: fn(&NonEmptyStack<T>) -> NonZeroUsize = NonEmptyStack::<T>::len;
     let _: fn(&mut NonEmptyStack<T>, T) -> Result<(), T> = NonEmptyStack::<T>::push;
     let _: fn(&mut NonEmptyStack<T>) -> Option<T> = NonEmptyStack::<T>::pop;
-    let _: fn(&mut NonEmptyStack<T>, NonZeroUsize) -> Result<Vec<T>, Memory> =
-        NonEmptyStack::drain;
+    let _: fn(&mut NonEmptyStack<T>, NonZeroUsize) -> Result<Vec<T>, Memory> = NonEmptyStack::drain;
     let _: for<'a> fn(&'a NonEmptyStack<T>) -> Iter<'a, T> = NonEmptyStack::<T>::iter;
     let _: fn(NonEmptyStack<T>) -> T = NonEmptyStack::<T>::finish;
 }

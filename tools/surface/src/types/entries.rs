@@ -56,9 +56,9 @@ fn speculative_cite_properties<'s>(it: &SpeculativeCiteProperties<'s>) {
 }
 
 fn specific_locator<'s>(it: &SpecificLocator<'s>) {
-    let SpecificLocator(field_0, field_1) = it;
-    has_type::<Locator, _>(field_0);
-    has_type::<LocatorPayload<'s>, _>(field_1);
+    let SpecificLocator(locator, payload) = it;
+    has_type::<Locator, _>(locator);
+    has_type::<LocatorPayload<'s>, _>(payload);
 }
 
 fn locator_payload<'s>(it: &LocatorPayload<'s>) {

@@ -1,6 +1,6 @@
 //! The nodes and options of names.
 
-use crate::bounds::{copied, has_type};
+use crate::bounds::{copied, defaulted, has_type};
 use csl_style::{
     Affixes, DelimiterBehavior, Display, EtAl, Formatting, InheritableNameOptions,
     LayoutRenderingElement, Name, NameAnd, NameAsSortOrder, NameForm, NameOptions, NamePart,
@@ -69,6 +69,7 @@ fn substitute(it: &Substitute) {
 }
 
 fn inheritable_name_options(it: &InheritableNameOptions) {
+    defaulted::<InheritableNameOptions>();
     let InheritableNameOptions {
         and,
         delimiter,

@@ -57,6 +57,7 @@ fn display(it: &Display) {
 }
 
 fn formatting(it: &Formatting) {
+    defaulted::<Formatting>();
     let Formatting {
         font_style,
         font_variant,
@@ -72,6 +73,7 @@ fn formatting(it: &Formatting) {
 }
 
 fn affixes(it: &Affixes) {
+    defaulted::<Affixes>();
     let Affixes { prefix, suffix } = it;
     has_type::<Option<String>, _>(prefix);
     has_type::<Option<String>, _>(suffix);

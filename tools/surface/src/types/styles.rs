@@ -1,6 +1,6 @@
 //! The settings of a style, its errors, and the variables that a layout names.
 
-use crate::bounds::has_type;
+use crate::bounds::{defaulted, has_type};
 use csl_style::{
     DateVariable, DemoteNonDroppingParticle, InheritableNameOptions, Kind, NameVariable, Named,
     NumberVariable, PageRangeFormat, PageVariable, StandardVariable, StyleError, StyleSettings,
@@ -8,6 +8,7 @@ use csl_style::{
 use std::collections::BTreeSet;
 
 fn style_settings(it: &StyleSettings) {
+    defaulted::<StyleSettings>();
     let StyleSettings {
         page_range_format,
         demote_non_dropping_particle,

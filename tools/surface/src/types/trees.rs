@@ -76,6 +76,7 @@ fn formatted(it: &Formatted) {
 }
 
 fn formatting(it: &Formatting) {
+    defaulted::<Formatting>();
     equal::<Formatting>();
     hashed::<Formatting>();
     copied::<Formatting>();
