@@ -1,4 +1,4 @@
-//! Bounds that a type meets or that refuse to compile.
+//! Functions whose calls compile only if a type meets a bound.
 
 use std::fmt;
 use std::hash::Hash;

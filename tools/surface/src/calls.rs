@@ -1,5 +1,6 @@
-//! The public calls. A call is assigned to a pointer of its type. Where the type names a lifetime of
-//! its receiver, no such pointer can be written; the call is made, and its result has its type.
+//! The public calls. Each is assigned to a pointer of its type. No such pointer can be written for
+//! a method of a type with a lifetime of its own. Such a method is called, and its result compared
+//! with its type.
 
 mod contexts;
 mod entries;

@@ -1,10 +1,10 @@
-//! What callers rely on, in a form that only compiles while it holds: each public call has exactly its
-//! parameters and its result; each public type has its derives; each enum has exactly its variants,
-//! and each struct of public fields exactly its fields, with their types; each trait that callers
+//! What callers rely on, as code that compiles only while it holds. Each public call has exactly
+//! its parameters and its result. Each public type has its derives, each enum exactly its variants,
+//! and each struct of public fields exactly its fields, with their types. Each trait that callers
 //! implement has exactly its members.
 //!
-//! Nothing here runs, and nothing is proved. `tools/check_surface` compiles it over the checkout. A
-//! change of the surface that is meant is made here too.
+//! Nothing here runs, and nothing is proved. `tools/check_surface` compiles it over the checkout.
+//! If you change the surface on purpose, change it here too.
 #![tactic(auto)]
 
 mod bounds;
