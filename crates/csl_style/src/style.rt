@@ -257,7 +257,7 @@ impl Style {
     pub(crate) fn macro_index(&self, name: &str) -> Option<usize>
         ensures { result ≡ macro_index name.now (definitions self.now.macros) }
     {
-        self.places.get(name).copied()
+        self.places.get(name)
     }
 
     /// The first macro of a name (CSL 1.0.2, Macro).
