@@ -68,7 +68,7 @@ fn branches_come_in_order(rt: HostRuntime) -> Result<(), Fail> {
 
 /// How often the nodes of a row are nested. Recursion at each level would need more stack than a
 /// test has.
-const TIMES: usize = 20_000;
+const TIMES: usize = 10_000;
 
 /// Nodes around each other, from the outside in.
 static NESTED: [&'static str; 6] = [
@@ -81,8 +81,13 @@ static NESTED: [&'static str; 6] = [
 ];
 
 /// Asserts that nested nodes drop, with `count` nodes at each time.
-fn assert_drop(rt: &HostRuntime, words: &str, others: &str, count: usize) -> Result<(), Fail> {
-    let nodes = nested(rt.alloc(), words, TIMES, others)?;
+fn assert_drop(
+    rt: &impl Abort,
+    alloc: Global,
+    (words, others): (&str, &str),
+    count: usize,
+) -> Result<(), Fail> {
+    let nodes = nested(alloc, words, TIMES, others)?;
     let answer = nodes.len();
     drop(nodes);
     assert_same(rt, &answer, &count);
@@ -92,7 +97,7 @@ fn assert_drop(rt: &HostRuntime, words: &str, others: &str, count: usize) -> Res
 #[test]
 fn deeply_nested_nodes_drop(rt: HostRuntime) -> Result<(), Fail> {
     for words in &NESTED {
-        assert_drop(&rt, *words, "", 1)?;
+        assert_drop(&rt, rt.alloc(), (*words, ""), 1)?;
     }
     Ok(())
 }
@@ -100,7 +105,7 @@ fn deeply_nested_nodes_drop(rt: HostRuntime) -> Result<(), Fail> {
 #[test]
 fn deeply_nested_nodes_with_others_beside_them_drop(rt: HostRuntime) -> Result<(), Fail> {
     for words in &NESTED {
-        assert_drop(&rt, *words, "'a 'b", 3)?;
+        assert_drop(&rt, rt.alloc(), (*words, "'a 'b"), 3)?;
     }
     Ok(())
 }
