@@ -2,9 +2,10 @@
 //!
 //! A style and its locale are values. Nodes, options and terms are in [`style`], a work and its
 //! parts in [`literature`], the output tree in [`tree`]. [`cite`] and [`bibliography_entry`] render
-//! an entry of any type that implements [`EntryLike`]. [`english`] returns a locale to begin with:
-//! the words of CSL's own `en-US`. The errors of all calls convert into [`Error`].
-//! `docs/CALLING.md` has a whole program.
+//! an entry of any type that implements [`EntryLike`]. For a single node, [`context`] has the
+//! context and [`render`] the calls. [`english`] returns a locale to begin with: the words of CSL's
+//! own `en-US`. The errors of all calls convert into [`Error`]. `docs/CALLING.md` has a whole
+//! program.
 #![tactic(auto)]
 
 mod error;

@@ -89,15 +89,10 @@ fn numeric_date(alloc: Global) -> Result<Date, Memory> {
         ..DatePart::new(DatePartName::Day)
     };
     let year = DatePart::new(DatePartName::Year);
+    let parts = vec![in alloc; month, day, year]?;
     Ok(Date {
-        variable: None,
-        form: Some(DateForm::Numeric),
-        parts: None,
-        date_part: vec![in alloc; month, day, year]?,
         delimiter: Some(delimiter),
-        formatting: Default::default(),
-        affixes: Affixes::default(),
-        display: None,
+        ..Date::localized(DateForm::Numeric, parts)
     })
 }
 
@@ -112,16 +107,8 @@ fn text_date(alloc: Global) -> Result<Date, Memory> {
         ..DatePart::new(DatePartName::Day)
     };
     let year = DatePart::new(DatePartName::Year);
-    Ok(Date {
-        variable: None,
-        form: Some(DateForm::Text),
-        parts: None,
-        date_part: vec![in alloc; month, day, year]?,
-        delimiter: None,
-        formatting: Default::default(),
-        affixes: Affixes::default(),
-        display: None,
-    })
+    let parts = vec![in alloc; month, day, year]?;
+    Ok(Date::localized(DateForm::Text, parts))
 }
 
 /// Returns the English locale. It has the words of CSL's own locale `en-US` (CSL 1.0.2; the file
