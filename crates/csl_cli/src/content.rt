@@ -37,8 +37,7 @@ pub fn title_content(alloc: Global, title: &str) -> Result<ElemChildren, Memory>
 {
     let title = ChunkedString::plain(alloc, title)?;
     let style = title_style(alloc)?;
-    let entry = TitleOnly { title: Some(title) };
-    let made = first_cite(alloc, &style, &entry);
+    let made = first_cite(alloc, &style, &TitleOnly { title: Some(title) });
     drop(style);
     match made {
         Ok(made) => Ok(made.content),
