@@ -237,9 +237,8 @@ fn list_line<T: EntryLike>(
     entry: &T,
     place: usize,
 ) -> Result<ElemChildren, Error>
-    ensures text { IfOk result (λ line. leaf_text (tokens line)
+    ensures { IfOk result (λ line. leaf_text (tokens line)
         ≡ leaf_text (numbered_line style.now place (T.answers entry.now))) }
-    ensures web { IfOk result (λ line. All IsWebAddress (addresses (tokens line))) }
 {
     let Ok(place) = u32::try_from(place) else {
         return Err(Error::NotNumeric);
@@ -255,11 +254,10 @@ fn list_line<T: EntryLike>(
             ..first.speculative
         },
     };
-    let content = match csl::bibliography_entry(alloc, style, entry, &cite)? {
-        Some(rendered) => rendered.content,
-        None => ElemChildren::new(alloc),
-    };
-    Ok(with_web_links(alloc, content)?)
+    match csl::bibliography_entry(alloc, style, entry, &cite)? {
+        Some(rendered) => Ok(with_web_links(alloc, rendered.content)?),
+        None => Ok(ElemChildren::new(alloc)),
+    }
 }
 
 /// A whole page of HTML: the bibliography of these entries in their order, numbered from 1.
