@@ -107,7 +107,7 @@ pub fn pair(alloc: Global) -> Result<String, WorkError> {
     let style = title_style(alloc)?;
     let book = BuiltIn::CrazyRich.entry(alloc)?;
     let title = TitleOnly {
-        title: ChunkedString::plain(alloc, "Crazy Rich Asians")?,
+        title: Some(ChunkedString::plain(alloc, "Crazy Rich Asians")?),
     };
     let cite_props = CiteProperties::first(DisambiguateState::None);
     let pair: Pair = twice(|| Ok(cite_pair(alloc, &style, &cite_props, &book, &title)?))?;
