@@ -1,20 +1,26 @@
 //! The text of chunks: the joined text, and whether it is empty or white space.
 
 use crate::samples::{assert_text, assert_whether, chunk};
-use lit_model::{ChunkKind, ChunkedString, Memory};
+use lit_model::{ChunkKind, ChunkedString};
 use std::alloc::Global;
 use std::process::Abort;
 
 /// A text without chunks if `count` is 0, else in three chunks. The second chunk is mathematics.
-fn text(alloc: Global, count: usize, values: [&str; 3]) -> Result<ChunkedString, Memory> {
+fn text(rt: &impl Abort, alloc: Global, count: usize, values: [&str; 3]) -> ChunkedString {
     let mut chunks = Vec::new(alloc);
     if count > 0 {
         let [first, second, third] = values;
-        chunks.push(chunk(alloc, first, ChunkKind::Normal)?)?;
-        chunks.push(chunk(alloc, second, ChunkKind::Math)?)?;
-        chunks.push(chunk(alloc, third, ChunkKind::Verbatim)?)?;
+        chunks
+            .push(chunk(rt, alloc, first, ChunkKind::Normal))
+            .expect(rt, "memory");
+        chunks
+            .push(chunk(rt, alloc, second, ChunkKind::Math))
+            .expect(rt, "memory");
+        chunks
+            .push(chunk(rt, alloc, third, ChunkKind::Verbatim))
+            .expect(rt, "memory");
     }
-    Ok(ChunkedString(chunks))
+    ChunkedString(chunks)
 }
 
 /// The number of chunks, their texts, the joined text, and whether it is empty and white space.
@@ -41,20 +47,18 @@ fn assert_answers(
     rt: &impl Abort,
     alloc: Global,
     &(count, values, wanted, is_empty, is_white_space): &Row,
-) -> Result<(), Memory> {
-    let text = text(alloc, count, values)?;
+) {
+    let text = text(rt, alloc, count, values);
     assert_whether(rt, text.is_empty(), is_empty, wanted);
     assert_whether(rt, text.is_white_space(), is_white_space, wanted);
-    let joined = text.to_text(alloc)?;
+    let joined = text.to_text(alloc).expect(rt, "memory");
     assert_text(rt, joined.as_str(), wanted, wanted);
-    Ok(())
 }
 
 #[test]
-fn chunks_are_one_text(rt: HostRuntime) -> Result<(), Memory> {
+fn chunks_are_one_text(rt: HostRuntime) {
     let texts: &[Row] = &TEXTS;
     for row in texts {
-        assert_answers(&rt, rt.alloc(), row)?;
+        assert_answers(&rt, rt.alloc(), row);
     }
-    Ok(())
 }

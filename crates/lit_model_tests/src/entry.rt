@@ -4,7 +4,7 @@ ghost use Rattle.std.specs.Prelude.{◌≡◌, ◌↔◌, IsTrue};
 ghost use Rattle.lit_model.specs.Work.{spelled_works, works};
 
 use crate::samples::{Shown, Work, entries, put};
-use lit_model::{Entry, EntryType, Memory};
+use lit_model::{Entry, EntryType};
 use std::alloc::Global;
 use std::process::Abort;
 
@@ -32,43 +32,37 @@ fn are_same(entries: &[Entry]) -> Option<(bool, usize)> {
 
 /// Asserts whether two works are equal, or whether a single one is equal to its copy, and the
 /// number of the second one's parents.
-fn assert_same(
-    rt: &impl Abort,
-    alloc: Global,
-    works: &[Work],
-    wanted: (bool, usize),
-) -> Result<(), Memory> {
-    let mut entries = entries(alloc, works)?;
+fn assert_same(rt: &impl Abort, alloc: Global, works: &[Work], wanted: (bool, usize)) {
+    let mut entries = entries(rt, alloc, works);
     if let [entry] = entries.as_slice() {
-        let copy = entry.clone(alloc)?;
-        put(&mut entries, copy)?;
+        let copy = entry.clone(alloc).expect(rt, "memory");
+        put(rt, &mut entries, copy);
     }
     assert_eq!(rt; are_same(entries.as_slice()), Some(wanted), "of {works:?}");
-    Ok(())
 }
 
 #[test]
-fn entries_are_equal_by_their_titles_types_and_parents(rt: HostRuntime) -> Result<(), Memory> {
+fn entries_are_equal_by_their_titles_types_and_parents(rt: HostRuntime) {
     let alloc = rt.alloc();
     let a = book("A", 0);
     let newspaper = ("key", EntryType::Newspaper, Shown::Title("A"), 0);
     let (b, c) = (book("B", 0), book("C", 0));
     let (b_under_one, a_under_one, a_under_two) = (book("B", 1), book("A", 1), book("A", 2));
-    assert_same(&rt, alloc, &[a, a], (true, 0))?;
-    assert_same(&rt, alloc, &[a, b], (false, 0))?;
-    assert_same(&rt, alloc, &[a, newspaper], (false, 0))?;
+    assert_same(&rt, alloc, &[a, a], (true, 0));
+    assert_same(&rt, alloc, &[a, b], (false, 0));
+    assert_same(&rt, alloc, &[a, newspaper], (false, 0));
     let beside_and_above = [b, c, a_under_two, c, b_under_one, a_under_one];
-    assert_same(&rt, alloc, &beside_and_above, (false, 1))?;
-    assert_same(&rt, alloc, &[b, c, a_under_two, a], (false, 0))
+    assert_same(&rt, alloc, &beside_and_above, (false, 1));
+    assert_same(&rt, alloc, &[b, c, a_under_two, a], (false, 0));
 }
 
 #[test]
-fn copied_entries_are_equal(rt: HostRuntime) -> Result<(), Memory> {
+fn copied_entries_are_equal(rt: HostRuntime) {
     let alloc = rt.alloc();
-    assert_same(&rt, alloc, &[book("A", 0)], (true, 0))?;
+    assert_same(&rt, alloc, &[book("A", 0)], (true, 0));
     let above = [book("C", 0), book("B", 1), book("A", 1)];
-    assert_same(&rt, alloc, &above, (true, 1))?;
+    assert_same(&rt, alloc, &above, (true, 1));
     let parent = ("book", EntryType::Book, Shown::Nothing, 0);
     let chapter = ("chapter", EntryType::Chapter, Shown::Title("Lemmas"), 1);
-    assert_same(&rt, alloc, &[parent, chapter], (true, 1))
+    assert_same(&rt, alloc, &[parent, chapter], (true, 1));
 }

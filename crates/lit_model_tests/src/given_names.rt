@@ -3,7 +3,6 @@
 use crate::samples::{assert_text, person};
 use std::alloc::Global;
 use std::process::Abort;
-use std::test::Fail;
 
 /// A form of given names.
 #[derive(Clone, Copy)]
@@ -40,27 +39,27 @@ static NAMES: [Row; 10] = [
     ),
 ];
 
-fn assert_written(
-    rt: &impl Abort,
-    alloc: Global,
-    &(given, form, delimiter, wanted): &Row,
-) -> Result<(), Fail> {
-    let person = person(alloc, "Nemo", Some(given))?;
+fn assert_written(rt: &impl Abort, alloc: Global, &(given, form, delimiter, wanted): &Row) {
+    let person = person(rt, alloc, "Nemo", Some(given));
     let mut written = String::new(alloc);
     match form {
-        Form::Marked => person.first_name_with_delimiter(&mut written, Some(delimiter))?,
-        Form::Initials => person.initials(&mut written, Some(delimiter), true)?,
-        Form::WithoutHyphens => person.initials(&mut written, Some(delimiter), false)?,
+        Form::Marked => person
+            .first_name_with_delimiter(&mut written, Some(delimiter))
+            .expect(rt, "memory"),
+        Form::Initials => person
+            .initials(&mut written, Some(delimiter), true)
+            .expect(rt, "memory"),
+        Form::WithoutHyphens => person
+            .initials(&mut written, Some(delimiter), false)
+            .expect(rt, "memory"),
     }
     assert_text(rt, written.as_str(), wanted, given);
-    Ok(())
 }
 
 #[test]
-fn letters_are_marked_and_initials_are_graphemes(rt: HostRuntime) -> Result<(), Fail> {
+fn letters_are_marked_and_initials_are_graphemes(rt: HostRuntime) {
     let names: &[Row] = &NAMES;
     for row in names {
-        assert_written(&rt, rt.alloc(), row)?;
+        assert_written(&rt, rt.alloc(), row);
     }
-    Ok(())
 }

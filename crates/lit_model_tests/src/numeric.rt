@@ -13,7 +13,6 @@ use lit_model::{
 use std::alloc::Global;
 use std::fmt::Write;
 use std::process::Abort;
-use std::test::Fail;
 
 /// A locale in which each number has the suffix `nd` and none has a word.
 struct Suffix;
@@ -88,8 +87,8 @@ fn assert_read(
     text: &str,
     wanted: (Option<i32>, bool),
     (prefix, suffix): (&str, &str),
-) -> Result<(), NumericError> {
-    let number = Numeric::parse(alloc, text)?;
+) {
+    let number = Numeric::parse(alloc, text).expect(rt, "a number");
     assert_of(
         rt,
         &(number.value(), number.will_transform()),
@@ -98,33 +97,33 @@ fn assert_read(
     );
     assert_text(rt, text_of(&number.prefix), prefix, text);
     assert_text(rt, text_of(&number.suffix), suffix, text);
-    Ok(())
 }
 
 /// Whether the text holds these numbers, and the term for them is in the plural.
 fn is_read_as_several(
+    rt: &impl Abort,
     alloc: Global,
     text: &str,
     numbers: &[(i32, Option<NumericDelimiter>)],
-) -> Result<bool, NumericError> {
-    let read = Numeric::parse(alloc, text)?;
-    let wanted = NumericValue::Set(numbers.to_vec(alloc)?);
-    Ok(read.value == wanted && read.is_plural(false))
+) -> bool {
+    let read = Numeric::parse(alloc, text).expect(rt, "a number");
+    let wanted = NumericValue::Set(numbers.to_vec(alloc).expect(rt, "memory"));
+    read.value == wanted && read.is_plural(false)
 }
 
 /// Whether the number in a text is equal to its copy.
-fn is_copied(alloc: Global, text: &str) -> Result<bool, NumericError> {
-    let read = Numeric::parse(alloc, text)?;
-    let copy = read.clone(alloc)?;
-    Ok(same(&copy, &read))
+fn is_copied(rt: &impl Abort, alloc: Global, text: &str) -> bool {
+    let read = Numeric::parse(alloc, text).expect(rt, "a number");
+    let copy = read.clone(alloc).expect(rt, "memory");
+    same(&copy, &read)
 }
 
 /// Whether a copy of the numbers in the first text is equal to the numbers in the other.
-fn are_same_values(alloc: Global, text: &str, other: &str) -> Result<bool, NumericError> {
-    let read = Numeric::parse(alloc, text)?;
-    let other = Numeric::parse(alloc, other)?;
-    let copy: NumericValue = read.value.clone(alloc)?;
-    Ok(same_value(&copy, &other.value))
+fn are_same_values(rt: &impl Abort, alloc: Global, text: &str, other: &str) -> bool {
+    let read = Numeric::parse(alloc, text).expect(rt, "a number");
+    let other = Numeric::parse(alloc, other).expect(rt, "a number");
+    let copy: NumericValue = read.value.clone(alloc).expect(rt, "memory");
+    same_value(&copy, &other.value)
 }
 
 /// Two texts, and whether their numbers are equal. Prefixes and suffixes do not count.
@@ -138,30 +137,28 @@ static VALUES: [(&str, &str, bool); 6] = [
 ];
 
 #[test]
-fn numbers_are_equal_by_value(rt: HostRuntime) -> Result<(), NumericError> {
+fn numbers_are_equal_by_value(rt: HostRuntime) {
     for (text, other, wanted) in &VALUES {
-        let are_same = are_same_values(rt.alloc(), *text, *other)?;
+        let are_same = are_same_values(&rt, rt.alloc(), *text, *other);
         assert_of(&rt, &are_same, wanted, &(text, other));
     }
-    Ok(())
 }
 
 #[test]
-fn reads_numbers(rt: HostRuntime) -> Result<(), NumericError> {
+fn reads_numbers(rt: HostRuntime) {
     let alloc = rt.alloc();
-    assert_read(&rt, alloc, " 2nd ", (Some(2), false), ("none", "nd"))?;
+    assert_read(&rt, alloc, " 2nd ", (Some(2), false), ("none", "nd"));
     let largest = (Some(2_147_483_647), true);
-    assert_read(&rt, alloc, "2147483647", largest, ("none", "none"))?;
-    assert_read(&rt, alloc, "4-6, 9", (None, true), ("none", "none"))?;
+    assert_read(&rt, alloc, "2147483647", largest, ("none", "none"));
+    assert_read(&rt, alloc, "4-6, 9", (None, true), ("none", "none"));
     let several = [
         (4, Some(NumericDelimiter::Hyphen)),
         (6, Some(NumericDelimiter::Comma)),
         (9, None),
     ];
-    let is_read = is_read_as_several(alloc, "4-6, 9", &several)?;
+    let is_read = is_read_as_several(&rt, alloc, "4-6, 9", &several);
     assert_whether(&rt, is_read, true, "4-6, 9");
-    assert_whether(&rt, is_copied(alloc, "n4 & 7a")?, true, "n4 & 7a");
-    Ok(())
+    assert_whether(&rt, is_copied(&rt, alloc, "n4 & 7a"), true, "n4 & 7a");
 }
 
 /// Texts that are not numbers.
@@ -215,26 +212,29 @@ enum Way {
     Form(NumberForm),
 }
 
-fn made(alloc: Global, number: Number) -> Result<Numeric, NumericError> {
+fn made(rt: &impl Abort, alloc: Global, number: Number) -> Numeric {
     match number {
-        Number::Of(value) => Ok(Numeric::new(value)),
-        Number::Read(text) => Numeric::parse(alloc, text),
+        Number::Of(value) => Numeric::new(value),
+        Number::Read(text) => Numeric::parse(alloc, text).expect(rt, "a number"),
     }
 }
 
 fn written<O: Ordinals>(
+    rt: &impl Abort,
     alloc: Global,
     number: &Numeric,
     (way, ordinals): (Way, &O),
-) -> Result<String, Fail> {
+) -> String {
     let mut written = String::new(alloc);
     match way {
-        Way::Shown => write!(written, "{number}")?,
-        Way::Value => number.fmt_value(&mut written, false)?,
-        Way::Sorted => number.fmt_value(&mut written, true)?,
-        Way::Form(form) => number.with_form(&mut written, form, None, ordinals)?,
+        Way::Shown => write!(written, "{number}").expect(rt, "memory"),
+        Way::Value => number.fmt_value(&mut written, false).expect(rt, "memory"),
+        Way::Sorted => number.fmt_value(&mut written, true).expect(rt, "memory"),
+        Way::Form(form) => number
+            .with_form(&mut written, form, None, ordinals)
+            .expect(rt, "memory"),
     }
-    Ok(written)
+    written
 }
 
 /// A number, its form, and the written text.
@@ -274,20 +274,19 @@ fn assert_written<O: Ordinals>(
     alloc: Global,
     &(given, way, wanted): &Row,
     ordinals: &O,
-) -> Result<(), Fail> {
-    let number = made(alloc, given)?;
-    let written = written(alloc, &number, (way, ordinals))?;
+) {
+    let number = made(rt, alloc, given);
+    let written = written(rt, alloc, &number, (way, ordinals));
     assert_text(rt, written.as_str(), wanted, wanted);
-    Ok(())
 }
 
 #[test]
-fn writes_numbers(rt: HostRuntime) -> Result<(), Fail> {
+fn writes_numbers(rt: HostRuntime) {
     let rows: &[Row] = &WRITTEN;
     for row in rows {
-        assert_written(&rt, rt.alloc(), row, &Suffix)?;
+        assert_written(&rt, rt.alloc(), row, &Suffix);
     }
     let long = Way::Form(NumberForm::LongOrdinal);
     let row = (Number::Read("2,32"), long, "second, 32");
-    assert_written(&rt, rt.alloc(), &row, &Word)
+    assert_written(&rt, rt.alloc(), &row, &Word);
 }

@@ -10,7 +10,6 @@ use crate::samples::{assert_text, assert_whether};
 use lit_model::{Numeric, NumericError, PageRanges, PageRangesPart};
 use std::alloc::Global;
 use std::process::Abort;
-use std::test::Fail;
 
 /// Equal pages have the same hash.
 fn hashed_alike(a: &PageRanges, b: &PageRanges)
@@ -35,14 +34,13 @@ fn same_part(a: &PageRangesPart, b: &PageRangesPart) -> bool
 }
 
 /// Whether the first parts of two texts are equal.
-fn are_same_parts(alloc: Global, text: &str, other: &str) -> Result<bool, NumericError> {
-    let pages = PageRanges::parse(alloc, text)?;
-    let others = PageRanges::parse(alloc, other)?;
-    let are_same = match (pages.ranges.first(), others.ranges.first()) {
+fn are_same_parts(rt: &impl Abort, alloc: Global, text: &str, other: &str) -> bool {
+    let pages = PageRanges::parse(alloc, text).expect(rt, "pages");
+    let others = PageRanges::parse(alloc, other).expect(rt, "pages");
+    match (pages.ranges.first(), others.ranges.first()) {
         (Some(part), Some(other)) => same_part(part, other),
         _ => false,
-    };
-    Ok(are_same)
+    }
 }
 
 /// Two texts, and whether their first parts are equal.
@@ -56,49 +54,48 @@ static PARTS: [(&str, &str, bool); 6] = [
 ];
 
 #[test]
-fn parts_are_equal_by_value(rt: HostRuntime) -> Result<(), NumericError> {
+fn parts_are_equal_by_value(rt: HostRuntime) {
     for (text, other, wanted) in &PARTS {
-        let are_same = are_same_parts(rt.alloc(), *text, *other)?;
+        let are_same = are_same_parts(&rt, rt.alloc(), *text, *other);
         assert_of(&rt, &are_same, wanted, &(text, other));
     }
-    Ok(())
 }
 
 /// Whether the text `321-328, 7` is parsed as a range and a page.
-fn are_range_and_page_read(alloc: Global) -> Result<bool, NumericError> {
-    let pages = PageRanges::parse(alloc, "321-328, 7")?;
+fn are_range_and_page_read(rt: &impl Abort, alloc: Global) -> bool {
+    let pages = PageRanges::parse(alloc, "321-328, 7").expect(rt, "pages");
     let expected = vec![in alloc;
         PageRangesPart::Range(Numeric::new(321), Numeric::new(328)),
         PageRangesPart::Comma,
         PageRangesPart::SinglePage(Numeric::new(7)),
-    ]?;
-    Ok(pages.ranges == expected)
+    ]
+    .expect(rt, "memory");
+    pages.ranges == expected
 }
 
-fn is_same_as_copy(alloc: Global, text: &str) -> Result<bool, NumericError> {
-    let pages = PageRanges::parse(alloc, text)?;
-    let copy = pages.clone(alloc)?;
-    Ok(same(&copy, &pages))
+fn is_same_as_copy(rt: &impl Abort, alloc: Global, text: &str) -> bool {
+    let pages = PageRanges::parse(alloc, text).expect(rt, "pages");
+    let copy = pages.clone(alloc).expect(rt, "memory");
+    same(&copy, &pages)
 }
 
-fn are_read_alike(alloc: Global, text: &str, other: &str) -> Result<bool, NumericError> {
-    let pages = PageRanges::parse(alloc, text)?;
-    let others = PageRanges::parse(alloc, other)?;
-    Ok(same(&pages, &others))
+fn are_read_alike(rt: &impl Abort, alloc: Global, text: &str, other: &str) -> bool {
+    let pages = PageRanges::parse(alloc, text).expect(rt, "pages");
+    let others = PageRanges::parse(alloc, other).expect(rt, "pages");
+    same(&pages, &others)
 }
 
 #[test]
-fn reads_pages(rt: HostRuntime) -> Result<(), NumericError> {
+fn reads_pages(rt: HostRuntime) {
     let alloc = rt.alloc();
     let spaced = " A1 – A3 ";
     for (is_read, text) in [
-        (are_range_and_page_read(alloc)?, "321-328, 7"),
-        (is_same_as_copy(alloc, "321-328, 7")?, "a copy"),
-        (are_read_alike(alloc, spaced, "A1-A3")?, spaced),
+        (are_range_and_page_read(&rt, alloc), "321-328, 7"),
+        (is_same_as_copy(&rt, alloc, "321-328, 7"), "a copy"),
+        (are_read_alike(&rt, alloc, spaced, "A1-A3"), spaced),
     ] {
         assert_whether(&rt, is_read, true, text);
     }
-    Ok(())
 }
 
 #[test]
@@ -110,15 +107,16 @@ fn refuses_what_is_no_page(rt: HostRuntime) {
 }
 
 /// The pages that a text describes. For `, 9` they are a comma and page 9, made by hand.
-fn pages(alloc: Global, text: &str) -> Result<PageRanges, NumericError> {
+fn pages(rt: &impl Abort, alloc: Global, text: &str) -> PageRanges {
     if text != ", 9" {
-        return PageRanges::parse(alloc, text);
+        return PageRanges::parse(alloc, text).expect(rt, "pages");
     }
     let ranges = vec![in alloc;
         PageRangesPart::Comma,
         PageRangesPart::SinglePage(Numeric::new(9)),
-    ]?;
-    Ok(PageRanges { ranges })
+    ]
+    .expect(rt, "memory");
+    PageRanges { ranges }
 }
 
 /// A text, its first page, whether the term for its pages is in the plural, and the written pages.
@@ -131,12 +129,8 @@ static PAGES: [Row; 4] = [
     ("321–328 ,7& A9", 321, true, "321-328, 7 & A9"),
 ];
 
-fn assert_pages(
-    rt: &impl Abort,
-    alloc: Global,
-    &(text, first, is_plural, wanted): &Row,
-) -> Result<(), Fail> {
-    let pages = pages(alloc, text)?;
+fn assert_pages(rt: &impl Abort, alloc: Global, &(text, first, is_plural, wanted): &Row) {
+    let pages = pages(rt, alloc, text);
     let number = pages.first().and_then(|page| page.value());
     assert_of(
         rt,
@@ -144,16 +138,14 @@ fn assert_pages(
         &(Some(first), is_plural),
         &text,
     );
-    let shown = format!(in alloc; "{pages}")?;
+    let shown = format!(in alloc; "{pages}").expect(rt, "memory");
     assert_text(rt, shown.as_str(), wanted, text);
-    Ok(())
 }
 
 #[test]
-fn pages_have_a_first_and_are_written(rt: HostRuntime) -> Result<(), Fail> {
+fn pages_have_a_first_and_are_written(rt: HostRuntime) {
     let rows: &[Row] = &PAGES;
     for row in rows {
-        assert_pages(&rt, rt.alloc(), row)?;
+        assert_pages(&rt, rt.alloc(), row);
     }
-    Ok(())
 }

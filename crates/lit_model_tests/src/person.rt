@@ -6,7 +6,7 @@ ghost use Rattle.lit_model.specs.contracts.person.PersonHash.TheImpl.{hash_input
 
 use crate::asserted::assert_of;
 use crate::samples::{alone, assert_text, assert_whether, person};
-use lit_model::{Memory, Person, PersonRole, PersonsWithRoles};
+use lit_model::{Person, PersonRole, PersonsWithRoles};
 use std::alloc::Global;
 use std::process::Abort;
 
@@ -57,15 +57,9 @@ fn part(person: &Person, asked: Asked) -> &str {
     }
 }
 
-fn assert_part(
-    rt: &impl Abort,
-    alloc: Global,
-    (asked, name): (Asked, &str),
-    wanted: &str,
-) -> Result<(), Memory> {
-    let person = person(alloc, name, None)?;
+fn assert_part(rt: &impl Abort, alloc: Global, (asked, name): (Asked, &str), wanted: &str) {
+    let person = person(rt, alloc, name, None);
     assert_text(rt, part(&person, asked), wanted, name);
-    Ok(())
 }
 
 /// A name, its particle, and the name without it.
@@ -80,13 +74,9 @@ static PARTICLES: [(&str, &str, &str); 8] = [
     ("", "none", ""),
 ];
 
-fn assert_particle(
-    rt: &impl Abort,
-    alloc: Global,
-    &(name, particle, rest): &(&str, &str, &str),
-) -> Result<(), Memory> {
-    assert_part(rt, alloc, (Asked::Particle, name), particle)?;
-    assert_part(rt, alloc, (Asked::WithoutParticle, name), rest)
+fn assert_particle(rt: &impl Abort, alloc: Global, &(name, particle, rest): &(&str, &str, &str)) {
+    assert_part(rt, alloc, (Asked::Particle, name), particle);
+    assert_part(rt, alloc, (Asked::WithoutParticle, name), rest);
 }
 
 /// A name, and the name without its article.
@@ -100,36 +90,32 @@ static ARTICLES: [(&str, &str); 7] = [
     ("THE TIMES", "THE TIMES"),
 ];
 
-fn assert_article(
-    rt: &impl Abort,
-    alloc: Global,
-    &(name, rest): &(&str, &str),
-) -> Result<(), Memory> {
-    assert_part(rt, alloc, (Asked::WithoutArticle, name), rest)
+fn assert_article(rt: &impl Abort, alloc: Global, &(name, rest): &(&str, &str)) {
+    assert_part(rt, alloc, (Asked::WithoutArticle, name), rest);
 }
 
 #[test]
-fn particles_and_articles(rt: HostRuntime) -> Result<(), Memory> {
+fn particles_and_articles(rt: HostRuntime) {
     let particles: &[(&str, &str, &str)] = &PARTICLES;
     for row in particles {
-        assert_particle(&rt, rt.alloc(), row)?;
+        assert_particle(&rt, rt.alloc(), row);
     }
     let articles: &[(&str, &str)] = &ARTICLES;
     for row in articles {
-        assert_article(&rt, rt.alloc(), row)?;
+        assert_article(&rt, rt.alloc(), row);
     }
-    Ok(())
 }
 
 /// Whether a person's name is Chinese, Japanese or Korean, and whether the person is an
 /// institution.
 fn is_cjk_or_institutional(
+    rt: &impl Abort,
     alloc: Global,
     name: &str,
     given: Option<&str>,
-) -> Result<(bool, bool), Memory> {
-    let person = person(alloc, name, given)?;
-    Ok((person.is_cjk(), person.is_institutional()))
+) -> (bool, bool) {
+    let person = person(rt, alloc, name, given);
+    (person.is_cjk(), person.is_institutional())
 }
 
 /// A name and a given name, whether the name is Chinese, Japanese or Korean, and whether the person
@@ -153,97 +139,89 @@ static SCRIPTS: [Row; 9] = [
     ("The Times", Some(""), false, false),
 ];
 
-fn assert_script(
-    rt: &impl Abort,
-    alloc: Global,
-    &(name, given, is_cjk, is_institutional): &Row,
-) -> Result<(), Memory> {
-    let answer = is_cjk_or_institutional(alloc, name, given)?;
+fn assert_script(rt: &impl Abort, alloc: Global, &(name, given, is_cjk, is_institutional): &Row) {
+    let answer = is_cjk_or_institutional(rt, alloc, name, given);
     assert_of(rt, &answer, &(is_cjk, is_institutional), &name);
-    Ok(())
 }
 
 #[test]
-fn scripts_and_institutions(rt: HostRuntime) -> Result<(), Memory> {
+fn scripts_and_institutions(rt: HostRuntime) {
     let scripts: &[Row] = &SCRIPTS;
     for row in scripts {
-        assert_script(&rt, rt.alloc(), row)?;
+        assert_script(&rt, rt.alloc(), row);
     }
-    Ok(())
 }
 
-fn muse(alloc: Global) -> Result<PersonRole, Memory> {
-    Ok(PersonRole::Unknown(String::from_str(alloc, "muse")?))
+fn muse(rt: &impl Abort, alloc: Global) -> PersonRole {
+    PersonRole::Unknown(String::from_str(alloc, "muse").expect(rt, "memory"))
 }
 
-fn van_gogh(alloc: Global) -> Result<Person, Memory> {
-    person(alloc, "Gogh", Some("Vincent"))
+fn van_gogh(rt: &impl Abort, alloc: Global) -> Person {
+    person(rt, alloc, "Gogh", Some("Vincent"))
 }
 
-fn group(alloc: Global) -> Result<PersonsWithRoles, Memory> {
-    let names = alone(alloc, van_gogh(alloc)?)?;
-    let role = muse(alloc)?;
-    Ok(PersonsWithRoles { names, role })
+fn group(rt: &impl Abort, alloc: Global) -> PersonsWithRoles {
+    let names = alone(rt, alloc, van_gogh(rt, alloc));
+    let role = muse(rt, alloc);
+    PersonsWithRoles { names, role }
 }
 
 /// Whether a group is equal to its copy, and whether the copy's role is that of a writer. With
 /// `loses_names`, the group has no names after the copy.
-fn is_group_its_copy(alloc: Global, loses_names: bool) -> Result<(bool, bool), Memory> {
-    let mut group = group(alloc)?;
-    let copy = group.clone(alloc)?;
+fn is_group_its_copy(rt: &impl Abort, alloc: Global, loses_names: bool) -> (bool, bool) {
+    let mut group = group(rt, alloc);
+    let copy = group.clone(alloc).expect(rt, "memory");
     if loses_names {
         group.names = Vec::new(alloc);
     }
-    Ok((same_group(&copy, &group), copy.role == PersonRole::Writer))
+    (same_group(&copy, &group), copy.role == PersonRole::Writer)
 }
 
 /// Whether a person is equal to a copy. With `loses_given_name`, the copy has no given name.
-fn is_person_its_copy(alloc: Global, loses_given_name: bool) -> Result<bool, Memory> {
-    let gogh = van_gogh(alloc)?;
-    let mut copy = gogh.clone(alloc)?;
+fn is_person_its_copy(rt: &impl Abort, alloc: Global, loses_given_name: bool) -> bool {
+    let gogh = van_gogh(rt, alloc);
+    let mut copy = gogh.clone(alloc).expect(rt, "memory");
     if loses_given_name {
         copy.given_name = None;
     }
-    Ok(same_person(&gogh, &copy))
+    same_person(&gogh, &copy)
 }
 
 /// Whether a muse is equal to its copy, and to a writer.
-fn is_muse_copy_or_writer(alloc: Global) -> Result<(bool, bool), Memory> {
-    let role = muse(alloc)?;
-    let copy = role.clone(alloc)?;
-    Ok((
+fn is_muse_copy_or_writer(rt: &impl Abort, alloc: Global) -> (bool, bool) {
+    let role = muse(rt, alloc);
+    let copy = role.clone(alloc).expect(rt, "memory");
+    (
         same_role(&role, &copy),
         same_role(&role, &PersonRole::Writer),
-    ))
+    )
 }
 
 #[test]
-fn persons_groups_and_roles_are_equal_by_their_texts(rt: HostRuntime) -> Result<(), Memory> {
+fn persons_groups_and_roles_are_equal_by_their_texts(rt: HostRuntime) {
     for (loses, wanted) in [(false, true), (true, false)] {
-        let group = is_group_its_copy(rt.alloc(), loses)?;
+        let group = is_group_its_copy(&rt, rt.alloc(), loses);
         assert_of(&rt, &group, &(wanted, false), &"a group and its copy");
-        let person = is_person_its_copy(rt.alloc(), loses)?;
+        let person = is_person_its_copy(&rt, rt.alloc(), loses);
         assert_whether(&rt, person, wanted, "a person and a copy");
     }
-    let muse = is_muse_copy_or_writer(rt.alloc())?;
+    let muse = is_muse_copy_or_writer(&rt, rt.alloc());
     assert_of(&rt, &muse, &(true, false), &"a muse");
-    Ok(())
 }
 
 /// A person with a given name, or else an institution.
-fn new_person(alloc: Global, name: &str, given: Option<&str>) -> Result<Person, Memory> {
+fn new_person(rt: &impl Abort, alloc: Global, name: &str, given: Option<&str>) -> Person {
     match given {
-        Some(given) => Person::new(alloc, name, given),
-        None => Person::institution(alloc, name),
+        Some(given) => Person::new(alloc, name, given).expect(rt, "memory"),
+        None => Person::institution(alloc, name).expect(rt, "memory"),
     }
 }
 
 #[test]
-fn new_persons_have_names_alone(rt: HostRuntime) -> Result<(), Memory> {
+fn new_persons_have_names_alone(rt: HostRuntime) {
     for (name, given) in [("Doe", Some("Jane")), ("Doe", Some("")), ("UNESCO", None)] {
-        let new = new_person(rt.alloc(), name, given)?;
-        let wanted = person(rt.alloc(), name, given)?;
+        let new = new_person(&rt, rt.alloc(), name, given);
+        let wanted = person(&rt, rt.alloc(), name, given);
         assert_whether(&rt, same_person(&new, &wanted), true, name);
     }
-    Ok(())
 }

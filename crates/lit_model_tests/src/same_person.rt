@@ -1,7 +1,7 @@
 //! Whether persons are the same.
 
 use crate::samples::{assert_whether, person, put};
-use lit_model::{Memory, Person, are_same_people};
+use lit_model::{Person, are_same_people};
 use std::alloc::Global;
 use std::process::Abort;
 
@@ -11,31 +11,31 @@ const MISSING: &str = "-";
 /// The texts of a person: name, given name, prefix, suffix and alias.
 const KWAN: [&str; 5] = ["Kwan", "Kevin", "van", "Jr.", "KK"];
 
-fn optional(alloc: Global, text: &str) -> Result<Option<String>, Memory> {
+fn optional(rt: &impl Abort, alloc: Global, text: &str) -> Option<String> {
     if text == MISSING {
-        return Ok(None);
+        return None;
     }
-    let text = String::from_str(alloc, text)?;
-    Ok(Some(text))
+    let text = String::from_str(alloc, text).expect(rt, "memory");
+    Some(text)
 }
 
-fn person_of(alloc: Global, texts: [&str; 5], comma_suffix: bool) -> Result<Person, Memory> {
+fn person_of(rt: &impl Abort, alloc: Global, texts: [&str; 5], comma_suffix: bool) -> Person {
     let [name, given_name, prefix, suffix, alias] = texts;
-    Ok(Person {
-        name: String::from_str(alloc, name)?,
-        given_name: optional(alloc, given_name)?,
-        prefix: optional(alloc, prefix)?,
-        suffix: optional(alloc, suffix)?,
-        alias: optional(alloc, alias)?,
+    Person {
+        name: String::from_str(alloc, name).expect(rt, "memory"),
+        given_name: optional(rt, alloc, given_name),
+        prefix: optional(rt, alloc, prefix),
+        suffix: optional(rt, alloc, suffix),
+        alias: optional(rt, alloc, alias),
         comma_suffix,
-    })
+    }
 }
 
 /// Whether a person is the same as Kwan.
-fn shows_kwan(alloc: Global, texts: [&str; 5], comma_suffix: bool) -> Result<bool, Memory> {
-    let kwan = person_of(alloc, KWAN, true)?;
-    let person = person_of(alloc, texts, comma_suffix)?;
-    Ok(kwan.is_same_person(&person))
+fn shows_kwan(rt: &impl Abort, alloc: Global, texts: [&str; 5], comma_suffix: bool) -> bool {
+    let kwan = person_of(rt, alloc, KWAN, true);
+    let person = person_of(rt, alloc, texts, comma_suffix);
+    kwan.is_same_person(&person)
 }
 
 /// A person's texts, whether a comma comes before the suffix, and whether the person is the same as
@@ -55,33 +55,27 @@ static PERSONS: [Row; 10] = [
     (["Kwan", "Kevin", "van", "Jr.", "-"], true, false),
 ];
 
-fn assert_shown(
-    rt: &impl Abort,
-    alloc: Global,
-    &(texts, comma_suffix, wanted): &Row,
-) -> Result<(), Memory> {
-    let shows_kwan = shows_kwan(alloc, texts, comma_suffix)?;
+fn assert_shown(rt: &impl Abort, alloc: Global, &(texts, comma_suffix, wanted): &Row) {
+    let shows_kwan = shows_kwan(rt, alloc, texts, comma_suffix);
     let [_, _, prefix, _, _] = texts;
     assert_whether(rt, shows_kwan, wanted, prefix);
-    Ok(())
 }
 
 #[test]
-fn each_text_of_a_person_counts(rt: HostRuntime) -> Result<(), Memory> {
+fn each_text_of_a_person_counts(rt: HostRuntime) {
     let persons: &[Row] = &PERSONS;
     for row in persons {
-        assert_shown(&rt, rt.alloc(), row)?;
+        assert_shown(&rt, rt.alloc(), row);
     }
-    Ok(())
 }
 
 /// Persons with these names, which white space separates.
-fn people(alloc: Global, names: &str) -> Result<Vec<Person>, Memory> {
+fn people(rt: &impl Abort, alloc: Global, names: &str) -> Vec<Person> {
     let mut people = Vec::new(alloc);
     for name in names.split_whitespace() {
-        put(&mut people, person(alloc, name, None)?)?;
+        put(rt, &mut people, person(rt, alloc, name, None));
     }
-    Ok(people)
+    people
 }
 
 /// The names of two lists of persons, and whether the persons are the same.
@@ -94,22 +88,16 @@ static LISTS: [(&str, &str, bool); 6] = [
     ("", "Kwan", false),
 ];
 
-fn assert_lists(
-    rt: &impl Abort,
-    alloc: Global,
-    &(first, second, wanted): &(&str, &str, bool),
-) -> Result<(), Memory> {
-    let first = people(alloc, first)?;
-    let others = people(alloc, second)?;
+fn assert_lists(rt: &impl Abort, alloc: Global, &(first, second, wanted): &(&str, &str, bool)) {
+    let first = people(rt, alloc, first);
+    let others = people(rt, alloc, second);
     assert_whether(rt, are_same_people(&first, &others), wanted, second);
-    Ok(())
 }
 
 #[test]
-fn lists_of_persons_show_the_same(rt: HostRuntime) -> Result<(), Memory> {
+fn lists_of_persons_show_the_same(rt: HostRuntime) {
     let lists: &[(&str, &str, bool)] = &LISTS;
     for row in lists {
-        assert_lists(&rt, rt.alloc(), row)?;
+        assert_lists(&rt, rt.alloc(), row);
     }
-    Ok(())
 }

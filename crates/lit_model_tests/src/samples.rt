@@ -2,54 +2,56 @@
 
 use crate::asserted::assert_of;
 use lit_model::{
-    ChunkKind, ChunkedString, Date, Entry, EntryType, FormatString, Memory, Person, StringChunk,
+    ChunkKind, ChunkedString, Date, Entry, EntryType, FormatString, Person, StringChunk,
 };
 use std::alloc::Global;
 use std::process::Abort;
 
 /// A list of one item.
-pub fn alone<T: Drop>(alloc: Global, item: T) -> Result<Vec<T>, Memory> {
+pub fn alone<T: Drop>(rt: &impl Abort, alloc: Global, item: T) -> Vec<T> {
     let mut items = Vec::new(alloc);
-    put(&mut items, item)?;
-    Ok(items)
+    put(rt, &mut items, item);
+    items
 }
 
 /// Appends an item to a list.
-pub fn put<T: Drop>(items: &mut Vec<T>, item: T) -> Result<(), Memory> {
-    Ok(items.push(item)?)
+pub fn put<T: Drop>(rt: &impl Abort, items: &mut Vec<T>, item: T) {
+    items.push(item).expect(rt, "memory");
 }
 
 /// A person with a name, and a given name if there is one.
-pub fn person(alloc: Global, name: &str, given: Option<&str>) -> Result<Person, Memory> {
+pub fn person(rt: &impl Abort, alloc: Global, name: &str, given: Option<&str>) -> Person {
     let given_name = match given {
-        Some(given) => Some(String::from_str(alloc, given)?),
+        Some(given) => Some(String::from_str(alloc, given).expect(rt, "memory")),
         None => None,
     };
-    Ok(Person {
-        name: String::from_str(alloc, name)?,
+    Person {
+        name: String::from_str(alloc, name).expect(rt, "memory"),
         given_name,
         prefix: None,
         suffix: None,
         alias: None,
         comma_suffix: false,
-    })
+    }
 }
 
 /// A chunk of a text.
-pub fn chunk(alloc: Global, value: &str, kind: ChunkKind) -> Result<StringChunk, Memory> {
-    Ok(StringChunk {
-        value: String::from_str(alloc, value)?,
+pub fn chunk(rt: &impl Abort, alloc: Global, value: &str, kind: ChunkKind) -> StringChunk {
+    StringChunk {
+        value: String::from_str(alloc, value).expect(rt, "memory"),
         kind,
-    })
+    }
 }
 
 /// A text in one chunk, or without chunks if it is empty.
-pub fn text(alloc: Global, value: &str, kind: ChunkKind) -> Result<ChunkedString, Memory> {
+pub fn text(rt: &impl Abort, alloc: Global, value: &str, kind: ChunkKind) -> ChunkedString {
     let mut chunks = Vec::new(alloc);
     if !value.is_empty() {
-        chunks.push(chunk(alloc, value, kind)?)?;
+        chunks
+            .push(chunk(rt, alloc, value, kind))
+            .expect(rt, "memory");
     }
-    Ok(ChunkedString(chunks))
+    ChunkedString(chunks)
 }
 
 /// The field of a work that is set besides its key and type.
@@ -64,11 +66,11 @@ pub enum Shown {
 /// parents.
 pub type Work = (&'static str, EntryType, Shown, usize);
 
-fn title_of(alloc: Global, shown: Shown) -> Result<Option<FormatString>, Memory> {
+fn title_of(rt: &impl Abort, alloc: Global, shown: Shown) -> Option<FormatString> {
     let Shown::Title(title) = shown else {
-        return Ok(None);
+        return None;
     };
-    Ok(Some(FormatString::plain(alloc, title)?))
+    Some(FormatString::plain(alloc, title).expect(rt, "memory"))
 }
 
 fn date_of(shown: Shown) -> Option<Date> {
@@ -79,27 +81,32 @@ fn date_of(shown: Shown) -> Option<Date> {
 }
 
 fn entry(
+    rt: &impl Abort,
     alloc: Global,
     (key, kind, shown): (&str, EntryType, Shown),
     parents: Vec<Entry>,
-) -> Result<Entry, Memory> {
-    let title = title_of(alloc, shown)?;
-    let mut entry = Entry::new(alloc, key, kind)?;
+) -> Entry {
+    let title = title_of(rt, alloc, shown);
+    let mut entry = Entry::new(alloc, key, kind).expect(rt, "memory");
     entry.title = title;
     entry.date = date_of(shown);
     entry.parents = parents;
-    Ok(entry)
+    entry
 }
 
 /// The works that are not parents of another, each with its parents.
-pub fn entries(alloc: Global, works: &[Work]) -> Result<Vec<Entry>, Memory> {
+pub fn entries(rt: &impl Abort, alloc: Global, works: &[Work]) -> Vec<Entry> {
     let mut entries = Vec::new(alloc);
     for (key, kind, shown, parents) in works {
         let first = entries.len().saturating_sub(*parents);
-        let parents = entries.split_off(first)?;
-        put(&mut entries, entry(alloc, (key, *kind, *shown), parents)?)?;
+        let parents = entries.split_off(first).expect(rt, "memory");
+        put(
+            rt,
+            &mut entries,
+            entry(rt, alloc, (key, *kind, *shown), parents),
+        );
     }
-    Ok(entries)
+    entries
 }
 
 /// Asserts that the answer is the wanted text.

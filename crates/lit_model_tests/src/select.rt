@@ -5,7 +5,7 @@ ghost use Rattle.std.specs.Prelude.{◌≡◌, ◌↔◌, IsTrue, option_copied}
 use crate::asserted::{assert_of, assert_same};
 use crate::samples::{Shown, Work, alone, assert_text, entries, person, put};
 use lit_model::select::{audio_video, chapter, event, part, volume_title};
-use lit_model::{Bind, Clause, Entry, EntryType, Field, Memory, PersonRole, PersonsWithRoles};
+use lit_model::{Bind, Clause, Entry, EntryType, Field, PersonRole, PersonsWithRoles};
 use std::alloc::Global;
 use std::process::Abort;
 
@@ -183,44 +183,34 @@ static FAMILIES: [Row; 12] = [
 ];
 
 /// Asserts the key of the selected work. The key `none` means that nothing is selected.
-fn assert_found(
-    rt: &impl Abort,
-    alloc: Global,
-    &(works, asked, wanted): &(&[Work], Asked, &str),
-) -> Result<(), Memory> {
-    let entries = entries(alloc, works)?;
+fn assert_found(rt: &impl Abort, alloc: Global, &(works, asked, wanted): &(&[Work], Asked, &str)) {
+    let entries = entries(rt, alloc, works);
     let Some(entry) = entries.as_slice().first() else {
-        return Ok(());
+        return;
     };
     let (found, is_some) = answer(entry, asked);
     let wanted = (wanted, wanted != "none");
     assert_of(rt, &(key_of(found), is_some), &wanted, &(asked, works));
-    Ok(())
 }
 
 #[test]
-fn selections_of_families(rt: HostRuntime) -> Result<(), Memory> {
+fn selections_of_families(rt: HostRuntime) {
     let families: &[Row] = &FAMILIES;
     for row in families {
-        assert_found(&rt, rt.alloc(), row)?;
+        assert_found(&rt, rt.alloc(), row);
     }
-    Ok(())
 }
 
 /// The selection, the types of a work and of its parent, and the key of the selected work.
 type Bound = (Asked, EntryType, EntryType, &'static str);
 
 /// Asserts the selection from a work of the first type with a parent of the second type.
-fn assert_bound(
-    rt: &impl Abort,
-    alloc: Global,
-    &(asked, child, parent, wanted): &Bound,
-) -> Result<(), Memory> {
+fn assert_bound(rt: &impl Abort, alloc: Global, &(asked, child, parent, wanted): &Bound) {
     let works = [
         ("parent", parent, Shown::Nothing, 0),
         ("child", child, Shown::Nothing, 1),
     ];
-    assert_found(rt, alloc, &(&works, asked, wanted))
+    assert_found(rt, alloc, &(&works, asked, wanted));
 }
 
 /// The types of a work and of its parent, and the keys of its container and its collection.
@@ -242,18 +232,17 @@ fn assert_containers(
     rt: &impl Abort,
     alloc: Global,
     &(child, parent, container, collection): &Contained,
-) -> Result<(), Memory> {
-    assert_bound(rt, alloc, &(Asked::Container, child, parent, container))?;
-    assert_bound(rt, alloc, &(Asked::Collection, child, parent, collection))
+) {
+    assert_bound(rt, alloc, &(Asked::Container, child, parent, container));
+    assert_bound(rt, alloc, &(Asked::Collection, child, parent, collection));
 }
 
 #[test]
-fn containers(rt: HostRuntime) -> Result<(), Memory> {
+fn containers(rt: HostRuntime) {
     let containers: &[Contained] = &CONTAINERS;
     for row in containers {
-        assert_containers(&rt, rt.alloc(), row)?;
+        assert_containers(&rt, rt.alloc(), row);
     }
-    Ok(())
 }
 
 /// Selections by clauses.
@@ -331,83 +320,81 @@ static BOUND: [Bound; 15] = [
 ];
 
 #[test]
-fn what_clauses_bind(rt: HostRuntime) -> Result<(), Memory> {
+fn what_clauses_bind(rt: HostRuntime) {
     let bound: &[Bound] = &BOUND;
     for row in bound {
-        assert_bound(&rt, rt.alloc(), row)?;
+        assert_bound(&rt, rt.alloc(), row);
     }
-    Ok(())
 }
 
 /// The year of `date_any`, whether `url_any` returns an address, and the number of top-level works.
-fn date_and_url(alloc: Global, works: &[Work]) -> Result<(Option<i32>, bool, usize), Memory> {
-    let entries = entries(alloc, works)?;
+fn date_and_url(rt: &impl Abort, alloc: Global, works: &[Work]) -> (Option<i32>, bool, usize) {
+    let entries = entries(rt, alloc, works);
     let first = entries.as_slice().first();
     let date = first.and_then(|entry| entry.date_any());
     let url = first.and_then(|entry| entry.url_any());
-    Ok((date.map(|date| date.year()), url.is_some(), entries.len()))
+    (date.map(|date| date.year()), url.is_some(), entries.len())
 }
 
 #[test]
-fn the_first_date_of_a_family(rt: HostRuntime) -> Result<(), Memory> {
+fn the_first_date_of_a_family(rt: HostRuntime) {
     // The date of the reference work, three parents up, comes before that of the second parent.
-    let answer = date_and_url(rt.alloc(), ARTICLE)?;
+    let answer = date_and_url(&rt, rt.alloc(), ARTICLE);
     assert_same(&rt, &answer, &(Some(2001), false, 1));
-    Ok(())
 }
 
 /// A director, or a writer.
-fn group(alloc: Global, name: &str, is_director: bool) -> Result<PersonsWithRoles, Memory> {
-    let names = alone(alloc, person(alloc, name, None)?)?;
+fn group(rt: &impl Abort, alloc: Global, name: &str, is_director: bool) -> PersonsWithRoles {
+    let names = alone(rt, alloc, person(rt, alloc, name, None));
     let role = if is_director {
         PersonRole::Director
     } else {
         PersonRole::Writer
     };
-    Ok(PersonsWithRoles { names, role })
+    PersonsWithRoles { names, role }
 }
 
-fn crew(alloc: Global) -> Result<Vec<PersonsWithRoles>, Memory> {
+fn crew(rt: &impl Abort, alloc: Global) -> Vec<PersonsWithRoles> {
     let mut groups = Vec::new(alloc);
-    put(&mut groups, group(alloc, "Ann", true)?)?;
-    put(&mut groups, group(alloc, "Ben", false)?)?;
-    put(&mut groups, group(alloc, "Cid", true)?)?;
-    Ok(groups)
+    put(rt, &mut groups, group(rt, alloc, "Ann", true));
+    put(rt, &mut groups, group(rt, alloc, "Ben", false));
+    put(rt, &mut groups, group(rt, alloc, "Cid", true));
+    groups
 }
 
-fn film(alloc: Global) -> Result<Entry, Memory> {
-    let crew = crew(alloc)?;
-    let mut film = Entry::new(alloc, "film", EntryType::Video)?;
+fn film(rt: &impl Abort, alloc: Global) -> Entry {
+    let crew = crew(rt, alloc);
+    let mut film = Entry::new(alloc, "film", EntryType::Video).expect(rt, "memory");
     film.affiliated = Some(crew);
-    Ok(film)
+    film
 }
 
 /// The names of the two directors of a film, or `none` if it does not have two.
-fn directors<'e>(alloc: Global, film: &'e Entry) -> Result<(&'e str, &'e str), Memory> {
-    let directors = film.affiliated_with_role(alloc, &PersonRole::Director)?;
+fn directors<'e>(rt: &impl Abort, alloc: Global, film: &'e Entry) -> (&'e str, &'e str) {
+    let directors = film
+        .affiliated_with_role(alloc, &PersonRole::Director)
+        .expect(rt, "memory");
     match (directors.len(), directors.first(), directors.last()) {
-        (2, Some(first), Some(second)) => Ok((first.name.as_str(), second.name.as_str())),
-        _ => Ok(("none", "none")),
+        (2, Some(first), Some(second)) => (first.name.as_str(), second.name.as_str()),
+        _ => ("none", "none"),
     }
 }
 
 /// Asserts that the film's directors are Ann and Cid.
-fn assert_directors_of(rt: &impl Abort, alloc: Global, film: &Entry) -> Result<(), Memory> {
-    let (first, second) = directors(alloc, film)?;
+fn assert_directors_of(rt: &impl Abort, alloc: Global, film: &Entry) {
+    let (first, second) = directors(rt, alloc, film);
     assert_text(rt, first, "Ann", "the first");
     assert_text(rt, second, "Cid", "the second");
-    Ok(())
 }
 
 /// Asserts the directors of a film.
-fn assert_directors(rt: &impl Abort, alloc: Global) -> Result<(), Memory> {
-    let film = film(alloc)?;
-    let asserted = assert_directors_of(rt, alloc, &film);
+fn assert_directors(rt: &impl Abort, alloc: Global) {
+    let film = film(rt, alloc);
+    assert_directors_of(rt, alloc, &film);
     drop(film);
-    asserted
 }
 
 #[test]
-fn persons_of_a_role(rt: HostRuntime) -> Result<(), Memory> {
-    assert_directors(&rt, rt.alloc())
+fn persons_of_a_role(rt: HostRuntime) {
+    assert_directors(&rt, rt.alloc());
 }

@@ -9,8 +9,7 @@ ghost use Rattle.url.specs.Parts.{serialize};
 use crate::asserted::assert_same;
 use crate::samples::{assert_text, assert_whether, text};
 use lit_model::{
-    ChunkKind, Date, FormatString, LanguageIdentifier, Memory, Publisher, QualifiedUrl,
-    SerialNumber,
+    ChunkKind, Date, FormatString, LanguageIdentifier, Publisher, QualifiedUrl, SerialNumber,
 };
 use std::alloc::Global;
 use std::collections::BTreeMap;
@@ -57,16 +56,17 @@ fn same_language(a: &LanguageIdentifier, b: &LanguageIdentifier) -> bool
     *a == *b
 }
 
-fn doi(alloc: Global) -> Result<SerialNumber, Memory> {
+fn doi(rt: &impl Abort, alloc: Global) -> SerialNumber {
     let mut numbers = BTreeMap::new(alloc);
-    let scheme = String::from_str(alloc, "doi")?;
-    let number = String::from_str(alloc, "10.1007/BF02731494")?;
-    numbers.insert(scheme, number).map_err(Memory::from)?;
-    Ok(SerialNumber(numbers))
+    let scheme = String::from_str(alloc, "doi").expect(rt, "memory");
+    let number = String::from_str(alloc, "10.1007/BF02731494").expect(rt, "memory");
+    let added: Result<_, _> = numbers.insert(scheme, number);
+    added.expect(rt, "memory");
+    SerialNumber(numbers)
 }
 
-fn assert_numbers(rt: &impl Abort, alloc: Global) -> Result<(), Memory> {
-    let serial = doi(alloc)?;
+fn assert_numbers(rt: &impl Abort, alloc: Global) {
+    let serial = doi(rt, alloc);
     assert_text(
         rt,
         serial.doi().unwrap_or("none"),
@@ -74,127 +74,128 @@ fn assert_numbers(rt: &impl Abort, alloc: Global) -> Result<(), Memory> {
         "a DOI",
     );
     assert_text(rt, serial.isbn().unwrap_or("none"), "none", "no ISBN");
-    Ok(())
 }
 
 /// Whether serial numbers are equal to a copy. With `loses_numbers`, the copy has no numbers.
-fn are_numbers_their_copy(alloc: Global, loses_numbers: bool) -> Result<bool, Memory> {
-    let serial = doi(alloc)?;
-    let mut copy = serial.clone(alloc)?;
+fn are_numbers_their_copy(rt: &impl Abort, alloc: Global, loses_numbers: bool) -> bool {
+    let serial = doi(rt, alloc);
+    let mut copy = serial.clone(alloc).expect(rt, "memory");
     if loses_numbers {
         copy = SerialNumber(BTreeMap::new(alloc));
     }
-    Ok(same_serials(&copy, &serial))
+    same_serials(&copy, &serial)
 }
 
-fn address(alloc: Global, text: &str) -> Result<Url, Memory> {
-    Url::parse(alloc, text).map_err(|_| Memory)
+fn address(rt: &impl Abort, alloc: Global, text: &str) -> Url {
+    Url::parse(alloc, text).expect(rt, "an address")
 }
 
 /// Whether an address is equal to a copy. With `loses_date`, the copy has no date.
-fn is_address_its_copy(alloc: Global, loses_date: bool) -> Result<bool, Memory> {
+fn is_address_its_copy(rt: &impl Abort, alloc: Global, loses_date: bool) -> bool {
     let url = QualifiedUrl {
-        value: address(alloc, "https://aeon.co/essays")?,
+        value: address(rt, alloc, "https://aeon.co/essays"),
         visit_date: Date::new(2015, Some(8), None, None, false),
     };
-    let mut copy = url.clone(alloc)?;
+    let mut copy = url.clone(alloc).expect(rt, "memory");
     if loses_date {
         copy.visit_date = None;
     }
-    Ok(same_url(&copy, &url))
+    same_url(&copy, &url)
 }
 
 /// A publisher of this name. If the name is empty, a publisher without a name, at a place with an
 /// empty text.
-fn press(alloc: Global, name: &str) -> Result<Publisher, Memory> {
-    let value = text(alloc, name, ChunkKind::Normal)?;
+fn press(rt: &impl Abort, alloc: Global, name: &str) -> Publisher {
+    let value = text(rt, alloc, name, ChunkKind::Normal);
     let form = Some(FormatString { value, short: None });
     let (name, location) = if name.is_empty() {
         (None, form)
     } else {
         (form, None)
     };
-    Ok(Publisher { name, location })
+    Publisher { name, location }
 }
 
 /// Whether a publisher is equal to a copy. With `loses_place`, the copy has no place.
-fn is_publisher_its_copy(alloc: Global, name: &str, loses_place: bool) -> Result<bool, Memory> {
-    let press = press(alloc, name)?;
-    let mut copy = press.clone(alloc)?;
+fn is_publisher_its_copy(rt: &impl Abort, alloc: Global, name: &str, loses_place: bool) -> bool {
+    let press = press(rt, alloc, name);
+    let mut copy = press.clone(alloc).expect(rt, "memory");
     if loses_place {
         copy.location = None;
     }
-    Ok(same_publisher(&copy, &press))
+    same_publisher(&copy, &press)
 }
 
-fn english(alloc: Global) -> Result<LanguageIdentifier, Memory> {
-    let language = String::from_str(alloc, "en")?;
-    let region = String::from_str(alloc, "GB")?;
-    Ok(LanguageIdentifier {
+fn english(rt: &impl Abort, alloc: Global) -> LanguageIdentifier {
+    let language = String::from_str(alloc, "en").expect(rt, "memory");
+    let region = String::from_str(alloc, "GB").expect(rt, "memory");
+    LanguageIdentifier {
         language,
         region: Some(region),
-    })
+    }
 }
 
 /// Whether a language is equal to a copy. With `loses_region`, the copy has no region.
-fn is_language_its_copy(alloc: Global, loses_region: bool) -> Result<bool, Memory> {
-    let english = english(alloc)?;
-    let mut copy = english.clone(alloc)?;
+fn is_language_its_copy(rt: &impl Abort, alloc: Global, loses_region: bool) -> bool {
+    let english = english(rt, alloc);
+    let mut copy = english.clone(alloc).expect(rt, "memory");
     if loses_region {
         copy.region = None;
     }
-    Ok(same_language(&copy, &english))
+    same_language(&copy, &english)
 }
 
 /// An address as the parser returns it. Its host is a domain.
-fn with_domain(alloc: Global) -> Result<QualifiedUrl, Memory> {
-    Ok(QualifiedUrl {
-        value: address(alloc, "foo://1.2.3.4/")?,
+fn with_domain(rt: &impl Abort, alloc: Global) -> QualifiedUrl {
+    QualifiedUrl {
+        value: address(rt, alloc, "foo://1.2.3.4/"),
         visit_date: None,
-    })
+    }
 }
 
 /// An address with the same text as that of [`with_domain`]. Its host is an IP address.
-fn with_ip(alloc: Global) -> Result<QualifiedUrl, Memory> {
-    let mut value = address(alloc, "foo://h/")?;
+fn with_ip(rt: &impl Abort, alloc: Global) -> QualifiedUrl {
+    let mut value = address(rt, alloc, "foo://h/");
     let host = IpAddr::V4(Ipv4Addr::new(1, 2, 3, 4));
-    value.set_ip_host(host).map_err(|_| Memory)?;
-    Ok(QualifiedUrl {
+    value.set_ip_host(host).expect(rt, "a host");
+    QualifiedUrl {
         value,
         visit_date: None,
-    })
+    }
 }
 
 /// Whether the first host is a domain and the second an IP address, and the addresses are equal.
-fn hosts_and_equality(alloc: Global) -> Result<(bool, bool, bool), Memory> {
-    let domain = with_domain(alloc)?;
-    let ip = with_ip(alloc)?;
+fn hosts_and_equality(rt: &impl Abort, alloc: Global) -> (bool, bool, bool) {
+    let domain = with_domain(rt, alloc);
+    let ip = with_ip(rt, alloc);
     let is_domain = matches!(domain.value.host(), Some(Host::Domain(_)));
     let is_ip = matches!(ip.value.host(), Some(Host::Ipv4(_)));
-    Ok((is_domain, is_ip, same_url(&domain, &ip)))
+    (is_domain, is_ip, same_url(&domain, &ip))
 }
 
 #[test]
-fn sources_are_equal_by_their_texts(rt: HostRuntime) -> Result<(), Memory> {
+fn sources_are_equal_by_their_texts(rt: HostRuntime) {
     let alloc = rt.alloc();
-    assert_numbers(&rt, alloc)?;
+    assert_numbers(&rt, alloc);
     for (loses, wanted) in [(false, true), (true, false)] {
-        let numbers = are_numbers_their_copy(alloc, loses)?;
+        let numbers = are_numbers_their_copy(&rt, alloc, loses);
         assert_whether(&rt, numbers, wanted, "numbers and a copy");
-        let address = is_address_its_copy(alloc, loses)?;
+        let address = is_address_its_copy(&rt, alloc, loses);
         assert_whether(&rt, address, wanted, "an address and a copy");
-        let press = is_publisher_its_copy(alloc, "", loses)?;
+        let press = is_publisher_its_copy(&rt, alloc, "", loses);
         assert_whether(&rt, press, wanted, "a publisher and a copy");
-        let language = is_language_its_copy(alloc, loses)?;
+        let language = is_language_its_copy(&rt, alloc, loses);
         assert_whether(&rt, language, wanted, "a language and a copy");
     }
-    let named = is_publisher_its_copy(alloc, "Anchor Books", false)?;
+    let named = is_publisher_its_copy(&rt, alloc, "Anchor Books", false);
     assert_whether(&rt, named, true, "Anchor Books and a copy");
-    Ok(())
 }
 
 #[test]
-fn addresses_of_one_text_are_equal(rt: HostRuntime) -> Result<(), Memory> {
-    assert_same(&rt, &hosts_and_equality(rt.alloc())?, &(true, true, true));
-    Ok(())
+fn addresses_of_one_text_are_equal(rt: HostRuntime) {
+    assert_same(
+        &rt,
+        &hosts_and_equality(&rt, rt.alloc()),
+        &(true, true, true),
+    );
 }
