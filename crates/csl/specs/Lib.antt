@@ -2,7 +2,7 @@ pub mod Errors
 pub mod English
 pub use Rattle.csl_common.specs as Common
 pub use Rattle.lit_model.specs as Literature
-pub use Rattle.csl_style.specs as Style
+pub mod Style
 pub use Rattle.csl_tree.specs as Tree
 pub use Rattle.csl_entry.specs as Entry
 pub use Rattle.csl_context.specs as Context

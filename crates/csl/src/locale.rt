@@ -1,7 +1,7 @@
 //! The English locale (CSL 1.0.2, Locale).
 
 ghost use Rattle.std.specs.Prelude.{◌≡◌, false, true, IfOk, map};
-ghost use Rattle.csl_style.specs.Locale.{term_view};
+ghost use Rattle.csl_elements.specs.Locale.{term_view};
 ghost use Rattle.csl.specs.English.{term_of_row};
 
 use crate::words::{LOCATORS, NUMBERS, OTHER, PEOPLE, Row};

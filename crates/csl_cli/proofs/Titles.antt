@@ -5,10 +5,10 @@ use Rattle.std.proofs.lemmas.Grind.{common_steps}
 use Rattle.std.specs.Prelude.{codes}
 use Rattle.lit_model.specs.Text.{in_one_piece}
 use Rattle.csl_style.specs.declared.style.settings.Scope.TheVariants.{Citation}
-use Rattle.csl_style.specs.Constructors.{texts_around}
-use Rattle.csl_style.specs.Dressing.{Dressing}
-use Rattle.csl_style.specs.NamesParts.{no_formatting}
-use Rattle.csl_style.specs.Node.{ExpandedNode, expand, LayoutNode, expand_layout}
+use Rattle.csl_elements.specs.Constructors.{texts_around}
+use Rattle.csl_elements.specs.Dressing.{Dressing}
+use Rattle.csl_elements.specs.NamesParts.{no_formatting}
+use Rattle.csl_elements.specs.Node.{ExpandedNode, expand, LayoutNode, expand_layout}
 use Rattle.csl_style.specs.Style.{StyleParts}
 use Rattle.csl_style.specs.Expanded.{macro_env}
 use Rattle.csl_tree.specs.Tokens.{Token}

@@ -10,9 +10,9 @@
 use Rattle.std.specs.Prelude.{ℕ, List, [], ◌∷◌, Option, Some, None, find, map, Result, Ok, Err, String, codes, string_bytes, if◌then◌else◌}
 use Rattle.std.specs.Str.{bytes_eq}
 use Rattle.std.specs.declared.alloc.Global.{Global}
-use Rattle.csl_style.specs.Taxonomy.{name_of}
-use Rattle.csl_style.specs.declared.taxonomy.Kind.{Kind}
-use Rattle.csl_style.specs.declared.taxonomy.Kind.TheVariants as kinds
+use Rattle.csl_elements.specs.Taxonomy.{name_of}
+use Rattle.csl_elements.specs.declared.taxonomy.Kind.{Kind}
+use Rattle.csl_elements.specs.declared.taxonomy.Kind.TheVariants as kinds
 use Rattle.csl_tree.specs.declared.elem.BufWriteFormat.{BufWriteFormat}
 use Rattle.csl_tree.specs.declared.elem.BufWriteFormat.TheVariants.{Plain, Html}
 use Rattle.csl_samples.specs.Entries.{named_built_in}

@@ -21,10 +21,10 @@
 use Rattle.std.specs.Prelude.{◌≡◌, ℕ, ◌+◌, Bool, true, false, not, List, [], ◌∷◌, length, Option, Some, None, Result, IfOk, MatchResult}
 use Rattle.std.specs.Bool.{OnFalse}
 use Rattle.std.specs.Option.{option_or}
-use Rattle.csl_style.specs.declared.formatting.Formatting as partial
+use Rattle.csl_elements.specs.declared.formatting.Formatting as partial
 use Rattle.csl_style.specs.declared.style.settings.Scope.{Scope}
-use Rattle.csl_style.specs.declared.taxonomy.Variable.{Variable}
-use Rattle.csl_style.specs.NameOptions.{PartialOptions, apply_options}
+use Rattle.csl_elements.specs.declared.taxonomy.Variable.{Variable}
+use Rattle.csl_elements.specs.NameOptions.{PartialOptions, apply_options}
 use Rattle.csl_style.specs.Scopes.{base_options}
 use Rattle.csl_style.specs.Style.{StyleParts}
 use Rattle.csl_tree.specs.declared.formatting.Formatting.{Formatting}

@@ -7,11 +7,11 @@
 -- (`affixed_after`). No character moves if the content is empty.
 use Rattle.std.specs.Prelude.{ℕ, Bool, true, false, ◌||◌, ◌&&◌, ◌==◌, List, [], ◌∷◌, Option, Some, None, is_some, option_map, if◌then◌else◌}
 use Rattle.lit_model.specs.Characters.{comma_char, dot_char}
-use Rattle.csl_style.specs.declared.term.OtherTerm.{OtherTerm}
-use Rattle.csl_style.specs.declared.term.OtherTerm.TheVariants.{OpenQuote, CloseQuote, OpenInnerQuote, CloseInnerQuote}
-use Rattle.csl_style.specs.declared.term.Term.TheVariants.{Other}
-use Rattle.csl_style.specs.declared.term.TermForm.TheVariants.{Long}
-use Rattle.csl_style.specs.Dressing.{AffixTexts}
+use Rattle.csl_elements.specs.declared.term.OtherTerm.{OtherTerm}
+use Rattle.csl_elements.specs.declared.term.OtherTerm.TheVariants.{OpenQuote, CloseQuote, OpenInnerQuote, CloseInnerQuote}
+use Rattle.csl_elements.specs.declared.term.Term.TheVariants.{Other}
+use Rattle.csl_elements.specs.declared.term.TermForm.TheVariants.{Long}
+use Rattle.csl_elements.specs.Dressing.{AffixTexts}
 use Rattle.csl_style.specs.Scopes.{is_punctuation_in_quote}
 use Rattle.csl_style.specs.Style.{StyleParts}
 use Rattle.csl_tree.specs.Tokens.{Token, has_children}

@@ -14,23 +14,23 @@ use Rattle.lit_model.specs.NumericForm.{numeric_in_form}
 use Rattle.lit_model.specs.Page.{PartView}
 use Rattle.lit_model.specs.Person.{PersonView}
 use Rattle.lit_model.specs.Text.{Chunk}
-use Rattle.csl_style.specs.declared.date.DateForm.{DateForm}
+use Rattle.csl_elements.specs.declared.date.DateForm.{DateForm}
 use Rattle.csl_style.specs.declared.style.settings.Scope.{Scope}
-use Rattle.csl_style.specs.declared.taxonomy.NumberVariable.{NumberVariable}
-use Rattle.csl_style.specs.declared.taxonomy.PageVariable.{PageVariable}
-use Rattle.csl_style.specs.declared.taxonomy.StandardVariable.{StandardVariable}
-use Rattle.csl_style.specs.declared.taxonomy.NameVariable.{NameVariable}
-use Rattle.csl_style.specs.declared.taxonomy.DateVariable.{DateVariable}
-use Rattle.csl_style.specs.declared.taxonomy.Variable.TheVariants as variable
-use Rattle.csl_style.specs.declared.term.Term.{Term}
-use Rattle.csl_style.specs.declared.term.TermForm.{TermForm}
-use Rattle.csl_style.specs.Date.{date_in_form}
-use Rattle.csl_style.specs.Locale.{TermView, terms_of, ordinals_of}
-use Rattle.csl_style.specs.Node.{DateNode}
-use Rattle.csl_style.specs.Ordinal.{ordinals, long_ordinals}
+use Rattle.csl_elements.specs.declared.taxonomy.NumberVariable.{NumberVariable}
+use Rattle.csl_elements.specs.declared.taxonomy.PageVariable.{PageVariable}
+use Rattle.csl_elements.specs.declared.taxonomy.StandardVariable.{StandardVariable}
+use Rattle.csl_elements.specs.declared.taxonomy.NameVariable.{NameVariable}
+use Rattle.csl_elements.specs.declared.taxonomy.DateVariable.{DateVariable}
+use Rattle.csl_elements.specs.declared.taxonomy.Variable.TheVariants as variable
+use Rattle.csl_elements.specs.declared.term.Term.{Term}
+use Rattle.csl_elements.specs.declared.term.TermForm.{TermForm}
+use Rattle.csl_elements.specs.Date.{date_in_form}
+use Rattle.csl_elements.specs.Locale.{TermView, terms_of, ordinals_of}
+use Rattle.csl_elements.specs.Node.{DateNode}
+use Rattle.csl_elements.specs.Ordinal.{ordinals, long_ordinals}
 use Rattle.csl_style.specs.Style.{StyleParts}
-use Rattle.csl_style.specs.Term.{term_text, term_gender}
-use Rattle.csl_style.specs.View.{view_date}
+use Rattle.csl_elements.specs.Term.{term_text, term_gender}
+use Rattle.csl_elements.specs.View.{view_date}
 use Rattle.csl_entry.specs.Cite.{Disambiguation, no_disambiguation, by_names, by_choose, by_year_suffix}
 use Rattle.csl_entry.specs.NumberResult.{ResultView}
 use Rattle.csl_entry.specs.Instance.{Instance, resolve_number, resolve_page, resolve_standard, resolve_names, resolve_date}

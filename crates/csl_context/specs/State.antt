@@ -10,10 +10,10 @@ use Rattle.std.specs.BTreeSet.{insert_key}
 use Rattle.std.specs.BTreeMap.{is_at}
 use Rattle.std.specs.List.{list_any}
 use Rattle.std.specs.declared.cmp.Ordering.{Ordering}
-use Rattle.csl_style.specs.declared.formatting.Formatting as partial
-use Rattle.csl_style.specs.declared.taxonomy.Variable.{Variable}
-use Rattle.csl_style.specs.contracts.taxonomy.VariableOrd.TheImpl.{cmp-value}
-use Rattle.csl_style.specs.NameOptions.{PartialOptions}
+use Rattle.csl_elements.specs.declared.formatting.Formatting as partial
+use Rattle.csl_elements.specs.declared.taxonomy.Variable.{Variable}
+use Rattle.csl_elements.specs.contracts.taxonomy.VariableOrd.TheImpl.{cmp-value}
+use Rattle.csl_elements.specs.NameOptions.{PartialOptions}
 use Rattle.csl_tree.specs.declared.formatting.Formatting.{Formatting}
 use Rattle.csl_tree.specs.Formatting.{apply_formatting}
 use Rattle.csl_entry.specs.NameProperties.{NameProperties}

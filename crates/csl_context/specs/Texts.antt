@@ -11,7 +11,7 @@ use Rattle.lit_model.specs.Characters.{dot_char, space_char}
 use Rattle.lit_model.specs.Text.{Chunk}
 use Rattle.lit_model.specs.declared.text.ChunkKind.TheVariants.{Normal, Verbatim, Math}
 use Rattle.lit_model.specs.declared.text.ChunkKind.{ChunkKind}
-use Rattle.csl_style.specs.Dressing.{AffixTexts}
+use Rattle.csl_elements.specs.Dressing.{AffixTexts}
 use Rattle.csl_tree.specs.declared.formatting.Formatting.{Formatting}
 use Rattle.csl_tree.specs.Tokens.{Token, solid, transparent, has_text, ends_in_white_space}
 use Rattle.csl_tree.specs.Content.{◌++>◌, text_content, markup_content, link_content, affixed_content}

@@ -2,7 +2,7 @@
 
 ghost use Rattle.std.specs.Prelude.{◌≡◌, ◌↔◌, [], false, true, IfOk, OnOk, IfErr, option_map};
 ghost use Rattle.std.specs.Bool.{OnFalse};
-ghost use Rattle.csl_style.specs.NameOptions.{inherited_options};
+ghost use Rattle.csl_elements.specs.NameOptions.{inherited_options};
 ghost use Rattle.csl_tree.specs.Content.{IsContent};
 ghost use Rattle.csl_tree.specs.Tokens.{tokens};
 ghost use Rattle.csl_entry.specs.Cite.{cite_state};
@@ -49,9 +49,9 @@ pub struct WritingContext<'s> {
 impl<'s, T> Model for Context<'s, T> {
     ghost use Rattle.std.specs.Prelude.{map, reverse, option_map};
     ghost use Rattle.std.specs.Coded.{codes};
-    ghost use Rattle.csl_style.specs.contracts.element.CslMacro as of_macro;
-    ghost use Rattle.csl_style.specs.contracts.element.Layout as of_layout;
-    ghost use Rattle.csl_style.specs.NameOptions.{inherited_options};
+    ghost use Rattle.csl_elements.specs.contracts.element.CslMacro as of_macro;
+    ghost use Rattle.csl_elements.specs.contracts.element.Layout as of_layout;
+    ghost use Rattle.csl_elements.specs.NameOptions.{inherited_options};
     ghost use Rattle.csl_entry.specs.Cite.{cite_state};
     ghost use Rattle.csl_context.specs.Contents.{HasContents};
     ghost use Rattle.csl_context.specs.LeftState.{left_state_view};

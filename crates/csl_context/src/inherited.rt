@@ -2,7 +2,7 @@
 
 ghost use Rattle.std.specs.Prelude.{◌≡◌, ◌<◌, ◌||◌, length, false, true, option_map};
 ghost use Rattle.std.specs.Bool.{OnFalse};
-ghost use Rattle.csl_style.specs.NameOptions.{partial_options};
+ghost use Rattle.csl_elements.specs.NameOptions.{partial_options};
 ghost use Rattle.csl_context.specs.ContextView.{Runs, with_format, without_format, with_delimiter, without_delimiter, with_options, without_options, with_stripping};
 
 use crate::context::Context;

@@ -1,7 +1,7 @@
 //! Affixes and quotes around a content (CSL 1.0.2, Affixes, Quotes).
 
 ghost use Rattle.std.specs.Prelude.{◌≡◌, ◌+◌, length, false, option_map, IfOk};
-ghost use Rattle.csl_style.specs.Dressing.{affix_texts};
+ghost use Rattle.csl_elements.specs.Dressing.{affix_texts};
 ghost use Rattle.csl_tree.specs.Content.{◌++>◌, affixed_content};
 ghost use Rattle.csl_tree.specs.Flat.{affix_content};
 ghost use Rattle.csl_context.specs.Texts.{text_in_if, between_in};

@@ -2,7 +2,7 @@
 //! Formats; Choose: disambiguate).
 
 ghost use Rattle.std.specs.Prelude.{◌≡◌, option_map};
-ghost use Rattle.csl_style.specs.Date.{date_in_form};
+ghost use Rattle.csl_elements.specs.Date.{date_in_form};
 ghost use Rattle.csl_context.specs.RenderInput.{term_in, gender_in, should_disambiguate};
 
 use crate::context::Context;

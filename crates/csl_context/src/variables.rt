@@ -6,7 +6,7 @@ ghost use Rattle.lit_model.specs.MaybeTyped.{maybe_view};
 ghost use Rattle.lit_model.specs.Page.{pages_view};
 ghost use Rattle.lit_model.specs.Person.{person_view};
 ghost use Rattle.lit_model.specs.Text.{chunks};
-ghost use Rattle.csl_style.specs.declared.taxonomy.Variable.{Variable};
+ghost use Rattle.csl_elements.specs.declared.taxonomy.Variable.{Variable};
 ghost use Rattle.csl_entry.specs.Answers.{cow_view};
 ghost use Rattle.csl_entry.specs.NumberResult.{result_view};
 ghost use Rattle.csl_context.specs.RenderInput.{peek_number, peek_page, peek_standard, peek_names, peek_date};

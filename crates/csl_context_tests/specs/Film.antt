@@ -1,10 +1,10 @@
 -- The answers of a film, the entry of these tests, to text variables and kinds.
 use Rattle.std.specs.Prelude.{List, Option, Some, None, Bool, true, false}
 use Rattle.lit_model.specs.Text.{Chunk}
-use Rattle.csl_style.specs.declared.taxonomy.Kind.{Kind}
-use Rattle.csl_style.specs.declared.taxonomy.Kind.TheVariants.{MotionPicture}
-use Rattle.csl_style.specs.declared.taxonomy.StandardVariable.{StandardVariable}
-use Rattle.csl_style.specs.declared.taxonomy.StandardVariable.TheVariants.{Title}
+use Rattle.csl_elements.specs.declared.taxonomy.Kind.{Kind}
+use Rattle.csl_elements.specs.declared.taxonomy.Kind.TheVariants.{MotionPicture}
+use Rattle.csl_elements.specs.declared.taxonomy.StandardVariable.{StandardVariable}
+use Rattle.csl_elements.specs.declared.taxonomy.StandardVariable.TheVariants.{Title}
 
 -- a standard variable of a film: only the title has an answer
 abbrev pub title_alone : List Chunk → StandardVariable → Option (List Chunk)

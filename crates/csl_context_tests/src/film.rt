@@ -8,7 +8,7 @@ use lit_model::{
 };
 use std::alloc::Global;
 use std::borrow::{Cow, CowStr};
-use std::test::Fail;
+use std::process::Abort;
 
 /// A text variable whose lookup in a film runs out of memory.
 pub(crate) const UNANSWERED: StandardVariable = StandardVariable::Annote;
@@ -109,16 +109,16 @@ impl EntryLike for Film {
 }
 
 /// Number 20, page 7, a title in three pieces, the director Lang, the year 1927.
-pub(crate) fn metropolis(alloc: Global) -> Result<Film, Fail> {
-    let shown = Date::new(1927, None, None, None, false).ok_or("a year")?;
-    let pages = PageRanges::parse(alloc, "7")?;
-    let title = pieces(alloc, "a.+`b.+$c.")?;
-    let director = Person::institution(alloc, "Lang")?;
-    Ok(Film {
+pub(crate) fn metropolis(rt: &impl Abort, alloc: Global) -> Film {
+    let shown = Date::new(1927, None, None, None, false).expect(rt, "a year");
+    let pages = PageRanges::parse(alloc, "7").expect(rt, "pages");
+    let title = pieces(rt, alloc, "a.+`b.+$c.");
+    let director = Person::institution(alloc, "Lang").expect(rt, "memory");
+    Film {
         number: Numeric::new(20),
         pages,
         title,
         director,
         shown,
-    })
+    }
 }

@@ -5,8 +5,8 @@ use csl_style::{
     OrdinalTerm, OtherTerm, PageVariable, Style, StyleSettings, Term, TermEntry, TermForm,
 };
 use lit_model::{ChunkKind, ChunkedString, GrammarGender, StringChunk};
-use std::alloc::{AllocError, Global};
-use std::test::Fail;
+use std::alloc::Global;
+use std::process::Abort;
 
 /// The kind of a piece of a text, and the piece without the mark of its kind.
 fn kind_of(piece: &str) -> (ChunkKind, &str) {
@@ -21,26 +21,28 @@ fn kind_of(piece: &str) -> (ChunkKind, &str) {
 
 /// The text of the pieces that `+` separates. A backtick before a piece means `Verbatim`, and `$`
 /// means `Math`.
-pub(crate) fn pieces(alloc: Global, text: &str) -> Result<ChunkedString, AllocError> {
+pub(crate) fn pieces(rt: &impl Abort, alloc: Global, text: &str) -> ChunkedString {
     let mut chunks = Vec::new(alloc);
     for piece in text.split('+') {
         let (kind, piece) = kind_of(piece);
-        let value = String::from_str(alloc, piece)?;
-        chunks.push(StringChunk { value, kind })?;
+        let value = String::from_str(alloc, piece).expect(rt, "memory");
+        chunks
+            .push(StringChunk { value, kind })
+            .expect(rt, "memory");
     }
-    Ok(ChunkedString(chunks))
+    ChunkedString(chunks)
 }
 
 /// A list of one item.
-pub(crate) fn alone<T: Drop>(alloc: Global, item: T) -> Result<Vec<T>, AllocError> {
+pub(crate) fn alone<T: Drop>(rt: &impl Abort, alloc: Global, item: T) -> Vec<T> {
     let mut items = Vec::new(alloc);
-    put(&mut items, item)?;
-    Ok(items)
+    put(rt, &mut items, item);
+    items
 }
 
 /// Appends an item to a list.
-fn put<T: Drop>(items: &mut Vec<T>, item: T) -> Result<(), AllocError> {
-    Ok(items.push(item)?)
+fn put<T: Drop>(rt: &impl Abort, items: &mut Vec<T>, item: T) {
+    items.push(item).expect(rt, "memory");
 }
 
 /// A term, its form, its singular and its plural.
@@ -72,11 +74,11 @@ static TERMS: [TermRow; 6] = [
 ];
 
 /// The terms of the rows. All are feminine.
-fn terms(alloc: Global, rows: &[TermRow]) -> Result<Vec<TermEntry>, AllocError> {
+fn terms(rt: &impl Abort, alloc: Global, rows: &[TermRow]) -> Vec<TermEntry> {
     let mut terms = Vec::new(alloc);
     for (term, form, single, multiple) in rows {
-        let single = String::from_str(alloc, *single)?;
-        let multiple = String::from_str(alloc, *multiple)?;
+        let single = String::from_str(alloc, *single).expect(rt, "memory");
+        let multiple = String::from_str(alloc, *multiple).expect(rt, "memory");
         let entry = TermEntry {
             term: *term,
             form: *form,
@@ -84,36 +86,36 @@ fn terms(alloc: Global, rows: &[TermRow]) -> Result<Vec<TermEntry>, AllocError> 
             multiple: Some(multiple),
             gender: Some(GrammarGender::Feminine),
         };
-        put(&mut terms, entry)?;
+        put(rt, &mut terms, entry);
     }
-    Ok(terms)
+    terms
 }
 
 /// The ordinals: `st` after a last digit 1, else `th`.
-fn ordinals(alloc: Global) -> Result<Vec<OrdinalTerm>, AllocError> {
+fn ordinals(rt: &impl Abort, alloc: Global) -> Vec<OrdinalTerm> {
     let mut ordinals = Vec::new(alloc);
     for (slot, text) in [(OrdinalSlot::Default, "th"), (OrdinalSlot::Two(1), "st")] {
         let ordinal = OrdinalTerm {
             slot,
             matching: None,
             gender: None,
-            text: String::from_str(alloc, text)?,
+            text: String::from_str(alloc, text).expect(rt, "memory"),
         };
-        put(&mut ordinals, ordinal)?;
+        put(rt, &mut ordinals, ordinal);
     }
-    Ok(ordinals)
+    ordinals
 }
 
 /// The one localized date, in words and without parts.
-fn dates(alloc: Global) -> Result<Vec<Date>, AllocError> {
-    alone(alloc, Date::localized(DateForm::Text, Vec::new(alloc)))
+fn dates(rt: &impl Abort, alloc: Global) -> Vec<Date> {
+    alone(rt, alloc, Date::localized(DateForm::Text, Vec::new(alloc)))
 }
 
 /// The one locale. A comma or period after a closing quote goes before it.
-fn locales(alloc: Global) -> Result<Vec<Locale>, AllocError> {
-    let terms = terms(alloc, &TERMS)?;
-    let ordinals = ordinals(alloc)?;
-    let dates = dates(alloc)?;
+fn locales(rt: &impl Abort, alloc: Global) -> Vec<Locale> {
+    let terms = terms(rt, alloc, &TERMS);
+    let ordinals = ordinals(rt, alloc);
+    let dates = dates(rt, alloc);
     let locale = Locale {
         terms,
         ordinals,
@@ -121,32 +123,28 @@ fn locales(alloc: Global) -> Result<Vec<Locale>, AllocError> {
         punctuation_in_quote: true,
         limit_day_ordinals_to_day_1: false,
     };
-    alone(alloc, locale)
+    alone(rt, alloc, locale)
 }
 
 /// Sets the delimiter of the options of names.
-fn delimit(
-    alloc: Global,
-    options: &mut InheritableNameOptions,
-    delimiter: &str,
-) -> Result<(), AllocError> {
-    options.delimiter = Some(String::from_str(alloc, delimiter)?);
-    Ok(())
+fn delimit(rt: &impl Abort, alloc: Global, options: &mut InheritableNameOptions, delimiter: &str) {
+    options.delimiter = Some(String::from_str(alloc, delimiter).expect(rt, "memory"));
 }
 
 /// Sets the delimiters and the sort separator that [`settings`] describes.
-fn set_names(alloc: Global, settings: &mut StyleSettings) -> Result<(), AllocError> {
-    settings.names.sort_separator = Some(String::from_str(alloc, "s")?);
-    delimit(alloc, &mut settings.names, "n")?;
-    delimit(alloc, &mut settings.citation_names, "c")?;
-    delimit(alloc, &mut settings.bibliography_names, "b")
+fn set_names(rt: &impl Abort, alloc: Global, settings: &mut StyleSettings) {
+    settings.names.sort_separator = Some(String::from_str(alloc, "s").expect(rt, "memory"));
+    delimit(rt, alloc, &mut settings.names, "n");
+    delimit(rt, alloc, &mut settings.citation_names, "c");
+    delimit(rt, alloc, &mut settings.bibliography_names, "b");
 }
 
 /// The settings. The delimiter of names is `n`, in the citation `c`, in the bibliography `b`. The
 /// sort separator is `s`.
-fn settings(alloc: Global) -> Result<StyleSettings, AllocError> {
+fn settings(rt: &impl Abort, alloc: Global) -> StyleSettings {
     let mut settings = StyleSettings::default();
-    set_names(alloc, &mut settings).and(Ok(settings))
+    set_names(rt, alloc, &mut settings);
+    settings
 }
 
 /// A layout without elements.
@@ -159,25 +157,26 @@ fn empty_layout(alloc: Global) -> Layout {
 }
 
 /// The style with these settings and this locale. It has no macros and no nodes.
-pub(crate) fn style(alloc: Global) -> Result<Style, Fail> {
-    let locales = locales(alloc)?;
-    let settings = settings(alloc)?;
-    Ok(Style::new(
+pub(crate) fn style(rt: &impl Abort, alloc: Global) -> Style {
+    let locales = locales(rt, alloc);
+    let settings = settings(rt, alloc);
+    Style::new(
         alloc,
         settings,
         Vec::new(alloc),
         empty_layout(alloc),
         None,
         locales,
-    )?)
+    )
+    .expect(rt, "a style")
 }
 
 /// The prefix `(` and the suffix `, `.
-pub(crate) fn affixes(alloc: Global) -> Result<Affixes, AllocError> {
-    let prefix = String::from_str(alloc, "(")?;
-    let suffix = String::from_str(alloc, ", ")?;
-    Ok(Affixes {
+pub(crate) fn affixes(rt: &impl Abort, alloc: Global) -> Affixes {
+    let prefix = String::from_str(alloc, "(").expect(rt, "memory");
+    let suffix = String::from_str(alloc, ", ").expect(rt, "memory");
+    Affixes {
         prefix: Some(prefix),
         suffix: Some(suffix),
-    })
+    }
 }

@@ -18,7 +18,6 @@ use csl_style::{Affixes, Scope, Style};
 use lit_model::{LongShortForm, Memory};
 use std::alloc::Global;
 use std::process::Abort;
-use std::test::Fail;
 
 /// An act: the calls that a test makes in a context.
 #[derive(Clone, Copy, Debug)]
@@ -96,28 +95,28 @@ struct Things {
 }
 
 /// The things of the tests.
-fn new_things(alloc: Global) -> Result<Things, Fail> {
-    let styles = alone(alloc, style(alloc)?)?;
-    let films = alone(alloc, metropolis(alloc)?)?;
+fn new_things(rt: &impl Abort, alloc: Global) -> Things {
+    let styles = alone(rt, alloc, style(rt, alloc));
+    let films = alone(rt, alloc, metropolis(rt, alloc));
     let cite = CiteProperties::first(DisambiguateState::Choose);
-    let cites = alone(alloc, cite)?;
-    Ok(Things {
+    let cites = alone(rt, alloc, cite);
+    Things {
         styles,
         films,
         cites,
-        affixes: affixes(alloc)?,
-    })
+        affixes: affixes(rt, alloc),
+    }
 }
 
 /// The world of these things.
-fn world_of<'s>(alloc: Global, things: &'s Things) -> Result<World<'s>, Fail> {
-    Ok(World {
+fn world_of<'s>(rt: &impl Abort, alloc: Global, things: &'s Things) -> World<'s> {
+    World {
         alloc,
-        style: things.styles.first().ok_or("a style")?,
-        film: things.films.first().ok_or("a film")?,
-        cite: things.cites.first().ok_or("a cite")?,
+        style: things.styles.first().expect(rt, "a style"),
+        film: things.films.first().expect(rt, "a film"),
+        cite: things.cites.first().expect(rt, "a cite"),
         affixes: &things.affixes,
-    })
+    }
 }
 
 /// The cite, to be sorted by a macro, and without its author.
@@ -128,6 +127,11 @@ fn instance<'s>(world: World<'s>) -> InstanceContext<'s, Film> {
         sorting: Some(Sorting::Macro),
         kind: Some(SpecialForm::SuppressAuthor),
     }
+}
+
+/// A new context of this world.
+fn new_context<'s>(rt: &impl Abort, world: World<'s>) -> Context<'s, Film> {
+    Context::new(world.alloc, world.style, instance(world), Scope::Citation).expect(rt, "memory")
 }
 
 /// Returns the error of a call if the context and later calls report the failure. Otherwise returns
@@ -175,38 +179,43 @@ fn made<'s>(
 }
 
 /// The content and the state of an act. If memory runs out, the act runs again in a new context.
-fn rendered<'s>(world: World<'s>, before: Option<&Rendered>, act: Act) -> Result<Rendered, Fail> {
+fn rendered<'s>(
+    rt: &impl Abort,
+    world: World<'s>,
+    before: Option<&Rendered>,
+    act: Act,
+) -> Rendered {
     match made(world, before, act) {
-        Ok(rendered) => Ok(rendered),
-        Err(RenderError::Memory) => Ok(made(world, before, act)?),
-        Err(RenderError::Failed) => Err(Fail::from("a refusal is forgotten")),
+        Ok(rendered) => rendered,
+        Err(RenderError::Memory) => made(world, before, act).expect(rt, "memory"),
+        Err(RenderError::Failed) => panic!(rt; "a refusal is forgotten"),
     }
 }
 
 /// The rendering of the last of one or two acts in the world of these things, in words.
-fn said_in(alloc: Global, things: &Things, act: Act, next: Option<Act>) -> Result<String, Fail> {
-    let world = world_of(alloc, things)?;
-    let first = rendered(world, None, act)?;
+fn said_in(rt: &impl Abort, alloc: Global, things: &Things, act: Act, next: Option<Act>) -> String {
+    let world = world_of(rt, alloc, things);
+    let first = rendered(rt, world, None, act);
     let said = match next {
-        None => say(world.alloc, &first),
-        Some(act) => said_behind(world, &first, act),
+        None => say(rt, world.alloc, &first),
+        Some(act) => said_behind(rt, world, &first, act),
     };
     drop(first);
     said
 }
 
 /// The rendering of an act after another act, in words.
-fn said_behind<'s>(world: World<'s>, before: &Rendered, act: Act) -> Result<String, Fail> {
-    let made = rendered(world, Some(before), act)?;
-    let said = say(world.alloc, &made);
+fn said_behind<'s>(rt: &impl Abort, world: World<'s>, before: &Rendered, act: Act) -> String {
+    let made = rendered(rt, world, Some(before), act);
+    let said = say(rt, world.alloc, &made);
     drop(made);
     said
 }
 
 /// The rendering of the last of one or two acts in a new world, in words.
-fn said(alloc: Global, act: Act, next: Option<Act>) -> Result<String, Fail> {
-    let things = new_things(alloc)?;
-    let said = said_in(alloc, &things, act, next);
+fn said(rt: &impl Abort, alloc: Global, act: Act, next: Option<Act>) -> String {
+    let things = new_things(rt, alloc);
+    let said = said_in(rt, alloc, &things, act, next);
     drop(things);
     said
 }
@@ -216,9 +225,9 @@ fn said(alloc: Global, act: Act, next: Option<Act>) -> Result<String, Fail> {
 /// failed after the first and the third.
 type Refusals = ([Option<RenderError>; 4], [bool; 2]);
 
-fn refusals_in(alloc: Global, things: &Things) -> Result<Refusals, Fail> {
-    let world = world_of(alloc, things)?;
-    let mut ctx = Context::new(world.alloc, world.style, instance(world), Scope::Citation)?;
+fn refusals_in(rt: &impl Abort, alloc: Global, things: &Things) -> Refusals {
+    let world = world_of(rt, alloc, things);
+    let mut ctx = new_context(rt, world);
     let looked = refused_look(&ctx);
     let had_failed = ctx.has_failed();
     let printed = ctx
@@ -228,7 +237,7 @@ fn refusals_in(alloc: Global, things: &Things) -> Result<Refusals, Fail> {
     let has_failed = ctx.has_failed();
     ctx.fail();
     let errors = [looked, printed, written, ctx.finish().err()];
-    Ok((errors, [had_failed, has_failed]))
+    (errors, [had_failed, has_failed])
 }
 
 /// The error, if any, of a silent lookup that runs out of memory in the entry.
@@ -238,38 +247,42 @@ fn refused_look(ctx: &Context<'_, Film>) -> Option<RenderError> {
 }
 
 /// The errors of these four calls, in a new world.
-fn refusals(alloc: Global) -> Result<Refusals, Fail> {
-    let things = new_things(alloc)?;
-    let refusals = refusals_in(alloc, &things);
+fn refusals(rt: &impl Abort, alloc: Global) -> Refusals {
+    let things = new_things(rt, alloc);
+    let refusals = refusals_in(rt, alloc, &things);
     drop(things);
     refusals
 }
 
 /// The errors, if any, of [`Context::attempt`] for a call that ran out of memory, and then for one
 /// that did not. Then whether the context has failed.
-fn attempts_in(alloc: Global, things: &Things) -> Result<([Option<RenderError>; 2], bool), Fail> {
-    let world = world_of(alloc, things)?;
-    let mut ctx = Context::new(world.alloc, world.style, instance(world), Scope::Citation)?;
+fn attempts_in(
+    rt: &impl Abort,
+    alloc: Global,
+    things: &Things,
+) -> ([Option<RenderError>; 2], bool) {
+    let world = world_of(rt, alloc, things);
+    let mut ctx = new_context(rt, world);
     let refused: Result<u8, Memory> = Err(Memory);
     let first = ctx.attempt(refused).err();
     let given: Result<u8, Memory> = Ok(7);
     let second = ctx.attempt(given).err();
     let has_failed = ctx.has_failed();
     drop(ctx);
-    Ok(([first, second], has_failed))
+    ([first, second], has_failed)
 }
 
 /// The errors of these two calls, in a new world.
-fn attempts(alloc: Global) -> Result<([Option<RenderError>; 2], bool), Fail> {
-    let things = new_things(alloc)?;
-    let attempts = attempts_in(alloc, &things);
+fn attempts(rt: &impl Abort, alloc: Global) -> ([Option<RenderError>; 2], bool) {
+    let things = new_things(rt, alloc);
+    let attempts = attempts_in(rt, alloc, &things);
     drop(things);
     attempts
 }
 
 /// The text of an error.
-fn words_of(alloc: Global, error: RenderError) -> Result<String, Fail> {
-    Ok(format!(in alloc; "{error}")?)
+fn words_of(rt: &impl Abort, alloc: Global, error: RenderError) -> String {
+    format!(in alloc; "{error}").expect(rt, "memory")
 }
 
 fn assert_said(rt: &impl Abort, said: &str, wanted: &str, act: Act) {
@@ -348,48 +361,38 @@ static TWO_ACTS: [(Act, Act, &str); 5] = [
     ),
 ];
 
-fn assert_acts(rt: &impl Abort, alloc: Global, rows: &[(Act, &'static str)]) -> Result<(), Fail> {
+fn assert_acts(rt: &impl Abort, alloc: Global, rows: &[(Act, &'static str)]) {
     for (act, wanted) in rows {
-        let said = said(alloc, *act, None)?;
+        let said = said(rt, alloc, *act, None);
         assert_said(rt, said.as_str(), *wanted, *act);
     }
-    Ok(())
 }
 
-fn assert_two_acts(
-    rt: &impl Abort,
-    alloc: Global,
-    rows: &[(Act, Act, &'static str)],
-) -> Result<(), Fail> {
+fn assert_two_acts(rt: &impl Abort, alloc: Global, rows: &[(Act, Act, &'static str)]) {
     for (act, next, wanted) in rows {
-        let said = said(alloc, *act, Some(*next))?;
+        let said = said(rt, alloc, *act, Some(*next));
         assert_said(rt, said.as_str(), *wanted, *next);
     }
-    Ok(())
 }
 
 #[test]
-fn each_call_writes_or_returns_its_result(rt: HostRuntime) -> Result<(), Fail> {
-    assert_acts(&rt, rt.alloc(), &ACTS)
+fn each_call_writes_or_returns_its_result(rt: HostRuntime) {
+    assert_acts(&rt, rt.alloc(), &ACTS);
 }
 
 #[test]
-fn a_context_resumes_from_a_state_and_a_failed_one_returns_failed(
-    rt: HostRuntime,
-) -> Result<(), Fail> {
-    assert_two_acts(&rt, rt.alloc(), &TWO_ACTS)?;
+fn a_context_resumes_from_a_state_and_a_failed_one_returns_failed(rt: HostRuntime) {
+    assert_two_acts(&rt, rt.alloc(), &TWO_ACTS);
     let (memory, failed) = (Some(RenderError::Memory), Some(RenderError::Failed));
     let wanted = ([memory, memory, failed, failed], [false, true]);
-    assert_eq!(rt; refusals(rt.alloc())?, wanted);
-    assert_eq!(rt; attempts(rt.alloc())?, ([memory, failed], true));
-    Ok(())
+    assert_eq!(rt; refusals(&rt, rt.alloc()), wanted);
+    assert_eq!(rt; attempts(&rt, rt.alloc()), ([memory, failed], true));
 }
 
 #[test]
-fn an_error_is_written_out(rt: HostRuntime) -> Result<(), Fail> {
-    let memory = words_of(rt.alloc(), RenderError::from(Memory))?;
+fn an_error_is_written_out(rt: HostRuntime) {
+    let memory = words_of(&rt, rt.alloc(), RenderError::from(Memory));
     assert_eq!(rt; memory.as_str(), "out of memory");
-    let failed = words_of(rt.alloc(), RenderError::Failed)?;
+    let failed = words_of(&rt, rt.alloc(), RenderError::Failed);
     assert_eq!(rt; failed.as_str(), "the context had failed before");
-    Ok(())
 }

@@ -18,7 +18,7 @@ use csl_style::{Display, FontStyle, FontWeight};
 use csl_tree::{ElemChild, ElemChildren, ElemMeta, Formatted, Formatting};
 use lit_model::Memory;
 use std::alloc::Global;
-use std::test::Fail;
+use std::process::Abort;
 
 /// Appends a text as one word.
 fn say_text(text: &str, said: &mut String) -> Result<(), Memory> {
@@ -104,26 +104,25 @@ fn say_children(children: &ElemChildren, said: &mut String) -> Result<(), Memory
 }
 
 /// Appends a state in words.
-fn say_state(state: &LeftState, said: &mut String) -> Result<(), Fail> {
+fn say_state(rt: &impl Abort, state: &LeftState, said: &mut String) {
     if !state.suppressed.is_empty() {
-        write!(said, " suppressed {:?}", state.suppressed)?;
+        write!(said, " suppressed {:?}", state.suppressed).expect(rt, "memory");
     }
     if state.suppressing {
-        said.push_str(" suppressing")?;
+        said.push_str(" suppressing").expect(rt, "memory");
     }
     if state.first_date_seen {
-        said.push_str(" dated")?;
+        said.push_str(" dated").expect(rt, "memory");
     }
     if let Some(names) = &state.first_names {
-        write!(said, " named {:?}", names.default_name_form())?;
+        write!(said, " named {:?}", names.default_name_form()).expect(rt, "memory");
     }
-    Ok(())
 }
 
 /// The content and the state of a rendering, in words.
-pub(crate) fn say(alloc: Global, rendered: &Rendered) -> Result<String, Fail> {
+pub(crate) fn say(rt: &impl Abort, alloc: Global, rendered: &Rendered) -> String {
     let mut said = String::new(alloc);
-    say_children(&rendered.content, &mut said)?;
-    say_state(&rendered.state, &mut said)?;
-    Ok(String::from_str(alloc, said.as_str().trim_start_matches(' '))?)
+    say_children(&rendered.content, &mut said).expect(rt, "memory");
+    say_state(rt, &rendered.state, &mut said);
+    String::from_str(alloc, said.as_str().trim_start_matches(' ')).expect(rt, "memory")
 }

@@ -9,18 +9,17 @@ use Rattle.std.specs.declared.cmp.Ordering.{Ordering}
 use Rattle.std.specs.declared.cmp.Ordering.TheVariants.{Less, Equal, Greater}
 use Rattle.lit_model.proofs.ByValue.{both, through}
 use Rattle.csl_common.specs.declared.form.LongShortForm.{LongShortForm}
-use Rattle.csl_style.proofs.Sets.{or_left, or_right}
-use Rattle.csl_style.proofs.Variables.{number_ordered, page_ordered, standard_ordered, name_ordered, date_ordered, kind_ordered}
-use Rattle.csl_style.specs.NamedWalk.{named_set}
-use Rattle.csl_style.specs.Named.{a_variable, a_kind}
-use Rattle.csl_style.specs.declared.named.Named.{Named}
-use Rattle.csl_style.specs.declared.taxonomy.Variable.TheVariants as variable
-use Rattle.csl_style.specs.contracts.taxonomy.NumberVariableOrd.TheImpl.{cmp-value as cmp_number}
-use Rattle.csl_style.specs.contracts.taxonomy.PageVariableOrd.TheImpl.{cmp-value as cmp_page}
-use Rattle.csl_style.specs.contracts.taxonomy.StandardVariableOrd.TheImpl.{cmp-value as cmp_standard}
-use Rattle.csl_style.specs.contracts.taxonomy.NameVariableOrd.TheImpl.{cmp-value as cmp_name}
-use Rattle.csl_style.specs.contracts.taxonomy.DateVariableOrd.TheImpl.{cmp-value as cmp_date}
-use Rattle.csl_style.specs.contracts.taxonomy.KindOrd.TheImpl.{cmp-value as cmp_kind}
+use Rattle.csl_elements.proofs.Sets.{or_left, or_right}
+use Rattle.csl_elements.proofs.Variables.{number_ordered, page_ordered, standard_ordered, name_ordered, date_ordered, kind_ordered}
+use Rattle.csl_elements.specs.NamedSet.{named_set, a_variable, a_kind}
+use Rattle.csl_elements.specs.declared.named.Named.{Named}
+use Rattle.csl_elements.specs.declared.taxonomy.Variable.TheVariants as variable
+use Rattle.csl_elements.specs.contracts.taxonomy.NumberVariableOrd.TheImpl.{cmp-value as cmp_number}
+use Rattle.csl_elements.specs.contracts.taxonomy.PageVariableOrd.TheImpl.{cmp-value as cmp_page}
+use Rattle.csl_elements.specs.contracts.taxonomy.StandardVariableOrd.TheImpl.{cmp-value as cmp_standard}
+use Rattle.csl_elements.specs.contracts.taxonomy.NameVariableOrd.TheImpl.{cmp-value as cmp_name}
+use Rattle.csl_elements.specs.contracts.taxonomy.DateVariableOrd.TheImpl.{cmp-value as cmp_date}
+use Rattle.csl_elements.specs.contracts.taxonomy.KindOrd.TheImpl.{cmp-value as cmp_kind}
 use Rattle.csl_entry.specs.Alike.{SameNamedAnswers, Each}
 use Rattle.csl_entry.specs.Answers.{Answers}
 

@@ -3,15 +3,15 @@
 use Rattle.std.proofs.Common.{◌≡◌, refl, ap}
 use Rattle.std.specs.Prelude.{option_map}
 use Rattle.csl_common.specs.declared.form.LongShortForm.{LongShortForm}
-use Rattle.csl_style.specs.declared.taxonomy.NumberVariable.{NumberVariable}
-use Rattle.csl_style.specs.declared.taxonomy.NumberVariable.TheVariants.{CitationNumber, FirstReferenceNoteNumber, Locator}
-use Rattle.csl_style.specs.declared.taxonomy.PageVariable.{PageVariable}
-use Rattle.csl_style.specs.declared.taxonomy.NumberOrPageVariable.{NumberOrPageVariable}
-use Rattle.csl_style.specs.declared.taxonomy.NumberOrPageVariable.TheVariants as number_or_page
-use Rattle.csl_style.specs.declared.taxonomy.StandardVariable.{StandardVariable}
-use Rattle.csl_style.specs.declared.taxonomy.StandardVariable.TheVariants.{YearSuffix}
-use Rattle.csl_style.specs.declared.taxonomy.NameVariable.{NameVariable}
-use Rattle.csl_style.specs.declared.taxonomy.DateVariable.{DateVariable}
+use Rattle.csl_elements.specs.declared.taxonomy.NumberVariable.{NumberVariable}
+use Rattle.csl_elements.specs.declared.taxonomy.NumberVariable.TheVariants.{CitationNumber, FirstReferenceNoteNumber, Locator}
+use Rattle.csl_elements.specs.declared.taxonomy.PageVariable.{PageVariable}
+use Rattle.csl_elements.specs.declared.taxonomy.NumberOrPageVariable.{NumberOrPageVariable}
+use Rattle.csl_elements.specs.declared.taxonomy.NumberOrPageVariable.TheVariants as number_or_page
+use Rattle.csl_elements.specs.declared.taxonomy.StandardVariable.{StandardVariable}
+use Rattle.csl_elements.specs.declared.taxonomy.StandardVariable.TheVariants.{YearSuffix}
+use Rattle.csl_elements.specs.declared.taxonomy.NameVariable.{NameVariable}
+use Rattle.csl_elements.specs.declared.taxonomy.DateVariable.{DateVariable}
 use Rattle.csl_entry.specs.Cite.{CiteState}
 use Rattle.csl_entry.specs.Instance.{Instance, year_suffix, resolve_number, resolve_page, resolve_number_or_page, resolve_standard, resolve_names, resolve_date, SameNumber, SameStandard, SameNumberOrPage}
 use Rattle.csl_entry.specs.NumberResult.{regular, number, page}

@@ -9,8 +9,8 @@ use Rattle.csl_entry.specs.contracts.forms.name_properties.NameDisambiguationPro
 use Rattle.csl_entry.specs.NameProperties.{NameProperties, name_properties}
 use Rattle.csl_entry.specs.declared.forms.name_form.DisambiguatedNameForm.{DisambiguatedNameForm}
 use Rattle.csl_entry.specs.contracts.forms.name_form.DisambiguatedNameFormPartialEq.TheImpl.{eq-value as eq_form}
-use Rattle.csl_style.specs.declared.taxonomy.NameVariable.{NameVariable}
-use Rattle.csl_style.specs.contracts.taxonomy.NameVariablePartialEq.TheImpl.{eq-value as eq_variable}
+use Rattle.csl_elements.specs.declared.taxonomy.NameVariable.{NameVariable}
+use Rattle.csl_elements.specs.contracts.taxonomy.NameVariablePartialEq.TheImpl.{eq-value as eq_variable}
 use Rattle.lit_model.proofs.PageEqual.{pointwise_view}
 use Rattle.lit_model.proofs.ByValue.{both, through, option_same}
 

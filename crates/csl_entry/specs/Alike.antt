@@ -5,8 +5,8 @@
 -- Variables and kinds outside of the set may differ, and so may key and language.
 use Rattle.std.specs.Prelude.{◌≡◌, true, List, [], ◌∷◌}
 use Rattle.csl_common.specs.declared.form.LongShortForm.{LongShortForm}
-use Rattle.csl_style.specs.Named.{NamedItem, a_variable, a_kind, NamedSet}
-use Rattle.csl_style.specs.declared.taxonomy.Variable.TheVariants as variable
+use Rattle.csl_elements.specs.NamedSet.{NamedItem, a_variable, a_kind, NamedSet}
+use Rattle.csl_elements.specs.declared.taxonomy.Variable.TheVariants as variable
 use Rattle.csl_entry.specs.Answers.{Answers}
 
 -- both give the same answer to the variable, in both forms if it is a standard variable; both are

@@ -5,12 +5,12 @@
 use Rattle.std.specs.Prelude.{Bool, List, Option}
 use Rattle.std.specs.Cow.{cow_value}
 use Rattle.std.specs.declared.borrow.Cow.{Cow}
-use Rattle.csl_style.specs.declared.taxonomy.NumberVariable.{NumberVariable}
-use Rattle.csl_style.specs.declared.taxonomy.PageVariable.{PageVariable}
-use Rattle.csl_style.specs.declared.taxonomy.StandardVariable.{StandardVariable}
-use Rattle.csl_style.specs.declared.taxonomy.NameVariable.{NameVariable}
-use Rattle.csl_style.specs.declared.taxonomy.DateVariable.{DateVariable}
-use Rattle.csl_style.specs.declared.taxonomy.Kind.{Kind}
+use Rattle.csl_elements.specs.declared.taxonomy.NumberVariable.{NumberVariable}
+use Rattle.csl_elements.specs.declared.taxonomy.PageVariable.{PageVariable}
+use Rattle.csl_elements.specs.declared.taxonomy.StandardVariable.{StandardVariable}
+use Rattle.csl_elements.specs.declared.taxonomy.NameVariable.{NameVariable}
+use Rattle.csl_elements.specs.declared.taxonomy.DateVariable.{DateVariable}
+use Rattle.csl_elements.specs.declared.taxonomy.Kind.{Kind}
 use Rattle.csl_common.specs.declared.form.LongShortForm.{LongShortForm}
 use Rattle.lit_model.specs.Date.{DateView}
 use Rattle.lit_model.specs.MaybeTyped.{MaybeView}

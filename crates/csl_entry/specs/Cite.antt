@@ -7,7 +7,7 @@
 -- its index and its citation number are 0, it has no locator, and the cite before it is of another
 -- entry. Its disambiguation is given.
 use Rattle.std.specs.Prelude.{ℕ, Bool, List, None, Option, false, option_map, true}
-use Rattle.csl_style.specs.declared.taxonomy.Locator.{Locator}
+use Rattle.csl_elements.specs.declared.taxonomy.Locator.{Locator}
 use Rattle.csl_entry.specs.declared.citation.cite.LocatorPayload.{LocatorPayload}
 use Rattle.csl_entry.specs.declared.citation.cite.LocatorPayload.TheVariants as of_payload
 use Rattle.csl_entry.specs.declared.citation.cite.SpecificLocator.{SpecificLocator}

@@ -4,8 +4,8 @@
 -- - Event date, original date: the own date of the event, of the original.
 -- - Available date, submitted: none.
 use Rattle.std.specs.Prelude.{Option, None, option_map, option_and_then}
-use Rattle.csl_style.specs.declared.taxonomy.DateVariable.{DateVariable}
-use Rattle.csl_style.specs.declared.taxonomy.DateVariable.TheVariants.{Accessed, AvailableDate, EventDate, Issued, OriginalDate, Submitted}
+use Rattle.csl_elements.specs.declared.taxonomy.DateVariable.{DateVariable}
+use Rattle.csl_elements.specs.declared.taxonomy.DateVariable.TheVariants.{Accessed, AvailableDate, EventDate, Issued, OriginalDate, Submitted}
 use Rattle.lit_model.specs.declared.date.Date.{Date}
 use Rattle.lit_model.specs.declared.entry.Entry.{Entry, out-Entry}
 use Rattle.lit_model.specs.Date.{DateView, date_view}

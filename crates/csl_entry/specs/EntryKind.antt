@@ -11,8 +11,8 @@ use Rattle.lit_model.specs.declared.entry_type.EntryType.TheVariants as of_type
 use Rattle.lit_model.specs.Entry.{parents_of}
 use Rattle.lit_model.specs.Select.{same_type, is_among}
 use Rattle.lit_model.specs.Work.{Own, works}
-use Rattle.csl_style.specs.declared.taxonomy.Kind.{Kind}
-use Rattle.csl_style.specs.declared.taxonomy.Kind.TheVariants as kind
+use Rattle.csl_elements.specs.declared.taxonomy.Kind.{Kind}
+use Rattle.csl_elements.specs.declared.taxonomy.Kind.TheVariants as kind
 
 -- the typing of an entry, which decides its kinds: its own type, the types of its direct parents,
 -- and whether it has a publisher and an address

@@ -14,8 +14,8 @@
 --   another work also has nobody if the entry has no such work.
 use Rattle.std.specs.Prelude.{Bool, List, [], ◌∷◌, map, Option, Some, None}
 use Rattle.std.specs.List.{list_any, filter}
-use Rattle.csl_style.specs.declared.taxonomy.NameVariable.{NameVariable}
-use Rattle.csl_style.specs.declared.taxonomy.NameVariable.TheVariants.{Author, Chair, CollectionEditor, Compiler, Composer, ContainerAuthor, Contributor, Curator, Director, Editor, EditorialDirector, EditorTranslator, ExecutiveProducer, Guest, Host, Illustrator, Interviewer, Narrator, Organizer, OriginalAuthor, Performer, Producer, Recipient, ReviewedAuthor, ScriptWriter, SeriesCreator, Translator}
+use Rattle.csl_elements.specs.declared.taxonomy.NameVariable.{NameVariable}
+use Rattle.csl_elements.specs.declared.taxonomy.NameVariable.TheVariants.{Author, Chair, CollectionEditor, Compiler, Composer, ContainerAuthor, Contributor, Curator, Director, Editor, EditorialDirector, EditorTranslator, ExecutiveProducer, Guest, Host, Illustrator, Interviewer, Narrator, Organizer, OriginalAuthor, Performer, Producer, Recipient, ReviewedAuthor, ScriptWriter, SeriesCreator, Translator}
 use Rattle.lit_model.specs.declared.entry.Entry.{Entry, out-Entry}
 use Rattle.lit_model.specs.declared.entry_type.EntryType.TheVariants.{Proceedings, Conference, Exhibition}
 use Rattle.lit_model.specs.declared.person.Person.{Person}

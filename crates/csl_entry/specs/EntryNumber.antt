@@ -13,8 +13,8 @@
 --   because the citation has them.
 use Rattle.std.specs.Prelude.{ℕ, List, Option, None, codes, option_map, option_and_then, if◌then◌else◌}
 use Rattle.std.specs.Option.{option_or}
-use Rattle.csl_style.specs.declared.taxonomy.NumberVariable.{NumberVariable}
-use Rattle.csl_style.specs.declared.taxonomy.NumberVariable.TheVariants.{ChapterNumber, CitationNumber, CollectionNumber, Edition, FirstReferenceNoteNumber, Issue, Locator, Number, NumberOfPages, NumberOfVolumes, PageFirst, PartNumber, PrintingNumber, Section, SupplementNumber, Version, Volume}
+use Rattle.csl_elements.specs.declared.taxonomy.NumberVariable.{NumberVariable}
+use Rattle.csl_elements.specs.declared.taxonomy.NumberVariable.TheVariants.{ChapterNumber, CitationNumber, CollectionNumber, Edition, FirstReferenceNoteNumber, Issue, Locator, Number, NumberOfPages, NumberOfVolumes, PageFirst, PartNumber, PrintingNumber, Section, SupplementNumber, Version, Volume}
 use Rattle.lit_model.specs.declared.entry.Entry.{Entry, out-Entry}
 use Rattle.lit_model.specs.declared.entry_type.EntryType.TheVariants.{Chapter, Repository}
 use Rattle.lit_model.specs.declared.maybe_typed.MaybeTyped.{MaybeTyped}

@@ -14,8 +14,8 @@
 -- - None: archive-collection, archive-place, division, jurisdiction, keyword, license, medium,
 --   part-title, references, reviewed-genre, reviewed-title, scale, status, year-suffix.
 use Rattle.std.specs.Prelude.{ℕ, List, [], ◌∷◌, Option, Some, None, option_map, option_and_then, string_bytes, codes}
-use Rattle.csl_style.specs.declared.taxonomy.StandardVariable.{StandardVariable}
-use Rattle.csl_style.specs.declared.taxonomy.StandardVariable.TheVariants as var
+use Rattle.csl_elements.specs.declared.taxonomy.StandardVariable.{StandardVariable}
+use Rattle.csl_elements.specs.declared.taxonomy.StandardVariable.TheVariants as var
 use Rattle.lit_model.specs.declared.entry.Entry.{Entry, out-Entry}
 use Rattle.lit_model.specs.declared.entry_type.EntryType.TheVariants.{Repository}
 use Rattle.lit_model.specs.declared.source.LanguageIdentifier.{LanguageIdentifier}

@@ -9,8 +9,8 @@ use Rattle.std.specs.Ordering.{nat_cmp, ordering_then}
 use Rattle.std.specs.Cmp.Lexicographic.{slice_cmp}
 use Rattle.std.specs.declared.cmp.Ordering.{Ordering}
 use denote.Enum.Bare.{sameb}
-use Rattle.csl_style.specs.contracts.taxonomy.NameVariable.{the_type}
-use Rattle.csl_style.specs.declared.taxonomy.NameVariable.{NameVariable}
+use Rattle.csl_elements.specs.contracts.taxonomy.NameVariable.{the_type}
+use Rattle.csl_elements.specs.declared.taxonomy.NameVariable.{NameVariable}
 use Rattle.csl_entry.specs.declared.forms.name_form.DisambiguatedNameForm.{DisambiguatedNameForm}
 use Rattle.csl_entry.specs.declared.forms.name_properties.NameDisambiguationProperties.{NameDisambiguationProperties}
 use Rattle.csl_entry.specs.NameForm.{form_cmp, disambiguated_form}

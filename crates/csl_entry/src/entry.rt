@@ -14,7 +14,9 @@ mod page;
 mod standard;
 
 use crate::taxonomy::EntryLike;
-use csl_style::{DateVariable, Kind, NameVariable, NumberVariable, PageVariable, StandardVariable};
+use csl_elements::{
+    DateVariable, Kind, NameVariable, NumberVariable, PageVariable, StandardVariable,
+};
 pub(crate) use date::visit_date;
 pub use kind::{legislation_kind, recording_kind};
 pub use language::csl_language;

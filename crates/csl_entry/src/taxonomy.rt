@@ -1,7 +1,9 @@
 //! The trait for entries: their answers to a style (CSL 1.0.2, Appendix III: Types; Appendix IV:
 //! Variables).
 
-use csl_style::{DateVariable, Kind, NameVariable, NumberVariable, PageVariable, StandardVariable};
+use csl_elements::{
+    DateVariable, Kind, NameVariable, NumberVariable, PageVariable, StandardVariable,
+};
 use lit_model::{
     ChunkedString, Date, LongShortForm, MaybeTyped, Memory, Numeric, PageRanges, Person,
 };

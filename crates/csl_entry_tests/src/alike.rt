@@ -3,16 +3,15 @@
 use crate::asked::{assert_answer, only};
 use crate::described::described;
 use crate::instance::samples;
-use csl_entry::{EntryLike, same_answers};
-use csl_style::{
+use csl_elements::{
     DateVariable, Kind, NameVariable, Named, NumberVariable, PageVariable, StandardVariable,
     Variable,
 };
+use csl_entry::{EntryLike, same_answers};
 use lit_model::Memory;
 use std::alloc::Global;
 use std::collections::BTreeSet;
 use std::process::Abort;
-use std::test::Fail;
 
 const TITLE: &[Variable] = &[Variable::Standard(StandardVariable::Title)];
 
@@ -175,27 +174,29 @@ fn named(alloc: Global, variables: &[Variable], kind: Option<Kind>) -> Result<Na
 
 /// Whether the two entries answer alike.
 fn compared<T: EntryLike, U: EntryLike>(
+    rt: &impl Abort,
     alloc: Global,
     left: &T,
     right: &U,
     variables: &[Variable],
     kind: Option<Kind>,
-) -> Result<&'static str, Memory> {
-    let named = named(alloc, variables, kind)?;
-    let alike = same_answers(alloc, left, right, &named)?;
-    Ok(if alike { ALIKE } else { NOT_ALIKE })
+) -> &'static str {
+    let named = named(alloc, variables, kind).expect(rt, "memory");
+    let alike = same_answers(alloc, left, right, &named).expect(rt, "memory");
+    if alike { ALIKE } else { NOT_ALIKE }
 }
 
 /// Whether an entry and a described entry answer alike.
 fn compared_with<T: EntryLike>(
+    rt: &impl Abort,
     alloc: Global,
     left: &T,
     right: &str,
     variables: &[Variable],
     kind: Option<Kind>,
-) -> Result<&'static str, Fail> {
-    let rights = described(alloc, right)?;
-    Ok(compared(alloc, left, only(&rights)?, variables, kind)?)
+) -> &'static str {
+    let rights = described(rt, alloc, right);
+    compared(rt, alloc, left, only(rt, &rights), variables, kind)
 }
 
 fn assert_alike(
@@ -205,15 +206,14 @@ fn assert_alike(
     variables: &'static [Variable],
     kind: Option<Kind>,
     wanted: &'static str,
-) -> Result<(), Fail> {
-    let lefts = described(alloc, left)?;
-    let answer = compared_with(alloc, only(&lefts)?, right, variables, kind)?;
+) {
+    let lefts = described(rt, alloc, left);
+    let answer = compared_with(rt, alloc, only(rt, &lefts), right, variables, kind);
     assert_answer(rt, answer, wanted, right);
-    Ok(())
 }
 
 #[test]
-fn entries_are_alike_if_all_named_answers_are(rt: HostRuntime) -> Result<(), Fail> {
+fn entries_are_alike_if_all_named_answers_are(rt: HostRuntime) {
     let rows: &[(
         &'static str,
         &'static str,
@@ -221,45 +221,42 @@ fn entries_are_alike_if_all_named_answers_are(rt: HostRuntime) -> Result<(), Fai
         &'static str,
     )] = &ROWS;
     for (left, right, variables, wanted) in rows {
-        assert_alike(&rt, rt.alloc(), (*left, *right), *variables, None, *wanted)?;
+        assert_alike(&rt, rt.alloc(), (*left, *right), *variables, None, *wanted);
     }
     let kinds: &[(Kind, &'static str)] = &KINDS;
     for (kind, wanted) in kinds {
-        assert_alike(&rt, rt.alloc(), ("book", "web"), &[], Some(*kind), *wanted)?;
+        assert_alike(&rt, rt.alloc(), ("book", "web"), &[], Some(*kind), *wanted);
     }
-    Ok(())
 }
 
 #[test]
-fn four_works_are_alike_each_with_itself(rt: HostRuntime) -> Result<(), Fail> {
+fn four_works_are_alike_each_with_itself(rt: HostRuntime) {
     let works: &[&'static str] = &WORKS;
     for (i, left) in works.iter().enumerate() {
         for (j, right) in works.iter().enumerate() {
             let wanted = if i == j { ALIKE } else { NOT_ALIKE };
             let pair = (*left, *right);
-            assert_alike(&rt, rt.alloc(), pair, AUTHOR_AND_DATE, None, wanted)?;
-            assert_alike(&rt, rt.alloc(), pair, REFERENCE, None, wanted)?;
+            assert_alike(&rt, rt.alloc(), pair, AUTHOR_AND_DATE, None, wanted);
+            assert_alike(&rt, rt.alloc(), pair, REFERENCE, None, wanted);
         }
     }
-    Ok(())
 }
 
 /// Two entries of different types. The sample answers each text with `Crazy Rich Asians`, and has
 /// no persons.
 #[test]
-fn entries_of_two_types(rt: HostRuntime) -> Result<(), Fail> {
+fn entries_of_two_types(rt: HostRuntime) {
     let alloc = rt.alloc();
-    let samples = samples(alloc, "Crazy Rich Asians")?;
-    let sample = only(&samples)?;
-    let works = described(alloc, WORKS[0])?;
-    let work = only(&works)?;
-    let titles = compared(alloc, work, sample, TITLE, None)?;
+    let samples = samples(&rt, alloc, "Crazy Rich Asians");
+    let sample = only(&rt, &samples);
+    let works = described(&rt, alloc, WORKS[0]);
+    let work = only(&rt, &works);
+    let titles = compared(&rt, alloc, work, sample, TITLE, None);
     assert_answer(&rt, titles, ALIKE, "the title");
-    let titles = compared(alloc, sample, work, TITLE, None)?;
+    let titles = compared(&rt, alloc, sample, work, TITLE, None);
     assert_answer(&rt, titles, ALIKE, "the title of the other");
-    let authors = compared(alloc, work, sample, AUTHOR, None)?;
+    let authors = compared(&rt, alloc, work, sample, AUTHOR, None);
     assert_answer(&rt, authors, NOT_ALIKE, "the authors");
-    let book = compared(alloc, work, sample, TITLE, Some(Kind::Book))?;
+    let book = compared(&rt, alloc, work, sample, TITLE, Some(Kind::Book));
     assert_answer(&rt, book, NOT_ALIKE, "a book");
-    Ok(())
 }

@@ -6,7 +6,6 @@ use lit_model::{ChunkKind, ChunkedString, MaybeTyped, Numeric};
 use std::alloc::Global;
 use std::borrow::Cow;
 use std::process::Abort;
-use std::test::Fail;
 
 /// Asserts the answer to a query.
 pub fn assert_answer(rt: &impl Abort, answer: &str, wanted: &str, asked: &str) {
@@ -15,44 +14,48 @@ pub fn assert_answer(rt: &impl Abort, answer: &str, wanted: &str, asked: &str) {
 
 /// The number as text, or `'` and the text if it is not a number, or `none` if there is no answer.
 pub fn number_said(
+    rt: &impl Abort,
     alloc: Global,
     found: Option<&MaybeTyped<Cow<'_, Numeric>>>,
-) -> Result<String, Fail> {
+) -> String {
     match found {
-        None => Ok(String::from_str(alloc, "none")?),
-        Some(MaybeTyped::Typed(number)) => Ok(number.as_ref().to_string(alloc)?),
-        Some(MaybeTyped::String(text)) => Ok(format!(in alloc; "'{}", text.as_str())?),
+        None => String::from_str(alloc, "none").expect(rt, "memory"),
+        Some(MaybeTyped::Typed(number)) => number.as_ref().to_string(alloc).expect(rt, "memory"),
+        Some(MaybeTyped::String(text)) => format!(in alloc; "'{text}").expect(rt, "memory"),
     }
 }
 
 /// The answer of a cite to a number variable, as text. For a text that the caller writes, it is `@`
 /// and the index.
 pub fn result_said(
+    rt: &impl Abort,
     alloc: Global,
     found: Option<&NumberVariableResult<'_>>,
-) -> Result<String, Fail> {
+) -> String {
     match found {
-        None => number_said(alloc, None),
-        Some(NumberVariableResult::Regular(number)) => number_said(alloc, Some(number)),
-        Some(NumberVariableResult::Transparent(index)) => Ok(format!(in alloc; "@{index}")?),
+        None => number_said(rt, alloc, None),
+        Some(NumberVariableResult::Regular(number)) => number_said(rt, alloc, Some(number)),
+        Some(NumberVariableResult::Transparent(index)) => {
+            format!(in alloc; "@{index}").expect(rt, "memory")
+        }
     }
 }
 
 /// The chunks with `+` between them, and the mark of its kind before each: a backtick for
 /// `Verbatim`, `$` for `Math`. Without an answer, it is `none`.
-pub fn text_said(alloc: Global, found: Option<&ChunkedString>) -> Result<String, Fail> {
+pub fn text_said(rt: &impl Abort, alloc: Global, found: Option<&ChunkedString>) -> String {
     let Some(found) = found else {
-        return Ok(String::from_str(alloc, "none")?);
+        return String::from_str(alloc, "none").expect(rt, "memory");
     };
     let mut said = String::new(alloc);
     for (i, piece) in found.0.iter().enumerate() {
         if i > 0 {
-            said.push('+')?;
+            said.push('+').expect(rt, "memory");
         }
-        said.push_str(mark_of(piece.kind))?;
-        said.push_str(piece.value.as_str())?;
+        said.push_str(mark_of(piece.kind)).expect(rt, "memory");
+        said.push_str(piece.value.as_str()).expect(rt, "memory");
     }
-    Ok(said)
+    said
 }
 
 fn mark_of(kind: ChunkKind) -> &'static str {
@@ -72,9 +75,9 @@ pub fn borrowed<'a, T: Drop>(found: &'a Option<Cow<'_, T>>) -> Option<&'a T> {
 }
 
 /// The only item of a list.
-pub fn only<T>(list: &[T]) -> Result<&T, Fail> {
+pub fn only<'t, T>(rt: &impl Abort, list: &'t [T]) -> &'t T {
     match list {
-        [value] => Ok(value),
-        _ => Err(Fail::from("not one value")),
+        [value] => value,
+        _ => panic!(rt; "not one value"),
     }
 }

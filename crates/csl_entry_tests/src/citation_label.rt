@@ -8,7 +8,6 @@ use crate::described::described;
 use csl_entry::Alphanumerical;
 use std::alloc::Global;
 use std::process::Abort;
-use std::test::Fail;
 
 /// Whether the rules for labels are equal: exactly if they take the same number of letters.
 fn same_way(a: Alphanumerical, b: Alphanumerical) -> bool
@@ -24,24 +23,18 @@ fn ways_are_equal_by_their_letters(rt: HostRuntime) {
     assert_same(&rt, &same_way(three, Alphanumerical { letters: 4 }), &false);
 }
 
-fn label(alloc: Global, letters: usize, description: &str) -> Result<String, Fail> {
-    let works = described(alloc, description)?;
-    let entry = only(&works)?;
-    let label = Alphanumerical { letters }.citation(alloc, entry)?;
-    Ok(label)
+fn label(rt: &impl Abort, alloc: Global, letters: usize, description: &str) -> String {
+    let works = described(rt, alloc, description);
+    let entry = only(rt, &works);
+    Alphanumerical { letters }
+        .citation(alloc, entry)
+        .expect(rt, "memory")
 }
 
 /// Asserts the label with this number of letters.
-fn assert_letters(
-    rt: &impl Abort,
-    alloc: Global,
-    letters: usize,
-    description: &str,
-    wanted: &str,
-) -> Result<(), Fail> {
-    let label = label(alloc, letters, description)?;
+fn assert_letters(rt: &impl Abort, alloc: Global, letters: usize, description: &str, wanted: &str) {
+    let label = label(rt, alloc, letters, description);
     assert_answer(rt, label.as_str(), wanted, description);
-    Ok(())
 }
 
 /// A description, and its label of three letters. One creator gives three letters, and two or three
@@ -142,25 +135,19 @@ static LABELS: [(&str, &str); 33] = [
 ];
 
 /// Asserts the labels of three letters.
-fn assert_all(
-    rt: &impl Abort,
-    alloc: Global,
-    rows: &[(&'static str, &'static str)],
-) -> Result<(), Fail> {
+fn assert_all(rt: &impl Abort, alloc: Global, rows: &[(&'static str, &'static str)]) {
     for (description, wanted) in rows {
-        assert_letters(rt, alloc, 3, *description, *wanted)?;
+        assert_letters(rt, alloc, 3, *description, *wanted);
     }
-    Ok(())
 }
 
 #[test]
-fn labels_by_creators_and_years(rt: HostRuntime) -> Result<(), Fail> {
-    assert_all(&rt, rt.alloc(), &LABELS)?;
-    assert_letters(&rt, rt.alloc(), 1, "book; date 2014; authors Kwan", "K14")?;
+fn labels_by_creators_and_years(rt: HostRuntime) {
+    assert_all(&rt, rt.alloc(), &LABELS);
+    assert_letters(&rt, rt.alloc(), 1, "book; date 2014; authors Kwan", "K14");
     assert_same(
         &rt,
         &Alphanumerical::default(),
         &Alphanumerical { letters: 3 },
     );
-    Ok(())
 }

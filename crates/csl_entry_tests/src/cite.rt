@@ -1,16 +1,14 @@
 //! The properties of a cite: equality, copies, and those of a first cite.
 
 use crate::asserted::{assert_of, assert_same};
+use csl_elements::{Locator, NameVariable, StandardVariable, Variable};
 use csl_entry::{
     CertainCiteProperties, CitationNumber, CiteProperties, DisambiguateState,
     DisambiguatedNameForm, IbidState, LocatorPayload, NameDisambiguationProperties, NoteNumber,
     Sorting, SpecialForm, SpecificLocator, SpeculativeCiteProperties,
 };
-use csl_style::{Locator, NameVariable, StandardVariable, Variable};
-use lit_model::Memory;
 use std::alloc::Global;
 use std::process::Abort;
-use std::test::Fail;
 
 const FIVE: LocatorPayload<'static> = LocatorPayload::Str("5");
 
@@ -77,17 +75,17 @@ pub enum Told {
 
 /// The state of a cite that is disambiguated in this way. For names, the names are those of the
 /// author.
-pub fn state(alloc: Global, told: Told) -> Result<DisambiguateState, Memory> {
+pub fn state(rt: &impl Abort, alloc: Global, told: Told) -> DisambiguateState {
     match told {
-        Told::ByNothing => Ok(DisambiguateState::None),
+        Told::ByNothing => DisambiguateState::None,
         Told::ByNames => {
             let form = DisambiguatedNameForm::ShortFull;
-            let variables = Vec::from_array(alloc, [NameVariable::Author])?;
+            let variables = Vec::from_array(alloc, [NameVariable::Author]).expect(rt, "memory");
             let names = NameDisambiguationProperties::new(form, variables, Vec::new(alloc));
-            Ok(DisambiguateState::NameDisambiguation(names))
+            DisambiguateState::NameDisambiguation(names)
         }
-        Told::ByChoice => Ok(DisambiguateState::Choose),
-        Told::BySuffix(number) => Ok(DisambiguateState::YearSuffix(number)),
+        Told::ByChoice => DisambiguateState::Choose,
+        Told::BySuffix(number) => DisambiguateState::YearSuffix(number),
     }
 }
 
@@ -103,14 +101,13 @@ fn said(state: &DisambiguateState) -> (&'static str, usize) {
     }
 }
 
-fn copy_said(alloc: Global, told: Told) -> Result<(&'static str, usize), Memory> {
-    let state = state(alloc, told)?;
-    let copy = state.clone(alloc);
+fn copy_said(rt: &impl Abort, alloc: Global, told: Told) -> (&'static str, usize) {
+    let state = state(rt, alloc, told);
+    let copy = state.clone(alloc).expect(rt, "memory");
     drop(state);
-    let copy = copy?;
     let said = said(&copy);
     drop(copy);
-    Ok(said)
+    said
 }
 
 /// A kind of disambiguation, and the name and the number of its state.
@@ -122,28 +119,22 @@ static STATES: [(Told, (&str, usize)); 5] = [
     (Told::ByNames, ("names", 1)),
 ];
 
-fn assert_copied(
-    rt: &impl Abort,
-    alloc: Global,
-    &(told, wanted): &(Told, (&'static str, usize)),
-) -> Result<(), Memory> {
-    let copy = copy_said(alloc, told)?;
+fn assert_copied(rt: &impl Abort, alloc: Global, &(told, wanted): &(Told, (&'static str, usize))) {
+    let copy = copy_said(rt, alloc, told);
     assert_of(rt, &copy, &wanted, &told);
-    Ok(())
 }
 
 #[test]
-fn a_copy_of_each_state(rt: HostRuntime) -> Result<(), Memory> {
+fn a_copy_of_each_state(rt: HostRuntime) {
     let states: &[(Told, (&'static str, usize))] = &STATES;
     for row in states {
-        assert_copied(&rt, rt.alloc(), row)?;
+        assert_copied(&rt, rt.alloc(), row);
     }
-    Ok(())
 }
 
 /// The third cite that the caller handed in, on page 5.
-fn on_page_five() -> Result<CiteProperties<'static>, Fail> {
-    Ok(CiteProperties {
+fn on_page_five(rt: &impl Abort) -> CiteProperties<'static> {
+    CiteProperties {
         certain: CertainCiteProperties {
             first_note_number: NoteNumber::new(6),
             is_first: true,
@@ -152,11 +143,11 @@ fn on_page_five() -> Result<CiteProperties<'static>, Fail> {
         },
         speculative: SpeculativeCiteProperties {
             locator: Some(SpecificLocator(Locator::Page, LocatorPayload::Str("5"))),
-            citation_number: CitationNumber::new(4).ok_or("a citation number")?,
+            citation_number: CitationNumber::new(4).expect(rt, "a citation number"),
             disambiguation: DisambiguateState::Choose,
             ibid: IbidState::Ibid,
         },
-    })
+    }
 }
 
 /// The certain properties of a cite: the first note of its entry, whether it is the entry's first
@@ -207,19 +198,18 @@ fn properties_of_a_first_cite(rt: HostRuntime) {
 }
 
 /// The properties of a copy of a cite.
-fn copied(alloc: Global) -> Result<(Certain, Speculative<'static>), Fail> {
-    let cite = on_page_five()?;
-    let copy = cite.clone(alloc);
+fn copied(rt: &impl Abort, alloc: Global) -> (Certain, Speculative<'static>) {
+    let cite = on_page_five(rt);
+    let copy = cite.clone(alloc).expect(rt, "memory");
     drop(cite);
-    let copy = copy?;
     let said = all_said(&copy);
     drop(copy);
-    Ok(said)
+    said
 }
 
 #[test]
-fn a_copy_of_the_properties_of_a_cite(rt: HostRuntime) -> Result<(), Fail> {
-    let (certain, speculative) = copied(rt.alloc())?;
+fn a_copy_of_the_properties_of_a_cite(rt: HostRuntime) {
+    let (certain, speculative) = copied(&rt, rt.alloc());
     assert_same(&rt, &certain, &(NoteNumber::new(6), true, false, 2));
     let page = SpecificLocator(Locator::Page, LocatorPayload::Str("5"));
     assert_same(
@@ -227,5 +217,4 @@ fn a_copy_of_the_properties_of_a_cite(rt: HostRuntime) -> Result<(), Fail> {
         &speculative,
         &("choose", Some(page), 4, IbidState::Ibid),
     );
-    Ok(())
 }

@@ -11,137 +11,141 @@
 
 use lit_model::{
     ChunkKind, ChunkedString, Date, Entry, EntryType, FormatString, LanguageIdentifier, MaybeTyped,
-    Memory, Numeric, PageRanges, Person, PersonRole, PersonsWithRoles, Publisher, QualifiedUrl,
+    Numeric, PageRanges, Person, PersonRole, PersonsWithRoles, Publisher, QualifiedUrl,
     SerialNumber, StringChunk,
 };
 use std::alloc::Global;
 use std::collections::BTreeMap;
-use std::test::Fail;
+use std::process::Abort;
 use url::Url;
 
 /// The described entry, alone in a list. Code that holds the list is quicker to prove than code
 /// that holds the entry.
-pub fn described(alloc: Global, description: &str) -> Result<Vec<Entry>, Fail> {
+pub fn described(rt: &impl Abort, alloc: Global, description: &str) -> Vec<Entry> {
     let mut chains = description.split("; also ");
     let first = chains.next().unwrap_or("");
     let (own, mut wholes) = match first.split_once("; in ") {
-        Some((own, whole)) => (own, chain(alloc, whole)?),
+        Some((own, whole)) => (own, chain(rt, alloc, whole)),
         None => (first, Vec::new(alloc)),
     };
     for works in chains {
-        let mut whole = chain(alloc, works)?;
-        wholes.append(&mut whole)?;
+        let mut whole = chain(rt, alloc, works);
+        wholes.append(&mut whole).expect(rt, "memory");
     }
-    part_of(alloc, own, wholes)
+    part_of(rt, alloc, own, wholes)
 }
 
 /// The first of these works, each of which is a part of the next.
-fn chain(alloc: Global, works: &str) -> Result<Vec<Entry>, Fail> {
+fn chain(rt: &impl Abort, alloc: Global, works: &str) -> Vec<Entry> {
     let mut chain = Vec::new(alloc);
     for clauses in works.rsplit("; in ") {
-        chain = part_of(alloc, clauses, chain)?;
+        chain = part_of(rt, alloc, clauses, chain);
     }
-    Ok(chain)
+    chain
 }
 
 /// The work that clauses describe, as a part of other works.
-fn part_of(alloc: Global, clauses: &str, wholes: Vec<Entry>) -> Result<Vec<Entry>, Fail> {
+fn part_of(rt: &impl Abort, alloc: Global, clauses: &str, wholes: Vec<Entry>) -> Vec<Entry> {
     let (name, rest) = clauses.split_once("; ").unwrap_or((clauses, ""));
-    let mut works = bare(alloc, type_named(name)?, wholes)?;
+    let mut works = bare(rt, alloc, type_named(rt, name), wholes);
     if let (Some(work), true) = (works.last_mut(), !rest.is_empty()) {
-        state_all(alloc, work, rest)?;
+        state_all(rt, alloc, work, rest);
     }
-    Ok(works)
+    works
 }
 
 /// Sets the fields of the work that the clauses name.
-fn state_all(alloc: Global, work: &mut Entry, clauses: &str) -> Result<(), Fail> {
+fn state_all(rt: &impl Abort, alloc: Global, work: &mut Entry, clauses: &str) {
     for clause in clauses.split("; ") {
         let (word, value) = clause.split_once(' ').unwrap_or((clause, ""));
-        state(alloc, work, word, value)?;
+        state(rt, alloc, work, word, value);
     }
-    Ok(())
 }
 
 /// A list of one item.
-pub fn alone<T: Drop>(alloc: Global, item: T) -> Result<Vec<T>, Memory> {
+pub fn alone<T: Drop>(rt: &impl Abort, alloc: Global, item: T) -> Vec<T> {
     let mut items = Vec::new(alloc);
-    put(&mut items, item)?;
-    Ok(items)
+    put(rt, &mut items, item);
+    items
 }
 
 /// Appends an item to a list.
-pub fn put<T: Drop>(items: &mut Vec<T>, item: T) -> Result<(), Memory> {
-    Ok(items.push(item)?)
+pub fn put<T: Drop>(rt: &impl Abort, items: &mut Vec<T>, item: T) {
+    items.push(item).expect(rt, "memory");
 }
 
 /// A work of this type, as a part of other works.
-fn bare(alloc: Global, kind: EntryType, wholes: Vec<Entry>) -> Result<Vec<Entry>, Memory> {
-    let mut work = Entry::new(alloc, "key", kind)?;
+fn bare(rt: &impl Abort, alloc: Global, kind: EntryType, wholes: Vec<Entry>) -> Vec<Entry> {
+    let mut work = Entry::new(alloc, "key", kind).expect(rt, "memory");
     work.parents = wholes;
-    alone(alloc, work)
+    alone(rt, alloc, work)
 }
 
 /// Sets the field of the work that a word names.
-fn state(alloc: Global, work: &mut Entry, word: &str, value: &str) -> Result<(), Fail> {
-    if state_text(alloc, work, word, value)?
-        || state_number(alloc, work, word, value)?
-        || state_persons(alloc, work, word, value)?
+fn state(rt: &impl Abort, alloc: Global, work: &mut Entry, word: &str, value: &str) {
+    if state_text(rt, alloc, work, word, value)
+        || state_number(rt, alloc, work, word, value)
+        || state_persons(rt, alloc, work, word, value)
     {
-        return Ok(());
+        return;
     }
-    state_rest(alloc, work, word, value)
+    state_rest(rt, alloc, work, word, value);
 }
 
 /// Sets a text of the work if the word names one. Returns whether it does.
-fn state_text(alloc: Global, work: &mut Entry, word: &str, value: &str) -> Result<bool, Fail> {
+fn state_text(rt: &impl Abort, alloc: Global, work: &mut Entry, word: &str, value: &str) -> bool {
     match text_field(work, word) {
-        Some(field) => *field = Some(text(alloc, value)?),
-        None => return Ok(false),
+        Some(field) => *field = Some(text(rt, alloc, value)),
+        None => return false,
     }
-    Ok(true)
+    true
 }
 
 /// Sets a number of the work, or its number of volumes or pages, if the word names one. Returns
 /// whether it does.
-fn state_number(alloc: Global, work: &mut Entry, word: &str, value: &str) -> Result<bool, Fail> {
+fn state_number(rt: &impl Abort, alloc: Global, work: &mut Entry, word: &str, value: &str) -> bool {
     match word {
-        "volumes" => work.volume_total = Some(Numeric::new(integer(value)?)),
-        "total" => work.page_total = Some(Numeric::new(integer(value)?)),
+        "volumes" => work.volume_total = Some(Numeric::new(integer(rt, value))),
+        "total" => work.page_total = Some(Numeric::new(integer(rt, value))),
         _ => match number_field(work, word) {
-            Some(field) => *field = Some(number(alloc, value)?),
-            None => return Ok(false),
+            Some(field) => *field = Some(number(rt, alloc, value)),
+            None => return false,
         },
     }
-    Ok(true)
+    true
 }
 
 /// Sets persons of the work if the word names them. Returns whether it does.
-fn state_persons(alloc: Global, work: &mut Entry, word: &str, value: &str) -> Result<bool, Fail> {
+fn state_persons(
+    rt: &impl Abort,
+    alloc: Global,
+    work: &mut Entry,
+    word: &str,
+    value: &str,
+) -> bool {
     match word {
-        "authors" => work.authors = Some(persons(alloc, value)?),
-        "editors" => work.editors = Some(persons(alloc, value)?),
+        "authors" => work.authors = Some(persons(rt, alloc, value)),
+        "editors" => work.editors = Some(persons(rt, alloc, value)),
         _ => match role_named(word) {
-            Some(role) => affiliate(alloc, work, role, value)?,
-            None => return Ok(false),
+            Some(role) => affiliate(rt, alloc, work, role, value),
+            None => return false,
         },
     }
-    Ok(true)
+    true
 }
 
 /// Sets a field that is neither a text, a number nor persons.
-fn state_rest(alloc: Global, work: &mut Entry, word: &str, value: &str) -> Result<(), Fail> {
+fn state_rest(rt: &impl Abort, alloc: Global, work: &mut Entry, word: &str, value: &str) {
     match word {
-        "key" => work.key = String::from_str(alloc, value)?,
-        "date" => work.date = date(value)?,
-        "url" => work.url = Some(address(alloc, value)?),
-        "publisher" => work.publisher = Some(publisher(alloc, value)?),
-        "pages" => work.page_range = Some(pages(alloc, value)?),
-        "language" => work.language = Some(language(alloc, value)?),
-        "serial" => add_serial(alloc, work, value)?,
-        _ => return Err(Fail::from("a word that no description has")),
+        "key" => work.key = String::from_str(alloc, value).expect(rt, "memory"),
+        "date" => work.date = date(rt, value),
+        "url" => work.url = Some(address(rt, alloc, value)),
+        "publisher" => work.publisher = Some(publisher(rt, alloc, value)),
+        "pages" => work.page_range = Some(pages(rt, alloc, value)),
+        "language" => work.language = Some(language(rt, alloc, value)),
+        "serial" => add_serial(rt, alloc, work, value),
+        _ => panic!(rt; "a word that no description has"),
     }
-    Ok(())
 }
 
 /// The field of this name, if it holds a text.
@@ -176,28 +180,30 @@ fn number_field<'e>(
 }
 
 /// The text with these chunks, and with its short form if it has one.
-pub fn text(alloc: Global, text: &str) -> Result<FormatString, Fail> {
+pub fn text(rt: &impl Abort, alloc: Global, text: &str) -> FormatString {
     let Some((long, short)) = text.split_once('|') else {
-        let value = pieces(alloc, text)?;
-        return Ok(FormatString { value, short: None });
+        let value = pieces(rt, alloc, text);
+        return FormatString { value, short: None };
     };
-    let value = pieces(alloc, long)?;
-    let short = pieces(alloc, short)?;
-    Ok(FormatString {
+    let value = pieces(rt, alloc, long);
+    let short = pieces(rt, alloc, short);
+    FormatString {
         value,
         short: Some(short),
-    })
+    }
 }
 
 /// The text of the chunks that `text` describes.
-pub fn pieces(alloc: Global, text: &str) -> Result<ChunkedString, Fail> {
+pub fn pieces(rt: &impl Abort, alloc: Global, text: &str) -> ChunkedString {
     let mut chunks = Vec::new(alloc);
     for piece in text.split('+') {
         let (kind, piece) = kind_of(piece);
-        let value = String::from_str(alloc, piece)?;
-        chunks.push(StringChunk { value, kind })?;
+        let value = String::from_str(alloc, piece).expect(rt, "memory");
+        chunks
+            .push(StringChunk { value, kind })
+            .expect(rt, "memory");
     }
-    Ok(ChunkedString(chunks))
+    ChunkedString(chunks)
 }
 
 /// The kind of a chunk, and the chunk without the mark of its kind.
@@ -211,120 +217,118 @@ fn kind_of(piece: &str) -> (ChunkKind, &str) {
     (ChunkKind::Normal, piece)
 }
 
-fn integer(digits: &str) -> Result<i32, Fail> {
-    let number = digits.parse::<i32>()?;
-    Ok(number)
+fn integer(rt: &impl Abort, digits: &str) -> i32 {
+    digits.parse::<i32>().expect(rt, "an integer")
 }
 
-fn number(alloc: Global, value: &str) -> Result<MaybeTyped<Numeric>, Fail> {
+fn number(rt: &impl Abort, alloc: Global, value: &str) -> MaybeTyped<Numeric> {
     match value.strip_prefix('\'') {
-        Some(text) => Ok(MaybeTyped::String(String::from_str(alloc, text)?)),
-        None => Ok(MaybeTyped::Typed(Numeric::new(integer(value)?))),
+        Some(text) => MaybeTyped::String(String::from_str(alloc, text).expect(rt, "memory")),
+        None => MaybeTyped::Typed(Numeric::new(integer(rt, value))),
     }
 }
 
-fn pages(alloc: Global, value: &str) -> Result<MaybeTyped<PageRanges>, Fail> {
+fn pages(rt: &impl Abort, alloc: Global, value: &str) -> MaybeTyped<PageRanges> {
     match value.strip_prefix('\'') {
-        Some(text) => Ok(MaybeTyped::String(String::from_str(alloc, text)?)),
-        None => Ok(MaybeTyped::Typed(PageRanges::parse(alloc, value)?)),
+        Some(text) => MaybeTyped::String(String::from_str(alloc, text).expect(rt, "memory")),
+        None => MaybeTyped::Typed(PageRanges::parse(alloc, value).expect(rt, "pages")),
     }
 }
 
-fn date(year: &str) -> Result<Option<Date>, Fail> {
-    Ok(Date::new(integer(year)?, None, None, None, false))
+fn date(rt: &impl Abort, year: &str) -> Option<Date> {
+    Date::new(integer(rt, year), None, None, None, false)
 }
 
 /// An address, and the year of the visit if one comes after it.
-fn address(alloc: Global, value: &str) -> Result<QualifiedUrl, Fail> {
+fn address(rt: &impl Abort, alloc: Global, value: &str) -> QualifiedUrl {
     let Some((address, year)) = value.split_once(' ') else {
-        return Ok(QualifiedUrl {
-            value: Url::parse(alloc, value)?,
+        return QualifiedUrl {
+            value: Url::parse(alloc, value).expect(rt, "an address"),
             visit_date: None,
-        });
+        };
     };
-    Ok(QualifiedUrl {
-        value: Url::parse(alloc, address)?,
-        visit_date: date(year)?,
-    })
+    QualifiedUrl {
+        value: Url::parse(alloc, address).expect(rt, "an address"),
+        visit_date: date(rt, year),
+    }
 }
 
 /// A publisher with the name before `|` and the place after it. Without `|`, it has neither.
-fn publisher(alloc: Global, value: &str) -> Result<Publisher, Fail> {
+fn publisher(rt: &impl Abort, alloc: Global, value: &str) -> Publisher {
     let Some((name, place)) = value.split_once('|') else {
-        return Ok(Publisher {
+        return Publisher {
             name: None,
             location: None,
-        });
+        };
     };
-    let name = text(alloc, name)?;
-    let location = text(alloc, place)?;
-    Ok(Publisher {
+    let name = text(rt, alloc, name);
+    let location = text(rt, alloc, place);
+    Publisher {
         name: Some(name),
         location: Some(location),
-    })
+    }
 }
 
 /// A language, and the region after `-` if there is one.
-fn language(alloc: Global, value: &str) -> Result<LanguageIdentifier, Fail> {
+fn language(rt: &impl Abort, alloc: Global, value: &str) -> LanguageIdentifier {
     let Some((language, region)) = value.split_once('-') else {
-        let language = String::from_str(alloc, value)?;
-        return Ok(LanguageIdentifier {
+        let language = String::from_str(alloc, value).expect(rt, "memory");
+        return LanguageIdentifier {
             language,
             region: None,
-        });
+        };
     };
-    let language = String::from_str(alloc, language)?;
-    let region = String::from_str(alloc, region)?;
-    Ok(LanguageIdentifier {
+    let language = String::from_str(alloc, language).expect(rt, "memory");
+    let region = String::from_str(alloc, region).expect(rt, "memory");
+    LanguageIdentifier {
         language,
         region: Some(region),
-    })
+    }
 }
 
 /// Adds a serial number. The first word is its scheme.
-fn add_serial(alloc: Global, work: &mut Entry, value: &str) -> Result<(), Fail> {
+fn add_serial(rt: &impl Abort, alloc: Global, work: &mut Entry, value: &str) {
     let (scheme, number) = value.split_once(' ').unwrap_or((value, ""));
     let mut numbers = match work.serial_number.take() {
         Some(SerialNumber(numbers)) => numbers,
         None => BTreeMap::new(alloc),
     };
-    let scheme = String::from_str(alloc, scheme)?;
-    let number = String::from_str(alloc, number)?;
-    numbers.insert(scheme, number)?;
+    let scheme = String::from_str(alloc, scheme).expect(rt, "memory");
+    let number = String::from_str(alloc, number).expect(rt, "memory");
+    let added: Result<_, _> = numbers.insert(scheme, number);
+    added.expect(rt, "memory");
     work.serial_number = Some(SerialNumber(numbers));
-    Ok(())
 }
 
 /// The persons of these names, with `, ` between the names. An empty text names nobody.
-fn persons(alloc: Global, names: &str) -> Result<Vec<Person>, Fail> {
+fn persons(rt: &impl Abort, alloc: Global, names: &str) -> Vec<Person> {
     let mut persons = Vec::new(alloc);
     if names.is_empty() {
-        return Ok(persons);
+        return persons;
     }
     for name in names.split(", ") {
-        put(&mut persons, person(alloc, name)?)?;
+        put(rt, &mut persons, person(rt, alloc, name));
     }
-    Ok(persons)
+    persons
 }
 
 /// A person of this name, with the given name after `/`. Without `/`, an institution.
-fn person(alloc: Global, name: &str) -> Result<Person, Fail> {
+fn person(rt: &impl Abort, alloc: Global, name: &str) -> Person {
     match name.split_once('/') {
-        Some((name, given)) => Ok(Person::new(alloc, name, given)?),
-        None => Ok(Person::institution(alloc, name)?),
+        Some((name, given)) => Person::new(alloc, name, given).expect(rt, "memory"),
+        None => Person::institution(alloc, name).expect(rt, "memory"),
     }
 }
 
 /// Adds a group of persons of this role.
-fn affiliate(alloc: Global, work: &mut Entry, role: PersonRole, names: &str) -> Result<(), Fail> {
-    let names = persons(alloc, names)?;
+fn affiliate(rt: &impl Abort, alloc: Global, work: &mut Entry, role: PersonRole, names: &str) {
+    let names = persons(rt, alloc, names);
     let mut groups = match work.affiliated.take() {
         Some(groups) => groups,
         None => Vec::new(alloc),
     };
-    put(&mut groups, PersonsWithRoles { names, role })?;
+    put(rt, &mut groups, PersonsWithRoles { names, role });
     work.affiliated = Some(groups);
-    Ok(())
 }
 
 fn role_named(name: &str) -> Option<PersonRole> {
@@ -346,7 +350,7 @@ fn role_named(name: &str) -> Option<PersonRole> {
     }
 }
 
-fn type_named(name: &str) -> Result<EntryType, Fail> {
+fn type_named(rt: &impl Abort, name: &str) -> EntryType {
     let named = match name {
         "article" => EntryType::Article,
         "chapter" => EntryType::Chapter,
@@ -377,7 +381,7 @@ fn type_named(name: &str) -> Result<EntryType, Fail> {
         "audio" => EntryType::Audio,
         "exhibition" => EntryType::Exhibition,
         "original" => EntryType::Original,
-        _ => return Err(Fail::from("a type that no entry has")),
+        _ => panic!(rt; "a type that no entry has"),
     };
-    Ok(named)
+    named
 }

@@ -4,13 +4,13 @@ use crate::asked::{assert_answer, borrowed, only, result_said, text_said};
 use crate::asserted::assert_same;
 use crate::cite::{Told, state};
 use crate::described::{alone, pieces};
+use csl_elements::{
+    DateVariable, Kind, Locator, NameVariable, NumberVariable, PageVariable, StandardVariable,
+};
 use csl_entry::{
     CertainCiteProperties, CitationNumber, CiteProperties, DisambiguateState, EntryLike, IbidState,
     InstanceContext, LocatorPayload, NoteNumber, NumberVariableResult, SpecificLocator,
     SpeculativeCiteProperties,
-};
-use csl_style::{
-    DateVariable, Kind, Locator, NameVariable, NumberVariable, PageVariable, StandardVariable,
 };
 use lit_model::{
     ChunkedString, Date, LongShortForm, MaybeTyped, Memory, Numeric, NumericDelimiter,
@@ -19,7 +19,6 @@ use lit_model::{
 use std::alloc::Global;
 use std::borrow::{Cow, CowStr};
 use std::process::Abort;
-use std::test::Fail;
 
 /// An entry with one number for all number variables, one value for all page variables, and one
 /// text for all text variables. It has no names and no dates.
@@ -106,33 +105,30 @@ impl EntryLike for Sample {
 }
 
 /// A sample with number 20, page 7 and a text of these chunks, alone in a list.
-pub fn samples(alloc: Global, text: &str) -> Result<Vec<Sample>, Fail> {
-    let pages = PageRanges::parse(alloc, "7")?;
-    let text = pieces(alloc, text)?;
+pub fn samples(rt: &impl Abort, alloc: Global, text: &str) -> Vec<Sample> {
+    let pages = PageRanges::parse(alloc, "7").expect(rt, "pages");
+    let text = pieces(rt, alloc, text);
     let sample = Sample {
         number: Numeric::new(20),
         pages,
         text,
     };
-    Ok(alone(alloc, sample)?)
+    alone(rt, alloc, sample)
 }
 
 /// The third cite that the caller handed in, with citation number 4. Its locator, if it has one, is
 /// a page.
 pub fn cited<'s>(
+    rt: &impl Abort,
     first_note_number: Option<NoteNumber>,
     page: Option<LocatorPayload<'s>>,
     disambiguation: DisambiguateState,
-) -> Result<CiteProperties<'s>, Fail> {
-    let Some(citation_number) = CitationNumber::new(4) else {
-        drop(disambiguation);
-        return Err(Fail::from("a citation number"));
-    };
+) -> CiteProperties<'s> {
     let locator = match page {
         Some(page) => Some(SpecificLocator(Locator::Page, page)),
         None => None,
     };
-    Ok(CiteProperties {
+    CiteProperties {
         certain: CertainCiteProperties {
             first_note_number,
             is_first: true,
@@ -141,11 +137,11 @@ pub fn cited<'s>(
         },
         speculative: SpeculativeCiteProperties {
             locator,
-            citation_number,
+            citation_number: CitationNumber::new(4).expect(rt, "a citation number"),
             disambiguation,
             ibid: IbidState::Different,
         },
-    })
+    }
 }
 
 fn instance<'s>(
@@ -163,34 +159,38 @@ fn instance<'s>(
 /// The number that the cite answers, as text: `'` and the text if it is not a number, `@` and the
 /// index of a text that the caller writes, or `none` if there is no answer.
 fn number(
+    rt: &impl Abort,
     alloc: Global,
     first_note_number: Option<NoteNumber>,
     page: Option<LocatorPayload<'_>>,
     variable: NumberVariable,
-) -> Result<String, Fail> {
-    let samples = samples(alloc, "`Nature")?;
-    let props = cited(first_note_number, page, DisambiguateState::None)?;
-    let number = number_in(alloc, &samples, &props, variable);
+) -> String {
+    let samples = samples(rt, alloc, "`Nature");
+    let props = cited(rt, first_note_number, page, DisambiguateState::None);
+    let number = number_in(rt, alloc, &samples, &props, variable);
     drop(props);
     number
 }
 
 /// The number that a cite with these properties answers, as text.
 fn number_in<'s>(
+    rt: &impl Abort,
     alloc: Global,
     samples: &'s [Sample],
     props: &'s CiteProperties<'s>,
     variable: NumberVariable,
-) -> Result<String, Fail> {
-    let cite = instance(only(samples)?, props);
-    let found = cite.resolve_number_variable(alloc, variable)?;
-    let number = result_said(alloc, found.as_ref());
+) -> String {
+    let cite = instance(only(rt, samples), props);
+    let found = cite
+        .resolve_number_variable(alloc, variable)
+        .expect(rt, "memory");
+    let number = result_said(rt, alloc, found.as_ref());
     drop(found);
     number
 }
 
 #[test]
-fn numbers_of_the_citation_and_of_the_entry(rt: HostRuntime) -> Result<(), Fail> {
+fn numbers_of_the_citation_and_of_the_entry(rt: HostRuntime) {
     let six = NoteNumber::new(6);
     let locator = NumberVariable::Locator;
     for (note, page, variable, wanted) in [
@@ -207,39 +207,42 @@ fn numbers_of_the_citation_and_of_the_entry(rt: HostRuntime) -> Result<(), Fail>
         // The caller writes the locator.
         (None, Some(LocatorPayload::Transparent), locator, "@2"),
     ] {
-        let number = number(rt.alloc(), note, page, variable)?;
+        let number = number(&rt, rt.alloc(), note, page, variable);
         assert_answer(&rt, number.as_str(), wanted, "a number variable");
     }
-    Ok(())
 }
 
 /// A number, and the separator after it.
 type Separated = (i32, Option<NumericDelimiter>);
 
 /// The two numbers of a locator, if it is a list of two.
-fn two_numbers(alloc: Global, page: &str) -> Result<Option<(Separated, Separated)>, Fail> {
-    let samples = samples(alloc, "`Nature")?;
+fn two_numbers(rt: &impl Abort, alloc: Global, page: &str) -> Option<(Separated, Separated)> {
+    let samples = samples(rt, alloc, "`Nature");
     let props = cited(
+        rt,
         None,
         Some(LocatorPayload::Str(page)),
         DisambiguateState::None,
-    )?;
-    let numbers = two_numbers_in(alloc, &samples, &props);
+    );
+    let numbers = two_numbers_in(rt, alloc, &samples, &props);
     drop(props);
     numbers
 }
 
 /// The two numbers of the locator of a cite with these properties, if it is a list of two.
 fn two_numbers_in<'s>(
+    rt: &impl Abort,
     alloc: Global,
     samples: &'s [Sample],
     props: &'s CiteProperties<'s>,
-) -> Result<Option<(Separated, Separated)>, Fail> {
-    let cite = instance(only(samples)?, props);
-    let found = cite.resolve_number_variable(alloc, NumberVariable::Locator)?;
+) -> Option<(Separated, Separated)> {
+    let cite = instance(only(rt, samples), props);
+    let found = cite
+        .resolve_number_variable(alloc, NumberVariable::Locator)
+        .expect(rt, "memory");
     let numbers = two_of(&found);
     drop(found);
-    Ok(numbers)
+    numbers
 }
 
 /// The found numbers, if they are two.
@@ -257,62 +260,71 @@ fn two_of(found: &Option<NumberVariableResult<'_>>) -> Option<(Separated, Separa
 }
 
 #[test]
-fn a_locator_of_two_numbers(rt: HostRuntime) -> Result<(), Fail> {
-    let numbers = two_numbers(rt.alloc(), "3-5")?;
+fn a_locator_of_two_numbers(rt: HostRuntime) {
+    let numbers = two_numbers(&rt, rt.alloc(), "3-5");
     assert_same(
         &rt,
         &numbers,
         &Some(((3, Some(NumericDelimiter::Hyphen)), (5, None))),
     );
-    Ok(())
 }
 
 /// The text that a copy of the cite answers, with the marks of its chunks.
 fn text_in<'s>(
+    rt: &impl Abort,
     alloc: Global,
     samples: &'s [Sample],
     props: &'s CiteProperties<'s>,
     form: LongShortForm,
     variable: StandardVariable,
-) -> Result<String, Fail> {
-    let cite = instance(only(samples)?, props).clone()?;
-    let found = cite.resolve_standard_variable(alloc, form, variable)?;
-    let text = text_said(alloc, borrowed(&found));
+) -> String {
+    let cite = instance(only(rt, samples), props)
+        .clone()
+        .expect(rt, "memory");
+    let found = cite
+        .resolve_standard_variable(alloc, form, variable)
+        .expect(rt, "memory");
+    let text = text_said(rt, alloc, borrowed(&found));
     drop(found);
     text
 }
 
 /// The text that a cite with this disambiguation answers.
 fn text(
+    rt: &impl Abort,
     alloc: Global,
     told: Told,
     form: LongShortForm,
     variable: StandardVariable,
-) -> Result<String, Fail> {
-    let samples = samples(alloc, "`Nature")?;
-    let props = cited(None, None, state(alloc, told)?)?;
-    let text = text_in(alloc, &samples, &props, form, variable);
+) -> String {
+    let samples = samples(rt, alloc, "`Nature");
+    let props = cited(rt, None, None, state(rt, alloc, told));
+    let text = text_in(rt, alloc, &samples, &props, form, variable);
     drop(props);
     text
 }
 
 /// The pages that the cite answers.
 fn pages_in<'s>(
+    rt: &impl Abort,
     alloc: Global,
     samples: &'s [Sample],
     props: &'s CiteProperties<'s>,
-) -> Result<String, Fail> {
-    let cite = instance(only(samples)?, props);
-    match cite.resolve_page_variable(alloc, PageVariable::Page)? {
-        Some(MaybeTyped::Typed(pages)) => Ok(pages.to_string(alloc)?),
-        _ => Ok(String::from_str(alloc, "no pages")?),
+) -> String {
+    let cite = instance(only(rt, samples), props);
+    let found = cite
+        .resolve_page_variable(alloc, PageVariable::Page)
+        .expect(rt, "memory");
+    match found {
+        Some(MaybeTyped::Typed(pages)) => pages.to_string(alloc).expect(rt, "memory"),
+        _ => String::from_str(alloc, "no pages").expect(rt, "memory"),
     }
 }
 
-fn pages(alloc: Global) -> Result<String, Fail> {
-    let samples = samples(alloc, "`Nature")?;
-    let props = cited(None, None, DisambiguateState::YearSuffix(0))?;
-    let pages = pages_in(alloc, &samples, &props);
+fn pages(rt: &impl Abort, alloc: Global) -> String {
+    let samples = samples(rt, alloc, "`Nature");
+    let props = cited(rt, None, None, DisambiguateState::YearSuffix(0));
+    let pages = pages_in(rt, alloc, &samples, &props);
     drop(props);
     pages
 }
@@ -336,23 +348,17 @@ static TEXTS: [TextRow; 6] = [
     (Told::BySuffix(0), LONG, StandardVariable::Title, "`Nature"),
 ];
 
-fn assert_text(
-    rt: &impl Abort,
-    alloc: Global,
-    &(told, form, variable, wanted): &TextRow,
-) -> Result<(), Fail> {
-    let text = text(alloc, told, form, variable)?;
+fn assert_text(rt: &impl Abort, alloc: Global, &(told, form, variable, wanted): &TextRow) {
+    let text = text(rt, alloc, told, form, variable);
     assert_answer(rt, text.as_str(), wanted, "a text variable");
-    Ok(())
 }
 
 #[test]
-fn texts_of_the_citation_and_of_the_entry(rt: HostRuntime) -> Result<(), Fail> {
+fn texts_of_the_citation_and_of_the_entry(rt: HostRuntime) {
     let texts: &[TextRow] = &TEXTS;
     for row in texts {
-        assert_text(&rt, rt.alloc(), row)?;
+        assert_text(&rt, rt.alloc(), row);
     }
-    let pages = pages(rt.alloc())?;
+    let pages = pages(&rt, rt.alloc());
     assert_answer(&rt, pages.as_str(), "7", "the pages");
-    Ok(())
 }

@@ -6,45 +6,44 @@ use crate::described::described;
 use csl_entry::{EntryLike, csl_language};
 use lit_model::LanguageIdentifier;
 use std::alloc::Global;
-use std::test::Fail;
+use std::process::Abort;
 
 fn language(
+    rt: &impl Abort,
     alloc: Global,
     language: &str,
     region: Option<&str>,
-) -> Result<LanguageIdentifier, Fail> {
-    let language = String::from_str(alloc, language)?;
+) -> LanguageIdentifier {
+    let language = String::from_str(alloc, language).expect(rt, "memory");
     let region = match region {
-        Some(region) => Some(String::from_str(alloc, region)?),
+        Some(region) => Some(String::from_str(alloc, region).expect(rt, "memory")),
         None => None,
     };
-    Ok(LanguageIdentifier { language, region })
+    LanguageIdentifier { language, region }
 }
 
 /// The language in the form that a style prints.
-fn printed(alloc: Global, name: &str, region: Option<&str>) -> Result<String, Fail> {
-    let language = language(alloc, name, region)?;
-    let printed = csl_language(alloc, &language)?;
-    Ok(printed)
+fn printed(rt: &impl Abort, alloc: Global, name: &str, region: Option<&str>) -> String {
+    let language = language(rt, alloc, name, region);
+    csl_language(alloc, &language).expect(rt, "memory")
 }
 
-fn is_english(alloc: Global, description: &str) -> Result<Option<bool>, Fail> {
-    let works = described(alloc, description)?;
-    let entry = only(&works)?;
-    Ok(entry.is_english())
+fn is_english(rt: &impl Abort, alloc: Global, description: &str) -> Option<bool> {
+    let works = described(rt, alloc, description);
+    let entry = only(rt, &works);
+    entry.is_english()
 }
 
 #[test]
-fn a_region_follows_its_language(rt: HostRuntime) -> Result<(), Fail> {
+fn a_region_follows_its_language(rt: HostRuntime) {
     for (name, region, wanted) in [("en", Some("US"), "en-US"), ("de", None, "de")] {
-        let printed = printed(rt.alloc(), name, region)?;
+        let printed = printed(&rt, rt.alloc(), name, region);
         assert_answer(&rt, printed.as_str(), wanted, name);
     }
-    Ok(())
 }
 
 #[test]
-fn english_is_distinguished_from_other_languages(rt: HostRuntime) -> Result<(), Fail> {
+fn english_is_distinguished_from_other_languages(rt: HostRuntime) {
     for (description, wanted) in [
         ("book", None),
         ("book; language en-US", Some(true)),
@@ -52,10 +51,9 @@ fn english_is_distinguished_from_other_languages(rt: HostRuntime) -> Result<(), 
     ] {
         assert_of(
             &rt,
-            &is_english(rt.alloc(), description)?,
+            &is_english(&rt, rt.alloc(), description),
             &wanted,
             &description,
         );
     }
-    Ok(())
 }

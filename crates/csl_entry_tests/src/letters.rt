@@ -4,7 +4,6 @@ use crate::asked::assert_answer;
 use csl_entry::letter;
 use std::alloc::Global;
 use std::process::Abort;
-use std::test::Fail;
 
 /// The letters of the year suffixes 0 to 255, by length and then by alphabet.
 static FIRST: [&str; 256] = [
@@ -40,31 +39,24 @@ static WORDS: [(u16, &str); 10] = [
     (65535, "crxp"),
 ];
 
-fn assert_word(
-    rt: &impl Abort,
-    alloc: Global,
-    &(n, word): &(u16, &'static str),
-) -> Result<(), Fail> {
-    let letters = letter(alloc, n)?;
+fn assert_word(rt: &impl Abort, alloc: Global, &(n, word): &(u16, &'static str)) {
+    let letters = letter(alloc, n).expect(rt, "memory");
     assert_answer(rt, letters.as_str(), word, "a year suffix");
-    Ok(())
 }
 
 #[test]
-fn words_by_length_and_alphabet(rt: HostRuntime) -> Result<(), Fail> {
+fn words_by_length_and_alphabet(rt: HostRuntime) {
     let words: &[(u16, &'static str)] = &WORDS;
     for row in words {
-        assert_word(&rt, rt.alloc(), row)?;
+        assert_word(&rt, rt.alloc(), row);
     }
-    Ok(())
 }
 
 #[test]
-fn the_first_words(rt: HostRuntime) -> Result<(), Fail> {
+fn the_first_words(rt: HostRuntime) {
     let words: &[&'static str] = &FIRST;
     for n in 0..256 {
-        let word = words.get(usize::from(n)).ok_or("a word")?;
-        assert_word(&rt, rt.alloc(), &(n, *word))?;
+        let word = words.get(usize::from(n)).expect(&rt, "a word");
+        assert_word(&rt, rt.alloc(), &(n, *word));
     }
-    Ok(())
 }

@@ -4,18 +4,17 @@ use crate::asked::{assert_answer, borrowed, only, result_said};
 use crate::asserted::assert_of;
 use crate::described::described;
 use crate::instance::cited;
+use csl_elements::{
+    DateVariable, NameVariable, NumberOrPageVariable, NumberVariable, PageVariable,
+    StandardVariable,
+};
 use csl_entry::{
     CiteProperties, DisambiguateState, EntryLike, InstanceContext, LocatorPayload,
     NumberOrPageVariableResult, same_date, same_number, same_pages, same_people, same_text,
 };
-use csl_style::{
-    DateVariable, NameVariable, NumberOrPageVariable, NumberVariable, PageVariable,
-    StandardVariable,
-};
 use lit_model::{Entry, LongShortForm, MaybeTyped};
 use std::alloc::Global;
 use std::process::Abort;
-use std::test::Fail;
 
 /// A lookup in a cite.
 #[derive(Clone, Copy)]
@@ -31,86 +30,100 @@ enum Sought {
 /// The answer as text: a number, `p` and pages, `'` and a text that is neither, `@` and the index
 /// of a text that the caller writes, or `none`.
 fn number_or_page_said(
+    rt: &impl Abort,
     alloc: Global,
     found: &Option<NumberOrPageVariableResult<'_>>,
-) -> Result<String, Fail> {
+) -> String {
     match found {
-        Some(NumberOrPageVariableResult::Number(number)) => result_said(alloc, Some(number)),
+        Some(NumberOrPageVariableResult::Number(number)) => result_said(rt, alloc, Some(number)),
         Some(NumberOrPageVariableResult::Page(MaybeTyped::Typed(pages))) => {
-            Ok(format!(in alloc; "p{pages}")?)
+            format!(in alloc; "p{pages}").expect(rt, "memory")
         }
         Some(NumberOrPageVariableResult::Page(MaybeTyped::String(text))) => {
-            Ok(format!(in alloc; "'{}", text.as_str())?)
+            format!(in alloc; "'{}", text.as_str()).expect(rt, "memory")
         }
-        None => result_said(alloc, None),
+        None => result_said(rt, alloc, None),
     }
 }
 
 fn number_or_page(
+    rt: &impl Abort,
     alloc: Global,
     cite: InstanceContext<'_, Entry>,
     variable: NumberOrPageVariable,
-) -> Result<String, Fail> {
-    let found = cite.resolve_number_or_page_variable(alloc, variable)?;
-    let said = number_or_page_said(alloc, &found);
+) -> String {
+    let found = cite
+        .resolve_number_or_page_variable(alloc, variable)
+        .expect(rt, "memory");
+    let said = number_or_page_said(rt, alloc, &found);
     drop(found);
     said
 }
 
 fn names(
+    rt: &impl Abort,
     alloc: Global,
     cite: InstanceContext<'_, Entry>,
     variable: NameVariable,
-) -> Result<String, Fail> {
+) -> String {
+    let persons = cite
+        .resolve_name_variable(alloc, variable)
+        .expect(rt, "memory");
     let mut names = String::new(alloc);
-    for person in &cite.resolve_name_variable(alloc, variable)? {
-        names.push_str(person.as_ref().name.as_str())?;
-        names.push(' ')?;
+    for person in &persons {
+        let name = person.as_ref().name.as_str();
+        names.push_str(name).expect(rt, "memory");
+        names.push(' ').expect(rt, "memory");
     }
-    Ok(names)
+    names
 }
 
 fn year(
+    rt: &impl Abort,
     alloc: Global,
     cite: InstanceContext<'_, Entry>,
     variable: DateVariable,
-) -> Result<String, Fail> {
-    let date = cite.resolve_date_variable(alloc, variable)?;
+) -> String {
+    let date = cite
+        .resolve_date_variable(alloc, variable)
+        .expect(rt, "memory");
     match borrowed(&date) {
-        Some(date) => Ok(format!(in alloc; "{}", date.year())?),
-        None => Ok(String::from_str(alloc, "none")?),
+        Some(date) => format!(in alloc; "{}", date.year()).expect(rt, "memory"),
+        None => String::from_str(alloc, "none").expect(rt, "memory"),
     }
 }
 
 /// The answer of a cite of the entry.
 fn found_in<'s>(
+    rt: &impl Abort,
     alloc: Global,
     entries: &'s [Entry],
     cite_props: &'s CiteProperties<'s>,
     sought: Sought,
-) -> Result<String, Fail> {
+) -> String {
     let cite = InstanceContext {
-        entry: only(entries)?,
+        entry: only(rt, entries),
         cite_props,
         sorting: None,
         kind: None,
     };
     match sought {
-        Sought::Number(variable) => number_or_page(alloc, cite, variable),
-        Sought::Names(variable) => names(alloc, cite, variable),
-        Sought::Year(variable) => year(alloc, cite, variable),
+        Sought::Number(variable) => number_or_page(rt, alloc, cite, variable),
+        Sought::Names(variable) => names(rt, alloc, cite, variable),
+        Sought::Year(variable) => year(rt, alloc, cite, variable),
     }
 }
 
 /// The answer of a cite whose locator the caller writes.
-fn found(alloc: Global, description: &str, sought: Sought) -> Result<String, Fail> {
-    let entries = described(alloc, description)?;
+fn found(rt: &impl Abort, alloc: Global, description: &str, sought: Sought) -> String {
+    let entries = described(rt, alloc, description);
     let props = cited(
+        rt,
         None,
         Some(LocatorPayload::Transparent),
         DisambiguateState::None,
-    )?;
-    let found = found_in(alloc, &entries, &props, sought);
+    );
+    let found = found_in(rt, alloc, &entries, &props, sought);
     drop(props);
     found
 }
@@ -147,19 +160,17 @@ fn assert_found(
     rt: &impl Abort,
     alloc: Global,
     &(description, sought, wanted): &(&'static str, Sought, &'static str),
-) -> Result<(), Fail> {
-    let found = found(alloc, description, sought)?;
+) {
+    let found = found(rt, alloc, description, sought);
     assert_answer(rt, found.as_str(), wanted, description);
-    Ok(())
 }
 
 #[test]
-fn answers_of_a_cite(rt: HostRuntime) -> Result<(), Fail> {
+fn answers_of_a_cite(rt: HostRuntime) {
     let answers: &[(&'static str, Sought, &'static str)] = &ANSWERS;
     for row in answers {
-        assert_found(&rt, rt.alloc(), row)?;
+        assert_found(&rt, rt.alloc(), row);
     }
-    Ok(())
 }
 
 /// The answer that is compared for two entries.
@@ -172,60 +183,81 @@ enum Compared {
     Issued,
 }
 
-fn same_authors(alloc: Global, left: &Entry, right: &Entry) -> Result<bool, Fail> {
-    let authors = left.resolve_name_variable(alloc, NameVariable::Author)?;
-    let others = right.resolve_name_variable(alloc, NameVariable::Author)?;
-    Ok(same_people(&authors, &others))
+fn same_authors(rt: &impl Abort, alloc: Global, left: &Entry, right: &Entry) -> bool {
+    let authors = left
+        .resolve_name_variable(alloc, NameVariable::Author)
+        .expect(rt, "memory");
+    let others = right
+        .resolve_name_variable(alloc, NameVariable::Author)
+        .expect(rt, "memory");
+    same_people(&authors, &others)
 }
 
-fn same_title(alloc: Global, left: &Entry, right: &Entry) -> Result<bool, Fail> {
+fn same_title(rt: &impl Abort, alloc: Global, left: &Entry, right: &Entry) -> bool {
     let form = LongShortForm::Long;
-    let title = left.resolve_standard_variable(alloc, form, StandardVariable::Title)?;
-    let other = right.resolve_standard_variable(alloc, form, StandardVariable::Title)?;
-    Ok(same_text(&title, &other))
+    let title = left
+        .resolve_standard_variable(alloc, form, StandardVariable::Title)
+        .expect(rt, "memory");
+    let other = right
+        .resolve_standard_variable(alloc, form, StandardVariable::Title)
+        .expect(rt, "memory");
+    same_text(&title, &other)
 }
 
-fn same_volume(alloc: Global, left: &Entry, right: &Entry) -> Result<bool, Fail> {
-    let volume = left.resolve_number_variable(alloc, NumberVariable::Volume)?;
-    let other = right.resolve_number_variable(alloc, NumberVariable::Volume)?;
+fn same_volume(rt: &impl Abort, alloc: Global, left: &Entry, right: &Entry) -> bool {
+    let volume = left
+        .resolve_number_variable(alloc, NumberVariable::Volume)
+        .expect(rt, "memory");
+    let other = right
+        .resolve_number_variable(alloc, NumberVariable::Volume)
+        .expect(rt, "memory");
     let same = same_number(&volume, &other);
     drop(volume);
     drop(other);
-    Ok(same)
+    same
 }
 
-fn same_page_range(alloc: Global, left: &Entry, right: &Entry) -> Result<bool, Fail> {
-    let pages = left.resolve_page_variable(alloc, PageVariable::Page)?;
-    let others = right.resolve_page_variable(alloc, PageVariable::Page)?;
-    Ok(same_pages(&pages, &others))
+fn same_page_range(rt: &impl Abort, alloc: Global, left: &Entry, right: &Entry) -> bool {
+    let pages = left
+        .resolve_page_variable(alloc, PageVariable::Page)
+        .expect(rt, "memory");
+    let others = right
+        .resolve_page_variable(alloc, PageVariable::Page)
+        .expect(rt, "memory");
+    same_pages(&pages, &others)
 }
 
-fn same_issued(alloc: Global, left: &Entry, right: &Entry) -> Result<bool, Fail> {
-    let date = left.resolve_date_variable(alloc, DateVariable::Issued)?;
-    let other = right.resolve_date_variable(alloc, DateVariable::Issued)?;
-    Ok(same_date(&date, &other))
+fn same_issued(rt: &impl Abort, alloc: Global, left: &Entry, right: &Entry) -> bool {
+    let date = left
+        .resolve_date_variable(alloc, DateVariable::Issued)
+        .expect(rt, "memory");
+    let other = right
+        .resolve_date_variable(alloc, DateVariable::Issued)
+        .expect(rt, "memory");
+    same_date(&date, &other)
 }
 
 fn same_in(
+    rt: &impl Abort,
     alloc: Global,
     left: &[Entry],
     right: &[Entry],
     compared: Compared,
-) -> Result<bool, Fail> {
-    let (left, right) = (only(left)?, only(right)?);
+) -> bool {
+    let (left, right) = (only(rt, left), only(rt, right));
     match compared {
-        Compared::Authors => same_authors(alloc, left, right),
-        Compared::Title => same_title(alloc, left, right),
-        Compared::Volume => same_volume(alloc, left, right),
-        Compared::Pages => same_page_range(alloc, left, right),
-        Compared::Issued => same_issued(alloc, left, right),
+        Compared::Authors => same_authors(rt, alloc, left, right),
+        Compared::Title => same_title(rt, alloc, left, right),
+        Compared::Volume => same_volume(rt, alloc, left, right),
+        Compared::Pages => same_page_range(rt, alloc, left, right),
+        Compared::Issued => same_issued(rt, alloc, left, right),
     }
 }
 
-fn same(alloc: Global, left: &str, right: &str, compared: Compared) -> Result<bool, Fail> {
-    let left = described(alloc, left)?;
-    let right = described(alloc, right)?;
-    same_in(alloc, &left, &right, compared)
+fn same(rt: &impl Abort, alloc: Global, left: &str, right: &str, compared: Compared) -> bool {
+    let left = described(rt, alloc, left);
+    let right = described(rt, alloc, right);
+    same_in(rt, alloc, &left, &right, compared)
 }
 
 /// Two entries, the compared answer, and whether it is the same.
@@ -293,21 +325,15 @@ static PAIRS: [ComparedRow; 19] = [
     ("book", "book", Compared::Issued, true),
 ];
 
-fn assert_compared(
-    rt: &impl Abort,
-    alloc: Global,
-    &(left, right, compared, wanted): &ComparedRow,
-) -> Result<(), Fail> {
-    let same = same(alloc, left, right, compared)?;
+fn assert_compared(rt: &impl Abort, alloc: Global, &(left, right, compared, wanted): &ComparedRow) {
+    let same = same(rt, alloc, left, right, compared);
     assert_of(rt, &same, &wanted, &(left, right));
-    Ok(())
 }
 
 #[test]
-fn answers_of_two_entries_compared(rt: HostRuntime) -> Result<(), Fail> {
+fn answers_of_two_entries_compared(rt: HostRuntime) {
     let pairs: &[ComparedRow] = &PAIRS;
     for row in pairs {
-        assert_compared(&rt, rt.alloc(), row)?;
+        assert_compared(&rt, rt.alloc(), row);
     }
-    Ok(())
 }

@@ -7,12 +7,10 @@ ghost use Rattle.csl_entry.specs.contracts.forms.name_properties.NameDisambiguat
 
 use crate::asked::assert_answer;
 use crate::asserted::{assert_of, assert_same};
+use csl_elements::NameVariable;
 use csl_entry::{DisambiguatedNameForm, NameDisambiguationProperties};
-use csl_style::NameVariable;
-use lit_model::Memory;
 use std::alloc::Global;
 use std::process::Abort;
-use std::test::Fail;
 
 /// Whether the properties are equal: exactly if their default forms, variables and forms are.
 fn same(a: &NameDisambiguationProperties, b: &NameDisambiguationProperties) -> bool
@@ -31,46 +29,51 @@ fn hashed_alike(a: &NameDisambiguationProperties, b: &NameDisambiguationProperti
 
 /// The properties of two lists: of two names, the second of which is not shown, and of one name.
 fn properties(
+    rt: &impl Abort,
     alloc: Global,
     variable: NameVariable,
     last: Option<DisambiguatedNameForm>,
-) -> Result<NameDisambiguationProperties, Memory> {
+) -> NameDisambiguationProperties {
     let short = DisambiguatedNameForm::ShortFull;
-    let variables = Vec::from_array(alloc, [variable, NameVariable::Editor])?;
-    let first = Vec::from_array(alloc, [Some(short), None])?;
-    let second = Vec::from_array(alloc, [last])?;
-    let lists = Vec::from_array(alloc, [first, second])?;
-    Ok(NameDisambiguationProperties::new(short, variables, lists))
+    let variables = Vec::from_array(alloc, [variable, NameVariable::Editor]).expect(rt, "memory");
+    let first = Vec::from_array(alloc, [Some(short), None]).expect(rt, "memory");
+    let second = Vec::from_array(alloc, [last]).expect(rt, "memory");
+    let lists = Vec::from_array(alloc, [first, second]).expect(rt, "memory");
+    NameDisambiguationProperties::new(short, variables, lists)
 }
 
 /// The results of the readers for properties of the author with this last form.
-fn parts(alloc: Global, last: DisambiguatedNameForm) -> Result<String, Memory> {
-    let properties = properties(alloc, NameVariable::Author, Some(last))?;
+fn parts(rt: &impl Abort, alloc: Global, last: DisambiguatedNameForm) -> String {
+    let properties = properties(rt, alloc, NameVariable::Author, Some(last));
     let form = properties.default_name_form();
     let variables = properties.variables();
-    let mut parts = format!(in alloc; "{form:?} {variables:?}")?;
+    let mut parts = format!(in alloc; "{form:?} {variables:?}").expect(rt, "memory");
     for forms in properties.name_forms() {
         let forms = forms.as_slice();
-        write!(parts, " {forms:?}")?;
+        write!(parts, " {forms:?}").expect(rt, "memory");
     }
-    Ok(parts)
+    parts
 }
 
 /// Whether a copy of the author's properties equals those of this variable with this last form.
 fn copy_equals(
+    rt: &impl Abort,
     alloc: Global,
     variable: NameVariable,
     last: Option<DisambiguatedNameForm>,
-) -> Result<bool, Memory> {
-    let author = properties(alloc, NameVariable::Author, None)?;
-    let others = [author.clone(alloc)?, properties(alloc, variable, last)?];
+) -> bool {
+    let author = properties(rt, alloc, NameVariable::Author, None);
+    let others = [
+        author.clone(alloc).expect(rt, "memory"),
+        properties(rt, alloc, variable, last),
+    ];
     hashed_alike(&others[0], &author);
-    Ok(same(&others[0], &others[1]))
+    same(&others[0], &others[1])
 }
 
 #[test]
-fn parts_are_returned_and_equal_by_value(rt: HostRuntime) -> Result<(), Memory> {
-    let parts = parts(rt.alloc(), DisambiguatedNameForm::LongFull)?;
+fn parts_are_returned_and_equal_by_value(rt: HostRuntime) {
+    let parts = parts(&rt, rt.alloc(), DisambiguatedNameForm::LongFull);
     let wanted = "ShortFull [Author, Editor] [Some(ShortFull), None] [Some(LongFull)]";
     assert_answer(&rt, parts.as_str(), wanted, "the parts");
     for (variable, last, wanted) in [
@@ -82,10 +85,9 @@ fn parts_are_returned_and_equal_by_value(rt: HostRuntime) -> Result<(), Memory> 
             false,
         ),
     ] {
-        let equal = copy_equals(rt.alloc(), variable, last)?;
+        let equal = copy_equals(&rt, rt.alloc(), variable, last);
         assert_of(&rt, &equal, &wanted, &(variable, last));
     }
-    Ok(())
 }
 
 /// The form of a name, by its letter. Any other letter is for a name that is not shown.
@@ -114,36 +116,39 @@ fn letter_of(form: Option<DisambiguatedNameForm>) -> char {
 /// The properties of these variables and lists. Each word is a list, with a letter for each name,
 /// and `.` is a list without names. The default form is `default`.
 fn made(
+    rt: &impl Abort,
     alloc: Global,
     default: DisambiguatedNameForm,
     variables: &[NameVariable],
     lists: &str,
-) -> Result<NameDisambiguationProperties, Memory> {
-    let variables = variables.to_vec(alloc)?;
+) -> NameDisambiguationProperties {
+    let variables = variables.to_vec(alloc).expect(rt, "memory");
     let mut name_forms = Vec::new(alloc);
     for list in lists.split_whitespace() {
         let mut forms = Vec::new(alloc);
         for letter in list.chars() {
             if letter != '.' {
-                forms.push(form_of(letter))?;
+                forms.push(form_of(letter)).expect(rt, "memory");
             }
         }
-        name_forms.push(forms)?;
+        name_forms.push(forms).expect(rt, "memory");
     }
-    Ok(NameDisambiguationProperties::new(default, variables, name_forms))
+    NameDisambiguationProperties::new(default, variables, name_forms)
 }
 
 /// The default form and each list, as letters.
-fn said(alloc: Global, properties: &NameDisambiguationProperties) -> Result<String, Memory> {
+fn said(rt: &impl Abort, alloc: Global, properties: &NameDisambiguationProperties) -> String {
     let mut said = String::new(alloc);
-    said.push(letter_of(Some(properties.default_name_form())))?;
+    said.push(letter_of(Some(properties.default_name_form())))
+        .expect(rt, "memory");
     for forms in properties.name_forms() {
-        said.push_str(if forms.is_empty() { " ." } else { " " })?;
+        said.push_str(if forms.is_empty() { " ." } else { " " })
+            .expect(rt, "memory");
         for form in forms {
-            said.push(letter_of(*form))?;
+            said.push(letter_of(*form)).expect(rt, "memory");
         }
     }
-    Ok(said)
+    said
 }
 
 /// Lists, the numbers of names that successive calls show, and the lists after the calls with the
@@ -163,30 +168,29 @@ static ADDED: [AddedRow; 10] = [
     ("-", &[2, 1], "L L false true"),
 ];
 
-fn after_adding(alloc: Global, lists: &str, nums: &[usize]) -> Result<String, Memory> {
+fn after_adding(rt: &impl Abort, alloc: Global, lists: &str, nums: &[usize]) -> String {
     let mut answers = String::new(alloc);
     let author = [NameVariable::Author];
-    let mut properties = made(alloc, DisambiguatedNameForm::LongFull, &author, lists)?;
+    let mut properties = made(rt, alloc, DisambiguatedNameForm::LongFull, &author, lists);
     for num in nums {
         let is_there = properties.add_name(*num);
-        write!(answers, " {is_there}")?;
+        write!(answers, " {is_there}").expect(rt, "memory");
     }
-    let mut said = said(alloc, &properties)?;
-    said.push_str(answers.as_str())?;
-    Ok(said)
+    let mut said = said(rt, alloc, &properties);
+    said.push_str(answers.as_str()).expect(rt, "memory");
+    said
 }
 
-fn assert_added(rt: &impl Abort, alloc: Global, rows: &[AddedRow]) -> Result<(), Fail> {
+fn assert_added(rt: &impl Abort, alloc: Global, rows: &[AddedRow]) {
     for (lists, nums, wanted) in rows {
-        let said = after_adding(alloc, lists, nums)?;
+        let said = after_adding(rt, alloc, lists, nums);
         assert_answer(rt, said.as_str(), wanted, lists);
     }
-    Ok(())
 }
 
 #[test]
-fn names_are_added_in_the_first_list_of_so_many(rt: HostRuntime) -> Result<(), Fail> {
-    assert_added(&rt, rt.alloc(), &ADDED)
+fn names_are_added_in_the_first_list_of_so_many(rt: HostRuntime) {
+    assert_added(&rt, rt.alloc(), &ADDED);
 }
 
 /// Lists, a variable, places, and the lists after the call with its result, or `refused` if the
@@ -214,43 +218,55 @@ static TOLD: [ToldRow; 17] = [
 ];
 
 fn after_telling(
+    rt: &impl Abort,
     alloc: Global,
     lists: &str,
     variable: NameVariable,
     places: &[usize],
-) -> Result<String, Memory> {
+) -> String {
     let variables = [
         NameVariable::Author,
         NameVariable::Editor,
         NameVariable::Author,
     ];
-    let mut properties = made(alloc, DisambiguatedNameForm::ShortFull, &variables, lists)?;
+    let mut properties = made(
+        rt,
+        alloc,
+        DisambiguatedNameForm::ShortFull,
+        &variables,
+        lists,
+    );
     if !properties.can_disambiguate(variable, places) {
-        return Ok(String::from_str(alloc, "refused")?);
+        return String::from_str(alloc, "refused").expect(rt, "memory");
     }
     let changed = properties.disambiguate_list(variable, places);
-    let mut said = said(alloc, &properties)?;
-    write!(said, " {changed}")?;
-    Ok(said)
+    let mut said = said(rt, alloc, &properties);
+    write!(said, " {changed}").expect(rt, "memory");
+    said
 }
 
-fn assert_told(rt: &impl Abort, alloc: Global, rows: &[ToldRow]) -> Result<(), Fail> {
+fn assert_told(rt: &impl Abort, alloc: Global, rows: &[ToldRow]) {
     for (lists, variable, places, wanted) in rows {
-        let said = after_telling(alloc, lists, *variable, places)?;
+        let said = after_telling(rt, alloc, lists, *variable, places);
         assert_answer(rt, said.as_str(), wanted, lists);
     }
-    Ok(())
 }
 
 #[test]
-fn names_of_the_variable_are_disambiguated(rt: HostRuntime) -> Result<(), Fail> {
-    assert_told(&rt, rt.alloc(), &TOLD)
+fn names_of_the_variable_are_disambiguated(rt: HostRuntime) {
+    assert_told(&rt, rt.alloc(), &TOLD);
 }
 
 #[test]
-fn one_form_on_the_author_holds_one_place(rt: HostRuntime) -> Result<(), Memory> {
+fn one_form_on_the_author_holds_one_place(rt: HostRuntime) {
     let author = [NameVariable::Author];
-    let one = made(rt.alloc(), DisambiguatedNameForm::LongFull, &author, "L")?;
+    let one = made(
+        &rt,
+        rt.alloc(),
+        DisambiguatedNameForm::LongFull,
+        &author,
+        "L",
+    );
     assert_same(
         &rt,
         &one.can_disambiguate(NameVariable::Author, &[0]),
@@ -266,7 +282,6 @@ fn one_form_on_the_author_holds_one_place(rt: HostRuntime) -> Result<(), Memory>
         &one.can_disambiguate(NameVariable::Editor, &[1]),
         &true,
     );
-    Ok(())
 }
 
 /// The lists of two properties, and the properties that show more. The default form of the first is
@@ -287,24 +302,23 @@ static MAX: [MaxRow; 11] = [
     ("S", "S -", "L S -"),
 ];
 
-fn max_of(alloc: Global, first: &str, second: &str) -> Result<String, Memory> {
+fn max_of(rt: &impl Abort, alloc: Global, first: &str, second: &str) -> String {
     let author = [NameVariable::Author];
-    let other = made(alloc, DisambiguatedNameForm::LongFull, &author, second)?;
-    let one = made(alloc, DisambiguatedNameForm::Count, &author, first)?;
-    said(alloc, &one.max(other))
+    let other = made(rt, alloc, DisambiguatedNameForm::LongFull, &author, second);
+    let one = made(rt, alloc, DisambiguatedNameForm::Count, &author, first);
+    said(rt, alloc, &one.max(other))
 }
 
-fn assert_max(rt: &impl Abort, alloc: Global, rows: &[MaxRow]) -> Result<(), Fail> {
+fn assert_max(rt: &impl Abort, alloc: Global, rows: &[MaxRow]) {
     for (first, second, wanted) in rows {
-        let said = max_of(alloc, first, second)?;
+        let said = max_of(rt, alloc, first, second);
         assert_answer(rt, said.as_str(), wanted, first);
     }
-    Ok(())
 }
 
 #[test]
-fn the_greater_shows_more_names_or_later_forms(rt: HostRuntime) -> Result<(), Fail> {
-    assert_max(&rt, rt.alloc(), &MAX)
+fn the_greater_shows_more_names_or_later_forms(rt: HostRuntime) {
+    assert_max(&rt, rt.alloc(), &MAX);
 }
 
 /// Lists, an index among all forms, and the form at this index with the lists after a count
@@ -337,25 +351,24 @@ fn count_form(
     Some(was)
 }
 
-fn after_counting(alloc: Global, lists: &str, idx: usize) -> Result<String, Memory> {
+fn after_counting(rt: &impl Abort, alloc: Global, lists: &str, idx: usize) -> String {
     let author = [NameVariable::Author];
-    let mut properties = made(alloc, DisambiguatedNameForm::LongFull, &author, lists)?;
+    let mut properties = made(rt, alloc, DisambiguatedNameForm::LongFull, &author, lists);
     let was = count_form(&mut properties, idx);
-    let said = said(alloc, &properties)?;
+    let said = said(rt, alloc, &properties);
     let said = said.as_str();
     let was = letter_of(was);
-    Ok(format!(in alloc; "{was}: {said}")?)
+    format!(in alloc; "{was}: {said}").expect(rt, "memory")
 }
 
-fn assert_lent(rt: &impl Abort, alloc: Global, rows: &[LentRow]) -> Result<(), Fail> {
+fn assert_lent(rt: &impl Abort, alloc: Global, rows: &[LentRow]) {
     for (lists, idx, wanted) in rows {
-        let said = after_counting(alloc, lists, *idx)?;
+        let said = after_counting(rt, alloc, lists, *idx);
         assert_answer(rt, said.as_str(), wanted, lists);
     }
-    Ok(())
 }
 
 #[test]
-fn a_form_is_lent_at_its_place_or_the_default_one(rt: HostRuntime) -> Result<(), Fail> {
-    assert_lent(&rt, rt.alloc(), &LENT)
+fn a_form_is_lent_at_its_place_or_the_default_one(rt: HostRuntime) {
+    assert_lent(&rt, rt.alloc(), &LENT);
 }

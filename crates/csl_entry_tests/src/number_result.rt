@@ -10,7 +10,6 @@ use std::alloc::Global;
 use std::borrow::Cow;
 use std::cmp::Ordering;
 use std::process::Abort;
-use std::test::Fail;
 
 /// Whether the answers are equal: exactly if both are the same number, the same text or the same
 /// index.
@@ -40,34 +39,39 @@ enum Answer {
     Index(usize),
 }
 
-fn made(alloc: Global, answer: Answer) -> Result<NumberVariableResult<'static>, Fail> {
+fn made(rt: &impl Abort, alloc: Global, answer: Answer) -> NumberVariableResult<'static> {
     let number = match answer {
-        Answer::Spelled(text) => Numeric::parse(alloc, text)?,
+        Answer::Spelled(text) => Numeric::parse(alloc, text).expect(rt, "a number"),
         Answer::One(value) => Numeric::new(value),
         Answer::Text(text) => {
-            let text = String::from_str(alloc, text)?;
-            return Ok(NumberVariableResult::from_regular(MaybeTyped::String(text)));
+            let text = String::from_str(alloc, text).expect(rt, "memory");
+            return NumberVariableResult::from_regular(MaybeTyped::String(text));
         }
-        Answer::Index(index) => return Ok(NumberVariableResult::Transparent(index)),
+        Answer::Index(index) => return NumberVariableResult::Transparent(index),
     };
-    Ok(NumberVariableResult::from_regular(MaybeTyped::Typed(Cow::Owned(number))))
+    NumberVariableResult::from_regular(MaybeTyped::Typed(Cow::Owned(number)))
 }
 
 /// Both answers, in order.
-fn both(alloc: Global, a: Answer, b: Answer) -> Result<Vec<NumberVariableResult<'static>>, Fail> {
+fn both(
+    rt: &impl Abort,
+    alloc: Global,
+    a: Answer,
+    b: Answer,
+) -> Vec<NumberVariableResult<'static>> {
     let mut both = Vec::new(alloc);
-    both.push(made(alloc, a)?)?;
-    both.push(made(alloc, b)?)?;
-    Ok(both)
+    both.push(made(rt, alloc, a)).expect(rt, "memory");
+    both.push(made(rt, alloc, b)).expect(rt, "memory");
+    both
 }
 
 /// The order of the first to the second, that of the second to the first, and whether they are
 /// equal.
-fn compared(alloc: Global, a: Answer, b: Answer) -> Result<(Ordering, Ordering, bool), Fail> {
-    let both = both(alloc, a, b)?;
+fn compared(rt: &impl Abort, alloc: Global, a: Answer, b: Answer) -> (Ordering, Ordering, bool) {
+    let both = both(rt, alloc, a, b);
     match both.as_slice() {
-        [a, b] => Ok((a.csl_cmp(b), b.csl_cmp(a), same(a, b))),
-        _ => Err(Fail::from("two answers")),
+        [a, b] => (a.csl_cmp(b), b.csl_cmp(a), same(a, b)),
+        _ => panic!(rt; "two answers"),
     }
 }
 
@@ -99,106 +103,109 @@ static IN_ORDER: [(Answer, Answer); 19] = [
     (Answer::Spelled("1b"), Answer::Spelled("a1a")),
 ];
 
-fn assert_in_order(rt: &impl Abort, alloc: Global, rows: &[(Answer, Answer)]) -> Result<(), Fail> {
+fn assert_in_order(rt: &impl Abort, alloc: Global, rows: &[(Answer, Answer)]) {
     for (first, second) in rows {
-        let compared = compared(alloc, *first, *second)?;
+        let compared = compared(rt, alloc, *first, *second);
         let wanted = (Ordering::Less, Ordering::Greater, false);
         assert_of(rt, &compared, &wanted, &(first, second));
     }
-    Ok(())
 }
 
 #[test]
-fn answers_in_order_and_at_one_place(rt: HostRuntime) -> Result<(), Fail> {
-    assert_in_order(&rt, rt.alloc(), &IN_ORDER)?;
+fn answers_in_order_and_at_one_place(rt: HostRuntime) {
+    assert_in_order(&rt, rt.alloc(), &IN_ORDER);
     for (first, second, are_equal) in [
         (Answer::Index(2), Answer::Index(2), true),
         (Answer::One(-1), Answer::One(-1), true),
         // Separators do not count for the order.
         (Answer::Spelled("1-2"), Answer::Spelled("1, 2"), false),
     ] {
-        let compared = compared(rt.alloc(), first, second)?;
+        let compared = compared(&rt, rt.alloc(), first, second);
         let wanted = (Ordering::Equal, Ordering::Equal, are_equal);
         assert_of(&rt, &compared, &wanted, &(first, second));
     }
-    Ok(())
 }
 
 /// Whether the answer equals this number, borrowed.
-fn equals_borrowed(alloc: Global, number: i32, answer: Answer) -> Result<bool, Fail> {
+fn equals_borrowed(rt: &impl Abort, alloc: Global, number: i32, answer: Answer) -> bool {
     let number = Numeric::new(number);
     let borrowed = NumberVariableResult::from_regular(MaybeTyped::Typed(Cow::Borrowed(&number)));
-    let answer = made(alloc, answer)?;
-    Ok(same(&borrowed, &answer))
+    let answer = made(rt, alloc, answer);
+    same(&borrowed, &answer)
 }
 
 /// Whether a copy of this number, borrowed, equals it, and whether the copy borrows.
-fn copy_of_borrowed(alloc: Global, number: i32) -> Result<(bool, bool), Fail> {
+fn copy_of_borrowed(rt: &impl Abort, alloc: Global, number: i32) -> (bool, bool) {
     let number = Numeric::new(number);
     let borrowed = NumberVariableResult::from_regular(MaybeTyped::Typed(Cow::Borrowed(&number)));
-    let copy = borrowed.clone(alloc)?;
+    let copy = borrowed.clone(alloc).expect(rt, "memory");
     let borrows = matches!(
         &copy,
         NumberVariableResult::Regular(MaybeTyped::Typed(Cow::Borrowed(_)))
     );
-    Ok((same(&copy, &borrowed), borrows))
+    (same(&copy, &borrowed), borrows)
 }
 
 /// Whether a copy equals the answer that is described.
-fn equals_copy(alloc: Global, answer: Answer) -> Result<bool, Fail> {
-    let answer = made(alloc, answer)?;
-    let copy = answer.clone(alloc)?;
-    Ok(same(&copy, &answer))
+fn equals_copy(rt: &impl Abort, alloc: Global, answer: Answer) -> bool {
+    let answer = made(rt, alloc, answer);
+    let copy = answer.clone(alloc).expect(rt, "memory");
+    same(&copy, &answer)
 }
 
 /// The number 7, and page 7.
-fn number_and_page(alloc: Global) -> Result<Vec<NumberOrPageVariableResult<'static>>, Fail> {
+fn number_and_page(rt: &impl Abort, alloc: Global) -> Vec<NumberOrPageVariableResult<'static>> {
     let mut both = Vec::new(alloc);
-    let number = made(alloc, Answer::One(7))?;
-    both.push(NumberOrPageVariableResult::Number(number))?;
-    let pages = PageRanges::parse(alloc, "7")?;
-    both.push(NumberOrPageVariableResult::Page(MaybeTyped::Typed(pages)))?;
-    Ok(both)
+    let number = made(rt, alloc, Answer::One(7));
+    both.push(NumberOrPageVariableResult::Number(number))
+        .expect(rt, "memory");
+    let pages = PageRanges::parse(alloc, "7").expect(rt, "pages");
+    both.push(NumberOrPageVariableResult::Page(MaybeTyped::Typed(pages)))
+        .expect(rt, "memory");
+    both
 }
 
 /// Whether a copy equals the answer to a number or page variable.
-fn equals_own_copy(alloc: Global, answer: &NumberOrPageVariableResult<'_>) -> Result<bool, Fail> {
-    let copy = answer.clone(alloc)?;
-    Ok(same_kind(&copy, answer))
+fn equals_own_copy(
+    rt: &impl Abort,
+    alloc: Global,
+    answer: &NumberOrPageVariableResult<'_>,
+) -> bool {
+    let copy = answer.clone(alloc).expect(rt, "memory");
+    same_kind(&copy, answer)
 }
 
 /// Whether the pages equal the number, and whether each equals its own copy.
-fn kinds_compared(alloc: Global) -> Result<(bool, bool, bool), Fail> {
-    let both = number_and_page(alloc)?;
+fn kinds_compared(rt: &impl Abort, alloc: Global) -> (bool, bool, bool) {
+    let both = number_and_page(rt, alloc);
     match both.as_slice() {
-        [number, pages] => Ok((
+        [number, pages] => (
             same_kind(pages, number),
-            equals_own_copy(alloc, pages)?,
-            equals_own_copy(alloc, number)?,
-        )),
-        _ => Err(Fail::from("two answers")),
+            equals_own_copy(rt, alloc, pages),
+            equals_own_copy(rt, alloc, number),
+        ),
+        _ => panic!(rt; "two answers"),
     }
 }
 
 #[test]
-fn equal_answers_are_of_one_kind_and_copies_are_equal(rt: HostRuntime) -> Result<(), Fail> {
+fn equal_answers_are_of_one_kind_and_copies_are_equal(rt: HostRuntime) {
     for (answer, wanted) in [
         (Answer::One(7), true),
         (Answer::Text("7"), false),
         (Answer::Index(7), false),
     ] {
-        let equals = equals_borrowed(rt.alloc(), 7, answer)?;
+        let equals = equals_borrowed(&rt, rt.alloc(), 7, answer);
         assert_of(&rt, &equals, &wanted, &answer);
     }
-    assert_same(&rt, &copy_of_borrowed(rt.alloc(), 7)?, &(true, true));
+    assert_same(&rt, &copy_of_borrowed(&rt, rt.alloc(), 7), &(true, true));
     for answer in [
         Answer::Spelled("a1-2b"),
         Answer::Text("second"),
         Answer::Index(3),
     ] {
-        assert_of(&rt, &equals_copy(rt.alloc(), answer)?, &true, &answer);
+        assert_of(&rt, &equals_copy(&rt, rt.alloc(), answer), &true, &answer);
     }
     // Pages are not a number.
-    assert_same(&rt, &kinds_compared(rt.alloc())?, &(false, true, true));
-    Ok(())
+    assert_same(&rt, &kinds_compared(&rt, rt.alloc()), &(false, true, true));
 }

@@ -4,14 +4,14 @@
 -- (`list_style`, `list_style_in`).
 use Rattle.std.specs.Prelude.{ℕ, Bool, false, List, [], Option, Some, None, codes, is_some, unwrap_or}
 use Rattle.lit_model.specs.Person.{PersonView}
-use Rattle.csl_style.specs.declared.names.NameAnd.{NameAnd}
-use Rattle.csl_style.specs.declared.names.NameAnd.TheVariants.{Text, Symbol}
-use Rattle.csl_style.specs.declared.taxonomy.NameVariable.{NameVariable}
-use Rattle.csl_style.specs.declared.term.Term.TheVariants.{Other}
-use Rattle.csl_style.specs.declared.term.OtherTerm.TheVariants.{And}
-use Rattle.csl_style.specs.declared.term.TermForm.TheVariants.{Long}
-use Rattle.csl_style.specs.NameOptions.{CompleteOptions}
-use Rattle.csl_style.specs.Names.{NameNode, EtAlNode}
+use Rattle.csl_elements.specs.declared.names.NameAnd.{NameAnd}
+use Rattle.csl_elements.specs.declared.names.NameAnd.TheVariants.{Text, Symbol}
+use Rattle.csl_elements.specs.declared.taxonomy.NameVariable.{NameVariable}
+use Rattle.csl_elements.specs.declared.term.Term.TheVariants.{Other}
+use Rattle.csl_elements.specs.declared.term.OtherTerm.TheVariants.{And}
+use Rattle.csl_elements.specs.declared.term.TermForm.TheVariants.{Long}
+use Rattle.csl_elements.specs.NameOptions.{CompleteOptions}
+use Rattle.csl_elements.specs.Names.{NameNode, EtAlNode}
 use Rattle.csl_style.specs.Style.{StyleParts}
 use Rattle.csl_entry.specs.NameProperties.{NameForms}
 use Rattle.csl_context.specs.ContextView.{ContextView}

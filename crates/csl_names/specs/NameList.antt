@@ -6,13 +6,13 @@
 use Rattle.std.specs.Prelude.{ℕ, ◌+◌, ◌-◌, Bool, true, false, ◌&&◌, ◌==◌, nat_lt, nat_le, min, List, [], ◌∷◌, ◌++◌, length, Option, Some, None, is_none, slice_get, codes, if◌then◌else◌}
 use Rattle.std.specs.List.{position}
 use Rattle.lit_model.specs.Person.{PersonView}
-use Rattle.csl_style.specs.declared.formatting.Formatting as partial
-use Rattle.csl_style.specs.declared.taxonomy.NameVariable.{NameVariable}
-use Rattle.csl_style.specs.declared.names.DelimiterBehavior.{DelimiterBehavior}
-use Rattle.csl_style.specs.declared.names.DelimiterBehavior.TheVariants.{Contextual, AfterInvertedName, Always, Never}
-use Rattle.csl_style.specs.declared.names.NameAsSortOrder.{NameAsSortOrder}
-use Rattle.csl_style.specs.declared.names.NameAsSortOrder.TheVariants.{First, All}
-use Rattle.csl_style.specs.NamesParts.{no_formatting}
+use Rattle.csl_elements.specs.declared.formatting.Formatting as partial
+use Rattle.csl_elements.specs.declared.taxonomy.NameVariable.{NameVariable}
+use Rattle.csl_elements.specs.declared.names.DelimiterBehavior.{DelimiterBehavior}
+use Rattle.csl_elements.specs.declared.names.DelimiterBehavior.TheVariants.{Contextual, AfterInvertedName, Always, Never}
+use Rattle.csl_elements.specs.declared.names.NameAsSortOrder.{NameAsSortOrder}
+use Rattle.csl_elements.specs.declared.names.NameAsSortOrder.TheVariants.{First, All}
+use Rattle.csl_elements.specs.NamesParts.{no_formatting}
 use Rattle.csl_tree.specs.Tokens.{of_name}
 use Rattle.csl_tree.specs.Content.{elem_content}
 use Rattle.csl_entry.specs.declared.forms.name_form.DisambiguatedNameForm.{DisambiguatedNameForm}

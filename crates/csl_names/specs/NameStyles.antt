@@ -5,14 +5,14 @@
 -- (`name_style`, `name_style_in`).
 use Rattle.std.specs.Prelude.{Bool, true, false, Option, Some, None, is_some}
 use Rattle.lit_model.specs.Person.{PersonView}
-use Rattle.csl_style.specs.declared.names.NamePartName.{NamePartName}
-use Rattle.csl_style.specs.declared.names.NamePartName.TheVariants.{Given, Family}
+use Rattle.csl_elements.specs.declared.names.NamePartName.{NamePartName}
+use Rattle.csl_elements.specs.declared.names.NamePartName.TheVariants.{Given, Family}
 use Rattle.csl_style.specs.declared.style.settings.DemoteNonDroppingParticle.{DemoteNonDroppingParticle}
 use Rattle.csl_style.specs.declared.style.settings.DemoteNonDroppingParticle.TheVariants.{DisplayAndSort, SortOnly, Never}
 use Rattle.csl_style.specs.declared.style.settings.StyleSettings.{StyleSettings}
-use Rattle.csl_style.specs.Names.{NameNode, NamePartNode}
-use Rattle.csl_style.specs.NameOptions.{CompleteOptions}
-use Rattle.csl_style.specs.NamesParts.{no_formatting, first_part}
+use Rattle.csl_elements.specs.Names.{NameNode, NamePartNode}
+use Rattle.csl_elements.specs.NameOptions.{CompleteOptions}
+use Rattle.csl_elements.specs.NamesParts.{no_formatting, first_part}
 use Rattle.csl_entry.specs.declared.forms.name_form.DisambiguatedNameForm.{DisambiguatedNameForm}
 use Rattle.csl_context.specs.ContextView.{ContextView, with_content}
 use Rattle.csl_names.specs.OneName.{PartStyleView, NameStyleView, name_content}

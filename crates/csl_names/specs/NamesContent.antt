@@ -3,13 +3,13 @@
 use Rattle.std.specs.Prelude.{ℕ, ◌+◌, Bool, true, false, not, ◌&&◌, ◌||◌, ◌==◌, List, [], ◌∷◌, length, Option, Some, None, slice_get, decimal, if◌then◌else◌, option_map}
 use Rattle.std.specs.Option.{unwrap_or, option_or}
 use Rattle.lit_model.specs.Person.{PersonView}
-use Rattle.csl_style.specs.declared.names.NameForm.{NameForm}
-use Rattle.csl_style.specs.declared.names.NameForm.TheVariants.{Count, Short, Long}
-use Rattle.csl_style.specs.declared.taxonomy.NameVariable.{NameVariable}
-use Rattle.csl_style.specs.declared.term.Term.TheVariants as terms
-use Rattle.csl_style.specs.NameOptions.{PartialOptions, CompleteOptions, apply_options, with_defaults, names_delimiter_of, complete_options}
-use Rattle.csl_style.specs.Names.{NameNode, EtAlNode, LabelNode, NamesLabel, NamesNode, first_name, view_name, view_et_al}
-use Rattle.csl_style.specs.NamesParts.{default_name, default_et_al, placed_label}
+use Rattle.csl_elements.specs.declared.names.NameForm.{NameForm}
+use Rattle.csl_elements.specs.declared.names.NameForm.TheVariants.{Count, Short, Long}
+use Rattle.csl_elements.specs.declared.taxonomy.NameVariable.{NameVariable}
+use Rattle.csl_elements.specs.declared.term.Term.TheVariants as terms
+use Rattle.csl_elements.specs.NameOptions.{PartialOptions, CompleteOptions, apply_options, with_defaults, names_delimiter_of, complete_options}
+use Rattle.csl_elements.specs.Names.{NameNode, EtAlNode, LabelNode, NamesLabel, NamesNode, first_name, view_name, view_et_al}
+use Rattle.csl_elements.specs.NamesParts.{default_name, default_et_al, placed_label}
 use Rattle.csl_style.specs.Style.{StyleParts}
 use Rattle.csl_tree.specs.Tokens.{Token, Meta, of_names}
 use Rattle.csl_tree.specs.Content.{◌++>◌, elem_content}

@@ -13,10 +13,10 @@
 --   by the lists as they are looked up.
 use Rattle.std.specs.Prelude.{ℕ, ◌+◌, Bool, false, not, ◌&&◌, ◌||◌, ◌==◌, nat_le, min, List, [], ◌∷◌, map, length, count_by, Option, Some, None, is_some, if◌then◌else◌}
 use Rattle.std.specs.List.{list_all, range_with_len}
-use Rattle.csl_style.specs.declared.names.NameForm.{NameForm}
-use Rattle.csl_style.specs.declared.names.NameForm.TheVariants.{Count, Short, Long}
-use Rattle.csl_style.specs.NameOptions.{PartialOptions, CompleteOptions, apply_options, is_suppressed}
-use Rattle.csl_style.specs.Names.{NameNode, NamesNode}
+use Rattle.csl_elements.specs.declared.names.NameForm.{NameForm}
+use Rattle.csl_elements.specs.declared.names.NameForm.TheVariants.{Count, Short, Long}
+use Rattle.csl_elements.specs.NameOptions.{PartialOptions, CompleteOptions, apply_options, is_suppressed}
+use Rattle.csl_elements.specs.Names.{NameNode, NamesNode}
 use Rattle.csl_entry.specs.declared.forms.name_form.DisambiguatedNameForm.{DisambiguatedNameForm}
 use Rattle.csl_entry.specs.declared.forms.name_form.DisambiguatedNameForm.TheVariants as forms
 use Rattle.csl_entry.specs.NameProperties.{NameForms}

@@ -12,12 +12,12 @@ use Rattle.std.specs.Cmp.Lexicographic.{pointwise}
 use denote.Enum.Bare.{sameb}
 use Rattle.lit_model.specs.Person.{PersonView}
 use Rattle.lit_model.specs.SamePerson.{same_people}
-use Rattle.csl_style.specs.contracts.taxonomy.NameVariable.{the_type}
-use Rattle.csl_style.specs.declared.taxonomy.NameVariable.{NameVariable}
-use Rattle.csl_style.specs.declared.taxonomy.NameVariable.TheVariants.{Editor, Translator, EditorTranslator}
-use Rattle.csl_style.specs.declared.taxonomy.Variable.TheVariants as variable
-use Rattle.csl_style.specs.declared.term.Term.TheVariants as terms
-use Rattle.csl_style.specs.declared.term.TermForm.TheVariants.{Long}
+use Rattle.csl_elements.specs.contracts.taxonomy.NameVariable.{the_type}
+use Rattle.csl_elements.specs.declared.taxonomy.NameVariable.{NameVariable}
+use Rattle.csl_elements.specs.declared.taxonomy.NameVariable.TheVariants.{Editor, Translator, EditorTranslator}
+use Rattle.csl_elements.specs.declared.taxonomy.Variable.TheVariants as variable
+use Rattle.csl_elements.specs.declared.term.Term.TheVariants as terms
+use Rattle.csl_elements.specs.declared.term.TermForm.TheVariants.{Long}
 use Rattle.csl_style.specs.Style.{StyleParts}
 use Rattle.csl_context.specs.State.{State, state_after_resolve}
 use Rattle.csl_context.specs.RenderInput.{RenderInput, peek_names, term_in}

@@ -10,9 +10,9 @@ use Rattle.lit_model.specs.Person.{PersonView}
 use Rattle.lit_model.specs.Name.{is_institutional, is_cjk, name_particle, name_without_particle, name_without_article}
 use Rattle.lit_model.specs.Initials.{initials, given_words}
 use Rattle.lit_model.specs.FirstNames.{lettered_words}
-use Rattle.csl_style.specs.declared.formatting.Formatting as partial
-use Rattle.csl_style.specs.NamesParts.{no_formatting}
-use Rattle.csl_style.specs.Dressing.{AffixTexts}
+use Rattle.csl_elements.specs.declared.formatting.Formatting as partial
+use Rattle.csl_elements.specs.NamesParts.{no_formatting}
+use Rattle.csl_elements.specs.Dressing.{AffixTexts}
 use Rattle.csl_tree.specs.Tokens.{Token}
 use Rattle.csl_entry.specs.declared.forms.name_form.DisambiguatedNameForm.{DisambiguatedNameForm}
 use Rattle.csl_entry.specs.declared.forms.name_form.DisambiguatedNameForm.TheVariants.{Count, ShortInitialized, ShortFull, LongInitialized, LongFull}

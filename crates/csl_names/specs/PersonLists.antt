@@ -5,7 +5,7 @@ use Rattle.std.specs.declared.borrow.Cow.{Cow}
 use Rattle.std.specs.declared.vec.Vec.{Vec}
 use Rattle.lit_model.specs.declared.person.Person.{Person}
 use Rattle.lit_model.specs.Person.{PersonView, person_view}
-use Rattle.csl_style.specs.declared.taxonomy.NameVariable.{NameVariable}
+use Rattle.csl_elements.specs.declared.taxonomy.NameVariable.{NameVariable}
 use Rattle.csl_entry.specs.Answers.{cow_view}
 
 abbrev pub list_of : Vec (Cow Person) Global × NameVariable → List PersonView × NameVariable

@@ -4,7 +4,7 @@
 -- content before it; any other definition of names is a plain list. If periods are stripped, the
 -- texts lose theirs, as all texts of a context do (CSL 1.0.2, Name).
 use Rattle.std.specs.Prelude.{ℕ, List, [], ◌∷◌, Option, Some, None}
-use Rattle.csl_style.specs.declared.formatting.Formatting as partial
+use Rattle.csl_elements.specs.declared.formatting.Formatting as partial
 use Rattle.csl_tree.specs.Tokens.{Token}
 use Rattle.csl_tree.specs.Content.{◌++>◌}
 use Rattle.csl_context.specs.State.{Inherited, with_node_formatting}

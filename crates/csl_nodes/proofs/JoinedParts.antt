@@ -2,11 +2,11 @@
 -- the first one.
 use Rattle.std.proofs.Common.{◌≡◌, ℕ, Bool, true, false, not, ◌&&◌, List, [], ◌∷◌, Option, Some, None, map, filter, unwrap_or, option_map, Bor, if◌then◌else◌, refl, ap, ◌∙◌}
 use Rattle.lit_model.specs.Date.{date_view}
-use Rattle.csl_style.specs.declared.date.Date.{Date}
-use Rattle.csl_style.specs.declared.date.DatePart.{DatePart}
-use Rattle.csl_style.specs.declared.date.DateParts.TheVariants.{YearMonthDay}
-use Rattle.csl_style.specs.Node.{DatePartNode}
-use Rattle.csl_style.specs.View.{view_date, view_date_part}
+use Rattle.csl_elements.specs.declared.date.Date.{Date}
+use Rattle.csl_elements.specs.declared.date.DatePart.{DatePart}
+use Rattle.csl_elements.specs.declared.date.DateParts.TheVariants.{YearMonthDay}
+use Rattle.csl_elements.specs.Node.{DatePartNode}
+use Rattle.csl_elements.specs.View.{view_date, view_date_part}
 use Rattle.csl_tree.proofs.Joins.{join-none, join_assoc}
 use Rattle.csl_tree.specs.Content.{◌++>◌}
 use Rattle.csl_tree.specs.Tokens.{Token, has_children}

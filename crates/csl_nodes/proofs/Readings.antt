@@ -1,9 +1,9 @@
 -- The conditions from a place on: one is read there, or their sort ends there.
 use Rattle.std.proofs.Common.{◌≡◌, ℕ, ◌+◌, ◌<◌, suc, zero, Bool, List, [], ◌∷◌, ◌++◌, drop, length, Some, None, slice_get, refl, sym, ap, ◌∙◌, subst, arith, append-nil}
-use Rattle.csl_style.specs.declared.element.ChooseBranch.{ChooseBranch}
-use Rattle.csl_style.specs.declared.element.LayoutRenderingElement.TheFolds.{fold_out-ChooseBranch}
-use Rattle.csl_style.specs.Node.{Node, Nodes, Tests}
-use Rattle.csl_style.specs.View.{view_branch, NamesChildView, BranchView, element_step, child_step, choose_step, branch_step, group_step, names_step, substitute_step}
+use Rattle.csl_elements.specs.declared.element.ChooseBranch.{ChooseBranch}
+use Rattle.csl_elements.specs.declared.element.LayoutRenderingElement.TheFolds.{fold_out-ChooseBranch}
+use Rattle.csl_elements.specs.Node.{Node, Nodes, Tests}
+use Rattle.csl_elements.specs.View.{view_branch, NamesChildView, BranchView, element_step, child_step, choose_step, branch_step, group_step, names_step, substitute_step}
 use Rattle.csl_context.specs.State.{State}
 use Rattle.csl_context.specs.RenderInput.{RenderInput}
 use Rattle.csl_nodes.specs.Conditions.{conditions_at, conditions}

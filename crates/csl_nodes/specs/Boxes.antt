@@ -2,7 +2,7 @@
 -- body in its affixes, in its formatting, with its display and meta. The node's own strip-periods
 -- applies to the body alone.
 use Rattle.std.specs.Prelude.{Bool, ◌||◌, List, Some}
-use Rattle.csl_style.specs.Dressing.{Dressing}
+use Rattle.csl_elements.specs.Dressing.{Dressing}
 use Rattle.csl_tree.specs.Content.{elem_content}
 use Rattle.csl_tree.specs.Tokens.{Token, Meta}
 use Rattle.csl_context.specs.State.{Inherited, with_node_formatting}

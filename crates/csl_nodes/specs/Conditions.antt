@@ -10,20 +10,20 @@ use Rattle.lit_model.specs.MaybeTyped.{MaybeView, typed, text}
 use Rattle.lit_model.specs.NumericReading.{numeric_from}
 use Rattle.lit_model.specs.Text.{Chunk}
 use Rattle.csl_common.specs.declared.form.LongShortForm.TheVariants.{Long}
-use Rattle.csl_style.specs.declared.element.ChooseMatch.{ChooseMatch}
-use Rattle.csl_style.specs.declared.element.ChooseMatch.TheVariants as matched
-use Rattle.csl_style.specs.declared.element.TestPosition.{TestPosition}
-use Rattle.csl_style.specs.declared.element.TestPosition.TheVariants.{First, Subsequent, Ibid, IbidWithLocator, NearNote}
+use Rattle.csl_elements.specs.declared.element.ChooseMatch.{ChooseMatch}
+use Rattle.csl_elements.specs.declared.element.ChooseMatch.TheVariants as matched
+use Rattle.csl_elements.specs.declared.element.TestPosition.{TestPosition}
+use Rattle.csl_elements.specs.declared.element.TestPosition.TheVariants.{First, Subsequent, Ibid, IbidWithLocator, NearNote}
 use Rattle.csl_style.specs.declared.style.settings.Scope.{Scope}
 use Rattle.csl_style.specs.declared.style.settings.Scope.TheVariants.{Citation, Bibliography}
-use Rattle.csl_style.specs.declared.taxonomy.DateVariable.{DateVariable}
-use Rattle.csl_style.specs.declared.taxonomy.Kind.{Kind}
-use Rattle.csl_style.specs.declared.taxonomy.Locator.{Locator}
-use Rattle.csl_style.specs.declared.taxonomy.Variable.{Variable}
-use Rattle.csl_style.specs.declared.taxonomy.Variable.TheVariants as variable
-use Rattle.csl_style.specs.contracts.taxonomy.Locator.{the_type as the_locator}
-use Rattle.csl_style.specs.Node.{Tests, Node, Nodes, Branches, no_branches, otherwise, branch}
-use Rattle.csl_style.specs.Node as node
+use Rattle.csl_elements.specs.declared.taxonomy.DateVariable.{DateVariable}
+use Rattle.csl_elements.specs.declared.taxonomy.Kind.{Kind}
+use Rattle.csl_elements.specs.declared.taxonomy.Locator.{Locator}
+use Rattle.csl_elements.specs.declared.taxonomy.Variable.{Variable}
+use Rattle.csl_elements.specs.declared.taxonomy.Variable.TheVariants as variable
+use Rattle.csl_elements.specs.contracts.taxonomy.Locator.{the_type as the_locator}
+use Rattle.csl_elements.specs.Node.{Tests, Node, Nodes, Branches, no_branches, otherwise, branch}
+use Rattle.csl_elements.specs.Node as node
 use Rattle.csl_entry.specs.declared.citation.cite.IbidState.{IbidState}
 use Rattle.csl_entry.specs.declared.citation.cite.IbidState.TheVariants as ibid
 use Rattle.csl_entry.specs.Cite.{CiteState}

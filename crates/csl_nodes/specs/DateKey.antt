@@ -17,12 +17,12 @@ use Rattle.lit_model.specs.Characters.{hyphen_char}
 use Rattle.lit_model.specs.declared.date.Date.{Date}
 use Rattle.lit_model.specs.Date.{DateView, date_view}
 use Rattle.lit_model.specs.NumericText.{with_zeros}
-use Rattle.csl_style.specs.contracts.date.DatePartName.{the_type}
-use Rattle.csl_style.specs.declared.date.DateForm.{DateForm}
-use Rattle.csl_style.specs.declared.date.DatePartName.{DatePartName}
-use Rattle.csl_style.specs.declared.date.DatePartName.TheVariants.{Day, Month, Year}
-use Rattle.csl_style.specs.declared.date.DateParts.TheVariants as upto
-use Rattle.csl_style.specs.Node.{DatePartNode, DateNode}
+use Rattle.csl_elements.specs.contracts.date.DatePartName.{the_type}
+use Rattle.csl_elements.specs.declared.date.DateForm.{DateForm}
+use Rattle.csl_elements.specs.declared.date.DatePartName.{DatePartName}
+use Rattle.csl_elements.specs.declared.date.DatePartName.TheVariants.{Day, Month, Year}
+use Rattle.csl_elements.specs.declared.date.DateParts.TheVariants as upto
+use Rattle.csl_elements.specs.Node.{DatePartNode, DateNode}
 use Rattle.csl_entry.specs.declared.citation.cite.Sorting.{Sorting}
 use Rattle.csl_entry.specs.declared.citation.cite.Sorting.TheVariants as sorting
 use Rattle.csl_nodes.specs.DateText.{two_digits, names_part}

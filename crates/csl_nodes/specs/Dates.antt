@@ -9,21 +9,21 @@ use Rattle.csl_common.specs.declared.form.LongShortForm.TheVariants as text_form
 use Rattle.lit_model.specs.Chunks.{chunks_text}
 use Rattle.lit_model.specs.Date.{DateView}
 use Rattle.lit_model.specs.Text.{Chunk}
-use Rattle.csl_style.specs.contracts.date.DatePartName.{the_type}
-use Rattle.csl_style.specs.declared.date.DateAnyForm.{DateAnyForm}
-use Rattle.csl_style.specs.declared.date.DateForm.{DateForm}
-use Rattle.csl_style.specs.declared.date.DatePartName.{DatePartName}
-use Rattle.csl_style.specs.declared.date.DatePartName.TheVariants.{Day, Month, Year}
-use Rattle.csl_style.specs.declared.date.DateParts.{DateParts}
-use Rattle.csl_style.specs.declared.date.DateParts.TheVariants.{YearMonthDay}
-use Rattle.csl_style.specs.declared.formatting.Formatting as partial
-use Rattle.csl_style.specs.declared.taxonomy.DateVariable.{DateVariable}
-use Rattle.csl_style.specs.declared.taxonomy.StandardVariable.TheVariants.{YearSuffix}
-use Rattle.csl_style.specs.declared.taxonomy.Variable.{Variable}
-use Rattle.csl_style.specs.declared.taxonomy.Variable.TheVariants as variable
-use Rattle.csl_style.specs.Dressing.{Dressing}
-use Rattle.csl_style.specs.Formatting.{apply_partial}
-use Rattle.csl_style.specs.Node.{DateNode, DatePartNode}
+use Rattle.csl_elements.specs.contracts.date.DatePartName.{the_type}
+use Rattle.csl_elements.specs.declared.date.DateAnyForm.{DateAnyForm}
+use Rattle.csl_elements.specs.declared.date.DateForm.{DateForm}
+use Rattle.csl_elements.specs.declared.date.DatePartName.{DatePartName}
+use Rattle.csl_elements.specs.declared.date.DatePartName.TheVariants.{Day, Month, Year}
+use Rattle.csl_elements.specs.declared.date.DateParts.{DateParts}
+use Rattle.csl_elements.specs.declared.date.DateParts.TheVariants.{YearMonthDay}
+use Rattle.csl_elements.specs.declared.formatting.Formatting as partial
+use Rattle.csl_elements.specs.declared.taxonomy.DateVariable.{DateVariable}
+use Rattle.csl_elements.specs.declared.taxonomy.StandardVariable.TheVariants.{YearSuffix}
+use Rattle.csl_elements.specs.declared.taxonomy.Variable.{Variable}
+use Rattle.csl_elements.specs.declared.taxonomy.Variable.TheVariants as variable
+use Rattle.csl_elements.specs.Dressing.{Dressing}
+use Rattle.csl_elements.specs.Formatting.{apply_partial}
+use Rattle.csl_elements.specs.Node.{DateNode, DatePartNode}
 use Rattle.csl_style.specs.YearSuffix.{reached_layout, is_year_suffix_implicit}
 use Rattle.csl_style.specs.Style.{StyleParts}
 use Rattle.csl_tree.specs.Content.{◌++>◌}
@@ -41,8 +41,8 @@ use Rattle.csl_nodes.specs.Usage.{Info, no_info}
 use Rattle.csl_nodes.specs.Numbers.{presence_info}
 use Rattle.csl_nodes.specs.Text.{RenderOutput, render_output, same_variable, no_affixes}
 use Rattle.std.specs.Borrow.{Bor}
-use Rattle.csl_style.specs.declared.date.Date.{Date}
-use Rattle.csl_style.specs.View.{view_date, view_date_part}
+use Rattle.csl_elements.specs.declared.date.Date.{Date}
+use Rattle.csl_elements.specs.View.{view_date, view_date_part}
 use Rattle.csl_nodes.specs.declared.date_parts.LocalizedDate.{LocalizedDate}
 
 -- ---- dry runs

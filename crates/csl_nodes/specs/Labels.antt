@@ -15,21 +15,21 @@ use denote.Enum.Bare.{sameb}
 use Rattle.lit_model.specs.MaybeTyped.{MaybeView, typed, text}
 use Rattle.lit_model.specs.Numeric.{numbers, is_plural_number}
 use Rattle.lit_model.specs.Page.{PartView, plural_pages}
-use Rattle.csl_style.specs.contracts.taxonomy.Locator.{the_type as the_locator}
-use Rattle.csl_style.specs.contracts.taxonomy.NumberVariable.{the_type as the_number}
-use Rattle.csl_style.specs.declared.number.LabelPluralize.{LabelPluralize}
-use Rattle.csl_style.specs.declared.number.LabelPluralize.TheVariants.{Contextual, Always, Never}
-use Rattle.csl_style.specs.declared.taxonomy.Locator.TheVariants.{Custom}
-use Rattle.csl_style.specs.declared.taxonomy.NumberVariable.TheVariants.{Locator, NumberOfPages, NumberOfVolumes}
-use Rattle.csl_style.specs.declared.taxonomy.NumberOrPageVariable.{NumberOrPageVariable}
-use Rattle.csl_style.specs.declared.taxonomy.NumberOrPageVariable.TheVariants as number_or_page
-use Rattle.csl_style.specs.declared.taxonomy.Variable.{Variable}
-use Rattle.csl_style.specs.declared.taxonomy.Variable.TheVariants as variable
-use Rattle.csl_style.specs.declared.term.Term.{Term}
-use Rattle.csl_style.specs.declared.term.Term.TheVariants as terms
-use Rattle.csl_style.specs.Dressing.{Dressing}
-use Rattle.csl_style.specs.Names.{LabelNode}
-use Rattle.csl_style.specs.Taxonomy.{variable_of}
+use Rattle.csl_elements.specs.contracts.taxonomy.Locator.{the_type as the_locator}
+use Rattle.csl_elements.specs.contracts.taxonomy.NumberVariable.{the_type as the_number}
+use Rattle.csl_elements.specs.declared.number.LabelPluralize.{LabelPluralize}
+use Rattle.csl_elements.specs.declared.number.LabelPluralize.TheVariants.{Contextual, Always, Never}
+use Rattle.csl_elements.specs.declared.taxonomy.Locator.TheVariants.{Custom}
+use Rattle.csl_elements.specs.declared.taxonomy.NumberVariable.TheVariants.{Locator, NumberOfPages, NumberOfVolumes}
+use Rattle.csl_elements.specs.declared.taxonomy.NumberOrPageVariable.{NumberOrPageVariable}
+use Rattle.csl_elements.specs.declared.taxonomy.NumberOrPageVariable.TheVariants as number_or_page
+use Rattle.csl_elements.specs.declared.taxonomy.Variable.{Variable}
+use Rattle.csl_elements.specs.declared.taxonomy.Variable.TheVariants as variable
+use Rattle.csl_elements.specs.declared.term.Term.{Term}
+use Rattle.csl_elements.specs.declared.term.Term.TheVariants as terms
+use Rattle.csl_elements.specs.Dressing.{Dressing}
+use Rattle.csl_elements.specs.Names.{LabelNode}
+use Rattle.csl_elements.specs.Taxonomy.{variable_of}
 use Rattle.csl_tree.specs.Tokens.{Token, of_label}
 use Rattle.csl_entry.specs.declared.citation.cite.SpecialForm.{SpecialForm}
 use Rattle.csl_entry.specs.declared.citation.cite.SpecialForm.TheVariants.{VarOnly, OnlyFirstDate, OnlyYearSuffix, SuppressAuthor}

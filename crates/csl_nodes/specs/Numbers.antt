@@ -15,13 +15,13 @@ use denote.Enum.Bare.{sameb}
 use Rattle.lit_model.specs.MaybeTyped.{typed, text}
 use Rattle.lit_model.specs.NumericText.{integer_text, value_text}
 use Rattle.lit_model.specs.PageText.{pages_text}
-use Rattle.csl_style.specs.contracts.taxonomy.NumberVariable.{the_type as the_number}
-use Rattle.csl_style.specs.declared.taxonomy.NumberVariable.TheVariants.{CitationNumber}
-use Rattle.csl_style.specs.declared.taxonomy.NumberOrPageVariable.{NumberOrPageVariable}
-use Rattle.csl_style.specs.declared.taxonomy.NumberOrPageVariable.TheVariants as number_or_page
-use Rattle.csl_style.specs.declared.taxonomy.Variable.{Variable}
-use Rattle.csl_style.specs.Node.{NumberNode}
-use Rattle.csl_style.specs.Taxonomy.{variable_of, term_of}
+use Rattle.csl_elements.specs.contracts.taxonomy.NumberVariable.{the_type as the_number}
+use Rattle.csl_elements.specs.declared.taxonomy.NumberVariable.TheVariants.{CitationNumber}
+use Rattle.csl_elements.specs.declared.taxonomy.NumberOrPageVariable.{NumberOrPageVariable}
+use Rattle.csl_elements.specs.declared.taxonomy.NumberOrPageVariable.TheVariants as number_or_page
+use Rattle.csl_elements.specs.declared.taxonomy.Variable.{Variable}
+use Rattle.csl_elements.specs.Node.{NumberNode}
+use Rattle.csl_elements.specs.Taxonomy.{variable_of, term_of}
 use Rattle.csl_tree.specs.Tokens.{Token, Meta, of_number, of_citation_number}
 use Rattle.csl_entry.specs.declared.citation.cite.Sorting.{Sorting}
 use Rattle.csl_entry.specs.declared.citation.cite.SpecialForm.{SpecialForm}

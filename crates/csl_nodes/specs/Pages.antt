@@ -13,9 +13,9 @@ use Rattle.lit_model.specs.NumericText.{numeric_text}
 use Rattle.lit_model.specs.Page.{PartView, ampersand, comma, escaped, single, range}
 use Rattle.csl_style.specs.declared.style.settings.PageRangeFormat.{PageRangeFormat}
 use Rattle.csl_style.specs.declared.style.settings.PageRangeFormat.TheVariants.{Expanded, Minimal, MinimalTwo, Chicago15, Chicago16}
-use Rattle.csl_style.specs.declared.term.OtherTerm.TheVariants.{PageRangeDelimiter}
-use Rattle.csl_style.specs.declared.term.Term.TheVariants.{Other}
-use Rattle.csl_style.specs.declared.term.TermForm.TheVariants.{Long}
+use Rattle.csl_elements.specs.declared.term.OtherTerm.TheVariants.{PageRangeDelimiter}
+use Rattle.csl_elements.specs.declared.term.Term.TheVariants.{Other}
+use Rattle.csl_elements.specs.declared.term.TermForm.TheVariants.{Long}
 use Rattle.csl_style.specs.Style.{StyleParts}
 use Rattle.csl_context.specs.RenderInput.{term_in}
 

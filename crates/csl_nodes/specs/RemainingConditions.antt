@@ -3,10 +3,10 @@
 -- Only contracts of private functions cite `next_arm`, `after_first`, `after_deciding` and
 -- `ReadsAt`.
 use Rattle.std.specs.Prelude.{◌≡◌, ℕ, Bool, false, not, List, [], ◌∷◌, ◌++◌, drop, Option, Some, None, option_map, Result, MatchOption, MatchResult, if◌then◌else◌}
-use Rattle.csl_style.specs.Node.{Tests}
-use Rattle.csl_style.specs.declared.element.ChooseMatch.{ChooseMatch}
-use Rattle.csl_style.specs.declared.element.ChooseMatch.TheVariants as matched
-use Rattle.csl_style.specs.declared.element.ChooseBranch.{ChooseBranch, out-ChooseBranch}
+use Rattle.csl_elements.specs.Node.{Tests}
+use Rattle.csl_elements.specs.declared.element.ChooseMatch.{ChooseMatch}
+use Rattle.csl_elements.specs.declared.element.ChooseMatch.TheVariants as matched
+use Rattle.csl_elements.specs.declared.element.ChooseBranch.{ChooseBranch, out-ChooseBranch}
 use Rattle.csl_entry.specs.Answers.{Answers}
 use Rattle.csl_context.specs.State.{State}
 use Rattle.csl_context.specs.RenderInput.{RenderInput}

@@ -6,20 +6,20 @@ use denote.Enum.Bare.{sameb}
 use Rattle.lit_model.specs.Text.{Chunk}
 use Rattle.lit_model.specs.Chunks.{chunks_text, is_empty}
 use Rattle.csl_common.specs.declared.form.LongShortForm.{LongShortForm}
-use Rattle.csl_style.specs.declared.taxonomy.Variable.{Variable}
-use Rattle.csl_style.specs.declared.taxonomy.Variable.TheVariants as variable
-use Rattle.csl_style.specs.declared.taxonomy.StandardVariable.{StandardVariable}
-use Rattle.csl_style.specs.declared.taxonomy.StandardVariable.TheVariants as standard
-use Rattle.csl_style.specs.declared.taxonomy.NumberVariable.TheVariants.{CitationNumber, Locator}
-use Rattle.csl_style.specs.declared.taxonomy.NumberOrPageVariable.{NumberOrPageVariable}
-use Rattle.csl_style.specs.declared.taxonomy.NumberOrPageVariable.TheVariants as number_or_page
-use Rattle.csl_style.specs.contracts.taxonomy.StandardVariable.{the_type as the_standard}
-use Rattle.csl_style.specs.contracts.taxonomy.NumberVariable.{the_type as the_number}
-use Rattle.csl_style.specs.contracts.taxonomy.VariablePartialEq.TheImpl.{eq-value}
-use Rattle.csl_style.specs.declared.term.Term.{Term}
-use Rattle.csl_style.specs.declared.term.TermForm.{TermForm}
-use Rattle.csl_style.specs.Dressing.{AffixTexts, TextDressing}
-use Rattle.csl_style.specs.Node.{Target, of_variable, of_term, of_value}
+use Rattle.csl_elements.specs.declared.taxonomy.Variable.{Variable}
+use Rattle.csl_elements.specs.declared.taxonomy.Variable.TheVariants as variable
+use Rattle.csl_elements.specs.declared.taxonomy.StandardVariable.{StandardVariable}
+use Rattle.csl_elements.specs.declared.taxonomy.StandardVariable.TheVariants as standard
+use Rattle.csl_elements.specs.declared.taxonomy.NumberVariable.TheVariants.{CitationNumber, Locator}
+use Rattle.csl_elements.specs.declared.taxonomy.NumberOrPageVariable.{NumberOrPageVariable}
+use Rattle.csl_elements.specs.declared.taxonomy.NumberOrPageVariable.TheVariants as number_or_page
+use Rattle.csl_elements.specs.contracts.taxonomy.StandardVariable.{the_type as the_standard}
+use Rattle.csl_elements.specs.contracts.taxonomy.NumberVariable.{the_type as the_number}
+use Rattle.csl_elements.specs.contracts.taxonomy.VariablePartialEq.TheImpl.{eq-value}
+use Rattle.csl_elements.specs.declared.term.Term.{Term}
+use Rattle.csl_elements.specs.declared.term.TermForm.{TermForm}
+use Rattle.csl_elements.specs.Dressing.{AffixTexts, TextDressing}
+use Rattle.csl_elements.specs.Node.{Target, of_variable, of_term, of_value}
 use Rattle.csl_style.specs.Style.{StyleParts}
 use Rattle.csl_tree.specs.Formatting.{apply_formatting}
 use Rattle.csl_tree.specs.Tokens.{Token, Meta, of_text, of_citation_label, of_citation_number}

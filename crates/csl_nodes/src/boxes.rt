@@ -1,7 +1,7 @@
 //! The box around the body of a node without quotes (CSL 1.0.2, Formatting, Affixes, Display,
 //! Strip-periods).
 
-ghost use Rattle.csl_style.specs.Dressing.{dressing_of};
+ghost use Rattle.csl_elements.specs.Dressing.{dressing_of};
 ghost use Rattle.csl_tree.specs.Tokens.{meta_of};
 ghost use Rattle.csl_context.specs.ContextView.{Runs, with_content};
 ghost use Rattle.csl_nodes.specs.Boxes.{body_in, in_plain, plain_box};

@@ -2,7 +2,7 @@
 
 ghost use Rattle.std.specs.Prelude.{◌≡◌, option_map, slice_get};
 ghost use Rattle.std.specs.Iterator.{YieldsFirst, item_count};
-ghost use Rattle.csl_style.specs.View.{view_branch};
+ghost use Rattle.csl_elements.specs.View.{view_branch};
 ghost use Rattle.csl_context.specs.ContextView.{render_input};
 ghost use Rattle.csl_nodes.specs.Conditions.{all_if, conditions_at, conditions};
 ghost use Rattle.csl_nodes.specs.RemainingConditions.{next_arm, arms_from, remaining_conditions, context_of, tests_of, ReadsAt, ReadsNext};

@@ -2,7 +2,7 @@
 
 ghost use Rattle.std.specs.Prelude.{◌≡◌, Some, option_map};
 ghost use Rattle.lit_model.specs.Date.{date_view};
-ghost use Rattle.csl_style.specs.View.{view_date};
+ghost use Rattle.csl_elements.specs.View.{view_date};
 ghost use Rattle.csl_entry.specs.Answers.{cow_view};
 ghost use Rattle.csl_context.specs.RenderInput.{peek_date};
 ghost use Rattle.csl_context.specs.ContextView.{GivesBy, render_input};

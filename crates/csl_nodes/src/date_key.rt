@@ -2,7 +2,7 @@
 
 ghost use Rattle.std.specs.Prelude.{◌≡◌, ◌++◌, IfOk, string_bytes};
 ghost use Rattle.lit_model.specs.Date.{date_view};
-ghost use Rattle.csl_style.specs.View.{view_date};
+ghost use Rattle.csl_elements.specs.View.{view_date};
 ghost use Rattle.csl_nodes.specs.DateKey.{nine_places, year_key, place_key, lists_part, is_keyed, key_if, sort_key, full_key, SortsByTime};
 
 use crate::date_text::{names_part, two_digits};

@@ -2,9 +2,9 @@
 
 ghost use Rattle.std.specs.Prelude.{◌≡◌, ◌&&◌, not, map, unwrap_or, option_map, IfOk, string_bytes, None, if◌then◌else◌};
 ghost use Rattle.lit_model.specs.Date.{date_view};
-ghost use Rattle.csl_style.specs.declared.date.DateParts.TheVariants.{YearMonthDay};
-ghost use Rattle.csl_style.specs.Dressing.{dressing_of};
-ghost use Rattle.csl_style.specs.View.{view_date_part};
+ghost use Rattle.csl_elements.specs.declared.date.DateParts.TheVariants.{YearMonthDay};
+ghost use Rattle.csl_elements.specs.Dressing.{dressing_of};
+ghost use Rattle.csl_elements.specs.View.{view_date_part};
 ghost use Rattle.csl_tree.specs.Tokens.{has_children};
 ghost use Rattle.csl_context.specs.ContextView.{Runs, render_input, with_content};
 ghost use Rattle.csl_context.specs.Texts.{text_in, between_in};

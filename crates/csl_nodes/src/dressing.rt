@@ -2,8 +2,8 @@
 //! Quotes, Strip-periods).
 
 ghost use Rattle.std.specs.Prelude.{◌≡◌, ◌+◌, length, IfOk};
-ghost use Rattle.csl_style.specs.Dressing.{affix_texts};
-ghost use Rattle.csl_style.specs.View.{text_dressing};
+ghost use Rattle.csl_elements.specs.Dressing.{affix_texts};
+ghost use Rattle.csl_elements.specs.View.{text_dressing};
 ghost use Rattle.csl_tree.specs.Tokens.{optional_meta};
 ghost use Rattle.csl_context.specs.ContextView.{Runs, IsInnermost, with_part, close_part_by, with_content};
 ghost use Rattle.csl_nodes.specs.Text.{render_output, in_body, in_quotes_if, moved_if, with_quotes_toggled_if, text_box, with_output};

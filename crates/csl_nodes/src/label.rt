@@ -1,7 +1,7 @@
 //! Labels (CSL 1.0.2, Label; Locators).
 
 ghost use Rattle.std.specs.Prelude.{◌≡◌, option_map};
-ghost use Rattle.csl_style.specs.Names.{view_label};
+ghost use Rattle.csl_elements.specs.Names.{view_label};
 ghost use Rattle.csl_entry.specs.NumberResult.{result_view, number_or_page_view};
 ghost use Rattle.csl_context.specs.ContextView.{GivesBy, render_input};
 ghost use Rattle.csl_nodes.specs.Labels.{label_info, label_output, label_term, is_count, plural_number, is_plural, label_text, is_locator, is_other_number, label_unless_locator, label_by_special_form};

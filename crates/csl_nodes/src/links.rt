@@ -3,7 +3,7 @@
 ghost use Rattle.std.specs.Prelude.{◌≡◌, ◌++◌, IfOk, option_map, string_bytes};
 ghost use Rattle.lit_model.specs.Text.{chunks};
 ghost use Rattle.lit_model.specs.Chunks.{chunks_text};
-ghost use Rattle.csl_style.specs.View.{text_dressing};
+ghost use Rattle.csl_elements.specs.View.{text_dressing};
 ghost use Rattle.csl_nodes.specs.Text.{url_prefix, address_prefix, begins_link};
 
 use csl_style::{StandardVariable, Text};

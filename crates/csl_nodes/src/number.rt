@@ -3,7 +3,7 @@
 ghost use Rattle.std.specs.Prelude.{◌≡◌, true, Some, None, IfOk, option_map, string_bytes};
 ghost use Rattle.lit_model.specs.Numeric.{value_view};
 ghost use Rattle.lit_model.specs.NumericText.{integer_text, value_text};
-ghost use Rattle.csl_style.specs.View.{view_number};
+ghost use Rattle.csl_elements.specs.View.{view_number};
 ghost use Rattle.csl_tree.specs.Tokens.{meta_of};
 ghost use Rattle.csl_entry.specs.NumberResult.{number_or_page_view};
 ghost use Rattle.csl_context.specs.ContextView.{Runs, GivesBy, render_input, with_content};

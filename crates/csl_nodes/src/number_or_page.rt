@@ -3,7 +3,7 @@
 
 ghost use Rattle.std.specs.Prelude.{◌≡◌, IfOk, option_map, string_bytes};
 ghost use Rattle.lit_model.specs.Numeric.{numeric_view};
-ghost use Rattle.csl_style.specs.Taxonomy.{variable_of};
+ghost use Rattle.csl_elements.specs.Taxonomy.{variable_of};
 ghost use Rattle.csl_entry.specs.NumberResult.{result_view, number_or_page_view};
 ghost use Rattle.csl_context.specs.RenderInput.{number_text};
 ghost use Rattle.csl_context.specs.ContextView.{Runs, GivesBy, render_input, after_resolve};

@@ -4,8 +4,8 @@
 ghost use Rattle.std.specs.Prelude.{◌≡◌, ◌++◌, if◌then◌else◌, Some, string_bytes, IfOk};
 ghost use Rattle.lit_model.specs.Text.{chunks};
 ghost use Rattle.lit_model.specs.Chunks.{chunks_text};
-ghost use Rattle.csl_style.specs.Node.{of_variable, of_term, of_value};
-ghost use Rattle.csl_style.specs.View.{text_dressing};
+ghost use Rattle.csl_elements.specs.Node.{of_variable, of_term, of_value};
+ghost use Rattle.csl_elements.specs.View.{text_dressing};
 ghost use Rattle.csl_tree.specs.Tokens.{meta_of};
 ghost use Rattle.csl_context.specs.ContextView.{Runs, GivesBy, render_input};
 ghost use Rattle.csl_nodes.specs.Text.{Appends, standard_text, render_output, in_body, text_box, calls_variable, resolved_affixes, standard_meta, numeral_meta, resolved_meta, resolved_body, resolved_content, target_info, target_shows, text_output, with_output};

@@ -6,23 +6,24 @@ use Rattle.lit_model.specs.Person.{PersonView}
 use Rattle.lit_model.specs.Chunks.{is_white_space}
 use Rattle.csl_common.specs.declared.form.LongShortForm.{LongShortForm}
 use Rattle.csl_common.specs.declared.form.LongShortForm.TheVariants.{Long}
-use Rattle.csl_style.specs.declared.taxonomy.DateVariable.{DateVariable}
-use Rattle.csl_style.specs.declared.taxonomy.NameVariable.{NameVariable}
-use Rattle.csl_style.specs.declared.taxonomy.NameVariable.TheVariants.{Editor, Translator, EditorTranslator}
-use Rattle.csl_style.specs.declared.taxonomy.NumberOrPageVariable.{NumberOrPageVariable}
-use Rattle.csl_style.specs.declared.taxonomy.NumberOrPageVariable.TheVariants as number_or_page
-use Rattle.csl_style.specs.declared.taxonomy.Variable.{Variable}
-use Rattle.csl_style.specs.declared.taxonomy.Variable.TheVariants as variable
-use Rattle.csl_style.specs.declared.term.Term.{Term}
-use Rattle.csl_style.specs.declared.term.Term.TheVariants as terms
-use Rattle.csl_style.specs.declared.term.TermForm.TheVariants as term_forms
-use Rattle.csl_style.specs.Dressing.{TextDressing}
-use Rattle.csl_style.specs.Named.{NamedSet, named_union, the_variable, the_date, the_name, the_kind, each_of, each_if, the_number_or_page, date_if, named_in_target, named_in_tests, named_in_node, named_in_nodes, named_in_branches, named_in_substitutes}
-use Rattle.csl_style.specs.Names.{LabelNode}
-use Rattle.csl_style.specs.Node.{Target, of_variable, of_term, of_value, NumberNode, DateNode, Tests, ExpandedNode, expanded_text, expanded_macro, unknown_macro, expanded_number, expanded_label, expanded_date, expanded_names, shorthand, expanded_choose, expanded_group, ExpandedNodes, no_expanded_nodes, expanded_node, ExpandedBranches, no_expanded_branches, expanded_otherwise, expanded_branch, ExpandedSubstitutes, no_expanded_substitutes, expanded_substitute, ExpandedLayout}
-use Rattle.csl_style.specs.Taxonomy.{variable_of}
-use Rattle.csl_style.proofs.Sets.{or_left, or_right}
-use Rattle.csl_style.proofs.Variables.{name_decides}
+use Rattle.csl_elements.specs.declared.taxonomy.DateVariable.{DateVariable}
+use Rattle.csl_elements.specs.declared.taxonomy.NameVariable.{NameVariable}
+use Rattle.csl_elements.specs.declared.taxonomy.NameVariable.TheVariants.{Editor, Translator, EditorTranslator}
+use Rattle.csl_elements.specs.declared.taxonomy.NumberOrPageVariable.{NumberOrPageVariable}
+use Rattle.csl_elements.specs.declared.taxonomy.NumberOrPageVariable.TheVariants as number_or_page
+use Rattle.csl_elements.specs.declared.taxonomy.Variable.{Variable}
+use Rattle.csl_elements.specs.declared.taxonomy.Variable.TheVariants as variable
+use Rattle.csl_elements.specs.declared.term.Term.{Term}
+use Rattle.csl_elements.specs.declared.term.Term.TheVariants as terms
+use Rattle.csl_elements.specs.declared.term.TermForm.TheVariants as term_forms
+use Rattle.csl_elements.specs.Dressing.{TextDressing}
+use Rattle.csl_elements.specs.NamedSet.{NamedSet, named_union}
+use Rattle.csl_style.specs.Named.{the_variable, the_date, the_name, the_kind, each_of, each_if, the_number_or_page, date_if, named_in_target, named_in_tests, named_in_node, named_in_nodes, named_in_branches, named_in_substitutes}
+use Rattle.csl_elements.specs.Names.{LabelNode}
+use Rattle.csl_elements.specs.Node.{Target, of_variable, of_term, of_value, NumberNode, DateNode, Tests, ExpandedNode, expanded_text, expanded_macro, unknown_macro, expanded_number, expanded_label, expanded_date, expanded_names, shorthand, expanded_choose, expanded_group, ExpandedNodes, no_expanded_nodes, expanded_node, ExpandedBranches, no_expanded_branches, expanded_otherwise, expanded_branch, ExpandedSubstitutes, no_expanded_substitutes, expanded_substitute, ExpandedLayout}
+use Rattle.csl_elements.specs.Taxonomy.{variable_of}
+use Rattle.csl_elements.proofs.Sets.{or_left, or_right}
+use Rattle.csl_elements.proofs.Variables.{name_decides}
 use Rattle.std.proofs.lemmas.Bool.{false≢true}
 use Rattle.std.proofs.lemmas.Slice.Eq.{slice_eq-Decides}
 use Rattle.csl_tree.specs.Tokens.{Token, has_text}

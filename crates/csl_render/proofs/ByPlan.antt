@@ -2,7 +2,7 @@
 -- changes the context as the definition states.
 use Rattle.std.proofs.Common.{◌≡◌, Option, Some, None, IfSome, Result, Ok, Err, List, subst, sym, ◌∙◌}
 use Rattle.std.specs.Option.{IsSomeAnd}
-use Rattle.csl_style.specs.Node.{ExpandedNode, ExpandedNodes}
+use Rattle.csl_elements.specs.Node.{ExpandedNode, ExpandedNodes}
 use Rattle.csl_context.specs.ContextView.{ContextView, Runs, Becomes}
 use Rattle.csl_context.specs.State.{State}
 use Rattle.csl_context.specs.RenderInput.{RenderInput}

@@ -1,8 +1,8 @@
 -- The context after the calls that render a text that calls a macro, one after another.
 use Rattle.std.proofs.Common.{Bool, None}
 use Rattle.std.specs.Prelude.{◌||◌}
-use Rattle.csl_style.specs.Dressing.{AffixTexts, TextDressing}
-use Rattle.csl_style.specs.Node.{Nodes, expand_nodes}
+use Rattle.csl_elements.specs.Dressing.{AffixTexts, TextDressing}
+use Rattle.csl_elements.specs.Node.{Nodes, expand_nodes}
 use Rattle.csl_style.specs.Expanded.{macro_env}
 use Rattle.csl_tree.specs.Content.{elem_content}
 use Rattle.csl_entry.specs.Answers.{Answers}

@@ -5,9 +5,9 @@ use Rattle.std.proofs.lemmas.Slice.Eq.{bytes_eq-Decides}
 use Rattle.std.specs.HashMap.{HashMap, get, Updates}
 use Rattle.std.specs.Map.{lookup}
 use denote.Bor.{Bor}
-use Rattle.csl_style.specs.declared.taxonomy.Variable.{Variable}
-use Rattle.csl_style.specs.Dressing.{TextDressing}
-use Rattle.csl_style.specs.Node.{ExpandedNodes, expand_call}
+use Rattle.csl_elements.specs.declared.taxonomy.Variable.{Variable}
+use Rattle.csl_elements.specs.Dressing.{TextDressing}
+use Rattle.csl_elements.specs.Node.{ExpandedNodes, expand_call}
 use Rattle.csl_context.specs.State.{State}
 use Rattle.csl_context.specs.RenderInput.{RenderInput}
 use Rattle.csl_render.specs.DryRun.{text_eq, call_info, call_shows}

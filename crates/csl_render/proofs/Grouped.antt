@@ -1,9 +1,9 @@
 -- The context after the calls that render a group, one after another.
 use Rattle.std.proofs.Common.{ℕ, Bool, true, false, List, Option, None}
-use Rattle.csl_style.specs.declared.formatting.Display.{Display}
-use Rattle.csl_style.specs.declared.formatting.Formatting as partial
-use Rattle.csl_style.specs.Dressing.{AffixTexts}
-use Rattle.csl_style.specs.Node.{Nodes, expand_nodes}
+use Rattle.csl_elements.specs.declared.formatting.Display.{Display}
+use Rattle.csl_elements.specs.declared.formatting.Formatting as partial
+use Rattle.csl_elements.specs.Dressing.{AffixTexts}
+use Rattle.csl_elements.specs.Node.{Nodes, expand_nodes}
 use Rattle.csl_style.specs.Expanded.{macro_env}
 use Rattle.csl_tree.specs.Content.{elem_content}
 use Rattle.csl_entry.specs.Answers.{Answers}

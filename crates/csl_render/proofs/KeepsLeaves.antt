@@ -10,17 +10,17 @@ use Rattle.std.specs.Ordering.{match_ordering}
 use Rattle.std.specs.declared.cmp.Ordering.{Ordering}
 use Rattle.std.specs.declared.cmp.Ordering.TheVariants.{Less, Equal, Greater}
 use Rattle.lit_model.specs.Date.{DateView}
-use Rattle.csl_style.specs.declared.names.NameForm.{NameForm}
-use Rattle.csl_style.specs.declared.names.NameForm.TheVariants.{Count, Short, Long}
-use Rattle.csl_style.specs.declared.taxonomy.DateVariable.{DateVariable}
-use Rattle.csl_style.specs.declared.taxonomy.NameVariable.{NameVariable}
-use Rattle.csl_style.specs.declared.taxonomy.NameVariable.TheVariants.{Editor, Translator}
-use Rattle.csl_style.specs.declared.taxonomy.Variable.{Variable}
-use Rattle.csl_style.specs.declared.taxonomy.Variable.TheVariants as variable
-use Rattle.csl_style.specs.Names.{NamesNode}
-use Rattle.csl_style.specs.Node.{Target, of_variable, of_term, of_value, NumberNode, DateNode}
-use Rattle.csl_style.specs.Taxonomy.{variable_of}
-use Rattle.csl_style.proofs.Sets.{or_right}
+use Rattle.csl_elements.specs.declared.names.NameForm.{NameForm}
+use Rattle.csl_elements.specs.declared.names.NameForm.TheVariants.{Count, Short, Long}
+use Rattle.csl_elements.specs.declared.taxonomy.DateVariable.{DateVariable}
+use Rattle.csl_elements.specs.declared.taxonomy.NameVariable.{NameVariable}
+use Rattle.csl_elements.specs.declared.taxonomy.NameVariable.TheVariants.{Editor, Translator}
+use Rattle.csl_elements.specs.declared.taxonomy.Variable.{Variable}
+use Rattle.csl_elements.specs.declared.taxonomy.Variable.TheVariants as variable
+use Rattle.csl_elements.specs.Names.{NamesNode}
+use Rattle.csl_elements.specs.Node.{Target, of_variable, of_term, of_value, NumberNode, DateNode}
+use Rattle.csl_elements.specs.Taxonomy.{variable_of}
+use Rattle.csl_elements.proofs.Sets.{or_right}
 use Rattle.csl_entry.specs.NameProperties.{NameProperties}
 use Rattle.csl_entry.specs.declared.citation.cite.Sorting.{Sorting}
 use Rattle.csl_context.specs.State.{State, Inherited, state_after_resolve, variable_cmp}

@@ -1,11 +1,11 @@
 -- A names node and its substitute as data.
 use Rattle.std.proofs.Common.{◌≡◌, ℕ, suc, List, Option, refl, ap}
-use Rattle.csl_style.specs.declared.element.Names.{Names}
-use Rattle.csl_style.specs.declared.element.Substitute.{Substitute, out-Substitute}
-use Rattle.csl_style.specs.declared.element.LayoutRenderingElement.TheFolds.{fold_out-Names, fold_out-Substitute}
-use Rattle.csl_style.specs.NamesParts.{names_node, names_substitutes}
-use Rattle.csl_style.specs.Node.{Node, names, Nodes, ExpandedNodes, expand, size, expanded_substitutes_size}
-use Rattle.csl_style.specs.View.{NamesChildView, BranchView, view_names, view_substitute, view_nodes, element_step, child_step, choose_step, branch_step, group_step, names_step, substitute_step}
+use Rattle.csl_elements.specs.declared.element.Names.{Names}
+use Rattle.csl_elements.specs.declared.element.Substitute.{Substitute, out-Substitute}
+use Rattle.csl_elements.specs.declared.element.LayoutRenderingElement.TheFolds.{fold_out-Names, fold_out-Substitute}
+use Rattle.csl_elements.specs.NamesParts.{names_node, names_substitutes}
+use Rattle.csl_elements.specs.Node.{Node, names, Nodes, ExpandedNodes, expand, size, expanded_substitutes_size}
+use Rattle.csl_elements.specs.View.{NamesChildView, BranchView, view_names, view_substitute, view_nodes, element_step, child_step, choose_step, branch_step, group_step, names_step, substitute_step}
 use Rattle.csl_render.specs.Names.{expanded_substitutes_of}
 
 pub names_out : (x : Names) → view_names x ≡ names (names_node x) (names_substitutes x)

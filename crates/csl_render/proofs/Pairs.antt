@@ -1,9 +1,9 @@
 -- A layout has the same output for two entries that are alike for it.
 use Rattle.std.proofs.Common.{◌≡◌, ◌↔◌, Bool, true, false, ℕ, List, refl, ap, sym, ◌∙◌}
-use Rattle.csl_style.specs.declared.element.Layout.{Layout}
+use Rattle.csl_elements.specs.declared.element.Layout.{Layout}
 use Rattle.csl_style.specs.Named.{named_in_nodes}
-use Rattle.csl_style.specs.Node.{expand_layout}
-use Rattle.csl_style.specs.View.{view_layout}
+use Rattle.csl_elements.specs.Node.{expand_layout}
+use Rattle.csl_elements.specs.View.{view_layout}
 use Rattle.csl_style.specs.Expanded.{macro_env}
 use Rattle.csl_tree.specs.Writing.{text_in_format}
 use Rattle.csl_tree.specs.declared.elem.BufWriteFormat.TheVariants.{Html}

@@ -3,11 +3,11 @@
 use Rattle.std.proofs.Common.{◌≡◌, ℕ, ◌<◌, ◌+◌, ◌++◌, get_or, drop, Bool, true, false, length, subst, List, [], ◌∷◌, Option, Some, option_map, if◌then◌else◌, refl, sym, ap, ◌∙◌, arith}
 use Rattle.std.specs.Bool.{MatchBool}
 use Rattle.std.proofs.lemmas.List.{append_assoc, at_drop_more}
-use Rattle.csl_style.specs.declared.element.Choose.{Choose}
-use Rattle.csl_style.specs.declared.element.Group.{Group}
-use Rattle.csl_style.specs.declared.element.LayoutRenderingElement.{LayoutRenderingElement}
-use Rattle.csl_style.specs.Node.{Node, Nodes, Branches, no_branches, otherwise, branch, ExpandedNode, expanded_text, expanded_macro, unknown_macro, expanded_number, expanded_label, expanded_date, expanded_names, shorthand, expanded_choose, expanded_group, ExpandedNodes, no_expanded_nodes, expanded_node, ExpandedBranches, no_expanded_branches, expanded_otherwise, expanded_branch, expand, expand_nodes, expand_branches}
-use Rattle.csl_style.specs.View.{view_node, view_choose, view_group, view_nodes}
+use Rattle.csl_elements.specs.declared.element.Choose.{Choose}
+use Rattle.csl_elements.specs.declared.element.Group.{Group}
+use Rattle.csl_elements.specs.declared.element.LayoutRenderingElement.{LayoutRenderingElement}
+use Rattle.csl_elements.specs.Node.{Node, Nodes, Branches, no_branches, otherwise, branch, ExpandedNode, expanded_text, expanded_macro, unknown_macro, expanded_number, expanded_label, expanded_date, expanded_names, shorthand, expanded_choose, expanded_group, ExpandedNodes, no_expanded_nodes, expanded_node, ExpandedBranches, no_expanded_branches, expanded_otherwise, expanded_branch, expand, expand_nodes, expand_branches}
+use Rattle.csl_elements.specs.View.{view_node, view_choose, view_group, view_nodes}
 use Rattle.csl_context.specs.State.{State}
 use Rattle.csl_context.specs.RenderInput.{RenderInput}
 use Rattle.csl_nodes.specs.Conditions.{branch_matches, chosen_nodes, chosen_children}

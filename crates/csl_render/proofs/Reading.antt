@@ -2,14 +2,14 @@
 -- was rendered.
 use Rattle.std.proofs.Common.{◌≡◌, Bool, true, false, List, [], ◌∷◌, map, Option, Some, None, refl, sym, ap, ap₂, ◌∙◌}
 use Rattle.std.specs.Prelude.{◌||◌, ◌&&◌, not, is_some, if◌then◌else◌}
-use Rattle.csl_style.specs.declared.taxonomy.DateVariable.{DateVariable}
-use Rattle.csl_style.specs.declared.taxonomy.NameVariable.{NameVariable}
-use Rattle.csl_style.specs.declared.taxonomy.NumberOrPageVariable.{NumberOrPageVariable}
-use Rattle.csl_style.specs.declared.taxonomy.NumberOrPageVariable.TheVariants as number_or_page
-use Rattle.csl_style.specs.declared.taxonomy.Variable.{Variable}
-use Rattle.csl_style.specs.declared.taxonomy.Variable.TheVariants as variable
-use Rattle.csl_style.specs.Names.{LabelNode}
-use Rattle.csl_style.specs.Node.{Tests, Target, of_variable, of_term, of_value, NumberNode, ExpandedNode, expanded_text, expanded_macro, unknown_macro, expanded_number, expanded_label, expanded_date, expanded_names, shorthand, expanded_choose, expanded_group, ExpandedNodes, no_expanded_nodes, expanded_node, ExpandedBranches, no_expanded_branches, expanded_otherwise, expanded_branch, ExpandedSubstitutes, no_expanded_substitutes, expanded_substitute}
+use Rattle.csl_elements.specs.declared.taxonomy.DateVariable.{DateVariable}
+use Rattle.csl_elements.specs.declared.taxonomy.NameVariable.{NameVariable}
+use Rattle.csl_elements.specs.declared.taxonomy.NumberOrPageVariable.{NumberOrPageVariable}
+use Rattle.csl_elements.specs.declared.taxonomy.NumberOrPageVariable.TheVariants as number_or_page
+use Rattle.csl_elements.specs.declared.taxonomy.Variable.{Variable}
+use Rattle.csl_elements.specs.declared.taxonomy.Variable.TheVariants as variable
+use Rattle.csl_elements.specs.Names.{LabelNode}
+use Rattle.csl_elements.specs.Node.{Tests, Target, of_variable, of_term, of_value, NumberNode, ExpandedNode, expanded_text, expanded_macro, unknown_macro, expanded_number, expanded_label, expanded_date, expanded_names, shorthand, expanded_choose, expanded_group, ExpandedNodes, no_expanded_nodes, expanded_node, ExpandedBranches, no_expanded_branches, expanded_otherwise, expanded_branch, ExpandedSubstitutes, no_expanded_substitutes, expanded_substitute}
 use Rattle.csl_entry.specs.declared.citation.cite.SpecialForm.{SpecialForm}
 use Rattle.csl_entry.specs.declared.citation.cite.SpecialForm.TheVariants.{VarOnly, OnlyFirstDate, OnlyYearSuffix, SuppressAuthor}
 use Rattle.csl_context.specs.State.{State}

@@ -1,8 +1,8 @@
 -- The context after the calls that render a substitute, one after another.
 use Rattle.std.proofs.Common.{◌≡◌, Bool, true, [], refl}
-use Rattle.csl_style.specs.NameOptions.{PartialOptions}
-use Rattle.csl_style.specs.Names.{NamesNode}
-use Rattle.csl_style.specs.Node.{Nodes, expand_substitute_nodes}
+use Rattle.csl_elements.specs.NameOptions.{PartialOptions}
+use Rattle.csl_elements.specs.Names.{NamesNode}
+use Rattle.csl_elements.specs.Node.{Nodes, expand_substitute_nodes}
 use Rattle.csl_style.specs.Expanded.{macro_env}
 use Rattle.csl_tree.specs.Content.{elem_content}
 use Rattle.csl_entry.specs.Answers.{Answers}

@@ -3,11 +3,11 @@
 -- first one counts.
 use Rattle.std.proofs.Common.{◌≡◌, ℕ, ◌<◌, ◌+◌, suc, Bool, true, false, List, Option, Some, None, option_map, IfSome, if◌then◌else◌, refl, ap, ap₂, arith}
 use Rattle.std.specs.Prelude.{◌||◌, ◌&&◌}
-use Rattle.csl_style.specs.declared.taxonomy.NameVariable.{NameVariable}
-use Rattle.csl_style.specs.declared.taxonomy.Variable.{Variable}
-use Rattle.csl_style.specs.Names.{NamesNode, shorthand_expansion}
-use Rattle.csl_style.specs.NamesParts.{first_substitute}
-use Rattle.csl_style.specs.Node.{Node, text, call, number, label, date, names, choose, group, Nodes, no_nodes, node, Substitutes, no_substitutes, substitute, ExpandedNode, expanded_names, shorthand, ExpandedNodes, no_expanded_substitutes, is_childless, as_substitute_child, expand, expand_nodes, expand_substitutes, expand_substitute_nodes, size, sizes, expanded_substitutes_size}
+use Rattle.csl_elements.specs.declared.taxonomy.NameVariable.{NameVariable}
+use Rattle.csl_elements.specs.declared.taxonomy.Variable.{Variable}
+use Rattle.csl_elements.specs.Names.{NamesNode, shorthand_expansion}
+use Rattle.csl_elements.specs.NamesParts.{first_substitute}
+use Rattle.csl_elements.specs.Node.{Node, text, call, number, label, date, names, choose, group, Nodes, no_nodes, node, Substitutes, no_substitutes, substitute, ExpandedNode, expanded_names, shorthand, ExpandedNodes, no_expanded_substitutes, is_childless, as_substitute_child, expand, expand_nodes, expand_substitutes, expand_substitute_nodes, size, sizes, expanded_substitutes_size}
 use Rattle.csl_context.specs.State.{State, Inherited}
 use Rattle.csl_context.specs.RenderInput.{RenderInput}
 use Rattle.csl_nodes.specs.Usage.{info_union, as_child_info, without_group_flag}

@@ -4,7 +4,7 @@
 -- bibliography. A first cite without disambiguation has a definition of its own for its content
 -- (`cite_content`).
 use Rattle.std.specs.Prelude.{List, None}
-use Rattle.csl_style.specs.declared.element.Layout.{Layout}
+use Rattle.csl_elements.specs.declared.element.Layout.{Layout}
 use Rattle.csl_style.specs.declared.style.settings.Scope.{Scope}
 use Rattle.csl_style.specs.declared.style.settings.Scope.TheVariants.{Citation}
 use Rattle.csl_style.specs.Style.{StyleParts}

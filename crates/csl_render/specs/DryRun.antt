@@ -5,8 +5,8 @@ use Rattle.std.specs.Prelude.{◌≡◌, ℕ, Bool, false, List, Option, Some, N
 use Rattle.std.specs.HashMap.{HashMap, get}
 use Rattle.std.specs.Str.{bytes_eq}
 use denote.Bor.{Bor}
-use Rattle.csl_style.specs.declared.taxonomy.Variable.{Variable}
-use Rattle.csl_style.specs.Node.{ExpandedNodes}
+use Rattle.csl_elements.specs.declared.taxonomy.Variable.{Variable}
+use Rattle.csl_elements.specs.Node.{ExpandedNodes}
 use Rattle.csl_style.specs.Expanded.{macro_env}
 use Rattle.csl_context.specs.ContextView.{ContextView}
 use Rattle.csl_context.specs.State.{State}

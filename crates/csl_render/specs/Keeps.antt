@@ -8,7 +8,7 @@
 --   even to nothing, no later one is the first.
 -- - *First names.* Once the forms of some names are kept, later names do not replace them.
 use Rattle.std.specs.Prelude.{◌≡◌, true, is_some}
-use Rattle.csl_style.specs.declared.taxonomy.Variable.{Variable}
+use Rattle.csl_elements.specs.declared.taxonomy.Variable.{Variable}
 use Rattle.csl_context.specs.State.{State, is_suppressed}
 
 -- the state `t` keeps what every rendering that starts in `s` preserves

@@ -4,16 +4,16 @@
 use Rattle.std.specs.Prelude.{ℕ, Bool, true, false, not, ◌&&◌, ◌||◌, List, [], Option, Some, None, is_some, if◌then◌else◌}
 use Rattle.std.specs.List.{list_any}
 use denote.Enum.Bare.{sameb}
-use Rattle.csl_style.specs.contracts.taxonomy.NameVariable.{the_type}
-use Rattle.csl_style.specs.declared.element.Names.{Names}
-use Rattle.csl_style.specs.declared.taxonomy.NameVariable.{NameVariable}
-use Rattle.csl_style.specs.declared.taxonomy.NameVariable.TheVariants.{Author}
-use Rattle.csl_style.specs.declared.taxonomy.Variable.{Variable}
-use Rattle.csl_style.specs.declared.taxonomy.Variable.TheVariants as variable
-use Rattle.csl_style.specs.NameOptions.{apply_options}
-use Rattle.csl_style.specs.Names.{NamesNode, shorthand_expansion}
-use Rattle.csl_style.specs.NamesParts.{names_node, names_substitutes}
-use Rattle.csl_style.specs.Node.{ExpandedNode, expanded_text, expanded_macro, unknown_macro, expanded_number, expanded_label, expanded_date, expanded_names, shorthand, expanded_choose, expanded_group, ExpandedNodes, no_expanded_nodes, expanded_node, ExpandedSubstitutes, no_expanded_substitutes, expanded_substitute, expand_substitutes}
+use Rattle.csl_elements.specs.contracts.taxonomy.NameVariable.{the_type}
+use Rattle.csl_elements.specs.declared.element.Names.{Names}
+use Rattle.csl_elements.specs.declared.taxonomy.NameVariable.{NameVariable}
+use Rattle.csl_elements.specs.declared.taxonomy.NameVariable.TheVariants.{Author}
+use Rattle.csl_elements.specs.declared.taxonomy.Variable.{Variable}
+use Rattle.csl_elements.specs.declared.taxonomy.Variable.TheVariants as variable
+use Rattle.csl_elements.specs.NameOptions.{apply_options}
+use Rattle.csl_elements.specs.Names.{NamesNode, shorthand_expansion}
+use Rattle.csl_elements.specs.NamesParts.{names_node, names_substitutes}
+use Rattle.csl_elements.specs.Node.{ExpandedNode, expanded_text, expanded_macro, unknown_macro, expanded_number, expanded_label, expanded_date, expanded_names, shorthand, expanded_choose, expanded_group, ExpandedNodes, no_expanded_nodes, expanded_node, ExpandedSubstitutes, no_expanded_substitutes, expanded_substitute, expand_substitutes}
 use Rattle.csl_tree.specs.Content.{elem_content}
 use Rattle.csl_entry.specs.declared.citation.cite.SpecialForm.{SpecialForm}
 use Rattle.csl_entry.specs.declared.citation.cite.SpecialForm.TheVariants.{VarOnly, OnlyFirstDate, OnlyYearSuffix, SuppressAuthor}

@@ -5,11 +5,11 @@
 -- state: content, state and HTML. It may print the same for entries that are not alike, because
 -- both forms of a title are compared and every branch counts, chosen or not.
 use Rattle.std.specs.Prelude.{◌≡◌, ℕ, List, Option}
-use Rattle.csl_style.specs.declared.element.Layout.{Layout}
+use Rattle.csl_elements.specs.declared.element.Layout.{Layout}
 use Rattle.csl_style.specs.declared.style.settings.Scope.{Scope}
-use Rattle.csl_style.specs.Node.{expand_layout}
+use Rattle.csl_elements.specs.Node.{expand_layout}
 use Rattle.csl_style.specs.Style.{StyleParts}
-use Rattle.csl_style.specs.View.{view_layout}
+use Rattle.csl_elements.specs.View.{view_layout}
 use Rattle.csl_style.specs.Expanded.{macro_env}
 use Rattle.csl_tree.specs.Tokens.{tokens}
 use Rattle.csl_tree.specs.Writing.{text_in_format}

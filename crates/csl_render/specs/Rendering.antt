@@ -2,11 +2,11 @@
 -- (`shows_in`) and content (`output_in`). A rendering appends the content to the innermost open
 -- part of a context and updates the state. Nothing else in the context changes (`after_render`).
 use Rattle.std.specs.Prelude.{Bool}
-use Rattle.csl_style.specs.declared.taxonomy.Variable.{Variable}
-use Rattle.csl_style.specs.Node.{ExpandedNode, ExpandedLayout}
-use Rattle.csl_style.specs.Node as node
+use Rattle.csl_elements.specs.declared.taxonomy.Variable.{Variable}
+use Rattle.csl_elements.specs.Node.{ExpandedNode, ExpandedLayout}
+use Rattle.csl_elements.specs.Node as node
 use Rattle.csl_style.specs.Style.{StyleParts}
-use Rattle.csl_style.specs.View as view
+use Rattle.csl_elements.specs.View as view
 use Rattle.csl_style.specs.Expanded.{macro_env}
 use Rattle.csl_entry.specs.Answers.{Answers}
 use Rattle.csl_context.specs.State.{State, Inherited}

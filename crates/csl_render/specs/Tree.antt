@@ -9,10 +9,10 @@
 -- choice directly in the layout inherits the layout's delimiter. Only private contracts cite
 -- `choice_info`, `choice_shows`, `choice_output` and `first_substitute_output`.
 use Rattle.std.specs.Prelude.{ℕ, Bool, true, false, ◌||◌, List, [], Option, Some, None, if◌then◌else◌}
-use Rattle.csl_style.specs.declared.taxonomy.Variable.{Variable}
-use Rattle.csl_style.specs.Dressing.{AffixTexts, Dressing, TextDressing}
-use Rattle.csl_style.specs.Names.{NamesNode}
-use Rattle.csl_style.specs.Node.{ExpandedNode, expanded_text, expanded_macro, unknown_macro, expanded_number, expanded_label, expanded_date, expanded_names, shorthand, expanded_choose, expanded_group, ExpandedNodes, no_expanded_nodes, expanded_node, ExpandedBranches, no_expanded_branches, expanded_otherwise, expanded_branch, ExpandedSubstitutes, no_expanded_substitutes, expanded_substitute, ExpandedLayout}
+use Rattle.csl_elements.specs.declared.taxonomy.Variable.{Variable}
+use Rattle.csl_elements.specs.Dressing.{AffixTexts, Dressing, TextDressing}
+use Rattle.csl_elements.specs.Names.{NamesNode}
+use Rattle.csl_elements.specs.Node.{ExpandedNode, expanded_text, expanded_macro, unknown_macro, expanded_number, expanded_label, expanded_date, expanded_names, shorthand, expanded_choose, expanded_group, ExpandedNodes, no_expanded_nodes, expanded_node, ExpandedBranches, no_expanded_branches, expanded_otherwise, expanded_branch, ExpandedSubstitutes, no_expanded_substitutes, expanded_substitute, ExpandedLayout}
 use Rattle.csl_tree.specs.Tokens.{Token, has_text}
 use Rattle.csl_tree.specs.Content.{◌++>◌, elem_content}
 use Rattle.csl_context.specs.State.{State, Inherited, with_node_formatting}

@@ -2,9 +2,9 @@
 
 ghost use Rattle.std.specs.Prelude.{◌≡◌, ◌<◌, List, not, IfOk, OnOk, IfErr, IfSome, option_map};
 ghost use Rattle.std.specs.List.{list_all, list_any};
-ghost use Rattle.csl_style.specs.declared.taxonomy.Variable.{Variable};
-ghost use Rattle.csl_style.specs.Node.{expand, expand_nodes, size, sizes};
-ghost use Rattle.csl_style.specs.View.{view_nodes, view_branch, view_choose};
+ghost use Rattle.csl_elements.specs.declared.taxonomy.Variable.{Variable};
+ghost use Rattle.csl_elements.specs.Node.{expand, expand_nodes, size, sizes};
+ghost use Rattle.csl_elements.specs.View.{view_nodes, view_branch, view_choose};
 ghost use Rattle.csl_style.specs.Expanded.{macro_env};
 ghost use Rattle.csl_context.specs.ContextView.{Runs, Reads, GivesBy, FailsSilently, render_input};
 ghost use Rattle.csl_context.specs.State.{State};

@@ -4,8 +4,8 @@ ghost use Rattle.std.specs.Prelude.{◌≡◌, true, IfOk, IfErr, option_map, st
 ghost use Rattle.std.specs.Bool.{Decides};
 ghost use Rattle.csl_style.specs.declared.style.settings.Scope.TheVariants as scopes;
 ghost use Rattle.csl_style.specs.Named.{named_in_nodes};
-ghost use Rattle.csl_style.specs.Node.{expand_layout};
-ghost use Rattle.csl_style.specs.View.{view_layout};
+ghost use Rattle.csl_elements.specs.Node.{expand_layout};
+ghost use Rattle.csl_elements.specs.View.{view_layout};
 ghost use Rattle.csl_style.specs.Expanded.{macro_env};
 ghost use Rattle.csl_entry.specs.Alike.{SameNamedAnswers};
 ghost use Rattle.csl_entry.specs.Cite.{cite_state};

@@ -1,7 +1,7 @@
 //! Dates (CSL 1.0.2, Date). `csl_nodes` renders them.
 
-ghost use Rattle.csl_style.specs.Node.{expand, date};
-ghost use Rattle.csl_style.specs.View.{view_date};
+ghost use Rattle.csl_elements.specs.Node.{expand, date};
+ghost use Rattle.csl_elements.specs.View.{view_date};
 ghost use Rattle.csl_style.specs.Expanded.{macro_env};
 ghost use Rattle.csl_render.specs.Rendering.{of_node};
 

@@ -1,8 +1,8 @@
 //! Nodes, and lists of nodes.
 
 ghost use Rattle.std.specs.Prelude.{◌≡◌, true, IfOk, IfSome, if◌then◌else◌};
-ghost use Rattle.csl_style.specs.Node.{expand, expand_nodes};
-ghost use Rattle.csl_style.specs.View.{view_node, view_nodes, view_rendering};
+ghost use Rattle.csl_elements.specs.Node.{expand, expand_nodes};
+ghost use Rattle.csl_elements.specs.View.{view_node, view_nodes, view_rendering};
 ghost use Rattle.csl_style.specs.Expanded.{macro_env};
 ghost use Rattle.csl_context.specs.ContextView.{Runs, GivesBy, render_input};
 ghost use Rattle.csl_nodes.specs.Usage.{info_view};

@@ -2,8 +2,8 @@
 
 ghost use Rattle.std.specs.Prelude.{◌≡◌, None, IfOk, IfSome};
 ghost use Rattle.csl_tree.specs.Content.{elem_content};
-ghost use Rattle.csl_style.specs.Node.{expand};
-ghost use Rattle.csl_style.specs.View.{view_group};
+ghost use Rattle.csl_elements.specs.Node.{expand};
+ghost use Rattle.csl_elements.specs.View.{view_group};
 ghost use Rattle.csl_style.specs.Expanded.{macro_env};
 ghost use Rattle.csl_context.specs.ContextView.{Runs, GivesBy, IsInnermost, close_part_by, render_input};
 ghost use Rattle.csl_nodes.specs.Text.{with_output};

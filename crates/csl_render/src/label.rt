@@ -1,7 +1,7 @@
 //! Labels (CSL 1.0.2, Label). `csl_nodes` renders them.
 
-ghost use Rattle.csl_style.specs.Node.{expand, label};
-ghost use Rattle.csl_style.specs.Names.{view_label};
+ghost use Rattle.csl_elements.specs.Node.{expand, label};
+ghost use Rattle.csl_elements.specs.Names.{view_label};
 ghost use Rattle.csl_style.specs.Expanded.{macro_env};
 ghost use Rattle.csl_render.specs.Rendering.{of_node};
 

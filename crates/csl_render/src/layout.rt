@@ -1,7 +1,7 @@
 //! Layouts (CSL 1.0.2, Layout).
 
-ghost use Rattle.csl_style.specs.Node.{expand_layout};
-ghost use Rattle.csl_style.specs.View.{view_layout};
+ghost use Rattle.csl_elements.specs.Node.{expand_layout};
+ghost use Rattle.csl_elements.specs.View.{view_layout};
 ghost use Rattle.csl_style.specs.Expanded.{macro_env};
 ghost use Rattle.csl_render.specs.Rendering.{of_layout};
 

@@ -1,12 +1,12 @@
 //! Names (CSL 1.0.2, Names; Substitute): the dry run, shown variables and content of a names node.
 
 ghost use Rattle.std.specs.Prelude.{◌≡◌, Bool, ◌<◌, ◌&&◌, ◌||◌, [], false, map, IfOk, IfSome, option_map};
-ghost use Rattle.csl_style.specs.declared.taxonomy.Variable.{Variable};
-ghost use Rattle.csl_style.specs.declared.taxonomy.NameVariable.{NameVariable};
-ghost use Rattle.csl_style.specs.Names.{NamesNode};
-ghost use Rattle.csl_style.specs.NamesParts.{names_node, names_substitutes, first_substitute, parts_node};
-ghost use Rattle.csl_style.specs.Node.{ExpandedNode, expand, expand_nodes, expand_substitute_nodes, no_expanded_substitutes, sizes, expanded_substitutes_size, as_substitute_child};
-ghost use Rattle.csl_style.specs.View.{view_node, view_nodes, view_names};
+ghost use Rattle.csl_elements.specs.declared.taxonomy.Variable.{Variable};
+ghost use Rattle.csl_elements.specs.declared.taxonomy.NameVariable.{NameVariable};
+ghost use Rattle.csl_elements.specs.Names.{NamesNode};
+ghost use Rattle.csl_elements.specs.NamesParts.{names_node, names_substitutes, first_substitute, parts_node};
+ghost use Rattle.csl_elements.specs.Node.{ExpandedNode, expand, expand_nodes, expand_substitute_nodes, no_expanded_substitutes, sizes, expanded_substitutes_size, as_substitute_child};
+ghost use Rattle.csl_elements.specs.View.{view_node, view_nodes, view_names};
 ghost use Rattle.csl_style.specs.Expanded.{macro_env};
 ghost use Rattle.csl_context.specs.State.{Inherited, State};
 ghost use Rattle.csl_context.specs.ContextView.{Runs, GivesBy, render_input};

@@ -1,7 +1,7 @@
 //! Numbers (CSL 1.0.2, Number). `csl_nodes` renders them.
 
-ghost use Rattle.csl_style.specs.Node.{expand, number};
-ghost use Rattle.csl_style.specs.View.{view_number};
+ghost use Rattle.csl_elements.specs.Node.{expand, number};
+ghost use Rattle.csl_elements.specs.View.{view_number};
 ghost use Rattle.csl_style.specs.Expanded.{macro_env};
 ghost use Rattle.csl_render.specs.Rendering.{of_node};
 

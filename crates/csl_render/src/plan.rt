@@ -2,7 +2,7 @@
 //! node is rendered without another dry run (CSL 1.0.2, Group).
 
 ghost use Rattle.std.specs.Prelude.{◌≡◌, ◌&&◌, not, IfOk, IfSome, IsSomeAnd, IsTrue};
-ghost use Rattle.csl_style.specs.Node.{ExpandedNode, ExpandedNodes, expanded_node};
+ghost use Rattle.csl_elements.specs.Node.{ExpandedNode, ExpandedNodes, expanded_node};
 ghost use Rattle.csl_context.specs.ContextView.{render_input};
 ghost use Rattle.csl_nodes.specs.Usage.{info_view, usage_flags_of};
 ghost use Rattle.csl_render.specs.Plan.{asks_for_dates, AreReadAlike, answer_of, inside_of, IsPlan, ArePlans};

@@ -23,8 +23,8 @@ pub(crate) struct Query<'c, 's, T: EntryLike> {
 
 impl<'c, 's, T: EntryLike> Model for Query<'c, 's, T> {
     ghost use Rattle.std.specs.Coded.{codes};
-    ghost use Rattle.csl_style.specs.contracts.element.CslMacro as of_macro;
-    ghost use Rattle.csl_style.specs.contracts.element.Layout as of_layout;
+    ghost use Rattle.csl_elements.specs.contracts.element.CslMacro as of_macro;
+    ghost use Rattle.csl_elements.specs.contracts.element.Layout as of_layout;
     ghost use Rattle.csl_context.specs.ContextView.{render_input};
     ghost use Rattle.csl_render.specs.DryRun as dry_run;
     ghost use Rattle.csl_render.specs.DryRun.{HasShown};

@@ -21,7 +21,7 @@ use Rattle.csl_entry.specs.EntryDate.{date_in, visit_date}
 use Rattle.csl_entry.specs.EntryKind.{typing_of, typing_from, is_kind}
 use Rattle.csl_entry.proofs.ShowSame.{own_stand_in, stand_in_own}
 use Rattle.csl_entry.proofs.Typings.{typing_shown}
-use Rattle.csl_style.specs.declared.taxonomy.Kind.{Kind}
+use Rattle.csl_elements.specs.declared.taxonomy.Kind.{Kind}
 use Rattle.csl_samples.specs.declared.entries.BuiltIn.{BuiltIn}
 use Rattle.csl_samples.specs.declared.entries.BuiltIn.TheVariants.{CrazyRich, QuantizedVortex, Dependence, Feminism}
 use Rattle.csl_samples.specs.Entries.{Shows, HasParent, IsBuiltIn, own_fields, parent_fields, date_of, label_parts_of, label_text, is_built_in_kind}

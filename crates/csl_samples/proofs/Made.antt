@@ -2,13 +2,13 @@
 use Rattle.std.proofs.Common.{◌≡◌, [], ◌∷◌, map, refl, sym, ap, ◌∙◌}
 use Rattle.std.specs.Prelude.{Vec}
 use Rattle.std.specs.declared.alloc.Global.{Global}
-use Rattle.csl_style.specs.declared.element.LayoutRenderingElement.{LayoutRenderingElement}
-use Rattle.csl_style.specs.declared.element.LayoutRenderingElement.TheOpen as level
-use Rattle.csl_style.specs.declared.element.LayoutRenderingElement.TheFolds.{fold-roll-NamesChild, fold_out-Substitute}
-use Rattle.csl_style.specs.declared.element.NamesChild.TheVariants as of_names
-use Rattle.csl_style.specs.declared.element.Substitute.{Substitute, roll-Substitute}
-use Rattle.csl_style.specs.Node.{Node, Nodes, node, no_nodes}
-use Rattle.csl_style.specs.View.{NamesChildView, BranchView, a_substitute, view_node, view_child, view_substitute, view_nodes, nodes_of, element_step, child_step, choose_step, branch_step, group_step, names_step, substitute_step}
+use Rattle.csl_elements.specs.declared.element.LayoutRenderingElement.{LayoutRenderingElement}
+use Rattle.csl_elements.specs.declared.element.LayoutRenderingElement.TheOpen as level
+use Rattle.csl_elements.specs.declared.element.LayoutRenderingElement.TheFolds.{fold-roll-NamesChild, fold_out-Substitute}
+use Rattle.csl_elements.specs.declared.element.NamesChild.TheVariants as of_names
+use Rattle.csl_elements.specs.declared.element.Substitute.{Substitute, roll-Substitute}
+use Rattle.csl_elements.specs.Node.{Node, Nodes, node, no_nodes}
+use Rattle.csl_elements.specs.View.{NamesChildView, BranchView, a_substitute, view_node, view_child, view_substitute, view_nodes, nodes_of, element_step, child_step, choose_step, branch_step, group_step, names_step, substitute_step}
 
 substitute_out : (x : Substitute) → view_substitute x ≡ view_nodes x.children.items
 substitute_out x = rw (fold_out-Substitute Node NamesChildView Node BranchView Node Node Nodes element_step child_step choose_step branch_step group_step names_step substitute_step x) refl

@@ -7,18 +7,18 @@
 --   month. There are no localized dates and no other terms.
 use Rattle.std.specs.Prelude.{◌≡◌, ℕ, true, false, List, [], ◌∷◌, ◌++◌, Some, None, codes}
 use Rattle.std.specs.Borrow.{Bor}
-use Rattle.csl_style.specs.declared.locale.Locale.{Locale}
-use Rattle.csl_style.specs.declared.locale.OrdinalSlot.{OrdinalSlot}
-use Rattle.csl_style.specs.declared.locale.OrdinalSlot.TheVariants.{Default, Two}
-use Rattle.csl_style.specs.declared.taxonomy.NumberVariable.TheVariants.{Volume}
-use Rattle.csl_style.specs.declared.taxonomy.PageVariable.TheVariants as pages
-use Rattle.csl_style.specs.declared.term.OtherTerm.{OtherTerm}
-use Rattle.csl_style.specs.declared.term.OtherTerm.TheVariants as others
-use Rattle.csl_style.specs.declared.term.Term.{Term}
-use Rattle.csl_style.specs.declared.term.Term.TheVariants.{Number, Page, Other}
-use Rattle.csl_style.specs.declared.term.TermForm.{TermForm}
-use Rattle.csl_style.specs.declared.term.TermForm.TheVariants.{Long, Short}
-use Rattle.csl_style.specs.Locale.{TermView, OrdinalView, terms_of, ordinals_of}
+use Rattle.csl_elements.specs.declared.locale.Locale.{Locale}
+use Rattle.csl_elements.specs.declared.locale.OrdinalSlot.{OrdinalSlot}
+use Rattle.csl_elements.specs.declared.locale.OrdinalSlot.TheVariants.{Default, Two}
+use Rattle.csl_elements.specs.declared.taxonomy.NumberVariable.TheVariants.{Volume}
+use Rattle.csl_elements.specs.declared.taxonomy.PageVariable.TheVariants as pages
+use Rattle.csl_elements.specs.declared.term.OtherTerm.{OtherTerm}
+use Rattle.csl_elements.specs.declared.term.OtherTerm.TheVariants as others
+use Rattle.csl_elements.specs.declared.term.Term.{Term}
+use Rattle.csl_elements.specs.declared.term.Term.TheVariants.{Number, Page, Other}
+use Rattle.csl_elements.specs.declared.term.TermForm.{TermForm}
+use Rattle.csl_elements.specs.declared.term.TermForm.TheVariants.{Long, Short}
+use Rattle.csl_elements.specs.Locale.{TermView, OrdinalView, terms_of, ordinals_of}
 
 -- a term with one text, in its long form
 abbrev pub word : OtherTerm → List ℕ → TermView

@@ -20,7 +20,7 @@ use Rattle.lit_model.specs.Person.{person_of}
 use Rattle.lit_model.specs.Source.{Address}
 use Rattle.lit_model.specs.Text.{plain_forms}
 use Rattle.lit_model.specs.Work.{Own, own_of}
-use Rattle.csl_style.specs.declared.taxonomy.Kind.{Kind}
+use Rattle.csl_elements.specs.declared.taxonomy.Kind.{Kind}
 use Rattle.csl_entry.specs.CitationLabel.{LabelParts, label_from}
 use Rattle.csl_entry.specs.EntryKind.{typing_from, is_kind}
 use Rattle.csl_samples.specs.declared.entries.BuiltIn.{BuiltIn}

@@ -1,8 +1,8 @@
 -- Node attributes that set only affixes or only formatting.
 use Rattle.std.specs.Prelude.{None, false}
-use Rattle.csl_style.specs.declared.formatting.Formatting.{Formatting}
-use Rattle.csl_style.specs.Constructors.{no_dressing}
-use Rattle.csl_style.specs.Dressing.{AffixTexts, Dressing, TextDressing}
+use Rattle.csl_elements.specs.declared.formatting.Formatting.{Formatting}
+use Rattle.csl_elements.specs.Constructors.{no_dressing}
+use Rattle.csl_elements.specs.Dressing.{AffixTexts, Dressing, TextDressing}
 
 abbrev pub no_affixes : AffixTexts
 no_affixes = record { prefix = None; suffix = None }

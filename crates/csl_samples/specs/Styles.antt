@@ -13,35 +13,35 @@ use Rattle.std.specs.Prelude.{◌≡◌, ℕ, Bool, true, false, List, [], ◌�
 use Rattle.std.specs.Str.{bytes_eq}
 use Rattle.csl_common.specs.declared.form.NumberForm.TheVariants as number_forms
 use Rattle.csl_common.specs.declared.form.LongShortForm.TheVariants.{Long}
-use Rattle.csl_style.specs.declared.date.DateAnyForm.{DateAnyForm}
-use Rattle.csl_style.specs.declared.date.DateAnyForm.TheVariants as part_forms
-use Rattle.csl_style.specs.declared.date.DatePartName.{DatePartName}
-use Rattle.csl_style.specs.declared.date.DatePartName.TheVariants.{Month, Year}
-use Rattle.csl_style.specs.declared.formatting.Formatting.{Formatting}
-use Rattle.csl_style.specs.declared.locale.Locale.{Locale}
-use Rattle.csl_style.specs.declared.names.NameAnd.TheVariants as ands
-use Rattle.csl_style.specs.declared.names.NameAsSortOrder.{NameAsSortOrder}
-use Rattle.csl_style.specs.declared.names.NameAsSortOrder.TheVariants.{First}
-use Rattle.csl_style.specs.declared.names.NameForm.{NameForm}
-use Rattle.csl_style.specs.declared.names.NameForm.TheVariants as name_forms
-use Rattle.csl_style.specs.declared.taxonomy.DateVariable.TheVariants.{Issued}
-use Rattle.csl_style.specs.declared.taxonomy.NameVariable.{NameVariable}
-use Rattle.csl_style.specs.declared.taxonomy.NameVariable.TheVariants.{Author, Editor}
-use Rattle.csl_style.specs.declared.taxonomy.NumberOrPageVariable.{NumberOrPageVariable}
-use Rattle.csl_style.specs.declared.taxonomy.NumberOrPageVariable.TheVariants as counts
-use Rattle.csl_style.specs.declared.taxonomy.NumberVariable.TheVariants.{Volume}
-use Rattle.csl_style.specs.declared.taxonomy.PageVariable.TheVariants as pages
-use Rattle.csl_style.specs.declared.taxonomy.StandardVariable.TheVariants.{Title, ContainerTitle, DOI}
-use Rattle.csl_style.specs.declared.taxonomy.Variable.{Variable}
-use Rattle.csl_style.specs.declared.taxonomy.Variable.TheVariants.{Standard, Page}
-use Rattle.csl_style.specs.Constructors.{italic, short_label_of, text_before, text_after, texts_around, no_dressing}
-use Rattle.csl_style.specs.Dressing.{AffixTexts}
-use Rattle.csl_style.specs.NameOptions.{PartialOptions}
-use Rattle.csl_style.specs.Names.{NameNode, view_label}
-use Rattle.csl_style.specs.NamesParts.{default_name, no_formatting}
-use Rattle.csl_style.specs.Node.{of_variable, DatePartNode, DateNode, Node, text, number, label, date, names, group, Nodes, no_nodes, node, LayoutNode}
-use Rattle.csl_style.specs.Style.{StyleParts, no_options, AreDefaults}
-use Rattle.csl_style.specs.View.{view_layout, NamesChildView, a_name, a_substitute, name_children, first_et_al, first_label, substitutes}
+use Rattle.csl_elements.specs.declared.date.DateAnyForm.{DateAnyForm}
+use Rattle.csl_elements.specs.declared.date.DateAnyForm.TheVariants as part_forms
+use Rattle.csl_elements.specs.declared.date.DatePartName.{DatePartName}
+use Rattle.csl_elements.specs.declared.date.DatePartName.TheVariants.{Month, Year}
+use Rattle.csl_elements.specs.declared.formatting.Formatting.{Formatting}
+use Rattle.csl_elements.specs.declared.locale.Locale.{Locale}
+use Rattle.csl_elements.specs.declared.names.NameAnd.TheVariants as ands
+use Rattle.csl_elements.specs.declared.names.NameAsSortOrder.{NameAsSortOrder}
+use Rattle.csl_elements.specs.declared.names.NameAsSortOrder.TheVariants.{First}
+use Rattle.csl_elements.specs.declared.names.NameForm.{NameForm}
+use Rattle.csl_elements.specs.declared.names.NameForm.TheVariants as name_forms
+use Rattle.csl_elements.specs.declared.taxonomy.DateVariable.TheVariants.{Issued}
+use Rattle.csl_elements.specs.declared.taxonomy.NameVariable.{NameVariable}
+use Rattle.csl_elements.specs.declared.taxonomy.NameVariable.TheVariants.{Author, Editor}
+use Rattle.csl_elements.specs.declared.taxonomy.NumberOrPageVariable.{NumberOrPageVariable}
+use Rattle.csl_elements.specs.declared.taxonomy.NumberOrPageVariable.TheVariants as counts
+use Rattle.csl_elements.specs.declared.taxonomy.NumberVariable.TheVariants.{Volume}
+use Rattle.csl_elements.specs.declared.taxonomy.PageVariable.TheVariants as pages
+use Rattle.csl_elements.specs.declared.taxonomy.StandardVariable.TheVariants.{Title, ContainerTitle, DOI}
+use Rattle.csl_elements.specs.declared.taxonomy.Variable.{Variable}
+use Rattle.csl_elements.specs.declared.taxonomy.Variable.TheVariants.{Standard, Page}
+use Rattle.csl_elements.specs.Constructors.{italic, short_label_of, text_before, text_after, texts_around, no_dressing}
+use Rattle.csl_elements.specs.Dressing.{AffixTexts}
+use Rattle.csl_elements.specs.NameOptions.{PartialOptions, no_options}
+use Rattle.csl_elements.specs.Names.{NameNode, view_label}
+use Rattle.csl_elements.specs.NamesParts.{default_name, no_formatting}
+use Rattle.csl_elements.specs.Node.{of_variable, DatePartNode, DateNode, Node, text, number, label, date, names, group, Nodes, no_nodes, node, LayoutNode}
+use Rattle.csl_style.specs.Style.{StyleParts, AreDefaults}
+use Rattle.csl_elements.specs.View.{view_layout, NamesChildView, a_name, a_substitute, name_children, first_et_al, first_label, substitutes}
 use Rattle.csl_samples.specs.English.{IsEnglish}
 use Rattle.csl_samples.specs.Nodes.{no_affixes, only_affixes}
 use Rattle.csl_samples.specs.declared.styles.BuiltInStyle.{BuiltInStyle}

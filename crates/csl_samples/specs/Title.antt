@@ -5,14 +5,14 @@
 use Rattle.std.specs.Prelude.{◌≡◌, List, [], Option, Some, None, false, codes}
 use Rattle.lit_model.specs.Text.{Chunk}
 use Rattle.csl_common.specs.declared.form.LongShortForm.TheVariants.{Long}
-use Rattle.csl_style.specs.declared.taxonomy.StandardVariable.{StandardVariable}
-use Rattle.csl_style.specs.declared.taxonomy.StandardVariable.TheVariants.{Title}
-use Rattle.csl_style.specs.declared.taxonomy.Variable.TheVariants.{Standard}
-use Rattle.csl_style.specs.Constructors.{italic, texts_around}
-use Rattle.csl_style.specs.NamesParts.{no_formatting}
-use Rattle.csl_style.specs.Node.{of_variable, of_value, Node, text, group, Nodes, no_nodes, node, LayoutNode}
+use Rattle.csl_elements.specs.declared.taxonomy.StandardVariable.{StandardVariable}
+use Rattle.csl_elements.specs.declared.taxonomy.StandardVariable.TheVariants.{Title}
+use Rattle.csl_elements.specs.declared.taxonomy.Variable.TheVariants.{Standard}
+use Rattle.csl_elements.specs.Constructors.{italic, texts_around}
+use Rattle.csl_elements.specs.NamesParts.{no_formatting}
+use Rattle.csl_elements.specs.Node.{of_variable, of_value, Node, text, group, Nodes, no_nodes, node, LayoutNode}
 use Rattle.csl_style.specs.Style.{StyleParts}
-use Rattle.csl_style.specs.View.{view_layout}
+use Rattle.csl_elements.specs.View.{view_layout}
 use Rattle.csl_entry.specs.Answers.{Answers}
 use Rattle.csl_samples.specs.Nodes.{only_affixes, formatted_dressing}
 

@@ -1,7 +1,7 @@
 //! The locale of the built-in styles.
 
 ghost use Rattle.std.specs.Prelude.{◌≡◌, ◌++◌, IfOk, map};
-ghost use Rattle.csl_style.specs.Locale.{term_view, ordinal_view};
+ghost use Rattle.csl_elements.specs.Locale.{term_view, ordinal_view};
 ghost use Rattle.csl_samples.specs.English.{IsEnglish, word_of_row, ordinal_of_row};
 ghost use Rattle.csl_samples.specs.English.{english_words, english_counted, english_ordinals};
 ghost use Rattle.csl_samples.specs.English.{ordinal};

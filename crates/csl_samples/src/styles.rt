@@ -1,10 +1,10 @@
 //! The built-in styles.
 
 ghost use Rattle.std.specs.Prelude.{◌≡◌, IfOk, map};
-ghost use Rattle.csl_style.specs.NameOptions.{partial_options};
-ghost use Rattle.csl_style.specs.Node.{node, no_nodes};
-ghost use Rattle.csl_style.specs.View.{view_node, view_child, view_layout, view_nodes};
-ghost use Rattle.csl_style.specs.View.{a_name, a_substitute};
+ghost use Rattle.csl_elements.specs.NameOptions.{partial_options};
+ghost use Rattle.csl_elements.specs.Node.{node, no_nodes};
+ghost use Rattle.csl_elements.specs.View.{view_node, view_child, view_layout, view_nodes};
+ghost use Rattle.csl_elements.specs.View.{a_name, a_substitute};
 ghost use Rattle.csl_samples.specs.Styles.{IsBuiltInStyle, named_style};
 ghost use Rattle.csl_samples.specs.Styles.{built_in_layout, elements_of};
 ghost use Rattle.csl_samples.specs.Styles.{space_group, joined_by_and, name_by, persons_by};
@@ -65,7 +65,7 @@ impl BuiltInStyle {
 }
 
 /// A group of two nodes with a space between them.
-#[tactic(auto, using(csl_style::proofs::Rolled::group_made))]
+#[tactic(auto, using(csl_elements::proofs::Rolled::group_made))]
 fn space_group(
     alloc: Global,
     first: LayoutRenderingElement,
@@ -102,7 +102,7 @@ fn name_by(alloc: Global, options: InheritableNameOptions) -> NamesChild
 }
 
 /// A `cs:names` of one variable, with these children.
-#[tactic(auto, using(csl_style::proofs::Rolled::names_made))]
+#[tactic(auto, using(csl_elements::proofs::Rolled::names_made))]
 fn persons_by(
     alloc: Global,
     variable: NameVariable,
@@ -137,7 +137,7 @@ fn year(alloc: Global) -> Result<LayoutRenderingElement, Memory>
 }
 
 /// The authors and the year in parentheses.
-#[tactic(auto, using(csl_style::proofs::Rolled::group_made))]
+#[tactic(auto, using(csl_elements::proofs::Rolled::group_made))]
 fn author_date(alloc: Global) -> Result<LayoutRenderingElement, Memory>
     ensures { IfOk result (λ made. view_node made ≡ author_date) }
 {
@@ -256,7 +256,7 @@ fn description_elements(alloc: Global) -> Result<Vec<LayoutRenderingElement>, Me
 }
 
 /// The description of a work, with a period at its end.
-#[tactic(auto, using(csl_style::proofs::Rolled::group_made))]
+#[tactic(auto, using(csl_elements::proofs::Rolled::group_made))]
 fn description(alloc: Global) -> Result<LayoutRenderingElement, Memory>
     ensures { IfOk result (λ made. view_node made ≡ description) }
 {
@@ -282,7 +282,7 @@ fn link(alloc: Global) -> Result<LayoutRenderingElement, Memory>
 }
 
 /// The resolver's address and the digital object identifier, after a space.
-#[tactic(auto, using(csl_style::proofs::Rolled::group_made))]
+#[tactic(auto, using(csl_elements::proofs::Rolled::group_made))]
 fn address(alloc: Global) -> Result<LayoutRenderingElement, Memory>
     ensures { IfOk result (λ made. view_node made ≡ address) }
 {

@@ -1,7 +1,7 @@
 //! An entry with only a title, and the style that it is cited in.
 
 ghost use Rattle.std.specs.Prelude.{◌≡◌, IfOk};
-ghost use Rattle.csl_style.specs.View.{view_node, view_layout};
+ghost use Rattle.csl_elements.specs.View.{view_node, view_layout};
 ghost use Rattle.csl_samples.specs.Title.{label, title_text, title_group, title_layout, CitesTitles};
 
 use csl_entry::EntryLike;
@@ -113,7 +113,7 @@ fn title_text() -> LayoutRenderingElement
 }
 
 /// The word `Title` and the title, in parentheses.
-#[tactic(auto, using(csl_style::proofs::Rolled::group_made))]
+#[tactic(auto, using(csl_elements::proofs::Rolled::group_made))]
 fn title_group(alloc: Global) -> Result<LayoutRenderingElement, Memory>
     ensures { IfOk result (λ group. view_node group ≡ title_group) }
 {

@@ -2,7 +2,7 @@
 use Rattle.std.proofs.Common.{◌≡◌, ℕ, List, length, slice_index, Option, Some, None, option_map, true, refl, sym, ◌∙◌, subst, arith, Contains}
 use Rattle.std.proofs.lemmas.Bool.Decides.{nat_tests}
 use Rattle.csl_style.specs.GraphReach.{Graph, HasEdge, Reaches, along_edge, along_edges, HasRanks, ArePlaceRanks, IsFirstCyclicPlace}
-use Rattle.csl_style.specs.View.{Definition}
+use Rattle.csl_elements.specs.View.{Definition}
 use Rattle.csl_style.specs.Expansion.{macro_index, macro_body, rank_of, is_below, body_below, IsAcyclic}
 use Rattle.csl_style.specs.MacroCalls.{OneCalls, BodyCalls, LeadsTo, at_once, through}
 use Rattle.csl_style.specs.Calls.{name_at, children_at, IsCallGraph}

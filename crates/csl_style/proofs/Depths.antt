@@ -1,12 +1,12 @@
 -- The depths of a names node and a choose, one level at a time.
 use Rattle.std.proofs.Common.{◌≡◌, ℕ, ◌<◌, suc, max, Bool, true, false, List, ◌∷◌, map, Option, refl, ap, ap₂, ◌∙◌, arith, if◌then◌else◌}
-use Rattle.csl_style.specs.Names.{NamesNode, shorthand_expansion}
-use Rattle.csl_style.specs.Node.{Node, names, Nodes, no_nodes, node, Substitutes, no_substitutes, substitute, ExpandedNode, ExpandedNodes, expanded_text, expanded_macro, unknown_macro, expanded_number, expanded_label, expanded_date, expanded_names, shorthand, expanded_choose, expanded_group, expand, expand_nodes, expand_branches, expand_substitutes, expand_substitute_nodes, as_substitute_child, is_childless}
-use Rattle.csl_style.specs.declared.element.Names.{Names as NamesElement, out-Names}
-use Rattle.csl_style.specs.declared.element.Choose.{Choose, out-Choose}
-use Rattle.csl_style.specs.declared.element.ChooseBranch.{out-ChooseBranch}
-use Rattle.csl_style.specs.declared.element.LayoutRenderingElement.TheFolds.{fold_out-Names}
-use Rattle.csl_style.specs.View.{view_nodes, view_choose, view_names, view_child, substitutes, NamesChildView, a_substitute, BranchView, element_step, child_step, choose_step, branch_step, group_step, names_step, substitute_step}
+use Rattle.csl_elements.specs.Names.{NamesNode, shorthand_expansion}
+use Rattle.csl_elements.specs.Node.{Node, names, Nodes, no_nodes, node, Substitutes, no_substitutes, substitute, ExpandedNode, ExpandedNodes, expanded_text, expanded_macro, unknown_macro, expanded_number, expanded_label, expanded_date, expanded_names, shorthand, expanded_choose, expanded_group, expand, expand_nodes, expand_branches, expand_substitutes, expand_substitute_nodes, as_substitute_child, is_childless}
+use Rattle.csl_elements.specs.declared.element.Names.{Names as NamesElement, out-Names}
+use Rattle.csl_elements.specs.declared.element.Choose.{Choose, out-Choose}
+use Rattle.csl_elements.specs.declared.element.ChooseBranch.{out-ChooseBranch}
+use Rattle.csl_elements.specs.declared.element.LayoutRenderingElement.TheFolds.{fold_out-Names}
+use Rattle.csl_elements.specs.View.{view_nodes, view_choose, view_names, view_child, substitutes, NamesChildView, a_substitute, BranchView, element_step, child_step, choose_step, branch_step, group_step, names_step, substitute_step}
 use Rattle.csl_style.specs.Depth.{node_depth, nodes_depth, branches_depth, substitutes_depth, child_depth}
 use Rattle.csl_style.proofs.YearSuffixes.{behind, choose_out, nodes_out}
 

@@ -1,6 +1,6 @@
 -- A layout is at most as deep as it is large.
 use Rattle.std.proofs.Common.{◌≤◌, suc, arith}
-use Rattle.csl_style.specs.Node.{ExpandedNode, expanded_text, expanded_macro, unknown_macro, expanded_number, expanded_label, expanded_date, expanded_names, shorthand, expanded_choose, expanded_group, ExpandedNodes, no_expanded_nodes, expanded_node, ExpandedBranches, no_expanded_branches, expanded_otherwise, expanded_branch, ExpandedSubstitutes, no_expanded_substitutes, expanded_substitute, ExpandedLayout}
+use Rattle.csl_elements.specs.Node.{ExpandedNode, expanded_text, expanded_macro, unknown_macro, expanded_number, expanded_label, expanded_date, expanded_names, shorthand, expanded_choose, expanded_group, ExpandedNodes, no_expanded_nodes, expanded_node, ExpandedBranches, no_expanded_branches, expanded_otherwise, expanded_branch, ExpandedSubstitutes, no_expanded_substitutes, expanded_substitute, ExpandedLayout}
 use Rattle.csl_style.specs.Depth.{node_depth, nodes_depth, branches_depth, substitutes_depth, layout_depth}
 use Rattle.csl_style.specs.Size.{weight, weights, branches_weight, substitutes_weight, layout_size}
 

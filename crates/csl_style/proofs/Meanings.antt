@@ -2,9 +2,9 @@
 use Rattle.std.proofs.Common.{◌≡◌, ℕ, zero, suc, ◌≤◌, List, [], ◌∷◌, length, slice_index, Option, Some, None, option_map, Bool, true, false, if◌then◌else◌, refl, sym, ap, ap₂, ◌∙◌, ◌&&◌, arith}
 use Rattle.std.proofs.lemmas.Bool.Decides.{nat_tests}
 use Rattle.std.specs.Str.{bytes_eq}
-use Rattle.csl_style.specs.Node.{Node, text, call, number, label, date, names, choose, group, Nodes, no_nodes, node, Branches, no_branches, otherwise, branch, Substitutes, no_substitutes, substitute, ExpandedNodes, expanded_node, expanded_names, expanded_choose, expanded_group, expanded_otherwise, expanded_branch, expanded_substitute, expand, expand_nodes, expand_branches, expand_substitutes, expand_substitute_nodes, expand_call, as_substitute_child}
-use Rattle.csl_style.specs.Names.{NamesNode}
-use Rattle.csl_style.specs.View.{Definition}
+use Rattle.csl_elements.specs.Node.{Node, text, call, number, label, date, names, choose, group, Nodes, no_nodes, node, Branches, no_branches, otherwise, branch, Substitutes, no_substitutes, substitute, ExpandedNodes, expanded_node, expanded_names, expanded_choose, expanded_group, expanded_otherwise, expanded_branch, expanded_substitute, expand, expand_nodes, expand_branches, expand_substitutes, expand_substitute_nodes, expand_call, as_substitute_child}
+use Rattle.csl_elements.specs.Names.{NamesNode}
+use Rattle.csl_elements.specs.View.{Definition}
 use Rattle.csl_style.specs.Expansion.{macro_index, macro_body, expansion_to_depth, macro_expansion, rank_of, is_below, calls_below, all_below, branches_below, substitutes_below, body_below, AreRanks, IsAcyclic}
 
 -- two expansions of names that agree on each name below r

@@ -4,25 +4,25 @@ use Rattle.std.specs.Prelude.{◌||◌, ◌&&◌, not}
 use Rattle.std.specs.BTreeSet.{BTreeSet, Updates, contains, IsEmpty}
 use Rattle.std.specs.List.{list_any}
 use Rattle.std.specs.BTreeMap.{is_at}
-use Rattle.csl_style.specs.declared.taxonomy.Variable.{Variable}
-use Rattle.csl_style.specs.declared.taxonomy.Variable.TheVariants as variable
-use Rattle.csl_style.specs.declared.taxonomy.NumberVariable.{NumberVariable}
-use Rattle.csl_style.specs.declared.taxonomy.PageVariable.{PageVariable}
-use Rattle.csl_style.specs.declared.taxonomy.StandardVariable.{StandardVariable}
-use Rattle.csl_style.specs.declared.taxonomy.NameVariable.{NameVariable}
-use Rattle.csl_style.specs.declared.taxonomy.DateVariable.{DateVariable}
-use Rattle.csl_style.specs.declared.taxonomy.Kind.{Kind}
-use Rattle.csl_style.specs.contracts.taxonomy.NumberVariableOrd.TheImpl.{cmp-value as cmp_number}
-use Rattle.csl_style.specs.contracts.taxonomy.PageVariableOrd.TheImpl.{cmp-value as cmp_page}
-use Rattle.csl_style.specs.contracts.taxonomy.StandardVariableOrd.TheImpl.{cmp-value as cmp_standard}
-use Rattle.csl_style.specs.contracts.taxonomy.NameVariableOrd.TheImpl.{cmp-value as cmp_name}
-use Rattle.csl_style.specs.contracts.taxonomy.DateVariableOrd.TheImpl.{cmp-value as cmp_date}
-use Rattle.csl_style.specs.contracts.taxonomy.KindOrd.TheImpl.{cmp-value as cmp_kind}
-use Rattle.csl_style.specs.declared.named.Named.{Named}
-use Rattle.csl_style.specs.Named.{NamedItem, a_variable, a_kind, named_union, empty_named_set, the_variable, the_kind}
-use Rattle.csl_style.specs.OfCitation.{is_of_citation}
-use Rattle.csl_style.specs.NamedWalk.{named_set}
-use Rattle.csl_style.proofs.Sets.{or_false}
+use Rattle.csl_elements.specs.declared.taxonomy.Variable.{Variable}
+use Rattle.csl_elements.specs.declared.taxonomy.Variable.TheVariants as variable
+use Rattle.csl_elements.specs.declared.taxonomy.NumberVariable.{NumberVariable}
+use Rattle.csl_elements.specs.declared.taxonomy.PageVariable.{PageVariable}
+use Rattle.csl_elements.specs.declared.taxonomy.StandardVariable.{StandardVariable}
+use Rattle.csl_elements.specs.declared.taxonomy.NameVariable.{NameVariable}
+use Rattle.csl_elements.specs.declared.taxonomy.DateVariable.{DateVariable}
+use Rattle.csl_elements.specs.declared.taxonomy.Kind.{Kind}
+use Rattle.csl_elements.specs.contracts.taxonomy.NumberVariableOrd.TheImpl.{cmp-value as cmp_number}
+use Rattle.csl_elements.specs.contracts.taxonomy.PageVariableOrd.TheImpl.{cmp-value as cmp_page}
+use Rattle.csl_elements.specs.contracts.taxonomy.StandardVariableOrd.TheImpl.{cmp-value as cmp_standard}
+use Rattle.csl_elements.specs.contracts.taxonomy.NameVariableOrd.TheImpl.{cmp-value as cmp_name}
+use Rattle.csl_elements.specs.contracts.taxonomy.DateVariableOrd.TheImpl.{cmp-value as cmp_date}
+use Rattle.csl_elements.specs.contracts.taxonomy.KindOrd.TheImpl.{cmp-value as cmp_kind}
+use Rattle.csl_elements.specs.declared.named.Named.{Named}
+use Rattle.csl_elements.specs.NamedSet.{NamedItem, a_variable, a_kind, named_union, empty_named_set, named_set}
+use Rattle.csl_style.specs.Named.{the_variable, the_kind}
+use Rattle.csl_elements.specs.OfCitation.{is_of_citation}
+use Rattle.csl_elements.proofs.Sets.{or_false}
 
 added : (p x : Bool) → cond p true x ≡ (x || p)
 added true true = refl

@@ -6,8 +6,8 @@ use Rattle.std.specs.Map.{update}
 use Rattle.std.specs.Str.{bytes_eq}
 use Rattle.std.proofs.lemmas.Slice.Eq.{bytes_eq-Decides}
 use Rattle.std.proofs.lemmas.List.{at_drop_more}
-use Rattle.csl_style.specs.declared.element.CslMacro.{CslMacro}
-use Rattle.csl_style.specs.View.{definitions, is_named, view_nodes}
+use Rattle.csl_elements.specs.declared.element.CslMacro.{CslMacro}
+use Rattle.csl_elements.specs.View.{definitions, is_named, view_nodes}
 use Rattle.csl_style.specs.Expansion.{macro_index, macro_body}
 use Rattle.csl_style.proofs.Meanings.{body-none}
 use Rattle.csl_style.proofs.Called.{place-is, children-read, length-definitions}

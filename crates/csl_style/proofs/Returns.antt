@@ -1,8 +1,8 @@
 -- If the macros have ranks, none leads back to itself.
 use Rattle.std.proofs.Common.{◌≡◌, ℕ, ◌<◌, List, Option, Some, None, option_map, slice_index, true, nat_lt, refl, sym, ap, ◌∙◌, subst, arith, inl, inr}
 use Rattle.std.proofs.lemmas.Bool.Decides.{nat_tests}
-use Rattle.csl_style.specs.Node.{Node, text, call, number, label, date, names, choose, group, Nodes, no_nodes, node, Branches, no_branches, otherwise, branch, Substitutes, no_substitutes, substitute}
-use Rattle.csl_style.specs.View.{Definition}
+use Rattle.csl_elements.specs.Node.{Node, text, call, number, label, date, names, choose, group, Nodes, no_nodes, node, Branches, no_branches, otherwise, branch, Substitutes, no_substitutes, substitute}
+use Rattle.csl_elements.specs.View.{Definition}
 use Rattle.csl_style.specs.Expansion.{macro_body, macro_index, rank_of, is_below, calls_below, all_below, branches_below, substitutes_below, body_below, AreRanks, IsAcyclic}
 use Rattle.csl_style.specs.MacroCalls.{Calls, OneCalls, BranchCalls, SubstituteCalls, BodyCalls, LeadsTo, at_once, through}
 use Rattle.csl_style.specs.Cyclic.{HasNoCycle}

@@ -1,7 +1,7 @@
 -- What a name stands for, by the place of its macro, and whether a text of the year suffix is in it.
 use Rattle.std.proofs.Common.{◌≡◌, ℕ, List, Bool, false, slice_index_or, Option, Some, None, option_map, IfSome, ap, ◌∙◌}
-use Rattle.csl_style.specs.Node.{expand_nodes}
-use Rattle.csl_style.specs.View.{Definition}
+use Rattle.csl_elements.specs.Node.{expand_nodes}
+use Rattle.csl_elements.specs.View.{Definition}
 use Rattle.csl_style.specs.Expansion.{macro_index, macro_expansion, IsAcyclic}
 use Rattle.csl_style.specs.Calls.{children_at}
 use Rattle.csl_style.specs.YearSuffix.{any_has_year_suffix, macro_has_year_suffix, AreKnown}

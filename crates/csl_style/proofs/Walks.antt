@@ -5,17 +5,18 @@ use Rattle.std.proofs.lemmas.Slice.Eq.{bytes_eq-Decides}
 use Rattle.std.specs.BTreeMap.{is_at}
 use Rattle.std.specs.BTreeSet.{BTreeSet, Updates, contains}
 use denote.Bor.{Bor}
-use Rattle.csl_style.specs.NamedWalk.{named_set, WalkView, Adds, Covers, text_cmp}
-use Rattle.csl_style.specs.Named.{NamedSet, empty_named_set, named_union, named_in_node, named_in_nodes, named_in_substitutes, named_in_names, named_in_macro, each_of, each_if, the_name, the_variable, the_date, the_kind, named_in_child, named_in_tests, named_in_branches}
-use Rattle.csl_style.specs.Names.{NamesNode, shorthand_expansion}
-use Rattle.csl_style.specs.Node.{Node, names, Nodes, no_nodes, node, Substitutes, no_substitutes, substitute, ExpandedNode, ExpandedNodes, expanded_names, shorthand, expand, expand_nodes, expand_branches, expand_substitutes, expand_substitute_nodes, as_substitute_child, is_childless}
+use Rattle.csl_elements.specs.NamedSet.{named_set, NamedSet, empty_named_set, named_union}
+use Rattle.csl_style.specs.NamedWalk.{WalkView, Adds, Covers, text_cmp}
+use Rattle.csl_style.specs.Named.{named_in_node, named_in_nodes, named_in_substitutes, named_in_names, named_in_macro, each_of, each_if, the_name, the_variable, the_date, the_kind, named_in_child, named_in_tests, named_in_branches}
+use Rattle.csl_elements.specs.Names.{NamesNode, shorthand_expansion}
+use Rattle.csl_elements.specs.Node.{Node, names, Nodes, no_nodes, node, Substitutes, no_substitutes, substitute, ExpandedNode, ExpandedNodes, expanded_names, shorthand, expand, expand_nodes, expand_branches, expand_substitutes, expand_substitute_nodes, as_substitute_child, is_childless}
 use Rattle.csl_style.specs.Style.{StyleParts}
-use Rattle.csl_style.specs.View.{view_choose, view_branch, view_names, view_child, substitutes, NamesChildView, a_substitute, BranchView, element_step, child_step, choose_step, branch_step, group_step, names_step, substitute_step}
-use Rattle.csl_style.specs.declared.element.Choose.{Choose, out-Choose}
-use Rattle.csl_style.specs.declared.element.ChooseBranch.{ChooseBranch, out-ChooseBranch}
-use Rattle.csl_style.specs.declared.element.LayoutRenderingElement.TheFolds.{fold_out-Names, fold_out-ChooseBranch}
-use Rattle.csl_style.specs.declared.element.Names.{Names as NamesElement, out-Names}
-use Rattle.csl_style.proofs.Sets.{join_assoc, join_none, none_join, join_same, join_twice, absorbs_more}
+use Rattle.csl_elements.specs.View.{view_choose, view_branch, view_names, view_child, substitutes, NamesChildView, a_substitute, BranchView, element_step, child_step, choose_step, branch_step, group_step, names_step, substitute_step}
+use Rattle.csl_elements.specs.declared.element.Choose.{Choose, out-Choose}
+use Rattle.csl_elements.specs.declared.element.ChooseBranch.{ChooseBranch, out-ChooseBranch}
+use Rattle.csl_elements.specs.declared.element.LayoutRenderingElement.TheFolds.{fold_out-Names, fold_out-ChooseBranch}
+use Rattle.csl_elements.specs.declared.element.Names.{Names as NamesElement, out-Names}
+use Rattle.csl_elements.proofs.Sets.{join_assoc, join_none, none_join, join_same, join_twice, absorbs_more}
 use Rattle.csl_style.proofs.YearSuffixes.{behind, choose_out}
 
 pub adds_nothing : (w : WalkView) → Adds empty_named_set w w

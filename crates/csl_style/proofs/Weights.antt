@@ -1,12 +1,12 @@
 -- The weights of a names node, a branch and a choose, one level at a time.
 use Rattle.std.proofs.Common.{◌≡◌, ℕ, ◌+◌, suc, Bool, true, false, List, ◌∷◌, map, length, Option, option_map, refl, ap, ap₂, ◌∙◌, arith, if◌then◌else◌}
-use Rattle.csl_style.specs.Names.{NamesNode, shorthand_expansion}
-use Rattle.csl_style.specs.Node.{Node, names, Nodes, no_nodes, node, Substitutes, no_substitutes, substitute, ExpandedNode, ExpandedNodes, expanded_names, shorthand, expand, expand_nodes, expand_branches, expand_substitutes, expand_substitute_nodes, as_substitute_child, is_childless}
-use Rattle.csl_style.specs.declared.element.Names.{Names as NamesElement, out-Names}
-use Rattle.csl_style.specs.declared.element.Choose.{Choose, out-Choose}
-use Rattle.csl_style.specs.declared.element.ChooseBranch.{ChooseBranch, out-ChooseBranch}
-use Rattle.csl_style.specs.declared.element.LayoutRenderingElement.TheFolds.{fold_out-Names, fold_out-ChooseBranch}
-use Rattle.csl_style.specs.View.{view_nodes, view_choose, view_branch, view_names, view_child, substitutes, name_children, NamesChildView, a_name, a_substitute, BranchView, element_step, child_step, choose_step, branch_step, group_step, names_step, substitute_step}
+use Rattle.csl_elements.specs.Names.{NamesNode, shorthand_expansion}
+use Rattle.csl_elements.specs.Node.{Node, names, Nodes, no_nodes, node, Substitutes, no_substitutes, substitute, ExpandedNode, ExpandedNodes, expanded_names, shorthand, expand, expand_nodes, expand_branches, expand_substitutes, expand_substitute_nodes, as_substitute_child, is_childless}
+use Rattle.csl_elements.specs.declared.element.Names.{Names as NamesElement, out-Names}
+use Rattle.csl_elements.specs.declared.element.Choose.{Choose, out-Choose}
+use Rattle.csl_elements.specs.declared.element.ChooseBranch.{ChooseBranch, out-ChooseBranch}
+use Rattle.csl_elements.specs.declared.element.LayoutRenderingElement.TheFolds.{fold_out-Names, fold_out-ChooseBranch}
+use Rattle.csl_elements.specs.View.{view_nodes, view_choose, view_branch, view_names, view_child, substitutes, name_children, NamesChildView, a_name, a_substitute, BranchView, element_step, child_step, choose_step, branch_step, group_step, names_step, substitute_step}
 use Rattle.csl_style.specs.Size.{list_weight, tests_weight, name_children_weight, weight, weights, branches_weight, substitutes_weight, child_weight, branch_weight}
 use Rattle.csl_style.proofs.YearSuffixes.{behind, choose_out, nodes_out}
 

@@ -1,15 +1,15 @@
 -- A names node and a choose, one level at a time: whether a text of the year suffix is in them, and
 -- their sizes.
 use Rattle.std.proofs.Common.{◌≡◌, ℕ, ◌+◌, suc, Bool, true, false, ◌||◌, List, ◌∷◌, map, Option, option_map, refl, ap, ap₂, ◌∙◌, arith, if◌then◌else◌}
-use Rattle.csl_style.specs.Names.{NamesNode, shorthand_expansion}
-use Rattle.csl_style.specs.Node.{Node, names, choose, Nodes, no_nodes, node, Substitutes, no_substitutes, substitute, Branches, branch, ExpandedNode, ExpandedNodes, expanded_names, shorthand, expand, expand_nodes, expand_branches, expand_substitutes, expand_substitute_nodes, as_substitute_child, is_childless, size, sizes, expanded_branches_size, expanded_substitutes_size}
-use Rattle.csl_style.specs.declared.element.Names.{Names as NamesElement, out-Names}
-use Rattle.csl_style.specs.declared.element.Choose.{Choose, out-Choose}
-use Rattle.csl_style.specs.declared.element.ChooseBranch.{ChooseBranch, out-ChooseBranch}
-use Rattle.csl_style.specs.declared.element.LayoutRenderingElement.TheFolds.{fold_out-Names, fold_out-ChooseBranch}
-use Rattle.csl_style.specs.View.{view_nodes, view_choose, view_branch, branches_of, view_names, view_child, substitutes, NamesChildView, a_substitute, BranchView, element_step, child_step, choose_step, branch_step, group_step, names_step, substitute_step}
+use Rattle.csl_elements.specs.Names.{NamesNode, shorthand_expansion}
+use Rattle.csl_elements.specs.Node.{Node, names, choose, Nodes, no_nodes, node, Substitutes, no_substitutes, substitute, Branches, branch, ExpandedNode, ExpandedNodes, expanded_names, shorthand, expand, expand_nodes, expand_branches, expand_substitutes, expand_substitute_nodes, as_substitute_child, is_childless, size, sizes, expanded_branches_size, expanded_substitutes_size}
+use Rattle.csl_elements.specs.declared.element.Names.{Names as NamesElement, out-Names}
+use Rattle.csl_elements.specs.declared.element.Choose.{Choose, out-Choose}
+use Rattle.csl_elements.specs.declared.element.ChooseBranch.{ChooseBranch, out-ChooseBranch}
+use Rattle.csl_elements.specs.declared.element.LayoutRenderingElement.TheFolds.{fold_out-Names, fold_out-ChooseBranch}
+use Rattle.csl_elements.specs.View.{view_nodes, view_choose, view_branch, branches_of, view_names, view_child, substitutes, NamesChildView, a_substitute, BranchView, element_step, child_step, choose_step, branch_step, group_step, names_step, substitute_step}
 use Rattle.csl_style.specs.Expanded.{child_size}
-use Rattle.csl_style.proofs.Rolled.{choose_view}
+use Rattle.csl_elements.proofs.Rolled.{choose_view}
 use Rattle.csl_style.specs.YearSuffix.{has_year_suffix, any_has_year_suffix, branches_have_year_suffix, substitutes_have_year_suffix, child_has_year_suffix}
 
 -- the substitutes of a names node as written: whether a text of the year suffix is in one, and

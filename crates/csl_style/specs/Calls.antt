@@ -9,8 +9,8 @@ use Rattle.std.specs.BTreeMap as tree
 use Rattle.csl_style.specs.declared.places.Places.{Places}
 use Rattle.csl_style.specs.declared.places.Places.TheVariants.{Few, Many}
 use Rattle.csl_style.specs.GraphReach.{Graph, row_at}
-use Rattle.csl_style.specs.Node.{Node, text, call, number, label, date, names, choose, group, Nodes, no_nodes, node, Branches, no_branches, otherwise, branch, Substitutes, no_substitutes, substitute}
-use Rattle.csl_style.specs.View.{Definition}
+use Rattle.csl_elements.specs.Node.{Node, text, call, number, label, date, names, choose, group, Nodes, no_nodes, node, Branches, no_branches, otherwise, branch, Substitutes, no_substitutes, substitute}
+use Rattle.csl_elements.specs.View.{Definition}
 use Rattle.csl_style.specs.Expansion.{macro_index}
 
 abbrev mutual

@@ -1,7 +1,7 @@
 -- A style is cyclic if some macro leads back to itself (CSL 1.0.2, Macro). It is refused for the
 -- first such macro of its list. A macro that an earlier one of the same name hides does not count.
 use Rattle.std.specs.Prelude.{◌≡◌, ℕ, ◌<◌, List, Some}
-use Rattle.csl_style.specs.View.{Definition}
+use Rattle.csl_elements.specs.View.{Definition}
 use Rattle.csl_style.specs.Expansion.{macro_index}
 use Rattle.csl_style.specs.MacroCalls.{LeadsTo}
 

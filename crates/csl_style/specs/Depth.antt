@@ -3,8 +3,8 @@
 -- a macro that the style has holds the nodes of the macro. A names node holds those of its
 -- substitutes, and a choose those of its branches.
 use Rattle.std.specs.Prelude.{ℕ, suc, max, List, Option}
-use Rattle.csl_style.specs.View.{NamesChildView, a_name, an_et_al, a_label, a_substitute}
-use Rattle.csl_style.specs.Node.{ExpandedNode, expanded_text, expanded_macro, unknown_macro, expanded_number, expanded_label, expanded_date, expanded_names, shorthand, expanded_choose, expanded_group, ExpandedNodes, no_expanded_nodes, expanded_node, ExpandedBranches, no_expanded_branches, expanded_otherwise, expanded_branch, ExpandedSubstitutes, no_expanded_substitutes, expanded_substitute, ExpandedLayout, expand_nodes}
+use Rattle.csl_elements.specs.View.{NamesChildView, a_name, an_et_al, a_label, a_substitute}
+use Rattle.csl_elements.specs.Node.{ExpandedNode, expanded_text, expanded_macro, unknown_macro, expanded_number, expanded_label, expanded_date, expanded_names, shorthand, expanded_choose, expanded_group, ExpandedNodes, no_expanded_nodes, expanded_node, ExpandedBranches, no_expanded_branches, expanded_otherwise, expanded_branch, ExpandedSubstitutes, no_expanded_substitutes, expanded_substitute, ExpandedLayout, expand_nodes}
 
 abbrev mutual
   pub node_depth : ExpandedNode → ℕ

@@ -1,7 +1,7 @@
 -- Rendering elements, which are layouts or nodes, with all macros expanded (CSL 1.0.2, Macro).
 use Rattle.std.specs.Prelude.{ℕ, suc, List, Option}
-use Rattle.csl_style.specs.Node.{ExpandedNode, ExpandedNodes, ExpandedLayout, expand, expand_nodes, expand_layout, sizes}
-use Rattle.csl_style.specs.View.{ElementView, of_layout, of_node, NamesChildView, a_name, an_et_al, a_label, a_substitute, definitions}
+use Rattle.csl_elements.specs.Node.{ExpandedNode, ExpandedNodes, ExpandedLayout, expand, expand_nodes, expand_layout, sizes}
+use Rattle.csl_elements.specs.View.{ElementView, of_layout, of_node, NamesChildView, a_name, an_et_al, a_label, a_substitute, definitions}
 use Rattle.csl_style.specs.Style.{StyleParts}
 use Rattle.csl_style.specs.Expansion.{macro_expansion}
 

@@ -4,8 +4,8 @@
 -- its macro, with each name in them replaced in the same way (`macro_expansion`).
 use Rattle.std.specs.Prelude.{◌≡◌, ℕ, zero, suc, nat_lt, Bool, true, ◌&&◌, List, [], ◌∷◌, length, slice_index, Option, Some, None, option_map, if◌then◌else◌}
 use Rattle.std.specs.Str.{bytes_eq}
-use Rattle.csl_style.specs.Node.{Node, text, call, number, label, date, names, choose, group, Nodes, no_nodes, node, Branches, no_branches, otherwise, branch, Substitutes, no_substitutes, substitute, ExpandedNodes, expand_nodes}
-use Rattle.csl_style.specs.View.{Definition}
+use Rattle.csl_elements.specs.Node.{Node, text, call, number, label, date, names, choose, group, Nodes, no_nodes, node, Branches, no_branches, otherwise, branch, Substitutes, no_substitutes, substitute, ExpandedNodes, expand_nodes}
+use Rattle.csl_elements.specs.View.{Definition}
 
 -- the place of the first macro of the name
 abbrev pub macro_index : List ℕ → List Definition → Option ℕ

@@ -1,31 +1,32 @@
--- The definitions that the contracts of `csl_style` cite: styles, locales and nodes as plain data,
--- and the properties that depend on a style alone.
-pub mod Date
-pub mod Formatting
-pub mod Dressing
-pub mod Locale
-pub mod NameOptions
-pub mod Names
-pub mod Node
-pub mod View
-pub mod Inside
-pub mod Constructors
+-- The definitions that the contracts of `csl_style` cite: styles and expanded nodes as plain data,
+-- and the properties that depend on a style alone. Those of `csl_elements` are handed on.
 pub mod Missing
 pub mod Expansion
 pub mod MacroCalls
 pub mod GraphReach
 pub mod Calls
 pub mod Cyclic
-pub mod Ordinal
 pub mod Style
-pub mod Taxonomy
-pub mod Term
 pub mod YearSuffix
 pub mod Expanded
 pub mod Depth
 pub mod Size
 pub mod Scopes
-pub mod OfCitation
-pub mod NamesParts
 pub mod Named
 pub mod NamedWalk
+pub use Rattle.csl_elements.specs.Date
+pub use Rattle.csl_elements.specs.Formatting
+pub use Rattle.csl_elements.specs.Dressing
+pub use Rattle.csl_elements.specs.Locale
+pub use Rattle.csl_elements.specs.NameOptions
+pub use Rattle.csl_elements.specs.Names
+pub use Rattle.csl_elements.specs.Node
+pub use Rattle.csl_elements.specs.View
+pub use Rattle.csl_elements.specs.Inside
+pub use Rattle.csl_elements.specs.Constructors
+pub use Rattle.csl_elements.specs.Ordinal
+pub use Rattle.csl_elements.specs.Taxonomy
+pub use Rattle.csl_elements.specs.Term
+pub use Rattle.csl_elements.specs.OfCitation
+pub use Rattle.csl_elements.specs.NamesParts
+pub use Rattle.csl_elements.specs.NamedSet

@@ -5,9 +5,9 @@
 -- substitutes may call macros. The search does not follow calls.
 use Rattle.std.specs.Prelude.{ℕ, zero, suc, nat_eq, Bool, List, [], ◌∷◌, Option, Some, None, if◌then◌else◌}
 use Rattle.std.specs.Option.{option_or, option_eq}
-use Rattle.csl_style.specs.Node.{Node, text, call, number, label, date, names, choose, group, Nodes, no_nodes, node, Branches, no_branches, otherwise, branch, Substitutes, no_substitutes, substitute}
-use Rattle.csl_style.specs.declared.element.Layout.{Layout}
-use Rattle.csl_style.specs.View.{Definition, definitions, view_layout, NamesChildView, a_name, an_et_al, a_label, a_substitute}
+use Rattle.csl_elements.specs.Node.{Node, text, call, number, label, date, names, choose, group, Nodes, no_nodes, node, Branches, no_branches, otherwise, branch, Substitutes, no_substitutes, substitute}
+use Rattle.csl_elements.specs.declared.element.Layout.{Layout}
+use Rattle.csl_elements.specs.View.{Definition, definitions, view_layout, NamesChildView, a_name, an_et_al, a_label, a_substitute}
 use Rattle.csl_style.specs.Expansion.{macro_index, macro_body}
 use Rattle.csl_style.specs.Style.{StyleParts}
 

@@ -5,39 +5,25 @@
 --   and kinds in `type`.
 -- Every branch counts, chosen or not, and so does every substitute. A names node without children
 -- in a substitute names its variables as written and as rendered. A macro that the style lacks
--- names nothing. The four variables of the citation (`OfCitation`) are not named. A set is a
--- function from variables and kinds to a boolean (`NamedSet`). Only private contracts cite
--- `named_in_child` and `named_in_branch`.
-use Rattle.std.specs.Prelude.{ℕ, Bool, false, not, ◌&&◌, ◌||◌, List, [], ◌∷◌, Option, Some, None}
+-- names nothing. The four variables of the citation (`OfCitation`) are not named. Only private
+-- contracts cite `named_in_child` and `named_in_branch`.
+use Rattle.std.specs.Prelude.{ℕ, false, not, ◌&&◌, List, [], ◌∷◌, Option, Some, None}
 use Rattle.std.specs.BTreeMap.{is_at}
-use Rattle.csl_style.specs.declared.taxonomy.Variable.{Variable}
-use Rattle.csl_style.specs.declared.taxonomy.Variable.TheVariants as variable
-use Rattle.csl_style.specs.declared.taxonomy.NumberOrPageVariable.{NumberOrPageVariable}
-use Rattle.csl_style.specs.declared.taxonomy.NumberOrPageVariable.TheVariants as either
-use Rattle.csl_style.specs.declared.taxonomy.NameVariable.{NameVariable}
-use Rattle.csl_style.specs.declared.taxonomy.DateVariable.{DateVariable}
-use Rattle.csl_style.specs.declared.taxonomy.Kind.{Kind}
-use Rattle.csl_style.specs.contracts.taxonomy.VariableOrd.TheImpl.{cmp-value as cmp_variable}
-use Rattle.csl_style.specs.contracts.taxonomy.KindOrd.TheImpl.{cmp-value as cmp_kind}
-use Rattle.csl_style.specs.Names.{NamesNode}
-use Rattle.csl_style.specs.OfCitation.{is_of_citation}
-use Rattle.csl_style.specs.View.{NamesChildView, a_name, an_et_al, a_label, a_substitute, BranchView}
-use Rattle.csl_style.specs.Node.{Target, of_variable, of_term, of_value, Tests, ExpandedNode, expanded_text, expanded_macro, unknown_macro, expanded_number, expanded_label, expanded_date, expanded_names, shorthand, expanded_choose, expanded_group, ExpandedNodes, no_expanded_nodes, expanded_node, ExpandedBranches, no_expanded_branches, expanded_otherwise, expanded_branch, ExpandedSubstitutes, no_expanded_substitutes, expanded_substitute, expand_nodes}
-
--- an item that a style may name: a variable or a kind
-pub data NamedItem : Type 0 where
-  a_variable : Variable → NamedItem
-  a_kind : Kind → NamedItem
-
-abbrev pub NamedSet : Type 0
-NamedSet = NamedItem → Bool
-
-abbrev pub empty_named_set : NamedSet
-empty_named_set q = false
-
--- the union of two sets
-unfoldable pub named_union : NamedSet → NamedSet → NamedSet
-named_union a b q = a q || b q
+use Rattle.csl_elements.specs.declared.taxonomy.Variable.{Variable}
+use Rattle.csl_elements.specs.declared.taxonomy.Variable.TheVariants as variable
+use Rattle.csl_elements.specs.declared.taxonomy.NumberOrPageVariable.{NumberOrPageVariable}
+use Rattle.csl_elements.specs.declared.taxonomy.NumberOrPageVariable.TheVariants as either
+use Rattle.csl_elements.specs.declared.taxonomy.NameVariable.{NameVariable}
+use Rattle.csl_elements.specs.declared.taxonomy.DateVariable.{DateVariable}
+use Rattle.csl_elements.specs.declared.taxonomy.Kind.{Kind}
+use Rattle.csl_elements.specs.contracts.taxonomy.VariableOrd.TheImpl.{cmp-value as cmp_variable}
+use Rattle.csl_elements.specs.contracts.taxonomy.KindOrd.TheImpl.{cmp-value as cmp_kind}
+pub use Rattle.csl_elements.specs.NamedSet.{NamedItem, a_variable, a_kind, NamedSet, empty_named_set}
+unfoldable pub use Rattle.csl_elements.specs.NamedSet.{named_union}
+use Rattle.csl_elements.specs.Names.{NamesNode}
+use Rattle.csl_elements.specs.OfCitation.{is_of_citation}
+use Rattle.csl_elements.specs.View.{NamesChildView, a_name, an_et_al, a_label, a_substitute, BranchView}
+use Rattle.csl_elements.specs.Node.{Target, of_variable, of_term, of_value, Tests, ExpandedNode, expanded_text, expanded_macro, unknown_macro, expanded_number, expanded_label, expanded_date, expanded_names, shorthand, expanded_choose, expanded_group, ExpandedNodes, no_expanded_nodes, expanded_node, ExpandedBranches, no_expanded_branches, expanded_otherwise, expanded_branch, ExpandedSubstitutes, no_expanded_substitutes, expanded_substitute, expand_nodes}
 
 -- the set of one variable, or of none if it is one of the citation
 unfoldable pub the_variable : Variable → NamedSet

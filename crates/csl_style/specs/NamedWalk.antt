@@ -1,30 +1,16 @@
--- `named_set` reads the six sets of a `Named` as one set (`NamedSet`): one for each type of
--- variable, and one of kinds. A walk over a style adds to it.
+-- A walk over a style adds what it names to a set (`named_set`).
 use Rattle.std.specs.Prelude.{◌≡◌, ℕ, true, List, Option}
 use Rattle.std.specs.BTreeSet.{BTreeSet, contains}
 use Rattle.std.specs.Cmp.Lexicographic.{slice_cmp}
 use Rattle.std.specs.Ordering.{nat_cmp}
 use Rattle.std.specs.declared.cmp.Ordering.{Ordering}
 use denote.Bor.{Bor}
-use Rattle.csl_style.specs.Named.{NamedSet, named_union, a_variable, a_kind, named_in_macro}
-use Rattle.csl_style.specs.Node.{ExpandedNodes}
+use Rattle.csl_elements.specs.NamedSet.{NamedSet, named_union}
+unfoldable pub use Rattle.csl_elements.specs.NamedSet.{named_set}
+use Rattle.csl_style.specs.Named.{named_in_macro}
+use Rattle.csl_elements.specs.Node.{ExpandedNodes}
 use Rattle.csl_style.specs.Style.{StyleParts}
-use Rattle.csl_style.specs.declared.named.Named.{Named}
-use Rattle.csl_style.specs.declared.taxonomy.Variable.TheVariants as variable
-use Rattle.csl_style.specs.contracts.taxonomy.NumberVariableOrd.TheImpl.{cmp-value as cmp_number}
-use Rattle.csl_style.specs.contracts.taxonomy.PageVariableOrd.TheImpl.{cmp-value as cmp_page}
-use Rattle.csl_style.specs.contracts.taxonomy.StandardVariableOrd.TheImpl.{cmp-value as cmp_standard}
-use Rattle.csl_style.specs.contracts.taxonomy.NameVariableOrd.TheImpl.{cmp-value as cmp_name}
-use Rattle.csl_style.specs.contracts.taxonomy.DateVariableOrd.TheImpl.{cmp-value as cmp_date}
-use Rattle.csl_style.specs.contracts.taxonomy.KindOrd.TheImpl.{cmp-value as cmp_kind}
-
-unfoldable pub named_set : Named → NamedSet
-named_set n (a_variable (variable.Number v)) = contains cmp_number.it n.numbers v
-named_set n (a_variable (variable.Page v)) = contains cmp_page.it n.pages v
-named_set n (a_variable (variable.Standard v)) = contains cmp_standard.it n.standards v
-named_set n (a_variable (variable.Name v)) = contains cmp_name.it n.names v
-named_set n (a_variable (variable.Date v)) = contains cmp_date.it n.dates v
-named_set n (a_kind k) = contains cmp_kind.it n.kinds k
+use Rattle.csl_elements.specs.declared.named.Named.{Named}
 
 -- a walk over a style, with the variables and kinds named so far
 pub record WalkView : Type 0 where

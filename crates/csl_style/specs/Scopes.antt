@@ -3,12 +3,12 @@
 -- into quotes and whether only the first day of a month is an ordinal (Locale, style-options).
 -- Without a locale both are false.
 use Rattle.std.specs.Prelude.{Bool, false, List, [], ◌∷◌}
-use Rattle.csl_style.specs.declared.locale.Locale.{Locale}
-use Rattle.csl_style.specs.declared.names.options.InheritableNameOptions.{InheritableNameOptions}
+use Rattle.csl_elements.specs.declared.locale.Locale.{Locale}
+use Rattle.csl_elements.specs.declared.names.options.InheritableNameOptions.{InheritableNameOptions}
 use Rattle.csl_style.specs.declared.style.settings.Scope.{Scope}
 use Rattle.csl_style.specs.declared.style.settings.Scope.TheVariants.{Citation, Bibliography}
 use Rattle.csl_style.specs.declared.style.settings.StyleSettings.{StyleSettings}
-use Rattle.csl_style.specs.NameOptions.{PartialOptions, partial_options, apply_options}
+use Rattle.csl_elements.specs.NameOptions.{PartialOptions, partial_options, apply_options}
 
 -- the options of names that the style sets for the citation, or for the bibliography
 abbrev pub scope_names : Scope → StyleSettings → InheritableNameOptions

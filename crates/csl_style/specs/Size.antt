@@ -5,9 +5,9 @@
 -- too: the parts of a date, the items of a test, the variables of a names node, and its names with
 -- their parts. The weight of a node is its size without the one that it counts in its list.
 use Rattle.std.specs.Prelude.{ℕ, ◌+◌, suc, List, [], ◌∷◌, length, Option, Some, None}
-use Rattle.csl_style.specs.Names.{NamesNode, NameNode}
-use Rattle.csl_style.specs.View.{NamesChildView, a_name, an_et_al, a_label, a_substitute, BranchView}
-use Rattle.csl_style.specs.Node.{Tests, ExpandedNode, expanded_text, expanded_macro, unknown_macro, expanded_number, expanded_label, expanded_date, expanded_names, shorthand, expanded_choose, expanded_group, ExpandedNodes, no_expanded_nodes, expanded_node, ExpandedBranches, no_expanded_branches, expanded_otherwise, expanded_branch, ExpandedSubstitutes, no_expanded_substitutes, expanded_substitute, ExpandedLayout, expand_nodes}
+use Rattle.csl_elements.specs.Names.{NamesNode, NameNode}
+use Rattle.csl_elements.specs.View.{NamesChildView, a_name, an_et_al, a_label, a_substitute, BranchView}
+use Rattle.csl_elements.specs.Node.{Tests, ExpandedNode, expanded_text, expanded_macro, unknown_macro, expanded_number, expanded_label, expanded_date, expanded_names, shorthand, expanded_choose, expanded_group, ExpandedNodes, no_expanded_nodes, expanded_node, ExpandedBranches, no_expanded_branches, expanded_otherwise, expanded_branch, ExpandedSubstitutes, no_expanded_substitutes, expanded_substitute, ExpandedLayout, expand_nodes}
 
 -- the items of a test, if the branch has it
 abbrev pub list_weight : {A : Type 0} → Option (List A) → ℕ

@@ -3,9 +3,9 @@
 -- to itself. If there is none, it is refused for a Chicago page format (`IsRefusal`). A `Memory`
 -- error may come instead of either.
 use Rattle.std.specs.Prelude.{◌≡◌, ℕ, ◌++◌, Bool, true, false, List, Option, Some, None, ⊤, string_bytes, codes}
-use Rattle.csl_style.specs.declared.element.CslMacro.{CslMacro}
-use Rattle.csl_style.specs.declared.element.Layout.{Layout}
-use Rattle.csl_style.specs.declared.locale.Locale.{Locale}
+use Rattle.csl_elements.specs.declared.element.CslMacro.{CslMacro}
+use Rattle.csl_elements.specs.declared.element.Layout.{Layout}
+use Rattle.csl_elements.specs.declared.locale.Locale.{Locale}
 use Rattle.csl_style.specs.declared.style.settings.PageRangeFormat.{PageRangeFormat}
 use Rattle.csl_style.specs.declared.style.settings.PageRangeFormat.TheVariants.{Expanded, Minimal, MinimalTwo, Chicago15, Chicago16}
 use Rattle.csl_style.specs.declared.style.settings.Scope.{Scope}
@@ -14,8 +14,8 @@ use Rattle.csl_style.specs.declared.style.settings.StyleSettings.{StyleSettings}
 use Rattle.csl_style.specs.declared.style.settings.DemoteNonDroppingParticle.TheVariants.{DisplayAndSort}
 use Rattle.csl_style.specs.declared.style.error.StyleError.{StyleError}
 use Rattle.csl_style.specs.declared.style.error.StyleError.TheVariants.{Memory, CyclicMacro, ChicagoPageFormat}
-use Rattle.csl_style.specs.NameOptions.{PartialOptions, partial_options}
-use Rattle.csl_style.specs.View.{Definition}
+pub use Rattle.csl_elements.specs.NameOptions.{partial_options, no_options}
+use Rattle.csl_elements.specs.View.{Definition}
 use Rattle.csl_style.specs.Cyclic.{IsFirstCyclic, HasNoCycle}
 
 pub record StyleParts : Type 0 where
@@ -63,26 +63,6 @@ abbrev pub refusal_text : StyleError → List ℕ
 refusal_text Memory = codes "out of memory"
 refusal_text (CyclicMacro name) = codes "the macro '" ++ (string_bytes name ++ codes "' leads back to itself")
 refusal_text ChicagoPageFormat = codes "Chicago page formats are not supported"
-
--- no option is set
-abbrev pub no_options : PartialOptions
-no_options = record {
-  and = None;
-  delimiter = None;
-  delimiter_precedes_et_al = None;
-  delimiter_precedes_last = None;
-  et_al_min = None;
-  et_al_use_first = None;
-  et_al_subsequent_min = None;
-  et_al_subsequent_use_first = None;
-  et_al_use_last = None;
-  form = None;
-  initialize = None;
-  initialize_with = None;
-  name_as_sort_order = None;
-  sort_separator = None;
-  names_delimiter = None;
-}
 
 -- the settings of a style that sets nothing
 pub record AreDefaults (s : StyleSettings) : Type 0 where

@@ -3,14 +3,14 @@
 -- never chosen, and in any substitute, also one that is never rendered. A scope whose layout
 -- reaches none, and a scope without a layout, render the suffix implicitly, after the first year.
 use Rattle.std.specs.Prelude.{◌≡◌, ℕ, Bool, true, false, not, ◌||◌, List, length, slice_index_or, Option, Some, None, option_map}
-use Rattle.csl_style.specs.declared.element.Layout.{Layout}
-use Rattle.csl_style.specs.declared.taxonomy.Variable.{Variable}
-use Rattle.csl_style.specs.declared.taxonomy.Variable.TheVariants as variable
-use Rattle.csl_style.specs.declared.taxonomy.StandardVariable.TheVariants.{YearSuffix}
+use Rattle.csl_elements.specs.declared.element.Layout.{Layout}
+use Rattle.csl_elements.specs.declared.taxonomy.Variable.{Variable}
+use Rattle.csl_elements.specs.declared.taxonomy.Variable.TheVariants as variable
+use Rattle.csl_elements.specs.declared.taxonomy.StandardVariable.TheVariants.{YearSuffix}
 use Rattle.csl_style.specs.declared.style.settings.Scope.{Scope}
 use Rattle.csl_style.specs.Style.{StyleParts, layout_of}
-use Rattle.csl_style.specs.View.{Definition, view_layout, NamesChildView, a_name, an_et_al, a_label, a_substitute}
-use Rattle.csl_style.specs.Node.{Target, of_variable, of_term, of_value, ExpandedNode, expanded_text, expanded_macro, unknown_macro, expanded_number, expanded_label, expanded_date, expanded_names, shorthand, expanded_choose, expanded_group, ExpandedNodes, no_expanded_nodes, expanded_node, ExpandedBranches, no_expanded_branches, expanded_otherwise, expanded_branch, ExpandedSubstitutes, no_expanded_substitutes, expanded_substitute, ExpandedLayout, expand_nodes, expand_layout}
+use Rattle.csl_elements.specs.View.{Definition, view_layout, NamesChildView, a_name, an_et_al, a_label, a_substitute}
+use Rattle.csl_elements.specs.Node.{Target, of_variable, of_term, of_value, ExpandedNode, expanded_text, expanded_macro, unknown_macro, expanded_number, expanded_label, expanded_date, expanded_names, shorthand, expanded_choose, expanded_group, ExpandedNodes, no_expanded_nodes, expanded_node, ExpandedBranches, no_expanded_branches, expanded_otherwise, expanded_branch, ExpandedSubstitutes, no_expanded_substitutes, expanded_substitute, ExpandedLayout, expand_nodes, expand_layout}
 use Rattle.csl_style.specs.Expanded.{macro_env}
 use Rattle.csl_style.specs.Expansion.{macro_expansion}
 use Rattle.csl_style.specs.Calls.{children_at}

@@ -3,13 +3,12 @@
 ghost use Rattle.std.specs.Prelude.{◌≡◌, ◌<◌, [], ◌∷◌, ◌++◌, length, IfOk, OnOk};
 ghost use Rattle.std.specs.Option.{option_to_list};
 ghost use Rattle.csl_style.specs.GraphReach.{InRange};
-ghost use Rattle.csl_style.specs.View.{definitions, view_node, view_choose, view_child, view_nodes, substitutes};
+ghost use Rattle.csl_elements.specs.View.{definitions, view_node, view_choose, view_child, view_nodes, substitutes};
 ghost use Rattle.csl_style.specs.Expansion.{macro_index};
 ghost use Rattle.csl_style.specs.Calls.{calls_in, calls_in_all, calls_in_substitutes, IsCallGraph, ArePlacesByName};
 
-use crate::element::{Choose, CslMacro, LayoutRenderingElement, NamesChild};
 use crate::places::Places;
-use crate::text::TextTarget;
+use csl_elements::{Choose, CslMacro, LayoutRenderingElement, NamesChild, TextTarget};
 use std::alloc::{AllocError, Global};
 use std::marker::Model;
 
@@ -23,9 +22,9 @@ pub(crate) struct PlacedMacros<'s> {
 impl<'s> Model for PlacedMacros<'s> {
     ghost use Rattle.std.specs.Prelude.{List};
     ghost use Rattle.std.specs.Coded.{codes};
-    ghost use Rattle.csl_style.specs.contracts.element.CslMacro as of_macro;
-    ghost use Rattle.csl_style.specs.declared.element.CslMacro.{CslMacro};
-    ghost use Rattle.csl_style.specs.View.{definitions};
+    ghost use Rattle.csl_elements.specs.contracts.element.CslMacro as of_macro;
+    ghost use Rattle.csl_elements.specs.declared.element.CslMacro.{CslMacro};
+    ghost use Rattle.csl_elements.specs.View.{definitions};
     ghost use Rattle.csl_style.specs.Calls.{ArePlacesByName};
 
     ghost Value = { List CslMacro };

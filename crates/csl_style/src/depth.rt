@@ -1,14 +1,13 @@
 //! The depth of a layout with all macros expanded (CSL 1.0.2, Macro).
 
 ghost use Rattle.std.specs.Prelude.{◌≡◌, ◌<◌, ◌≤◌, max, IfSome, IfNone};
-ghost use Rattle.csl_style.specs.Node.{expand, expand_nodes, expand_layout};
-ghost use Rattle.csl_style.specs.View.{view_node, view_nodes, view_names, view_child, view_choose, view_layout};
+ghost use Rattle.csl_elements.specs.Node.{expand, expand_nodes, expand_layout};
+ghost use Rattle.csl_elements.specs.View.{view_node, view_nodes, view_names, view_child, view_choose, view_layout};
 ghost use Rattle.csl_style.specs.Expanded.{macro_env};
 ghost use Rattle.csl_style.specs.Depth.{node_depth, nodes_depth, child_depth, layout_depth};
 
-use crate::element::{Choose, Layout, LayoutRenderingElement, Names, NamesChild};
 use crate::style::Style;
-use crate::text::TextTarget;
+use csl_elements::{Choose, Layout, LayoutRenderingElement, Names, NamesChild, TextTarget};
 
 /// The greater of two depths.
 fn deeper(a: usize, b: usize) -> usize

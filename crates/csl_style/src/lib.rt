@@ -1,54 +1,33 @@
-//! CSL styles as data (CSL 1.0.2): their nodes, macros, options and locales.
+//! CSL styles as data (CSL 1.0.2): their settings, macros, layouts and locales. What they are made
+//! of is in `csl_elements`, and this crate hands it on.
 #![tactic(auto)]
 
-pub mod affixes;
 mod call_graph;
 mod cycles;
-pub mod date;
 mod depth;
-pub mod element;
-pub mod formatting;
-pub mod locale;
 mod missing;
 mod named;
-pub mod names;
-mod names_parts;
-pub mod number;
-mod of_citation;
 mod places;
 mod scopes;
 mod size;
 pub mod style;
 mod style_ordinals;
-pub mod taxonomy;
-pub mod term;
-pub mod text;
 mod year_suffix;
 
-pub use affixes::Affixes;
-pub use csl_common::{GrammarGender, LongShortForm, NumberForm, Season};
-pub use date::{Date, DateAnyForm, DateForm, DatePart, DatePartName, DateParts};
-pub use element::{
-    Choose, ChooseBranch, ChooseMatch, CslMacro, Group, Layout, LayoutRenderingElement, Names,
-    NamesChild, RenderingElement, Substitute, TestPosition,
+pub use csl_elements::{
+    Affixes, Choose, ChooseBranch, ChooseMatch, CslMacro, Date, DateAnyForm, DateForm, DatePart,
+    DatePartName, DateParts, DateVariable, DelimiterBehavior, Display, EtAl, FontStyle,
+    FontVariant, FontWeight, Formatting, GrammarGender, Group, InheritableNameOptions,
+    InheritedNameOptions, Kind, Label, LabelPluralize, Layout, LayoutRenderingElement, Locale,
+    LocaleOrdinals, Locator, LongShortForm, Name, NameAnd, NameAsSortOrder, NameForm, NameOptions,
+    NamePart, NamePartName, NameVariable, Named, Names, NamesChild, NamesParts, Number, NumberForm,
+    NumberOrPageVariable, NumberVariable, OrdinalMatch, OrdinalSlot, OrdinalTerm, OtherTerm,
+    PageVariable, PlacedLabel, RenderingElement, Season, StandardVariable, Substitute, Term,
+    TermEntry, TermForm, TestPosition, Text, TextDecoration, TextTarget, Variable,
+    VariablelessLabel, VerticalAlign, affixes, date, element, formatting, locale, names, number,
+    taxonomy, term, text,
 };
-pub use formatting::{
-    Display, FontStyle, FontVariant, FontWeight, Formatting, TextDecoration, VerticalAlign,
-};
-pub use locale::{Locale, LocaleOrdinals, OrdinalMatch, OrdinalSlot, OrdinalTerm, TermEntry};
-pub use named::{Named, named_by};
-pub use names::{
-    DelimiterBehavior, EtAl, InheritableNameOptions, InheritedNameOptions, Name, NameAnd,
-    NameAsSortOrder, NameForm, NameOptions, NamePart, NamePartName,
-};
-pub use names_parts::{NamesParts, PlacedLabel};
-pub use number::{Label, LabelPluralize, Number, VariablelessLabel};
+pub use named::named_by;
 pub use style::{
     DemoteNonDroppingParticle, PageRangeFormat, Scope, Style, StyleError, StyleSettings,
 };
-pub use taxonomy::{
-    DateVariable, Kind, Locator, NameVariable, NumberOrPageVariable, NumberVariable, PageVariable,
-    StandardVariable, Variable,
-};
-pub use term::{OtherTerm, Term, TermForm};
-pub use text::{Text, TextTarget};

@@ -2,11 +2,10 @@
 
 ghost use Rattle.std.specs.Prelude.{◌≡◌, option_map};
 ghost use Rattle.csl_style.specs.Missing.{if_missing, missing_in, missing_in_all, missing_in_child, missing_in_macros, missing_macro};
-ghost use Rattle.csl_style.specs.View.{definitions, view_node, view_child, view_choose, view_nodes};
+ghost use Rattle.csl_elements.specs.View.{definitions, view_node, view_child, view_choose, view_nodes};
 
-use crate::element::{Choose, CslMacro, LayoutRenderingElement, NamesChild};
 use crate::style::Style;
-use crate::text::TextTarget;
+use csl_elements::{Choose, CslMacro, LayoutRenderingElement, NamesChild, TextTarget};
 
 /// Returns the name if the style has no macro of that name.
 fn if_missing<'s>(style: &Style, name: &'s str) -> Option<&'s str>

@@ -2,36 +2,23 @@
 //! 1.0.2, Rendering Elements; Macro; Choose; Substitute).
 
 ghost use Rattle.std.specs.Prelude.{◌≡◌, None, Some, IfSome, IfOk, OnOk, OnErr, IsTrue, option_map};
-ghost use Rattle.csl_style.specs.Node.{expand, expand_nodes, expand_layout};
-ghost use Rattle.csl_style.specs.View.{view_node, view_nodes, view_choose, view_names, view_child, view_branch, view_layout};
-ghost use Rattle.csl_style.specs.Named.{named_union, empty_named_set, the_variable, the_kind, the_name, the_date, the_number_or_page, each_of, each_if, named_in_node, named_in_nodes, named_in_macro, named_in_child, named_in_branch, named_in_tests};
-ghost use Rattle.csl_style.specs.NamedWalk.{named_set, Adds};
+ghost use Rattle.csl_elements.specs.Node.{expand, expand_nodes, expand_layout};
+ghost use Rattle.csl_elements.specs.View.{view_node, view_nodes, view_choose, view_names, view_child, view_branch, view_layout};
+ghost use Rattle.csl_elements.specs.NamedSet.{named_union, empty_named_set, named_set};
+ghost use Rattle.csl_style.specs.Named.{the_variable, the_kind, the_name, the_date, the_number_or_page, each_of, each_if, named_in_node, named_in_nodes, named_in_macro, named_in_child, named_in_branch, named_in_tests};
+ghost use Rattle.csl_style.specs.NamedWalk.{Adds};
 ghost use Rattle.csl_style.specs.Expanded.{macro_env};
 
-use crate::element::{
-    Choose, ChooseBranch, CslMacro, Layout, LayoutRenderingElement, Names, NamesChild,
-};
 use crate::style::Style;
-use crate::taxonomy::{
-    DateVariable, Kind, NameVariable, NumberOrPageVariable, NumberVariable, PageVariable,
-    StandardVariable, Variable,
-};
-use crate::text::TextTarget;
 use csl_common::Memory;
+use csl_elements::{
+    Choose, ChooseBranch, CslMacro, DateVariable, Kind, Layout, LayoutRenderingElement,
+    NameVariable, Named, Names, NamesChild, NumberOrPageVariable, NumberVariable, PageVariable,
+    StandardVariable, TextTarget, Variable,
+};
 use std::alloc::Global;
 use std::collections::BTreeSet;
 use std::marker::Model;
-
-/// Named variables, by their type, and named kinds.
-#[derive(Drop)]
-pub struct Named {
-    pub numbers: BTreeSet<NumberVariable>,
-    pub pages: BTreeSet<PageVariable>,
-    pub standards: BTreeSet<StandardVariable>,
-    pub names: BTreeSet<NameVariable>,
-    pub dates: BTreeSet<DateVariable>,
-    pub kinds: BTreeSet<Kind>,
-}
 
 /// Returns six empty sets.
 #[tactic(auto, using(crate::proofs::Noted::has_nothing))]
@@ -100,10 +87,11 @@ struct Walk<'s> {
 
 impl<'s> Model for Walk<'s> {
     ghost use Rattle.std.specs.Coded.{codes};
-    ghost use Rattle.csl_style.specs.contracts.element.CslMacro as of_macro;
-    ghost use Rattle.csl_style.specs.contracts.element.Layout as of_layout;
+    ghost use Rattle.csl_elements.specs.contracts.element.CslMacro as of_macro;
+    ghost use Rattle.csl_elements.specs.contracts.element.Layout as of_layout;
     ghost use Rattle.csl_style.specs.Expanded.{macro_env};
-    ghost use Rattle.csl_style.specs.NamedWalk.{named_set, WalkView, Covers};
+    ghost use Rattle.csl_elements.specs.NamedSet.{named_set};
+    ghost use Rattle.csl_style.specs.NamedWalk.{WalkView, Covers};
 
     ghost Value = { WalkView };
 
@@ -182,7 +170,6 @@ impl<'s> Walk<'s> {
 fn add_nothing<'s>(walk: &mut Walk<'s>) -> Result<(), Memory>
     ensures { OnOk result (Adds empty_named_set walk.old walk.new) }
 {
-    let _style = walk.style();
     Ok(())
 }
 

@@ -3,11 +3,11 @@
 ghost use Rattle.std.specs.Prelude.{◌≡◌, ℕ, List, IfOk};
 ghost use Rattle.std.specs.HashMap as hash;
 ghost use Rattle.std.specs.BTreeMap as tree;
-ghost use Rattle.csl_style.specs.View.{definitions};
+ghost use Rattle.csl_elements.specs.View.{definitions};
 ghost use Rattle.csl_style.specs.Expansion.{macro_index};
 ghost use Rattle.csl_style.specs.Calls.{place_in, ArePlacesByName};
 
-use crate::element::CslMacro;
+use csl_elements::CslMacro;
 use std::alloc::{AllocError, Global};
 use std::collections::{BTreeMap, HashMap};
 

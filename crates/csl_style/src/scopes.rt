@@ -1,11 +1,11 @@
 //! The settings of a scope, and the options of a style's first locale.
 
 ghost use Rattle.std.specs.Prelude.{◌≡◌};
-ghost use Rattle.csl_style.specs.NameOptions.{inherited_options};
+ghost use Rattle.csl_elements.specs.NameOptions.{inherited_options};
 ghost use Rattle.csl_style.specs.Scopes.{base_options, is_punctuation_in_quote, are_day_ordinals_limited};
 
-use crate::names::InheritedNameOptions;
 use crate::style::{Scope, Style};
+use csl_elements::InheritedNameOptions;
 
 impl Style {
     /// The options that each names node of the scope inherits (CSL 1.0.2, Inheritable Name

@@ -1,15 +1,16 @@
 //! The size of a layout with all macros expanded (CSL 1.0.2, Macro).
 
 ghost use Rattle.std.specs.Prelude.{◌≡◌, ◌+◌, ◌<◌, ◌≤◌, ◌⊎◌, length, option_map, IfSome, IfNone, IsTrue, IsFalse};
-ghost use Rattle.csl_style.specs.Node.{expand, expand_nodes, expand_layout};
-ghost use Rattle.csl_style.specs.View.{view_node, view_nodes, view_names, view_child, view_branch, view_choose, view_layout};
+ghost use Rattle.csl_elements.specs.Node.{expand, expand_nodes, expand_layout};
+ghost use Rattle.csl_elements.specs.View.{view_node, view_nodes, view_names, view_child, view_branch, view_choose, view_layout};
 ghost use Rattle.csl_style.specs.Expanded.{macro_env};
 ghost use Rattle.csl_style.specs.Depth.{node_depth, nodes_depth, child_depth, layout_depth};
 ghost use Rattle.csl_style.specs.Size.{list_weight, tests_weight, weight, weights, branch_weight, child_weight, layout_size};
 
-use crate::element::{Choose, ChooseBranch, Layout, LayoutRenderingElement, Names, NamesChild};
 use crate::style::Style;
-use crate::text::TextTarget;
+use csl_elements::{
+    Choose, ChooseBranch, Layout, LayoutRenderingElement, Names, NamesChild, TextTarget,
+};
 
 /// The room that is left after the items of a test.
 fn room_after_test<T>(items: &Option<Vec<T>>, room: u64) -> Option<u64>

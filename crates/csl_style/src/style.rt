@@ -2,27 +2,24 @@
 //! of a style leads back to itself, directly or through other macros.
 
 ghost use Rattle.std.specs.Prelude.{◌≡◌, false, IfOk, OnOk, IfErr, map, find, option_map, option_copied};
-ghost use Rattle.csl_style.specs.Node.{expand_nodes};
-ghost use Rattle.csl_style.specs.View.{definitions, is_named, view_nodes};
+ghost use Rattle.csl_elements.specs.Node.{expand_nodes};
+ghost use Rattle.csl_elements.specs.View.{definitions, is_named, view_nodes};
 ghost use Rattle.csl_style.specs.Expansion.{macro_body, macro_expansion, macro_index, IsAcyclic};
 ghost use Rattle.csl_style.specs.Calls.{ArePlacesByName};
 ghost use Rattle.csl_style.specs.Cyclic.{HasNoCycle};
-ghost use Rattle.csl_style.specs.Locale.{terms_of, ordinals_of};
-ghost use Rattle.csl_style.specs.Term.{term_text, term_gender};
-ghost use Rattle.csl_style.specs.Ordinal.{ordinals};
-ghost use Rattle.csl_style.specs.Date.{date_in_form};
+ghost use Rattle.csl_elements.specs.Locale.{terms_of, ordinals_of};
+ghost use Rattle.csl_elements.specs.Term.{term_text, term_gender};
+ghost use Rattle.csl_elements.specs.Ordinal.{ordinals};
+ghost use Rattle.csl_elements.specs.Date.{date_in_form};
 ghost use Rattle.csl_style.specs.Style.{style_of, layout_of, is_chicago, IsRefusal};
 ghost use Rattle.csl_style.specs.YearSuffix.{is_year_suffix_implicit, reached_layout};
 
 use crate::call_graph::{PlacedMacros, call_graph};
 use crate::cycles::{callers_first, first_cyclic};
-use crate::date::{Date, DateForm};
-use crate::element::{CslMacro, Layout};
-use crate::locale::{Locale, lookup, ordinals};
 use crate::places::{Places, places_by_name};
-use crate::term::{Term, TermForm};
 use crate::year_suffix::{ImplicitSuffix, implicit_suffix};
 use csl_common::GrammarGender;
+use csl_elements::{CslMacro, Date, DateForm, Layout, Locale, Term, TermForm, lookup};
 use std::alloc::Global;
 use std::marker::Model;
 
@@ -49,15 +46,15 @@ pub struct Style {
 impl Model for Style {
     ghost use Rattle.std.specs.Prelude.{◌≡◌, false, Some};
     ghost use Rattle.std.specs.Coded.{codes};
-    ghost use Rattle.csl_style.specs.contracts.element.CslMacro as of_macro;
-    ghost use Rattle.csl_style.specs.contracts.element.Layout as of_layout;
+    ghost use Rattle.csl_elements.specs.contracts.element.CslMacro as of_macro;
+    ghost use Rattle.csl_elements.specs.contracts.element.Layout as of_layout;
     ghost use Rattle.csl_style.specs.Style.{StyleParts};
 
     ghost Value = { StyleParts };
 
     ghost coded = { Prim.hlevel (codes, of_macro.the_row.coded, of_layout.the_row.coded) };
 
-    ghost use Rattle.csl_style.specs.View.{definitions};
+    ghost use Rattle.csl_elements.specs.View.{definitions};
     ghost use Rattle.csl_style.specs.Expansion.{IsAcyclic};
     ghost use Rattle.csl_style.specs.Style.{is_chicago};
     ghost use Rattle.csl_style.specs.Calls.{ArePlacesByName};
@@ -186,15 +183,6 @@ impl Style {
         })
     }
 
-    /// Does nothing. Its contract states that no macro leads back to itself: the macros have ranks,
-    /// and each call leads to a lower rank. It serves callers that follow macro names.
-    pub fn acyclic(&self)
-        ensures ranks { IsAcyclic (definitions self.now.macros) }
-        ensures returns { HasNoCycle (definitions self.now.macros) }
-    {
-        let _macros = &self.macros;
-    }
-
     /// The settings for all nodes of the style. The page format is none of the Chicago ones.
     pub fn settings(&self) -> &StyleSettings
         ensures value { result.now ≡ self.now.settings }
@@ -294,7 +282,7 @@ impl Style {
         ensures { option_map (λ text. text.now) result
             ≡ ordinals (map ordinals_of self.now.locales) number gender }
     {
-        ordinals::ordinal(&self.locales, number, gender)
+        lookup::ordinal(&self.locales, number, gender)
     }
 
     /// The first localized date of a form (CSL 1.0.2, Localized Date Formats).

@@ -2,16 +2,17 @@
 //! text renders the suffix. Otherwise the suffix comes after the first year.
 
 ghost use Rattle.std.specs.Prelude.{◌≡◌, ◌<◌, false, length, IfSome, IfOk, IsTrue, None, Some, option_copied};
-ghost use Rattle.csl_style.specs.Node.{expand, expand_nodes};
-ghost use Rattle.csl_style.specs.View.{definitions, view_node, view_nodes, view_names, view_child, view_choose};
+ghost use Rattle.csl_elements.specs.Node.{expand, expand_nodes};
+ghost use Rattle.csl_elements.specs.View.{definitions, view_node, view_nodes, view_names, view_child, view_choose};
 ghost use Rattle.csl_style.specs.Expansion.{macro_expansion, IsAcyclic};
 ghost use Rattle.csl_style.specs.Calls.{children_at, ArePlacesByName};
 ghost use Rattle.csl_style.specs.YearSuffix.{is_year_suffix, has_year_suffix, any_has_year_suffix, child_has_year_suffix, macro_has_year_suffix, is_implicit_in};
 
-use crate::element::{Choose, CslMacro, Layout, LayoutRenderingElement, Names, NamesChild};
 use crate::places::Places;
-use crate::taxonomy::{StandardVariable, Variable};
-use crate::text::TextTarget;
+use csl_elements::{
+    Choose, CslMacro, Layout, LayoutRenderingElement, Names, NamesChild, StandardVariable,
+    TextTarget, Variable,
+};
 use std::alloc::{AllocError, Global};
 use std::marker::Model;
 
@@ -43,9 +44,9 @@ struct Search<'s> {
 impl<'s> Model for Search<'s> {
     ghost use Rattle.std.specs.Prelude.{◌≡◌, List};
     ghost use Rattle.std.specs.Coded.{codes};
-    ghost use Rattle.csl_style.specs.contracts.element.CslMacro as of_macro;
-    ghost use Rattle.csl_style.specs.declared.element.CslMacro.{CslMacro};
-    ghost use Rattle.csl_style.specs.View.{definitions};
+    ghost use Rattle.csl_elements.specs.contracts.element.CslMacro as of_macro;
+    ghost use Rattle.csl_elements.specs.declared.element.CslMacro.{CslMacro};
+    ghost use Rattle.csl_elements.specs.View.{definitions};
     ghost use Rattle.csl_style.specs.Expansion.{IsAcyclic};
     ghost use Rattle.csl_style.specs.Calls.{ArePlacesByName};
     ghost use Rattle.csl_style.specs.YearSuffix.{AreKnown};

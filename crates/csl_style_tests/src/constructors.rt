@@ -3,13 +3,13 @@
 
 ghost use Rattle.std.specs.Prelude.{◌≡◌, IfOk, None, Some, [], ◌∷◌, codes, false, map, true};
 ghost use Rattle.csl_common.specs.declared.form.LongShortForm.TheVariants.{Long};
-ghost use Rattle.csl_style.specs.declared.date.DateForm.TheVariants as in_form;
-ghost use Rattle.csl_style.specs.Constructors.{date_of, localized_date_of, no_tests, short_label_of, texts_around, no_dressing};
-ghost use Rattle.csl_style.specs.Names.{view_label};
-ghost use Rattle.csl_style.specs.Node as node;
-ghost use Rattle.csl_style.specs.Node.{of_value, of_variable};
-ghost use Rattle.csl_style.specs.Style.{no_options};
-ghost use Rattle.csl_style.specs.View.{branches_of, first_et_al, first_label, name_children, substitutes, view_node, view_branch, view_child, view_date, view_nodes};
+ghost use Rattle.csl_elements.specs.declared.date.DateForm.TheVariants as in_form;
+ghost use Rattle.csl_elements.specs.Constructors.{date_of, localized_date_of, no_tests, short_label_of, texts_around, no_dressing};
+ghost use Rattle.csl_elements.specs.Names.{view_label};
+ghost use Rattle.csl_elements.specs.Node as node;
+ghost use Rattle.csl_elements.specs.Node.{of_value, of_variable};
+ghost use Rattle.csl_elements.specs.NameOptions.{no_options};
+ghost use Rattle.csl_elements.specs.View.{branches_of, first_et_al, first_label, name_children, substitutes, view_node, view_branch, view_child, view_date, view_nodes};
 
 use crate::asserted::{assert_same, assert_text};
 use crate::made::{one, put};
@@ -102,7 +102,7 @@ fn spaced_in_words(alloc: Global, parts: Vec<DatePart>) -> Result<Date, Memory>
 }
 
 /// A group in parentheses, with commas between its children.
-#[tactic(auto, using(csl_style::proofs::Rolled::group_made))]
+#[tactic(auto, using(csl_elements::proofs::Rolled::group_made))]
 fn in_parentheses(
     alloc: Global,
     children: Vec<LayoutRenderingElement>,
@@ -120,7 +120,7 @@ fn in_parentheses(
 }
 
 /// The names of variables, with these children.
-#[tactic(auto, using(csl_style::proofs::Rolled::names_made))]
+#[tactic(auto, using(csl_elements::proofs::Rolled::names_made))]
 fn names_by(
     alloc: Global,
     variables: Vec<NameVariable>,
@@ -144,7 +144,7 @@ fn names_by(
 }
 
 /// A branch for entries of these kinds.
-#[tactic(auto, using(csl_style::proofs::Rolled::branch_made))]
+#[tactic(auto, using(csl_elements::proofs::Rolled::branch_made))]
 fn of_kinds(kinds: Vec<Kind>, children: Vec<LayoutRenderingElement>) -> ChooseBranch
     ensures { view_branch result ≡ record {
       tests = record no_tests { type_ = Some kinds.items };
@@ -158,7 +158,7 @@ fn of_kinds(kinds: Vec<Kind>, children: Vec<LayoutRenderingElement>) -> ChooseBr
 }
 
 /// A choice of one branch, and a `cs:else` with these nodes.
-#[tactic(auto, using(csl_style::proofs::Rolled::choose_made))]
+#[tactic(auto, using(csl_elements::proofs::Rolled::choose_made))]
 fn either(
     alloc: Global,
     branch: ChooseBranch,
@@ -175,28 +175,29 @@ fn either(
 }
 
 /// Affixes with a prefix, a suffix, both or neither.
-fn affixes(alloc: Global, prefix: Option<&str>, suffix: Option<&str>) -> Result<Affixes, Memory> {
+fn affixes(rt: &impl Abort, alloc: Global, prefix: Option<&str>, suffix: Option<&str>) -> Affixes {
     match (prefix, suffix) {
-        (None, None) => Ok(Affixes::default()),
-        (Some(prefix), None) => Affixes::before(alloc, prefix),
-        (None, Some(suffix)) => Affixes::after(alloc, suffix),
-        (Some(prefix), Some(suffix)) => Affixes::around(alloc, prefix, suffix),
+        (None, None) => Affixes::default(),
+        (Some(prefix), None) => Affixes::before(alloc, prefix).expect(rt, "memory"),
+        (None, Some(suffix)) => Affixes::after(alloc, suffix).expect(rt, "memory"),
+        (Some(prefix), Some(suffix)) => {
+            Affixes::around(alloc, prefix, suffix).expect(rt, "memory")
+        }
     }
 }
 
 #[test]
-fn affixes_are_on_their_sides(rt: HostRuntime) -> Result<(), Memory> {
+fn affixes_are_on_their_sides(rt: HostRuntime) {
     for (prefix, suffix) in [
         (None, None),
         (Some("in: "), None),
         (None, Some(".")),
         (Some("("), Some(")")),
     ] {
-        let made = affixes(rt.alloc(), prefix, suffix)?;
+        let made = affixes(&rt, rt.alloc(), prefix, suffix);
         assert_text(&rt, made.prefix.as_deref(), prefix);
         assert_text(&rt, made.suffix.as_deref(), suffix);
     }
-    Ok(())
 }
 
 /// The words of a text, or the name of the macro that it calls.
@@ -217,12 +218,13 @@ fn assert_words(rt: &impl Abort, element: LayoutRenderingElement, wanted: &str) 
 }
 
 #[test]
-fn texts_print_words_and_macros(rt: HostRuntime) -> Result<(), Memory> {
+fn texts_print_words_and_macros(rt: HostRuntime) {
     let alloc = rt.alloc();
-    assert_words(&rt, Text::value(alloc, "in press")?.into(), "in press");
-    assert_words(&rt, Text::macro_call(alloc, "author")?.into(), "author");
-    assert_words(&rt, quoted(alloc, "sic")?, "sic");
-    Ok(())
+    let words = Text::value(alloc, "in press").expect(&rt, "memory");
+    assert_words(&rt, words.into(), "in press");
+    let call = Text::macro_call(alloc, "author").expect(&rt, "memory");
+    assert_words(&rt, call.into(), "author");
+    assert_words(&rt, quoted(alloc, "sic").expect(&rt, "memory"), "sic");
 }
 
 /// The attributes of a text node: its formatting, and whether it is in quotes.
@@ -236,15 +238,14 @@ fn attributes(element: LayoutRenderingElement) -> Option<(Formatting, bool)> {
 }
 
 #[test]
-fn texts_have_the_attributes_that_are_set(rt: HostRuntime) -> Result<(), Memory> {
+fn texts_have_the_attributes_that_are_set(rt: HostRuntime) {
     let title = variable_in(StandardVariable::Title.into(), Formatting::italic());
     assert_same(&rt, &attributes(title), &Some((SLANTED, false)));
     let and = Text::term(OtherTerm::And.into());
     let plain = Formatting::default();
     assert_same(&rt, &attributes(and.into()), &Some((plain, false)));
-    let words = quoted(rt.alloc(), "sic")?;
+    let words = quoted(rt.alloc(), "sic").expect(&rt, "memory");
     assert_same(&rt, &attributes(words), &Some((plain, true)));
-    Ok(())
 }
 
 /// The form of a number or of a label.
@@ -274,9 +275,9 @@ fn numbers_and_labels_have_their_forms(rt: HostRuntime) {
 }
 
 /// A date node with the year of publication.
-fn issued(alloc: Global) -> Result<LayoutRenderingElement, Memory> {
-    let parts = one(alloc, DatePart::new(DatePartName::Year))?;
-    spaced_date(alloc, DateVariable::Issued, parts)
+fn issued(rt: &impl Abort, alloc: Global) -> LayoutRenderingElement {
+    let parts = one(rt, alloc, DatePart::new(DatePartName::Year));
+    spaced_date(alloc, DateVariable::Issued, parts).expect(rt, "memory")
 }
 
 fn assert_date(rt: &impl Abort, element: LayoutRenderingElement) {
@@ -292,16 +293,15 @@ fn assert_date(rt: &impl Abort, element: LayoutRenderingElement) {
 }
 
 #[test]
-fn a_localized_date_has_a_form_and_no_variable(rt: HostRuntime) -> Result<(), Memory> {
-    let parts = one(rt.alloc(), DatePart::new(DatePartName::Year))?;
-    let date = spaced_in_words(rt.alloc(), parts)?;
+fn a_localized_date_has_a_form_and_no_variable(rt: HostRuntime) {
+    let parts = one(&rt, rt.alloc(), DatePart::new(DatePartName::Year));
+    let date = spaced_in_words(rt.alloc(), parts).expect(&rt, "memory");
     assert_same(&rt, &date.variable, &None);
     assert_same(&rt, &date.form, &Some(DateForm::Text));
     assert_same(&rt, &date.parts, &None);
     assert_text(&rt, date.delimiter.as_deref(), Some(" "));
     assert_same(&rt, &date.date_part.len(), &1);
     drop(date);
-    Ok(())
 }
 
 fn assert_group(rt: &impl Abort, element: LayoutRenderingElement) {
@@ -316,25 +316,24 @@ fn assert_group(rt: &impl Abort, element: LayoutRenderingElement) {
 }
 
 #[test]
-fn a_group_may_hold_a_date(rt: HostRuntime) -> Result<(), Memory> {
+fn a_group_may_hold_a_date(rt: HostRuntime) {
     let alloc = rt.alloc();
-    assert_date(&rt, issued(alloc)?);
-    let children = one(alloc, issued(alloc)?)?;
-    assert_group(&rt, in_parentheses(alloc, children)?);
-    Ok(())
+    assert_date(&rt, issued(&rt, alloc));
+    let children = one(&rt, alloc, issued(&rt, alloc));
+    assert_group(&rt, in_parentheses(alloc, children).expect(&rt, "memory"));
 }
 
 /// Authors with a name, et al., a long label and a substitute.
-fn authors(alloc: Global) -> Result<LayoutRenderingElement, Memory> {
-    let mut children: Vec<NamesChild> = one(alloc, Name::new(alloc).into())?;
-    put(&mut children, EtAl::default().into())?;
-    put(&mut children, VariablelessLabel::default().into())?;
+fn authors(rt: &impl Abort, alloc: Global) -> LayoutRenderingElement {
+    let mut children: Vec<NamesChild> = one(rt, alloc, Name::new(alloc).into());
+    put(rt, &mut children, EtAl::default().into());
+    put(rt, &mut children, VariablelessLabel::default().into());
     let substitute = Substitute {
         children: Vec::new(alloc),
     };
-    put(&mut children, substitute.into())?;
-    let variables = vec![in alloc; NameVariable::Author]?;
-    Ok(names_by(alloc, variables, children))
+    put(rt, &mut children, substitute.into());
+    let variables = vec![in alloc; NameVariable::Author].expect(rt, "memory");
+    names_by(alloc, variables, children)
 }
 
 fn assert_names(rt: &impl Abort, element: LayoutRenderingElement) {
@@ -355,19 +354,20 @@ fn assert_names(rt: &impl Abort, element: LayoutRenderingElement) {
 }
 
 #[test]
-fn names_have_their_children(rt: HostRuntime) -> Result<(), Memory> {
-    assert_names(&rt, authors(rt.alloc())?);
-    Ok(())
+fn names_have_their_children(rt: HostRuntime) {
+    assert_names(&rt, authors(&rt, rt.alloc()));
 }
 
 /// A group for books, and two words for other entries.
-fn books(alloc: Global) -> Result<LayoutRenderingElement, Memory> {
-    let kinds = vec![in alloc; Kind::Book]?;
+fn books(rt: &impl Abort, alloc: Global) -> LayoutRenderingElement {
+    let kinds = vec![in alloc; Kind::Book].expect(rt, "memory");
     let inner: LayoutRenderingElement = Group::new(Vec::new(alloc)).into();
-    let branch = of_kinds(kinds, one(alloc, inner)?);
-    let mut otherwise: Vec<LayoutRenderingElement> = one(alloc, Text::value(alloc, "no")?.into())?;
-    put(&mut otherwise, Text::value(alloc, "book")?.into())?;
-    Ok(either(alloc, branch, otherwise))
+    let branch = of_kinds(kinds, one(rt, alloc, inner));
+    let no = Text::value(alloc, "no").expect(rt, "memory");
+    let mut otherwise: Vec<LayoutRenderingElement> = one(rt, alloc, no.into());
+    let book = Text::value(alloc, "book").expect(rt, "memory");
+    put(rt, &mut otherwise, book.into());
+    either(alloc, branch, otherwise)
 }
 
 /// The number of elements in the branch of a choice, and in its `cs:else`.
@@ -392,33 +392,32 @@ fn assert_choose(rt: &impl Abort, element: &LayoutRenderingElement) {
 }
 
 #[test]
-fn a_macro_may_hold_a_choice(rt: HostRuntime) -> Result<(), Memory> {
+fn a_macro_may_hold_a_choice(rt: HostRuntime) {
     let alloc = rt.alloc();
-    let children = one(alloc, books(alloc)?)?;
-    let books = CslMacro::new(alloc, "books", children)?;
+    let children = one(&rt, alloc, books(&rt, alloc));
+    let books = CslMacro::new(alloc, "books", children).expect(&rt, "memory");
     assert_text(&rt, Some(books.name.as_str()), Some("books"));
     for element in &books.children {
         assert_choose(&rt, element);
     }
     assert_same(&rt, &books.children.len(), &1);
     drop(books);
-    Ok(())
 }
 
 #[test]
-fn a_layout_holds_its_elements(rt: HostRuntime) -> Result<(), Memory> {
+fn a_layout_holds_its_elements(rt: HostRuntime) {
     let alloc = rt.alloc();
-    let layout = Layout::new(one(alloc, issued(alloc)?)?);
+    let layout = Layout::new(one(&rt, alloc, issued(&rt, alloc)));
     assert_same(&rt, &layout.elements.len(), &1);
     assert_text(&rt, layout.delimiter.as_deref(), None);
     drop(layout);
-    Ok(())
 }
 
 #[test]
-fn terms_have_a_text_for_one_or_two(rt: HostRuntime) -> Result<(), Memory> {
+fn terms_have_a_text_for_one_or_two(rt: HostRuntime) {
     let alloc = rt.alloc();
-    let and = TermEntry::new(alloc, OtherTerm::And.into(), TermForm::Long, "and")?;
+    let and = TermEntry::new(alloc, OtherTerm::And.into(), TermForm::Long, "and");
+    let and = and.expect(&rt, "memory");
     assert_same(&rt, &and.term, &Term::Other(OtherTerm::And));
     assert_same(&rt, &and.form, &TermForm::Long);
     assert_text(&rt, Some(and.text(true)), Some("and"));
@@ -428,16 +427,16 @@ fn terms_have_a_text_for_one_or_two(rt: HostRuntime) -> Result<(), Memory> {
         TermForm::Short,
         "vol.",
         "vols.",
-    )?;
+    )
+    .expect(&rt, "memory");
     assert_same(&rt, &volume.form, &TermForm::Short);
     assert_text(&rt, Some(volume.text(false)), Some("vol."));
     assert_text(&rt, Some(volume.text(true)), Some("vols."));
     let mut locale = Locale::new(alloc);
     assert_same(&rt, &locale.terms.len(), &0);
     assert_same(&rt, &locale.ordinals.len(), &0);
-    put(&mut locale.terms, and)?;
-    put(&mut locale.terms, volume)?;
+    put(&rt, &mut locale.terms, and);
+    put(&rt, &mut locale.terms, volume);
     assert_same(&rt, &locale.terms.len(), &2);
     drop(locale);
-    Ok(())
 }

@@ -3,46 +3,40 @@
 use crate::asserted::assert_same;
 use crate::made::{branch, group, nested, put};
 use csl_style::{Choose, ChooseMatch, LayoutRenderingElement};
-use std::alloc::{AllocError, Global};
+use std::alloc::Global;
 use std::mem::swap;
 use std::process::Abort;
-use std::test::Fail;
 
 /// A choose whose branches have these matches.
 fn new_choose(
+    rt: &impl Abort,
     alloc: Global,
     first: ChooseMatch,
     others: &[ChooseMatch],
-) -> Result<Choose, AllocError> {
+) -> Choose {
     let mut else_if = Vec::new(alloc);
     for match_ in others {
-        put(&mut else_if, branch(*match_, None, Vec::new(alloc)))?;
+        put(rt, &mut else_if, branch(*match_, None, Vec::new(alloc)));
     }
-    Ok(Choose {
+    Choose {
         if_: branch(first, None, Vec::new(alloc)),
         else_if,
         otherwise: None,
-    })
+    }
 }
 
 /// The matches of the branches of a choose, in the order of [`Choose::branches`].
-fn matches_in_order(alloc: Global, choose: &Choose) -> Result<Vec<ChooseMatch>, AllocError> {
+fn matches_in_order(rt: &impl Abort, alloc: Global, choose: &Choose) -> Vec<ChooseMatch> {
     let mut matches = Vec::new(alloc);
     for branch in choose.branches() {
-        matches.push(branch.match_)?;
+        matches.push(branch.match_).expect(rt, "memory");
     }
-    Ok(matches)
+    matches
 }
 
-fn assert_matches(
-    rt: &impl Abort,
-    alloc: Global,
-    choose: &Choose,
-    wanted: &[ChooseMatch],
-) -> Result<(), AllocError> {
-    let answer = matches_in_order(alloc, choose)?;
+fn assert_matches(rt: &impl Abort, alloc: Global, choose: &Choose, wanted: &[ChooseMatch]) {
+    let answer = matches_in_order(rt, alloc, choose);
     assert_same(rt, &answer.as_slice(), &wanted);
-    Ok(())
 }
 
 /// Asserts the order of the branches of a choose with these matches.
@@ -51,19 +45,17 @@ fn assert_in_order(
     alloc: Global,
     (first, others): (ChooseMatch, &[ChooseMatch]),
     wanted: &[ChooseMatch],
-) -> Result<(), AllocError> {
-    let choose = new_choose(alloc, first, others)?;
-    let asserted = assert_matches(rt, alloc, &choose, wanted);
+) {
+    let choose = new_choose(rt, alloc, first, others);
+    assert_matches(rt, alloc, &choose, wanted);
     drop(choose);
-    asserted
 }
 
 #[test]
-fn branches_come_in_order(rt: HostRuntime) -> Result<(), Fail> {
+fn branches_come_in_order(rt: HostRuntime) {
     let others = [ChooseMatch::None, ChooseMatch::Any];
     let wanted = [ChooseMatch::All, ChooseMatch::None, ChooseMatch::Any];
-    assert_in_order(&rt, rt.alloc(), (ChooseMatch::All, &others), &wanted)?;
-    Ok(())
+    assert_in_order(&rt, rt.alloc(), (ChooseMatch::All, &others), &wanted);
 }
 
 /// How often the nodes of a row are nested. Recursion at each level would need more stack than a
@@ -81,33 +73,25 @@ static NESTED: [&'static str; 6] = [
 ];
 
 /// Asserts that nested nodes drop, with `count` nodes at each time.
-fn assert_drop(
-    rt: &impl Abort,
-    alloc: Global,
-    (words, others): (&str, &str),
-    count: usize,
-) -> Result<(), Fail> {
-    let nodes = nested(alloc, words, TIMES, others)?;
+fn assert_drop(rt: &impl Abort, alloc: Global, (words, others): (&str, &str), count: usize) {
+    let nodes = nested(rt, alloc, words, TIMES, others);
     let answer = nodes.len();
     drop(nodes);
     assert_same(rt, &answer, &count);
-    Ok(())
 }
 
 #[test]
-fn deeply_nested_nodes_drop(rt: HostRuntime) -> Result<(), Fail> {
+fn deeply_nested_nodes_drop(rt: HostRuntime) {
     for words in &NESTED {
-        assert_drop(&rt, rt.alloc(), (*words, ""), 1)?;
+        assert_drop(&rt, rt.alloc(), (*words, ""), 1);
     }
-    Ok(())
 }
 
 #[test]
-fn deeply_nested_nodes_with_others_beside_them_drop(rt: HostRuntime) -> Result<(), Fail> {
+fn deeply_nested_nodes_with_others_beside_them_drop(rt: HostRuntime) {
     for words in &NESTED {
-        assert_drop(&rt, rt.alloc(), (*words, "'a 'b"), 3)?;
+        assert_drop(&rt, rt.alloc(), (*words, "'a 'b"), 3);
     }
-    Ok(())
 }
 
 /// Moves the children out of a group. Any other node has none.
@@ -120,12 +104,11 @@ fn take_children(alloc: Global, node: &mut LayoutRenderingElement) -> Vec<Layout
 }
 
 #[test]
-fn a_group_is_taken_apart_through_a_reference(rt: HostRuntime) -> Result<(), Fail> {
+fn a_group_is_taken_apart_through_a_reference(rt: HostRuntime) {
     let alloc = rt.alloc();
-    let mut node = group(nested(alloc, "if", 1, "'a")?);
+    let mut node = group(nested(&rt, alloc, "if", 1, "'a"));
     let first = take_children(alloc, &mut node).len();
     let again = take_children(alloc, &mut node).len();
     drop(node);
     assert_same(&rt, &(first, again), &(2, 0));
-    Ok(())
 }

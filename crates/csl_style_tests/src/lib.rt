@@ -1,5 +1,6 @@
-//! The tests of `csl_style`: its public calls, with inputs and expected results that are written
-//! out by hand. A module tests the module of the same name in `csl_style`, if there is one.
+//! The tests of `csl_style` and of `csl_elements`, which it hands on: their public calls, with inputs
+//! and expected results that are written out by hand. A module tests the module of the same name in
+//! one of the two, if there is one.
 #![tactic(auto)]
 
 #[cfg(test)]

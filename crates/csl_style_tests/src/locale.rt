@@ -11,7 +11,6 @@ use csl_style::{
 use lit_model::{GrammarGender, NumberForm, Numeric, Ordinals};
 use std::alloc::Global;
 use std::process::Abort;
-use std::test::Fail;
 
 const AND: Term = Term::Other(OtherTerm::And);
 
@@ -74,11 +73,12 @@ fn assert_written(
     ordinals: &LocaleOrdinals<'_>,
     (number, form): (i32, NumberForm),
     wanted: &str,
-) -> Result<(), Fail> {
+) {
     let mut text = String::new(alloc);
-    Numeric::new(number).with_form(&mut text, form, None, ordinals)?;
+    Numeric::new(number)
+        .with_form(&mut text, form, None, ordinals)
+        .expect(rt, "memory");
     assert_text(rt, Some(text.as_str()), Some(wanted));
-    Ok(())
 }
 
 /// A number, and its English ordinal.
@@ -97,25 +97,24 @@ fn assert_in_both_forms(
     alloc: Global,
     ordinals: &LocaleOrdinals<'_>,
     &(number, wanted): &(i32, &'static str),
-) -> Result<(), Fail> {
-    assert_written(rt, alloc, ordinals, (number, NumberForm::Ordinal), wanted)?;
+) {
+    assert_written(rt, alloc, ordinals, (number, NumberForm::Ordinal), wanted);
     assert_written(
         rt,
         alloc,
         ordinals,
         (number, NumberForm::LongOrdinal),
         wanted,
-    )
+    );
 }
 
-fn assert_english(rt: &impl Abort, alloc: Global) -> Result<(), Fail> {
-    let locales = locales(alloc, &ENGLISH)?;
+fn assert_english(rt: &impl Abort, alloc: Global) {
+    let locales = locales(rt, alloc, &ENGLISH);
     let ordinals = LocaleOrdinals { locales: &locales };
     let numbers: &[(i32, &'static str)] = &IN_ENGLISH;
     for row in numbers {
-        assert_in_both_forms(rt, alloc, &ordinals, row)?;
+        assert_in_both_forms(rt, alloc, &ordinals, row);
     }
-    Ok(())
 }
 
 const WHOLE: Option<OrdinalMatch> = Some(OrdinalMatch::WholeNumber);
@@ -171,14 +170,13 @@ fn assert_ordinal(
     assert_text(rt, answer, wanted);
 }
 
-fn assert_by_gender_and_digits(rt: &impl Abort, alloc: Global) -> Result<(), Fail> {
-    let locales = locales(alloc, &BY_GENDER_AND_DIGITS)?;
+fn assert_by_gender_and_digits(rt: &impl Abort, alloc: Global) {
+    let locales = locales(rt, alloc, &BY_GENDER_AND_DIGITS);
     let ordinals = LocaleOrdinals { locales: &locales };
     let rows: &[OrdinalRow] = &ORDINALS;
     for row in rows {
         assert_ordinal(rt, &ordinals, row);
     }
-    Ok(())
 }
 
 fn assert_without_locales(rt: &impl Abort) {
@@ -187,11 +185,10 @@ fn assert_without_locales(rt: &impl Abort) {
 }
 
 #[test]
-fn ordinals_by_gender_and_digits(rt: HostRuntime) -> Result<(), Fail> {
-    assert_english(&rt, rt.alloc())?;
-    assert_by_gender_and_digits(&rt, rt.alloc())?;
+fn ordinals_by_gender_and_digits(rt: HostRuntime) {
+    assert_english(&rt, rt.alloc());
+    assert_by_gender_and_digits(&rt, rt.alloc());
     assert_without_locales(&rt);
-    Ok(())
 }
 
 /// Terms in two locales.
@@ -241,11 +238,10 @@ fn assert_terms(rt: &impl Abort, style: &Style) {
     }
 }
 
-fn assert_texts(rt: &impl Abort, alloc: Global) -> Result<(), Fail> {
-    let style = style(alloc, &TERMS)?;
+fn assert_texts(rt: &impl Abort, alloc: Global) {
+    let style = style(rt, alloc, &TERMS);
     assert_terms(rt, &style);
     drop(style);
-    Ok(())
 }
 
 /// A term with a gender and localized dates, in two locales.
@@ -319,19 +315,17 @@ fn assert_gender_and_date(
     assert_same(rt, &answer, &parts);
 }
 
-fn assert_genders(rt: &impl Abort, alloc: Global, row: &GenderRow) -> Result<(), Fail> {
-    let style = style(alloc, row.0)?;
+fn assert_genders(rt: &impl Abort, alloc: Global, row: &GenderRow) {
+    let style = style(rt, alloc, row.0);
     assert_gender_and_date(rt, &style, row);
     drop(style);
-    Ok(())
 }
 
 #[test]
-fn terms_genders_and_dates_by_locale(rt: HostRuntime) -> Result<(), Fail> {
-    assert_texts(&rt, rt.alloc())?;
+fn terms_genders_and_dates_by_locale(rt: HostRuntime) {
+    assert_texts(&rt, rt.alloc());
     let rows: &[GenderRow] = &GENDERS;
     for row in rows {
-        assert_genders(&rt, rt.alloc(), row)?;
+        assert_genders(&rt, rt.alloc(), row);
     }
-    Ok(())
 }

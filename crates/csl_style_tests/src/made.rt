@@ -6,7 +6,8 @@ use csl_style::{
     OrdinalMatch, OrdinalSlot, OrdinalTerm, PageRangeFormat, StandardVariable, Style, StyleError,
     StyleSettings, Substitute, Term, TermEntry, TermForm, Text, TextTarget, Variable,
 };
-use std::alloc::{AllocError, Global};
+use std::alloc::Global;
+use std::process::Abort;
 
 /// A term: its name, its form, the text in the singular, the text in the plural, and its gender.
 pub(crate) type TermRow<'s> = (
@@ -45,97 +46,99 @@ pub(crate) const SILENT: LocaleRows<'static> = LocaleRows {
 };
 
 /// Appends an item.
-pub(crate) fn put<T: Drop>(items: &mut Vec<T>, item: T) -> Result<(), AllocError> {
-    Ok(items.push(item)?)
+pub(crate) fn put<T: Drop>(rt: &impl Abort, items: &mut Vec<T>, item: T) {
+    items.push(item).expect(rt, "memory");
 }
 
 /// A list of one item.
-pub(crate) fn one<T: Drop>(alloc: Global, item: T) -> Result<Vec<T>, AllocError> {
+pub(crate) fn one<T: Drop>(rt: &impl Abort, alloc: Global, item: T) -> Vec<T> {
     let mut items = Vec::new(alloc);
-    put(&mut items, item)?;
-    Ok(items)
+    put(rt, &mut items, item);
+    items
 }
 
 /// A copy of a text, if there is one.
-pub(crate) fn copy_text(alloc: Global, text: Option<&str>) -> Result<Option<String>, AllocError> {
+pub(crate) fn copy_text(rt: &impl Abort, alloc: Global, text: Option<&str>) -> Option<String> {
     match text {
-        Some(text) => Ok(Some(String::from_str(alloc, text)?)),
-        None => Ok(None),
+        Some(text) => Some(String::from_str(alloc, text).expect(rt, "memory")),
+        None => None,
     }
 }
 
 fn term(
+    rt: &impl Abort,
     alloc: Global,
     &(term, form, single, multiple, gender): &TermRow<'_>,
-) -> Result<TermEntry, AllocError> {
-    Ok(TermEntry {
+) -> TermEntry {
+    TermEntry {
         term,
         form,
-        single: String::from_str(alloc, single)?,
-        multiple: copy_text(alloc, multiple)?,
+        single: String::from_str(alloc, single).expect(rt, "memory"),
+        multiple: copy_text(rt, alloc, multiple),
         gender,
-    })
+    }
 }
 
-fn terms(alloc: Global, rows: &[TermRow<'_>]) -> Result<Vec<TermEntry>, AllocError> {
+fn terms(rt: &impl Abort, alloc: Global, rows: &[TermRow<'_>]) -> Vec<TermEntry> {
     let mut terms = Vec::new(alloc);
     for row in rows {
-        put(&mut terms, term(alloc, row)?)?;
+        put(rt, &mut terms, term(rt, alloc, row));
     }
-    Ok(terms)
+    terms
 }
 
 fn ordinal(
+    rt: &impl Abort,
     alloc: Global,
     &(slot, matching, gender, text): &OrdinalRow<'_>,
-) -> Result<OrdinalTerm, AllocError> {
-    Ok(OrdinalTerm {
+) -> OrdinalTerm {
+    OrdinalTerm {
         slot,
         matching,
         gender,
-        text: String::from_str(alloc, text)?,
-    })
+        text: String::from_str(alloc, text).expect(rt, "memory"),
+    }
 }
 
-fn ordinals(alloc: Global, rows: &[OrdinalRow<'_>]) -> Result<Vec<OrdinalTerm>, AllocError> {
+fn ordinals(rt: &impl Abort, alloc: Global, rows: &[OrdinalRow<'_>]) -> Vec<OrdinalTerm> {
     let mut ordinals = Vec::new(alloc);
     for row in rows {
-        put(&mut ordinals, ordinal(alloc, row)?)?;
+        put(rt, &mut ordinals, ordinal(rt, alloc, row));
     }
-    Ok(ordinals)
+    ordinals
 }
 
-fn dates(alloc: Global, rows: &[(DateForm, DateParts)]) -> Result<Vec<Date>, AllocError> {
+fn dates(rt: &impl Abort, alloc: Global, rows: &[(DateForm, DateParts)]) -> Vec<Date> {
     let mut dates = Vec::new(alloc);
     for (form, parts) in rows {
         let date = Date {
             parts: Some(*parts),
             ..Date::localized(*form, Vec::new(alloc))
         };
-        put(&mut dates, date)?;
+        put(rt, &mut dates, date);
     }
-    Ok(dates)
+    dates
 }
 
-fn locale(alloc: Global, rows: &LocaleRows<'_>) -> Result<Locale, AllocError> {
-    let terms = terms(alloc, rows.terms)?;
-    let ordinals = ordinals(alloc, rows.ordinals)?;
-    Ok(Locale {
+fn locale(rt: &impl Abort, alloc: Global, rows: &LocaleRows<'_>) -> Locale {
+    let terms = terms(rt, alloc, rows.terms);
+    let ordinals = ordinals(rt, alloc, rows.ordinals);
+    Locale {
         terms,
         ordinals,
-        dates: dates(alloc, rows.dates)?,
+        dates: dates(rt, alloc, rows.dates),
         punctuation_in_quote: rows.punctuation_in_quote,
         limit_day_ordinals_to_day_1: rows.limit_day_ordinals_to_day_1,
-    })
+    }
 }
 
 /// The locales of these rows, in order.
-pub(crate) fn locales(alloc: Global, rows: &[LocaleRows<'_>]) -> Result<Vec<Locale>, AllocError> {
+pub(crate) fn locales(rt: &impl Abort, alloc: Global, rows: &[LocaleRows<'_>]) -> Vec<Locale> {
     let mut locales = Vec::new(alloc);
     for row in rows {
-        put(&mut locales, locale(alloc, row)?)?;
+        put(rt, &mut locales, locale(rt, alloc, row));
     }
-    Ok(locales)
+    locales
 }
 
 /// A node around other nodes. A branch of a choose may test whether the cite has to be
@@ -183,24 +186,26 @@ pub(crate) fn branch(
 
 /// Names of authors, with these nodes as a substitute.
 pub(crate) fn names_or(
+    rt: &impl Abort,
     alloc: Global,
     children: Vec<LayoutRenderingElement>,
-) -> Result<LayoutRenderingElement, AllocError> {
+) -> LayoutRenderingElement {
     let substitute = NamesChild::Substitute(Substitute { children });
-    names(alloc, NameVariable::Author, one(alloc, substitute)?)
+    names(rt, alloc, NameVariable::Author, one(rt, alloc, substitute))
 }
 
 /// Names of a variable.
 pub(crate) fn names(
+    rt: &impl Abort,
     alloc: Global,
     variable: NameVariable,
     children: Vec<NamesChild>,
-) -> Result<LayoutRenderingElement, AllocError> {
+) -> LayoutRenderingElement {
     let names = Names {
         children,
-        ..Names::new(alloc, vec![in alloc; variable]?)
+        ..Names::new(alloc, vec![in alloc; variable].expect(rt, "memory"))
     };
-    Ok(names.into())
+    names.into()
 }
 
 /// A group of some nodes.
@@ -210,23 +215,24 @@ pub(crate) fn group(children: Vec<LayoutRenderingElement>) -> LayoutRenderingEle
 
 /// The node around some nodes.
 fn node_around(
+    rt: &impl Abort,
     alloc: Global,
     around: Around,
     children: Vec<LayoutRenderingElement>,
-) -> Result<LayoutRenderingElement, AllocError> {
+) -> LayoutRenderingElement {
     match around {
         Around::If(told) => {
             let branch = branch(ChooseMatch::All, told, children);
-            Ok(Choose::new(alloc, branch).into())
+            Choose::new(alloc, branch).into()
         }
         Around::ElseIf(told) => {
             let empty = branch(ChooseMatch::All, told, Vec::new(alloc));
             let chosen = branch(ChooseMatch::All, told, children);
             let choose = Choose {
-                else_if: one(alloc, chosen)?,
+                else_if: one(rt, alloc, chosen),
                 ..Choose::new(alloc, empty)
             };
-            Ok(choose.into())
+            choose.into()
         }
         Around::Else(told) => {
             let empty = branch(ChooseMatch::All, told, Vec::new(alloc));
@@ -234,34 +240,34 @@ fn node_around(
                 otherwise: Some(children),
                 ..Choose::new(alloc, empty)
             };
-            Ok(choose.into())
+            choose.into()
         }
-        Around::Group => Ok(group(children)),
-        Around::Substitute => names_or(alloc, children),
+        Around::Group => group(children),
+        Around::Substitute => names_or(rt, alloc, children),
     }
 }
 
 /// The target of a text that a word names: the word after a `'`, the variable of `@title` or
 /// `@year-suffix`, or else the macro of this name.
-fn target(alloc: Global, word: &str) -> Result<TextTarget, AllocError> {
+fn target(rt: &impl Abort, alloc: Global, word: &str) -> TextTarget {
     let variable = match word {
         "@title" => StandardVariable::Title,
         "@year-suffix" => StandardVariable::YearSuffix,
         _ => {
             return match word.strip_prefix('\'') {
-                Some(val) => Ok(TextTarget::Value {
-                    val: String::from_str(alloc, val)?,
-                }),
-                None => Ok(TextTarget::Macro {
-                    name: String::from_str(alloc, word)?,
-                }),
+                Some(val) => TextTarget::Value {
+                    val: String::from_str(alloc, val).expect(rt, "memory"),
+                },
+                None => TextTarget::Macro {
+                    name: String::from_str(alloc, word).expect(rt, "memory"),
+                },
             };
         }
     };
-    Ok(TextTarget::Variable {
+    TextTarget::Variable {
         var: Variable::Standard(variable),
         form: LongShortForm::Long,
-    })
+    }
 }
 
 /// A text node with a target.
@@ -270,82 +276,89 @@ pub(crate) fn text(target: TextTarget) -> LayoutRenderingElement {
 }
 
 /// The text nodes of those words that do not name a node around others.
-fn texts(alloc: Global, words: &[&str]) -> Result<Vec<LayoutRenderingElement>, AllocError> {
+fn texts(rt: &impl Abort, alloc: Global, words: &[&str]) -> Vec<LayoutRenderingElement> {
     let mut texts = Vec::new(alloc);
     for word in words {
         if read_around(*word).is_none() {
-            put(&mut texts, text(target(alloc, *word)?))?;
+            put(rt, &mut texts, text(target(rt, alloc, *word)));
         }
     }
-    Ok(texts)
+    texts
 }
 
 /// The nodes inside all the nodes that the words put around them.
 fn nodes_around(
+    rt: &impl Abort,
     alloc: Global,
     words: &[&str],
     inside: Vec<LayoutRenderingElement>,
-) -> Result<Vec<LayoutRenderingElement>, AllocError> {
+) -> Vec<LayoutRenderingElement> {
     let mut nodes = inside;
     for word in words.iter().rev() {
         if let Some(around) = read_around(*word) {
-            nodes = one(alloc, node_around(alloc, around, nodes)?)?;
+            nodes = one(rt, alloc, node_around(rt, alloc, around, nodes));
         }
     }
-    Ok(nodes)
+    nodes
 }
 
 /// Nested nodes: `times` times the nodes that the words put around each other. At each time the
 /// other nodes stand beside the nested ones.
 pub(crate) fn nested(
+    rt: &impl Abort,
     alloc: Global,
     words: &str,
     times: usize,
     others: &str,
-) -> Result<Vec<LayoutRenderingElement>, AllocError> {
-    let words: Vec<&str> = words.split_whitespace().collect(alloc)?;
-    let others: Vec<&str> = others.split_whitespace().collect(alloc)?;
+) -> Vec<LayoutRenderingElement> {
+    let words: Vec<&str> = words.split_whitespace().collect(alloc).expect(rt, "memory");
+    let others: Vec<&str> = others
+        .split_whitespace()
+        .collect(alloc)
+        .expect(rt, "memory");
     let mut inside = Vec::new(alloc);
     for _ in 0..times {
-        let mut nodes = nodes_around(alloc, &words, inside)?;
-        nodes.append(&mut texts(alloc, &others)?)?;
+        let mut nodes = nodes_around(rt, alloc, &words, inside);
+        nodes
+            .append(&mut texts(rt, alloc, &others))
+            .expect(rt, "memory");
         inside = nodes;
     }
-    Ok(inside)
+    inside
 }
 
 /// The nodes that words describe: first the words for nodes around others, from the outside in, and
 /// then the texts.
-fn nodes(alloc: Global, words: &str) -> Result<Vec<LayoutRenderingElement>, AllocError> {
-    let words: Vec<&str> = words.split_whitespace().collect(alloc)?;
-    nodes_around(alloc, &words, texts(alloc, &words)?)
+fn nodes(rt: &impl Abort, alloc: Global, words: &str) -> Vec<LayoutRenderingElement> {
+    let words: Vec<&str> = words.split_whitespace().collect(alloc).expect(rt, "memory");
+    nodes_around(rt, alloc, &words, texts(rt, alloc, &words))
 }
 
 /// The macro of a line: its name, and the words of its nodes.
-fn macro_of(alloc: Global, line: &str) -> Result<CslMacro, AllocError> {
+fn macro_of(rt: &impl Abort, alloc: Global, line: &str) -> CslMacro {
     let (name, words) = line.split_once(' ').unwrap_or((line, ""));
-    let name = String::from_str(alloc, name)?;
-    let children = nodes(alloc, words)?;
-    Ok(CslMacro { name, children })
+    let name = String::from_str(alloc, name).expect(rt, "memory");
+    let children = nodes(rt, alloc, words);
+    CslMacro { name, children }
 }
 
 /// The macros of these lines, in order.
-fn macros(alloc: Global, lines: &[&str]) -> Result<Vec<CslMacro>, AllocError> {
+fn macros(rt: &impl Abort, alloc: Global, lines: &[&str]) -> Vec<CslMacro> {
     let mut macros = Vec::new(alloc);
     for line in lines {
-        put(&mut macros, macro_of(alloc, line)?)?;
+        put(rt, &mut macros, macro_of(rt, alloc, line));
     }
-    Ok(macros)
+    macros
 }
 
 /// The layout of a line. The line has groups of words with `; ` between them.
-fn layout(alloc: Global, line: &str) -> Result<Layout, AllocError> {
+fn layout(rt: &impl Abort, alloc: Global, line: &str) -> Layout {
     let mut elements = Vec::new(alloc);
     for words in line.split("; ") {
-        let mut nodes = nodes(alloc, words)?;
-        elements.append(&mut nodes)?;
+        let mut nodes = nodes(rt, alloc, words);
+        elements.append(&mut nodes).expect(rt, "memory");
     }
-    Ok(layout_of(elements))
+    layout_of(elements)
 }
 
 /// A layout of some elements.
@@ -374,12 +387,21 @@ pub(crate) const EMPTY: StyleRows<'static> = StyleRows {
 };
 
 /// The style that rows describe.
-pub(crate) fn style(alloc: Global, rows: &StyleRows<'_>) -> Result<Style, StyleError> {
-    let macros = macros(alloc, rows.macros)?;
-    let locales = locales(alloc, rows.locales)?;
-    let citation = layout(alloc, rows.citation)?;
+pub(crate) fn style(rt: &impl Abort, alloc: Global, rows: &StyleRows<'_>) -> Style {
+    accepted(rt, alloc, rows).expect(rt, "a style")
+}
+
+/// The style that rows describe, or the error of a style that is rejected.
+pub(crate) fn accepted(
+    rt: &impl Abort,
+    alloc: Global,
+    rows: &StyleRows<'_>,
+) -> Result<Style, StyleError> {
+    let macros = macros(rt, alloc, rows.macros);
+    let locales = locales(rt, alloc, rows.locales);
+    let citation = layout(rt, alloc, rows.citation);
     let bibliography = match rows.bibliography {
-        Some(line) => Some(layout(alloc, line)?),
+        Some(line) => Some(layout(rt, alloc, line)),
         None => None,
     };
     let mut settings = StyleSettings::default();

@@ -2,46 +2,50 @@
 
 use crate::asserted::assert_of;
 use crate::made::{layout_of, one, put, text};
-use csl_style::{CslMacro, LayoutRenderingElement, Style, StyleError, StyleSettings, TextTarget};
-use std::alloc::{AllocError, Global};
+use csl_style::{CslMacro, LayoutRenderingElement, Style, StyleSettings, TextTarget};
+use std::alloc::Global;
 use std::process::Abort;
-use std::test::Fail;
 
 /// More macros than any published style has.
 const MANY: usize = 300;
 
-fn call(alloc: Global, number: usize) -> Result<LayoutRenderingElement, AllocError> {
-    let name = format!(in alloc; "{}", number)?;
-    Ok(text(TextTarget::Macro { name }))
+fn call(rt: &impl Abort, alloc: Global, number: usize) -> LayoutRenderingElement {
+    let name = format!(in alloc; "{}", number).expect(rt, "memory");
+    text(TextTarget::Macro { name })
 }
 
 fn numbered(
+    rt: &impl Abort,
     alloc: Global,
     number: usize,
     children: Vec<LayoutRenderingElement>,
-) -> Result<CslMacro, AllocError> {
-    let name = format!(in alloc; "{}", number)?;
-    Ok(CslMacro { name, children })
+) -> CslMacro {
+    let name = format!(in alloc; "{}", number).expect(rt, "memory");
+    CslMacro { name, children }
 }
 
 /// Macros that are named by their numbers, in one chain of calls. After each of them there is one
 /// of the same name without nodes.
-fn chain(alloc: Global) -> Result<Vec<CslMacro>, AllocError> {
+fn chain(rt: &impl Abort, alloc: Global) -> Vec<CslMacro> {
     let mut macros = Vec::new(alloc);
     for number in 0..MANY {
-        let next = one(alloc, call(alloc, number + 1)?)?;
-        put(&mut macros, numbered(alloc, number, next)?)?;
-        put(&mut macros, numbered(alloc, number, Vec::new(alloc))?)?;
+        let next = one(rt, alloc, call(rt, alloc, number + 1));
+        put(rt, &mut macros, numbered(rt, alloc, number, next));
+        put(
+            rt,
+            &mut macros,
+            numbered(rt, alloc, number, Vec::new(alloc)),
+        );
     }
-    Ok(macros)
+    macros
 }
 
 /// A style of the chain, whose layout calls the first macro.
-fn chained(alloc: Global) -> Result<Style, StyleError> {
-    let macros = chain(alloc)?;
-    let citation = layout_of(one(alloc, call(alloc, 0)?)?);
+fn chained(rt: &impl Abort, alloc: Global) -> Style {
+    let macros = chain(rt, alloc);
+    let citation = layout_of(one(rt, alloc, call(rt, alloc, 0)));
     let settings = StyleSettings::default();
-    Style::new(alloc, settings, macros, citation, None, Vec::new(alloc))
+    Style::new(alloc, settings, macros, citation, None, Vec::new(alloc)).expect(rt, "a style")
 }
 
 /// How many nodes the first macro of a name has, if there is one.
@@ -58,36 +62,32 @@ fn assert_count(
     style: &Style,
     number: usize,
     count: Option<usize>,
-) -> Result<(), AllocError> {
-    let name = format!(in alloc; "{}", number)?;
+) {
+    let name = format!(in alloc; "{}", number).expect(rt, "memory");
     assert_of(
         rt,
         &count_in_macro(style, name.as_str()),
         &count,
         name.as_str(),
     );
-    Ok(())
 }
 
-fn assert_chained(rt: &impl Abort, alloc: Global, style: &Style) -> Result<(), AllocError> {
+fn assert_chained(rt: &impl Abort, alloc: Global, style: &Style) {
     for number in 0..MANY {
-        assert_count(rt, alloc, style, number, Some(1))?;
+        assert_count(rt, alloc, style, number, Some(1));
     }
-    assert_count(rt, alloc, style, MANY, None)?;
+    assert_count(rt, alloc, style, MANY, None);
     // The layout, two for each call of a macro, and the call of a macro that the style lacks.
     let size = style.expanded_size(style.citation(), u64::MAX);
     assert_of(rt, &size, &Some(602), "the chain");
     let depth = style.expanded_depth(style.citation(), usize::MAX);
     assert_of(rt, &depth, &Some(302), "the chain");
-    Ok(())
 }
 
 #[test]
-fn the_first_of_a_name_is_found_among_many(rt: HostRuntime) -> Result<(), Fail> {
+fn the_first_of_a_name_is_found_among_many(rt: HostRuntime) {
     let alloc = rt.alloc();
-    let style = chained(alloc)?;
-    let asserted = assert_chained(&rt, alloc, &style);
+    let style = chained(&rt, alloc);
+    assert_chained(&rt, alloc, &style);
     drop(style);
-    asserted?;
-    Ok(())
 }

@@ -2,10 +2,8 @@
 
 use crate::asserted::assert_text;
 use crate::made::{EMPTY, StyleRows, style};
-use csl_style::StyleError;
 use std::alloc::Global;
 use std::process::Abort;
-use std::test::Fail;
 
 /// The lines of the macros, the citation, the bibliography, and the missing name.
 type Row = (
@@ -55,28 +53,22 @@ static ROWS: [Row; 26] = [
     (&["author"], "aut", None, Some("aut")),
 ];
 
-fn assert_missing(
-    rt: &impl Abort,
-    alloc: Global,
-    (macros, citation, bibliography, wanted): Row,
-) -> Result<(), StyleError> {
+fn assert_missing(rt: &impl Abort, alloc: Global, (macros, citation, bibliography, wanted): Row) {
     let rows = StyleRows {
         macros,
         citation,
         bibliography,
         ..EMPTY
     };
-    let style = style(alloc, &rows)?;
+    let style = style(rt, alloc, &rows);
     assert_text(rt, style.missing_macro(), wanted);
     drop(style);
-    Ok(())
 }
 
 #[test]
-fn the_first_missing_macro_is_returned(rt: HostRuntime) -> Result<(), Fail> {
+fn the_first_missing_macro_is_returned(rt: HostRuntime) {
     let rows: &[Row] = &ROWS;
     for row in rows {
-        assert_missing(&rt, rt.alloc(), *row)?;
+        assert_missing(&rt, rt.alloc(), *row);
     }
-    Ok(())
 }

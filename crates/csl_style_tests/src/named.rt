@@ -7,22 +7,22 @@ use csl_style::{
     LayoutRenderingElement, NameVariable, Named, Number, NumberOrPageVariable, NumberVariable,
     PageVariable, StandardVariable, Style, Text, Variable, named_by,
 };
-use std::alloc::{AllocError, Global};
+use std::alloc::Global;
 use std::process::Abort;
-use std::test::Fail;
 
 /// The six sets as text.
-fn said(alloc: Global, named: &Named) -> Result<String, Fail> {
-    Ok(format!(in alloc;
+fn said(rt: &impl Abort, alloc: Global, named: &Named) -> String {
+    format!(in alloc;
         "numbers {:?} pages {:?} standards {:?} names {:?} dates {:?} kinds {:?}",
         named.numbers, named.pages, named.standards, named.names, named.dates, named.kinds
-    )?)
+    )
+    .expect(rt, "memory")
 }
 
 /// The variables and kinds that a layout of a style names, as text.
-fn named_in(alloc: Global, style: &Style, layout: &Layout) -> Result<String, Fail> {
-    let named = named_by(alloc, style, layout)?;
-    let said = said(alloc, &named);
+fn named_in(rt: &impl Abort, alloc: Global, style: &Style, layout: &Layout) -> String {
+    let named = named_by(alloc, style, layout).expect(rt, "memory");
+    let said = said(rt, alloc, &named);
     drop(named);
     said
 }
@@ -33,10 +33,9 @@ fn assert_said(
     style: &Style,
     layout: &Layout,
     wanted: &'static str,
-) -> Result<(), Fail> {
-    let said = named_in(alloc, style, layout)?;
+) {
+    let said = named_in(rt, alloc, style, layout);
     assert_text(rt, Some(said.as_str()), Some(wanted));
-    Ok(())
 }
 
 /// Two macros. The first calls the second twice, and a macro that the style does not have.
@@ -68,30 +67,23 @@ static ROWS: [(&str, &str); 12] = [
     ("group told-if outer; outer", AUTHOR_AND_TITLE),
 ];
 
-fn assert_line(
-    rt: &impl Abort,
-    alloc: Global,
-    line: &'static str,
-    wanted: &'static str,
-) -> Result<(), Fail> {
+fn assert_line(rt: &impl Abort, alloc: Global, line: &'static str, wanted: &'static str) {
     let rows = StyleRows {
         macros: MACROS,
         citation: line,
         ..EMPTY
     };
-    let style = style(alloc, &rows)?;
-    let asserted = assert_said(rt, alloc, &style, style.citation(), wanted);
+    let style = style(rt, alloc, &rows);
+    assert_said(rt, alloc, &style, style.citation(), wanted);
     drop(style);
-    asserted
 }
 
 #[test]
-fn nodes_are_named_anywhere(rt: HostRuntime) -> Result<(), Fail> {
+fn nodes_are_named_anywhere(rt: HostRuntime) {
     let rows: &[(&'static str, &'static str)] = &ROWS;
     for (line, wanted) in rows {
-        assert_line(&rt, rt.alloc(), *line, *wanted)?;
+        assert_line(&rt, rt.alloc(), *line, *wanted);
     }
-    Ok(())
 }
 
 /// A node that holds no others.
@@ -113,46 +105,47 @@ fn make_leaf(alloc: Global, leaf: &Leaf) -> LayoutRenderingElement {
 
 /// Appends the nodes of some leaves.
 fn push_leaves(
+    rt: &impl Abort,
     alloc: Global,
     nodes: &mut Vec<LayoutRenderingElement>,
     leaves: &[Leaf],
-) -> Result<(), AllocError> {
+) {
     for row in leaves {
-        put(nodes, make_leaf(alloc, row))?;
+        put(rt, nodes, make_leaf(alloc, row));
     }
-    Ok(())
 }
 
-fn leaves(alloc: Global, rows: &[Leaf]) -> Result<Vec<LayoutRenderingElement>, AllocError> {
+fn leaves(rt: &impl Abort, alloc: Global, rows: &[Leaf]) -> Vec<LayoutRenderingElement> {
     let mut nodes = Vec::new(alloc);
-    push_leaves(alloc, &mut nodes, rows)?;
-    Ok(nodes)
+    push_leaves(rt, alloc, &mut nodes, rows);
+    nodes
 }
 
 /// Appends a group of the nodes of some leaves.
 fn push_group(
+    rt: &impl Abort,
     alloc: Global,
     nodes: &mut Vec<LayoutRenderingElement>,
     rows: &[Leaf],
-) -> Result<(), AllocError> {
-    put(nodes, group(leaves(alloc, rows)?))
+) {
+    put(rt, nodes, group(leaves(rt, alloc, rows)));
 }
 
 const VOLUME: NumberOrPageVariable = NumberOrPageVariable::Number(NumberVariable::Volume);
 
 const PAGE: NumberOrPageVariable = NumberOrPageVariable::Page(PageVariable::Page);
 
-fn author_or_editor(alloc: Global) -> Result<LayoutRenderingElement, AllocError> {
-    let editor = names(alloc, NameVariable::Editor, Vec::new(alloc))?;
-    names_or(alloc, one(alloc, editor)?)
+fn author_or_editor(rt: &impl Abort, alloc: Global) -> LayoutRenderingElement {
+    let editor = names(rt, alloc, NameVariable::Editor, Vec::new(alloc));
+    names_or(rt, alloc, one(rt, alloc, editor))
 }
 
 /// A layout of the author and the date of issue.
-pub(crate) fn author_date(alloc: Global) -> Result<Layout, AllocError> {
-    let author = names(alloc, NameVariable::Author, Vec::new(alloc))?;
-    let mut parts = one(alloc, author)?;
-    push_leaves(alloc, &mut parts, &[Leaf::Issued])?;
-    Ok(layout_of(one(alloc, group(parts))?))
+pub(crate) fn author_date(rt: &impl Abort, alloc: Global) -> Layout {
+    let author = names(rt, alloc, NameVariable::Author, Vec::new(alloc));
+    let mut parts = one(rt, alloc, author);
+    push_leaves(rt, alloc, &mut parts, &[Leaf::Issued]);
+    layout_of(one(rt, alloc, group(parts)))
 }
 
 static TITLES: [Leaf; 2] = [
@@ -170,54 +163,55 @@ static OF_PAGES: [Leaf; 2] = [
 static OF_DOI: [Leaf; 1] = [Leaf::Text(Variable::Standard(StandardVariable::DOI))];
 
 /// Appends the title, container, volume, pages and date of issue.
-fn push_parts(alloc: Global, parts: &mut Vec<LayoutRenderingElement>) -> Result<(), AllocError> {
-    push_leaves(alloc, parts, &TITLES)?;
-    push_group(alloc, parts, &OF_VOLUME)?;
-    push_group(alloc, parts, &OF_PAGES)?;
-    push_leaves(alloc, parts, &[Leaf::Issued])
+fn push_parts(rt: &impl Abort, alloc: Global, parts: &mut Vec<LayoutRenderingElement>) {
+    push_leaves(rt, alloc, parts, &TITLES);
+    push_group(rt, alloc, parts, &OF_VOLUME);
+    push_group(rt, alloc, parts, &OF_PAGES);
+    push_leaves(rt, alloc, parts, &[Leaf::Issued]);
 }
 
 /// Authors or else editors, and the title, container, volume, pages and date of issue.
-fn parts_of_reference(alloc: Global) -> Result<Vec<LayoutRenderingElement>, AllocError> {
-    let mut parts = one(alloc, author_or_editor(alloc)?)?;
-    push_parts(alloc, &mut parts)?;
-    Ok(parts)
+fn parts_of_reference(rt: &impl Abort, alloc: Global) -> Vec<LayoutRenderingElement> {
+    let mut parts = one(rt, alloc, author_or_editor(rt, alloc));
+    push_parts(rt, alloc, &mut parts);
+    parts
 }
 
 /// A layout of the parts of a reference and the DOI.
-pub(crate) fn reference(alloc: Global) -> Result<Layout, AllocError> {
-    let mut elements = one(alloc, group(parts_of_reference(alloc)?))?;
-    push_group(alloc, &mut elements, &OF_DOI)?;
-    Ok(layout_of(elements))
+pub(crate) fn reference(rt: &impl Abort, alloc: Global) -> Layout {
+    let mut elements = one(rt, alloc, group(parts_of_reference(rt, alloc)));
+    push_group(rt, alloc, &mut elements, &OF_DOI);
+    layout_of(elements)
 }
 
 /// A branch for books with a numeric edition.
-pub(crate) fn numeric_book(alloc: Global) -> Result<ChooseBranch, AllocError> {
-    let numbers = vec![in alloc; Variable::Number(NumberVariable::Edition)]?;
-    let kinds = vec![in alloc; Kind::Book]?;
+pub(crate) fn numeric_book(rt: &impl Abort, alloc: Global) -> ChooseBranch {
+    let numbers = vec![in alloc; Variable::Number(NumberVariable::Edition)].expect(rt, "memory");
+    let kinds = vec![in alloc; Kind::Book].expect(rt, "memory");
     let mut if_ = branch(ChooseMatch::All, None, Vec::new(alloc));
     if_.is_numeric = Some(numbers);
     if_.type_ = Some(kinds);
-    Ok(if_)
+    if_
 }
 
 /// A branch for an uncertain date of issue, or for pages or a locator.
-pub(crate) fn uncertain_or_placed(alloc: Global) -> Result<ChooseBranch, AllocError> {
-    let dates = vec![in alloc; DateVariable::Issued]?;
+pub(crate) fn uncertain_or_placed(rt: &impl Abort, alloc: Global) -> ChooseBranch {
+    let dates = vec![in alloc; DateVariable::Issued].expect(rt, "memory");
     let variables = vec![in alloc;
         Variable::Page(PageVariable::Page),
         Variable::Number(NumberVariable::Locator),
-    ]?;
+    ]
+    .expect(rt, "memory");
     let mut if_ = branch(ChooseMatch::Any, None, Vec::new(alloc));
     if_.is_uncertain_date = Some(dates);
     if_.variable = Some(variables);
-    Ok(if_)
+    if_
 }
 
 /// A layout of a choice of one branch.
-pub(crate) fn choice(alloc: Global, if_: ChooseBranch) -> Result<Layout, AllocError> {
+pub(crate) fn choice(rt: &impl Abort, alloc: Global, if_: ChooseBranch) -> Layout {
     let choose = Choose::new(alloc, if_);
-    Ok(layout_of(one(alloc, choose.into())?))
+    layout_of(one(rt, alloc, choose.into()))
 }
 
 /// Three numbers that the citation answers, one that the entry answers, and its pages as a number.
@@ -229,81 +223,64 @@ static NUMBERS: [Leaf; 5] = [
     Leaf::Number(PAGE),
 ];
 
-fn assert_in_empty_style(
-    rt: &impl Abort,
-    alloc: Global,
-    layout: &Layout,
-    wanted: &'static str,
-) -> Result<(), Fail> {
-    let style = style(alloc, &EMPTY)?;
-    let asserted = assert_said(rt, alloc, &style, layout, wanted);
+fn assert_in_empty_style(rt: &impl Abort, alloc: Global, layout: &Layout, wanted: &'static str) {
+    let style = style(rt, alloc, &EMPTY);
+    assert_said(rt, alloc, &style, layout, wanted);
     drop(style);
-    asserted
 }
 
-fn assert_layout(
-    rt: &impl Abort,
-    alloc: Global,
-    layout: Layout,
-    wanted: &'static str,
-) -> Result<(), Fail> {
-    let asserted = assert_in_empty_style(rt, alloc, &layout, wanted);
+fn assert_layout(rt: &impl Abort, alloc: Global, layout: Layout, wanted: &'static str) {
+    assert_in_empty_style(rt, alloc, &layout, wanted);
     drop(layout);
-    asserted
 }
 
-fn assert_choice(
-    rt: &impl Abort,
-    alloc: Global,
-    branch: ChooseBranch,
-    wanted: &'static str,
-) -> Result<(), Fail> {
-    assert_layout(rt, alloc, choice(alloc, branch)?, wanted)
+fn assert_choice(rt: &impl Abort, alloc: Global, branch: ChooseBranch, wanted: &'static str) {
+    assert_layout(rt, alloc, choice(rt, alloc, branch), wanted);
 }
 
 #[test]
-fn author_date_names_author_and_date(rt: HostRuntime) -> Result<(), Fail> {
+fn author_date_names_author_and_date(rt: HostRuntime) {
     assert_layout(
         &rt,
         rt.alloc(),
-        author_date(rt.alloc())?,
+        author_date(&rt, rt.alloc()),
         "numbers {} pages {} standards {} names {Author} dates {Issued} kinds {}",
-    )
+    );
 }
 
 #[test]
-fn reference_names_authors_and_editors(rt: HostRuntime) -> Result<(), Fail> {
+fn reference_names_authors_and_editors(rt: HostRuntime) {
     assert_layout(
         &rt,
         rt.alloc(),
-        reference(rt.alloc())?,
+        reference(&rt, rt.alloc()),
         "numbers {Volume} pages {Page} standards {ContainerTitle, DOI, Title} \
          names {Author, Editor} dates {Issued} kinds {}",
-    )
+    );
 }
 
 #[test]
-fn tests_of_branches_are_named(rt: HostRuntime) -> Result<(), Fail> {
+fn tests_of_branches_are_named(rt: HostRuntime) {
     assert_choice(
         &rt,
         rt.alloc(),
-        numeric_book(rt.alloc())?,
+        numeric_book(&rt, rt.alloc()),
         "numbers {Edition} pages {} standards {} names {} dates {} kinds {Book}",
-    )?;
+    );
     assert_choice(
         &rt,
         rt.alloc(),
-        uncertain_or_placed(rt.alloc())?,
+        uncertain_or_placed(&rt, rt.alloc()),
         "numbers {} pages {Page} standards {} names {} dates {Issued} kinds {}",
-    )
+    );
 }
 
 #[test]
-fn variables_of_the_citation_are_not_named(rt: HostRuntime) -> Result<(), Fail> {
+fn variables_of_the_citation_are_not_named(rt: HostRuntime) {
     assert_layout(
         &rt,
         rt.alloc(),
-        layout_of(leaves(rt.alloc(), &NUMBERS)?),
+        layout_of(leaves(&rt, rt.alloc(), &NUMBERS)),
         "numbers {Volume} pages {Page} standards {} names {} dates {} kinds {}",
-    )
+    );
 }

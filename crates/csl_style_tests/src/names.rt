@@ -5,9 +5,8 @@ use crate::made::copy_text;
 use csl_style::{
     DelimiterBehavior, InheritableNameOptions, InheritedNameOptions, NameForm, NameOptions,
 };
-use std::alloc::{AllocError, Global};
+use std::alloc::Global;
 use std::process::Abort;
-use std::test::Fail;
 
 #[test]
 fn options_that_are_not_set_have_their_defaults(rt: HostRuntime) {
@@ -32,14 +31,14 @@ fn options_that_are_not_set_have_their_defaults(rt: HostRuntime) {
 }
 
 /// The options that a node inherits: two delimiters and a limit.
-fn around(alloc: Global) -> Result<InheritableNameOptions, AllocError> {
-    let delimiter = copy_text(alloc, Some("; "))?;
-    let names_delimiter = copy_text(alloc, Some(" | "))?;
+fn around(rt: &impl Abort, alloc: Global) -> InheritableNameOptions {
+    let delimiter = copy_text(rt, alloc, Some("; "));
+    let names_delimiter = copy_text(rt, alloc, Some(" | "));
     let mut around = InheritableNameOptions::default();
     around.delimiter = delimiter;
     around.names_delimiter = names_delimiter;
     around.et_al_min = Some(4);
-    Ok(around)
+    around
 }
 
 /// A node's own options: an empty delimiter and a form.
@@ -68,10 +67,9 @@ fn assert_own_options_count(
 }
 
 #[test]
-fn own_options_replace_inherited_ones(rt: HostRuntime) -> Result<(), Fail> {
-    let around = around(rt.alloc())?;
+fn own_options_replace_inherited_ones(rt: HostRuntime) {
+    let around = around(&rt, rt.alloc());
     assert_own_options_count(&rt, own(rt.alloc()), around);
-    Ok(())
 }
 
 /// Name options with these limits.

@@ -7,9 +7,8 @@ use csl_style::{
     NamePart, NamePartName, NameVariable, Names, NamesChild, NamesParts, OtherTerm, Substitute,
     TermForm, VariablelessLabel,
 };
-use std::alloc::{AllocError, Global};
+use std::alloc::Global;
 use std::process::Abort;
-use std::test::Fail;
 
 /// A child of names, distinguished from others of its sort by one of its options.
 enum Child {
@@ -83,29 +82,29 @@ fn new_child(alloc: Global, child: &Child) -> NamesChild {
     }
 }
 
-fn new_children(alloc: Global, rows: &[Child]) -> Result<Vec<NamesChild>, AllocError> {
+fn new_children(rt: &impl Abort, alloc: Global, rows: &[Child]) -> Vec<NamesChild> {
     let mut children = Vec::new(alloc);
     for row in rows {
-        put(&mut children, new_child(alloc, row))?;
+        put(rt, &mut children, new_child(alloc, row));
     }
-    Ok(children)
+    children
 }
 
-fn affixes(alloc: Global, own: &Own) -> Result<Affixes, AllocError> {
-    Ok(Affixes {
-        prefix: copy_text(alloc, own.prefix)?,
-        suffix: copy_text(alloc, own.suffix)?,
-    })
+fn affixes(rt: &impl Abort, alloc: Global, own: &Own) -> Affixes {
+    Affixes {
+        prefix: copy_text(rt, alloc, own.prefix),
+        suffix: copy_text(rt, alloc, own.suffix),
+    }
 }
 
-fn names(alloc: Global, own: &Own, rows: &[Child]) -> Result<Names, AllocError> {
-    let variable = vec![in alloc; own.variable]?;
-    let delimiter = copy_text(alloc, own.delimiter)?;
-    let children = new_children(alloc, rows)?;
-    let affixes = affixes(alloc, own)?;
+fn names(rt: &impl Abort, alloc: Global, own: &Own, rows: &[Child]) -> Names {
+    let variable = vec![in alloc; own.variable].expect(rt, "memory");
+    let delimiter = copy_text(rt, alloc, own.delimiter);
+    let children = new_children(rt, alloc, rows);
+    let affixes = affixes(rt, alloc, own);
     let mut options = InheritableNameOptions::default();
     options.form = own.form;
-    Ok(Names {
+    Names {
         variable,
         delimiter,
         affixes,
@@ -113,7 +112,7 @@ fn names(alloc: Global, own: &Own, rows: &[Child]) -> Result<Names, AllocError> 
         options,
         formatting: slanted(own.font_style),
         display: own.display,
-    })
+    }
 }
 
 /// The form of the name, if there is a name that sets one.
@@ -195,24 +194,18 @@ static CHILDREN: [(&[Child], Found); 6] = [
     (&[Child::Substitute], (None, None, None, true, false)),
 ];
 
-fn assert_children(
-    rt: &impl Abort,
-    alloc: Global,
-    (children, wanted): &(&'static [Child], Found),
-) -> Result<(), AllocError> {
-    let names = names(alloc, &SILENT, *children)?;
+fn assert_children(rt: &impl Abort, alloc: Global, (children, wanted): &(&'static [Child], Found)) {
+    let names = names(rt, alloc, &SILENT, *children);
     assert_found(rt, &names, wanted);
     drop(names);
-    Ok(())
 }
 
 #[test]
-fn of_each_sort_the_first_child_counts(rt: HostRuntime) -> Result<(), Fail> {
+fn of_each_sort_the_first_child_counts(rt: HostRuntime) {
     let rows: &[(&'static [Child], Found)] = &CHILDREN;
     for row in rows {
-        assert_children(&rt, rt.alloc(), row)?;
+        assert_children(&rt, rt.alloc(), row);
     }
-    Ok(())
 }
 
 /// The settings in the parts of editors: forms, texts, formatting and display.
@@ -238,16 +231,10 @@ fn assert_told(rt: &impl Abort, parts: &NamesParts<'_>, wanted: &Told) {
 }
 
 /// Asserts the parts of editors in the place of other names.
-fn assert_in_place(
-    rt: &impl Abort,
-    alloc: Global,
-    original: &Names,
-    (own, wanted): &(Own, Told),
-) -> Result<(), AllocError> {
-    let own = names(alloc, own, &[])?;
+fn assert_in_place(rt: &impl Abort, alloc: Global, original: &Names, (own, wanted): &(Own, Told)) {
+    let own = names(rt, alloc, own, &[]);
     assert_told(rt, &own.parts_in_place_of(original.parts()), wanted);
     drop(own);
-    Ok(())
 }
 
 const AUTHORS: Own = Own {
@@ -304,31 +291,28 @@ static SHORTHANDS: [(Own, Told); 2] = [
     ),
 ];
 
-fn assert_all_in_place(rt: &impl Abort, alloc: Global, original: &Names) -> Result<(), AllocError> {
+fn assert_all_in_place(rt: &impl Abort, alloc: Global, original: &Names) {
     let rows: &[(Own, Told)] = &SHORTHANDS;
     for row in rows {
-        assert_in_place(rt, alloc, original, row)?;
+        assert_in_place(rt, alloc, original, row);
     }
-    Ok(())
 }
 
-fn assert_in_place_of_authors(rt: &impl Abort, alloc: Global) -> Result<(), AllocError> {
-    let original = names(alloc, &AUTHORS, &[Child::Name(NameForm::Count)])?;
-    let asserted = assert_all_in_place(rt, alloc, &original);
+fn assert_in_place_of_authors(rt: &impl Abort, alloc: Global) {
+    let original = names(rt, alloc, &AUTHORS, &[Child::Name(NameForm::Count)]);
+    assert_all_in_place(rt, alloc, &original);
     drop(original);
-    asserted
 }
 
 #[test]
-fn a_shorthand_has_its_own_before_those_of_the_original(rt: HostRuntime) -> Result<(), Fail> {
-    assert_in_place_of_authors(&rt, rt.alloc())?;
-    Ok(())
+fn a_shorthand_has_its_own_before_those_of_the_original(rt: HostRuntime) {
+    assert_in_place_of_authors(&rt, rt.alloc());
 }
 
 /// A part of a name, and its slant.
 type Part = (NamePartName, FontStyle);
 
-fn name_of_parts(alloc: Global, rows: &[Part]) -> Result<Name, AllocError> {
+fn name_of_parts(rt: &impl Abort, alloc: Global, rows: &[Part]) -> Name {
     let mut parts = Vec::new(alloc);
     for (part, font_style) in rows {
         let part = NamePart {
@@ -336,11 +320,11 @@ fn name_of_parts(alloc: Global, rows: &[Part]) -> Result<Name, AllocError> {
             formatting: slanted(Some(*font_style)),
             affixes: Affixes::default(),
         };
-        put(&mut parts, part)?;
+        put(rt, &mut parts, part);
     }
     let mut name = Name::new(alloc);
     name.parts = parts;
-    Ok(name)
+    name
 }
 
 /// The slant of a part of a name.
@@ -375,22 +359,16 @@ static PARTS: [PartRow; 4] = [
     ),
 ];
 
-fn assert_slant(
-    rt: &impl Abort,
-    alloc: Global,
-    (parts, asked, wanted): &PartRow,
-) -> Result<(), AllocError> {
-    let name = name_of_parts(alloc, *parts)?;
+fn assert_slant(rt: &impl Abort, alloc: Global, (parts, asked, wanted): &PartRow) {
+    let name = name_of_parts(rt, alloc, *parts);
     assert_same(rt, &slant(&name, *asked), wanted);
     drop(name);
-    Ok(())
 }
 
 #[test]
-fn of_a_name_part_the_first_counts(rt: HostRuntime) -> Result<(), Fail> {
+fn of_a_name_part_the_first_counts(rt: HostRuntime) {
     let rows: &[PartRow] = &PARTS;
     for row in rows {
-        assert_slant(&rt, rt.alloc(), row)?;
+        assert_slant(&rt, rt.alloc(), row);
     }
-    Ok(())
 }

@@ -1,9 +1,9 @@
 //! Numbers.
 
 ghost use Rattle.std.specs.Prelude.{◌≡◌, None};
-ghost use Rattle.csl_style.specs.Dressing.{dressing_of};
-ghost use Rattle.csl_style.specs.Node.{number};
-ghost use Rattle.csl_style.specs.View.{view_node};
+ghost use Rattle.csl_elements.specs.Dressing.{dressing_of};
+ghost use Rattle.csl_elements.specs.Node.{number};
+ghost use Rattle.csl_elements.specs.View.{view_node};
 
 use crate::asserted::assert_same;
 use csl_style::{

@@ -2,10 +2,9 @@
 
 use crate::asserted::{assert_same, assert_text};
 use crate::made::{EMPTY, LocaleRows, SILENT, StyleRows, copy_text, layout_of, style};
-use csl_style::{InheritableNameOptions, NameForm, Scope, Style, StyleError, StyleSettings};
-use std::alloc::{AllocError, Global};
+use csl_style::{InheritableNameOptions, NameForm, Scope, Style, StyleSettings};
+use std::alloc::Global;
 use std::process::Abort;
-use std::test::Fail;
 
 /// A level at which an option may be set.
 struct Level {
@@ -37,34 +36,31 @@ const FORM_ALONE: Level = Level {
 type Levels = (Level, Level, Level);
 
 /// Sets the options of one level.
-fn set(
-    alloc: Global,
-    options: &mut InheritableNameOptions,
-    level: &Level,
-) -> Result<(), AllocError> {
+fn set(rt: &impl Abort, alloc: Global, options: &mut InheritableNameOptions, level: &Level) {
     options.form = level.form;
-    options.delimiter = copy_text(alloc, level.delimiter)?;
-    Ok(())
+    options.delimiter = copy_text(rt, alloc, level.delimiter);
 }
 
 fn set_all(
+    rt: &impl Abort,
     alloc: Global,
     settings: &mut StyleSettings,
     (all, citation, bibliography): &Levels,
-) -> Result<(), AllocError> {
-    set(alloc, &mut settings.names, all)?;
-    set(alloc, &mut settings.citation_names, citation)?;
-    set(alloc, &mut settings.bibliography_names, bibliography)
+) {
+    set(rt, alloc, &mut settings.names, all);
+    set(rt, alloc, &mut settings.citation_names, citation);
+    set(rt, alloc, &mut settings.bibliography_names, bibliography);
 }
 
-fn settings(alloc: Global, levels: &Levels) -> Result<StyleSettings, AllocError> {
+fn settings(rt: &impl Abort, alloc: Global, levels: &Levels) -> StyleSettings {
     let mut settings = StyleSettings::default();
-    set_all(alloc, &mut settings, levels).and(Ok(settings))
+    set_all(rt, alloc, &mut settings, levels);
+    settings
 }
 
 /// A style with these levels.
-fn style_of(alloc: Global, levels: &Levels) -> Result<Style, StyleError> {
-    let settings = settings(alloc, levels)?;
+fn style_of(rt: &impl Abort, alloc: Global, levels: &Levels) -> Style {
+    let settings = settings(rt, alloc, levels);
     Style::new(
         alloc,
         settings,
@@ -73,6 +69,7 @@ fn style_of(alloc: Global, levels: &Levels) -> Result<Style, StyleError> {
         None,
         Vec::new(alloc),
     )
+    .expect(rt, "a style")
 }
 
 /// The form and the delimiter of names.
@@ -106,24 +103,18 @@ fn assert_inherited(rt: &impl Abort, style: &Style, scope: Scope, wanted: &Inher
     assert_text(rt, base.delimiter, wanted.1);
 }
 
-fn assert_scope(
-    rt: &impl Abort,
-    alloc: Global,
-    (scope, levels, wanted): &ScopeRow,
-) -> Result<(), Fail> {
-    let style = style_of(alloc, levels)?;
+fn assert_scope(rt: &impl Abort, alloc: Global, (scope, levels, wanted): &ScopeRow) {
+    let style = style_of(rt, alloc, levels);
     assert_inherited(rt, &style, *scope, wanted);
     drop(style);
-    Ok(())
 }
 
 #[test]
-fn a_scope_comes_before_the_style(rt: HostRuntime) -> Result<(), Fail> {
+fn a_scope_comes_before_the_style(rt: HostRuntime) {
     let rows: &[ScopeRow] = &SCOPES;
     for row in rows {
-        assert_scope(&rt, rt.alloc(), row)?;
+        assert_scope(&rt, rt.alloc(), row);
     }
-    Ok(())
 }
 
 /// A locale that sets `punctuation-in-quote`.
@@ -154,27 +145,21 @@ static LOCALES: [LocaleRow; 4] = [
     (&[SILENT, BOTH], false, false),
 ];
 
-fn assert_by_locales(
-    rt: &impl Abort,
-    alloc: Global,
-    (locales, quotes, days): &LocaleRow,
-) -> Result<(), Fail> {
+fn assert_by_locales(rt: &impl Abort, alloc: Global, (locales, quotes, days): &LocaleRow) {
     let rows = StyleRows {
         locales: *locales,
         ..EMPTY
     };
-    let style = style(alloc, &rows)?;
+    let style = style(rt, alloc, &rows);
     assert_same(rt, &style.is_punctuation_in_quote(), quotes);
     assert_same(rt, &style.are_day_ordinals_limited(), days);
     drop(style);
-    Ok(())
 }
 
 #[test]
-fn the_first_locale_decides(rt: HostRuntime) -> Result<(), Fail> {
+fn the_first_locale_decides(rt: HostRuntime) {
     let rows: &[LocaleRow] = &LOCALES;
     for row in rows {
-        assert_by_locales(&rt, rt.alloc(), row)?;
+        assert_by_locales(&rt, rt.alloc(), row);
     }
-    Ok(())
 }

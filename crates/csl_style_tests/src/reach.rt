@@ -2,10 +2,9 @@
 
 use crate::asserted::assert_of;
 use crate::made::{EMPTY, StyleRows, style};
-use csl_style::{Scope, StyleError};
+use csl_style::Scope;
 use std::alloc::Global;
 use std::process::Abort;
-use std::test::Fail;
 
 /// Two macros that reach the suffix, and two macros of one name. The first of these does not reach
 /// the suffix, and the second does.
@@ -73,30 +72,30 @@ static ROWS: [Row; 19] = [
 
 /// Whether the year suffix is rendered implicitly in a scope of a style with these layouts.
 fn is_implicit<'s>(
+    rt: &impl Abort,
     alloc: Global,
     scope: Scope,
     citation: &'s str,
     bibliography: Option<&'s str>,
-) -> Result<bool, StyleError> {
+) -> bool {
     let rows = StyleRows {
         macros: MACROS,
         citation,
         bibliography,
         ..EMPTY
     };
-    let style = style(alloc, &rows)?;
+    let style = style(rt, alloc, &rows);
     let is_implicit = style.renders_year_suffix_implicitly(scope);
     drop(style);
-    Ok(is_implicit)
+    is_implicit
 }
 
 #[test]
-fn a_text_of_the_suffix_is_reached_anywhere(rt: HostRuntime) -> Result<(), Fail> {
+fn a_text_of_the_suffix_is_reached_anywhere(rt: HostRuntime) {
     let rows: &[Row] = &ROWS;
     for row in rows {
         let (scope, citation, bibliography, wanted) = *row;
-        let answer = is_implicit(rt.alloc(), scope, citation, bibliography)?;
+        let answer = is_implicit(&rt, rt.alloc(), scope, citation, bibliography);
         assert_of(&rt, &answer, &wanted, citation);
     }
-    Ok(())
 }

@@ -5,12 +5,10 @@ use crate::made::{EMPTY, StyleRows, layout_of, names, one, put, style};
 use crate::named::{author_date, choice, numeric_book, reference, uncertain_or_placed};
 use csl_style::{
     Affixes, Date, DatePart, DatePartName, DateVariable, Formatting, Layout, Name, NamePart,
-    NamePartName, NameVariable, Names, NamesChild, Scope, Style, StyleError, Substitute,
-    VariablelessLabel,
+    NamePartName, NameVariable, Names, NamesChild, Scope, Style, Substitute, VariablelessLabel,
 };
-use std::alloc::{AllocError, Global};
+use std::alloc::Global;
 use std::process::Abort;
-use std::test::Fail;
 
 /// The elements of `inner` have size 6, those of `outer` 17, and those of the first macro `word` 1.
 const MACROS: &[&str] = &[
@@ -85,80 +83,65 @@ fn assert_within(
     assert_of(rt, &style.expanded_within(layout, size, less), &false, of);
 }
 
-fn assert_line(
-    rt: &impl Abort,
-    alloc: Global,
-    line: &'static str,
-    size: u64,
-    depth: usize,
-) -> Result<(), StyleError> {
+fn assert_line(rt: &impl Abort, alloc: Global, line: &'static str, size: u64, depth: usize) {
     let rows = StyleRows {
         macros: MACROS,
         citation: line,
         ..EMPTY
     };
-    let style = style(alloc, &rows)?;
+    let style = style(rt, alloc, &rows);
     assert_size(rt, &style, style.citation(), size, line);
     assert_depth(rt, &style, style.citation(), depth, line);
     assert_within(rt, &style, style.citation(), size, depth, line);
     drop(style);
-    Ok(())
 }
 
 #[test]
-fn each_node_branch_and_expanded_macro_counts(rt: HostRuntime) -> Result<(), Fail> {
+fn each_node_branch_and_expanded_macro_counts(rt: HostRuntime) {
     let rows: &[(&'static str, u64, usize)] = &ROWS;
     for (line, size, depth) in rows {
-        assert_line(&rt, rt.alloc(), *line, *size, *depth)?;
+        assert_line(&rt, rt.alloc(), *line, *size, *depth);
     }
-    Ok(())
 }
 
 /// Names of an editor with a name, a label and an empty substitute.
-fn editor(alloc: Global) -> Result<Layout, AllocError> {
-    let mut children = one(alloc, NamesChild::Name(Name::new(alloc)))?;
+fn editor(rt: &impl Abort, alloc: Global) -> Layout {
+    let mut children = one(rt, alloc, NamesChild::Name(Name::new(alloc)));
     put(
+        rt,
         &mut children,
         NamesChild::Label(VariablelessLabel::default()),
-    )?;
+    );
     let substitute = Substitute {
         children: Vec::new(alloc),
     };
-    put(&mut children, NamesChild::Substitute(substitute))?;
-    let editor = names(alloc, NameVariable::Editor, children)?;
-    Ok(layout_of(one(alloc, editor)?))
+    put(rt, &mut children, NamesChild::Substitute(substitute));
+    let editor = names(rt, alloc, NameVariable::Editor, children);
+    layout_of(one(rt, alloc, editor))
 }
 
-fn assert_layout(
-    rt: &impl Abort,
-    alloc: Global,
-    layout: Layout,
-    size: u64,
-    of: &str,
-) -> Result<(), StyleError> {
-    let style = style(alloc, &EMPTY)?;
+fn assert_layout(rt: &impl Abort, alloc: Global, layout: Layout, size: u64, of: &str) {
+    let style = style(rt, alloc, &EMPTY);
     assert_size(rt, &style, &layout, size, of);
     drop(style);
     drop(layout);
-    Ok(())
 }
 
 #[test]
-fn variables_name_children_and_substitutes_of_names_count(rt: HostRuntime) -> Result<(), Fail> {
+fn variables_name_children_and_substitutes_of_names_count(rt: HostRuntime) {
     let alloc = rt.alloc();
-    assert_layout(&rt, alloc, editor(alloc)?, 6, "editor")?;
-    assert_layout(&rt, alloc, author_date(alloc)?, 7, "author and date")?;
+    assert_layout(&rt, alloc, editor(&rt, alloc), 6, "editor");
+    assert_layout(&rt, alloc, author_date(&rt, alloc), 7, "author and date");
     // The childless names node in the substitute counts as elsewhere.
-    assert_layout(&rt, alloc, reference(alloc)?, 24, "reference")?;
-    Ok(())
+    assert_layout(&rt, alloc, reference(&rt, alloc), 24, "reference");
 }
 
 /// A date of issue with a year and a month.
-fn year_and_month(alloc: Global) -> Result<Layout, AllocError> {
-    let mut parts = one(alloc, DatePart::new(DatePartName::Year))?;
-    put(&mut parts, DatePart::new(DatePartName::Month))?;
+fn year_and_month(rt: &impl Abort, alloc: Global) -> Layout {
+    let mut parts = one(rt, alloc, DatePart::new(DatePartName::Year));
+    put(rt, &mut parts, DatePart::new(DatePartName::Month));
     let issued = Date::new(DateVariable::Issued, parts);
-    Ok(layout_of(one(alloc, issued.into())?))
+    layout_of(one(rt, alloc, issued.into()))
 }
 
 /// A part of a name without formatting.
@@ -171,33 +154,32 @@ fn name_part(name: NamePartName) -> NamePart {
 }
 
 /// Names of authors and editors, with a name of two parts.
-fn authors_and_editors(alloc: Global) -> Result<Layout, AllocError> {
+fn authors_and_editors(rt: &impl Abort, alloc: Global) -> Layout {
     let mut name = Name::new(alloc);
-    put(&mut name.parts, name_part(NamePartName::Given))?;
-    put(&mut name.parts, name_part(NamePartName::Family))?;
-    let variables = vec![in alloc; NameVariable::Author, NameVariable::Editor]?;
-    let children = one(alloc, NamesChild::Name(name))?;
+    put(rt, &mut name.parts, name_part(NamePartName::Given));
+    put(rt, &mut name.parts, name_part(NamePartName::Family));
+    let variables = vec![in alloc; NameVariable::Author, NameVariable::Editor].expect(rt, "memory");
+    let children = one(rt, alloc, NamesChild::Name(name));
     let names = Names {
         children,
         ..Names::new(alloc, variables)
     };
-    Ok(layout_of(one(alloc, names.into())?))
+    layout_of(one(rt, alloc, names.into()))
 }
 
 #[test]
-fn items_of_lists_count(rt: HostRuntime) -> Result<(), Fail> {
+fn items_of_lists_count(rt: HostRuntime) {
     let alloc = rt.alloc();
     // The layout, the date, and its two parts.
-    assert_layout(&rt, alloc, year_and_month(alloc)?, 4, "year and month")?;
+    assert_layout(&rt, alloc, year_and_month(&rt, alloc), 4, "year and month");
     // The layout; the choose, which counts two; its branch; and the items of its two tests.
-    let book = choice(alloc, numeric_book(alloc)?)?;
-    assert_layout(&rt, alloc, book, 6, "numeric edition of a book")?;
-    let placed = choice(alloc, uncertain_or_placed(alloc)?)?;
-    assert_layout(&rt, alloc, placed, 7, "uncertain date, pages or locator")?;
+    let book = choice(&rt, alloc, numeric_book(&rt, alloc));
+    assert_layout(&rt, alloc, book, 6, "numeric edition of a book");
+    let placed = choice(&rt, alloc, uncertain_or_placed(&rt, alloc));
+    assert_layout(&rt, alloc, placed, 7, "uncertain date, pages or locator");
     // The layout; the names, which count two; two variables; the name and its two parts.
-    let names = authors_and_editors(alloc)?;
-    assert_layout(&rt, alloc, names, 8, "authors and editors")?;
-    Ok(())
+    let names = authors_and_editors(&rt, alloc);
+    assert_layout(&rt, alloc, names, 8, "authors and editors");
 }
 
 /// Each macro but the last calls the next twice.
@@ -261,44 +243,40 @@ fn assert_doubled(
     line: &'static str,
     most: u64,
     wanted: Option<u64>,
-) -> Result<(), StyleError> {
+) {
     let rows = StyleRows {
         macros: DOUBLING,
         citation: line,
         ..EMPTY
     };
-    let style = style(alloc, &rows)?;
+    let style = style(rt, alloc, &rows);
     let answer = style.expanded_size(style.citation(), most);
     drop(style);
     assert_of(rt, &answer, &wanted, line);
-    Ok(())
 }
 
 #[test]
-fn doubling_macros_are_above_the_limit_at_once(rt: HostRuntime) -> Result<(), Fail> {
+fn doubling_macros_are_above_the_limit_at_once(rt: HostRuntime) {
     let rows: &[(&'static str, u64, Option<u64>)] = &DOUBLED;
     for (line, most, wanted) in rows {
-        assert_doubled(&rt, rt.alloc(), *line, *most, *wanted)?;
+        assert_doubled(&rt, rt.alloc(), *line, *most, *wanted);
     }
-    Ok(())
 }
 
 /// Asserts that no text of the year suffix is in forty macros that each call the next twice.
-fn assert_searched_once(rt: &impl Abort, alloc: Global) -> Result<(), StyleError> {
+fn assert_searched_once(rt: &impl Abort, alloc: Global) {
     let rows = StyleRows {
         macros: DOUBLING,
         citation: "0",
         ..EMPTY
     };
-    let style = style(alloc, &rows)?;
+    let style = style(rt, alloc, &rows);
     let implicit = style.renders_year_suffix_implicitly(Scope::Citation);
     drop(style);
     assert_of(rt, &implicit, &true, "0");
-    Ok(())
 }
 
 #[test]
-fn doubling_macros_are_searched_once(rt: HostRuntime) -> Result<(), Fail> {
-    assert_searched_once(&rt, rt.alloc())?;
-    Ok(())
+fn doubling_macros_are_searched_once(rt: HostRuntime) {
+    assert_searched_once(&rt, rt.alloc());
 }

@@ -1,32 +1,30 @@
 //! Styles: which are rejected, and the parts that they return.
 
 use crate::asserted::{assert_same, assert_text};
-use crate::made::{EMPTY, LocaleRows, SILENT, StyleRows, style};
+use crate::made::{EMPTY, LocaleRows, SILENT, StyleRows, accepted, style};
 use csl_style::{
     CslMacro, DateForm, Layout, LayoutRenderingElement, OrdinalSlot, OtherTerm, PageRangeFormat,
-    Scope, Style, StyleError, Term, TermForm, TextTarget,
+    Scope, Style, Term, TermForm, TextTarget,
 };
-use lit_model::{GrammarGender, Memory};
+use lit_model::GrammarGender;
 use std::alloc::Global;
 use std::process::Abort;
-use std::test::Fail;
 
-/// The error of a style as text, if the style is rejected. Running out of memory is not a
-/// rejection.
+/// The error of a style as text, if the style is rejected.
 fn refusal(
+    rt: &impl Abort,
     alloc: Global,
     format: Option<PageRangeFormat>,
     macros: &[&str],
-) -> Result<Option<String>, Memory> {
+) -> Option<String> {
     let rows = StyleRows {
         format,
         macros,
         ..EMPTY
     };
-    match style(alloc, &rows).err() {
-        None => Ok(None),
-        Some(StyleError::Memory) => Err(Memory),
-        Some(error) => Ok(Some(format!(in alloc; "{}", error)?)),
+    match accepted(rt, alloc, &rows).err() {
+        None => None,
+        Some(error) => Some(format!(in alloc; "{}", error).expect(rt, "memory")),
     }
 }
 
@@ -71,13 +69,12 @@ static REFUSALS: [Refusal; 11] = [
 ];
 
 #[test]
-fn cycles_of_macros_and_chicago_pages_are_refused(rt: HostRuntime) -> Result<(), Fail> {
+fn cycles_of_macros_and_chicago_pages_are_refused(rt: HostRuntime) {
     let rows: &[Refusal] = &REFUSALS;
     for (format, macros, wanted) in rows {
-        let answer = refusal(rt.alloc(), *format, *macros)?;
+        let answer = refusal(&rt, rt.alloc(), *format, *macros);
         assert_text(&rt, answer.as_deref(), *wanted);
     }
-    Ok(())
 }
 
 /// A style whose parts can be distinguished.
@@ -163,7 +160,6 @@ fn assert_texts(rt: &impl Abort, style: &Style, rows: &[(Part<'static>, Option<&
 /// Asserts that the style `PARTS` returns the parts that it was built from.
 fn assert_parts(rt: &impl Abort, style: &Style) {
     assert_texts(rt, style, &TEXTS);
-    style.acyclic();
     let format = style.settings().page_range_format;
     assert_same(rt, &format, &Some(PageRangeFormat::MinimalTwo));
     assert_same(rt, &style.settings().initialize_with_hyphen, &true);
@@ -203,23 +199,20 @@ fn assert_locale_is_asked(rt: &impl Abort, style: &Style) {
     assert_same(rt, &has_bibliography, &false);
 }
 
-fn assert_style_of_parts(rt: &impl Abort, alloc: Global) -> Result<(), StyleError> {
-    let style = style(alloc, &PARTS)?;
+fn assert_style_of_parts(rt: &impl Abort, alloc: Global) {
+    let style = style(rt, alloc, &PARTS);
     assert_parts(rt, &style);
     drop(style);
-    Ok(())
 }
 
-fn assert_style_of_locale(rt: &impl Abort, alloc: Global) -> Result<(), StyleError> {
-    let style = style(alloc, &OF_LOCALE)?;
+fn assert_style_of_locale(rt: &impl Abort, alloc: Global) {
+    let style = style(rt, alloc, &OF_LOCALE);
     assert_locale_is_asked(rt, &style);
     drop(style);
-    Ok(())
 }
 
 #[test]
-fn a_style_returns_its_parts_and_searches_its_locales(rt: HostRuntime) -> Result<(), Fail> {
-    assert_style_of_parts(&rt, rt.alloc())?;
-    assert_style_of_locale(&rt, rt.alloc())?;
-    Ok(())
+fn a_style_returns_its_parts_and_searches_its_locales(rt: HostRuntime) {
+    assert_style_of_parts(&rt, rt.alloc());
+    assert_style_of_locale(&rt, rt.alloc());
 }

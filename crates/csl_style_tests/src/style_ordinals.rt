@@ -2,10 +2,9 @@
 
 use crate::asserted::assert_text;
 use crate::made::{EMPTY, LocaleRows, SILENT, StyleRows, style};
-use csl_style::{OrdinalSlot, Style, StyleError};
+use csl_style::{OrdinalSlot, Style};
 use std::alloc::Global;
 use std::process::Abort;
-use std::test::Fail;
 
 /// A style with a suffix and a word for 3, and with a default suffix.
 const ROWS: StyleRows<'static> = StyleRows {
@@ -48,15 +47,13 @@ fn assert_all(rt: &impl Abort, style: &Style) {
     }
 }
 
-fn assert_style(rt: &impl Abort, alloc: Global) -> Result<(), StyleError> {
-    let style = style(alloc, &ROWS)?;
+fn assert_style(rt: &impl Abort, alloc: Global) {
+    let style = style(rt, alloc, &ROWS);
     assert_all(rt, &style);
     drop(style);
-    Ok(())
 }
 
 #[test]
-fn ordinals_outlive_the_value_that_is_asked(rt: HostRuntime) -> Result<(), Fail> {
-    assert_style(&rt, rt.alloc())?;
-    Ok(())
+fn ordinals_outlive_the_value_that_is_asked(rt: HostRuntime) {
+    assert_style(&rt, rt.alloc());
 }

@@ -4,14 +4,12 @@ use Rattle.std.specs.List.{flat_map}
 use Rattle.std.proofs.lemmas.Grind.{flat_map-append}
 use Rattle.csl_tree.specs.Tokens.{Token, Solid, text, Meta, solid, elem_start, elem_end, markup, link, transparent, optional_meta, child_step, elem_step, children_step, child_tokens, elem_tokens, tokens, has_children}
 use Rattle.csl_tree.specs.Formatting.{same_formatting}
-use Rattle.csl_tree.specs.Content.{last_before, ◌++>◌, elem_content, affixed_content, layer_content, child_content}
-use Rattle.csl_tree.proofs.Joins.{join_assoc}
+use Rattle.csl_tree.specs.Content.{last_before, ◌++>◌, elem_content, layer_content, child_content}
 use Rattle.std.proofs.Common.{true, false, not, cond, Option, vec_len, ◌==◌}
 use Rattle.std.specs.Prelude.{Result, Ok, Err, OnErr}
 use Rattle.std.proofs.lemmas.Grind.{common_steps}
-use Rattle.std.specs.List.{remove}
 use Rattle.csl_tree.proofs.Trees.{tokens_out, elem_tokens_are}
-use Rattle.csl_style.specs.declared.formatting.Display.{Display}
+use Rattle.csl_elements.specs.declared.formatting.Display.{Display}
 use Rattle.csl_tree.specs.declared.elem.ElemChild.{ElemChild}
 use Rattle.std.specs.Prelude.{string_bytes}
 use Rattle.std.specs.declared.string.String.{String}
@@ -114,18 +112,6 @@ module _ {A : Type 0} (tokens_of : A → List Token) (begins : (a : A) → Begin
   none_apart [] ys b e h = rw e
   none_apart (x ∷ xs) ys b e h = absurd (omega arith)
 
-  -- one more item, which begins with a solid token
-  pub solid_pushed : (xs ys : List A) (k : A) (s : Solid) (l : List Token) → ys ≡ xs ++ k ∷ [] → tokens_of k ≡ solid s ∷ l → flat_map tokens_of ys ≡ flat_map tokens_of xs ++> tokens_of k
-  solid_pushed xs ys k s l e h =
-      ap (flat_map tokens_of) e ∙ flat_map-append tokens_of xs (k ∷ []) ∙ ap (λ w. flat_map tokens_of xs ++ w) (append-nil (tokens_of k) ∙ h)
-      ∙ sym (solid_next (flat_map tokens_of xs) s l) ∙ ap (λ w. flat_map tokens_of xs ++> w) (sym h)
-
-  -- more items, the first of which may join the last one
-  pub appended : (xs first_put all moved rest : List A) (k : A) → moved ≡ k ∷ rest → flat_map tokens_of first_put ≡ flat_map tokens_of xs ++> tokens_of k → all ≡ first_put ++ rest → flat_map tokens_of all ≡ flat_map tokens_of xs ++> flat_map tokens_of moved
-  appended xs first_put all moved rest k m h e =
-      let b = begins k in
-      rw (e, m, flat_map-append tokens_of first_put rest, h, b.is) (sym (join_next (flat_map tokens_of xs) b.first b.rest (flat_map tokens_of rest)))
-
 pub text_child : (f : Formatted) → child_tokens (variants.Text f) ≡ text (string_bytes f.text) f.formatting ∷ []
 text_child f = ap child_tokens (sym (variants.rolls-Text f)) ∙ fold-roll-ElemChild (List Token) (List Token) (List Token) child_step elem_step children_step (Text f)
 
@@ -144,22 +130,6 @@ link_child f u = ap child_tokens (sym (variants.rolls-Link f u)) ∙ fold-roll-E
 
 pub transparent_child : (n : ℕ) (f : Formatting) → child_tokens (variants.Transparent n f) ≡ solid (transparent n f) ∷ []
 transparent_child n f = ap child_tokens (sym (variants.rolls-Transparent n f)) ∙ fold-roll-ElemChild (List Token) (List Token) (List Token) child_step elem_step children_step (Transparent n f)
-
-pub markup_pushed : (xs ys : List ElemChild) (m : String Global) → ys ≡ xs ++ variants.Markup m ∷ [] → flat_map child_tokens ys ≡ flat_map child_tokens xs ++> child_tokens (variants.Markup m)
-markup_pushed xs ys m e = solid_pushed child_tokens child_begins xs ys _ _ [] e (markup_child m)
-
-pub link_pushed : (xs ys : List ElemChild) (f : Formatted) (u : String Global) → ys ≡ xs ++ variants.Link f u ∷ [] → flat_map child_tokens ys ≡ flat_map child_tokens xs ++> child_tokens (variants.Link f u)
-link_pushed xs ys f u e = solid_pushed child_tokens child_begins xs ys _ _ [] e (link_child f u)
-
-pub transparent_pushed : (xs ys : List ElemChild) (n : ℕ) (f : Formatting) → ys ≡ xs ++ variants.Transparent n f ∷ [] → flat_map child_tokens ys ≡ flat_map child_tokens xs ++> child_tokens (variants.Transparent n f)
-transparent_pushed xs ys n f e = solid_pushed child_tokens child_begins xs ys _ _ [] e (transparent_child n f)
-
-pub elem_pushed : (xs ys : List ElemChild) (e : elem.Elem) → ys ≡ xs ++ variants.Elem e ∷ [] → flat_map child_tokens ys ≡ flat_map child_tokens xs ++> child_tokens (variants.Elem e)
-elem_pushed xs ys e h = solid_pushed child_tokens child_begins xs ys _ _ _ h (elem_child e ∙ elem_tokens_are e)
-
-pub first_removed : {A : Type 0} (xs ys : List A) (k : A) → 0 < length xs → k ≡ get_or xs 0 k → ys ≡ remove xs 0 → xs ≡ k ∷ ys
-first_removed [] ys k h e r = absurd (omega arith)
-first_removed (x ∷ xs) ys k h e r = cc
 
 none : (xs : List ElemChild) → length xs ≡ 0 → flat_map child_tokens xs ≡ []
 none [] h = refl
@@ -182,24 +152,6 @@ has_children_is c = ap has_children (tokens_out c) ∙ has_more c.0.items (vec_l
 pub boxed_is : (d : Option Display) (m : Option Meta) (c : ElemChildren) → 0 < length c.0.items → elem_content d m (tokens c) ≡ solid (elem_start d m) ∷ (tokens c ++ solid (elem_end d) ∷ [])
 boxed_is d m c h = let b = some c.0.items h in rw (tokens_out c ∙ b.is) refl
 
-pub elem_boxed : (xs ys : List ElemChild) (e : elem.Elem) → ys ≡ xs ++ variants.Elem e ∷ [] → flat_map child_tokens ys ≡ flat_map child_tokens xs ++> (solid (elem_start e.display (optional_meta e.meta)) ∷ (tokens e.children ++ solid (elem_end e.display) ∷ []))
-elem_boxed xs ys e h = elem_pushed xs ys e h ∙ ap (λ l. flat_map child_tokens xs ++> l) (elem_child e ∙ elem_tokens_are e)
-
-no_items : (xs : List ElemChild) → flat_map child_tokens xs ≡ [] → length xs ≡ 0
-no_items [] h = refl
-no_items (x ∷ xs) h = let b = some (x ∷ xs) (omega arith) in cc (b.is)
-
-pub items_none : (c : ElemChildren) → tokens c ≡ [] → length c.0.items ≡ 0
-items_none c h = no_items c.0.items (sym (tokens_out c) ∙ h)
-
 -- the content of an element is its tokens
 pub elem_shows : (e : elem.Elem) → child_content (variants.Elem e) ≡ child_tokens (variants.Elem e)
 elem_shows e = ap layer_content (outs-Elem e) ∙ sym (elem_child e ∙ elem_tokens_are e)
-
--- the content of at least one child, between two contents
-pub affixed_is : (p s : List Token) (c : ElemChildren) → 0 < length c.0.items → affixed_content p s (tokens c) ≡ p ++> (tokens c ++> s)
-affixed_is p s c h = let b = some c.0.items h in rw (tokens_out c ∙ b.is) refl
-
--- three contents, appended to a content one after another
-pub joined_in_turn : (old p inner s a b new : List Token) → a ≡ p ++> inner → b ≡ a ++> s → new ≡ old ++> b → new ≡ old ++> (p ++> (inner ++> s))
-joined_in_turn old p inner s a b new e f g = g ∙ ap (λ l. old ++> l) (f ∙ ap (λ l. l ++> s) e ∙ join_assoc p inner s)

@@ -1,9 +1,8 @@
 -- Laws of contents: joined texts, the leaf text, and `IsContent`.
-use Rattle.std.proofs.Common.{◌≡◌, ℕ, ◌<◌, length, arith, true, false, cond, List, [], ◌∷◌, ◌++◌, refl, sym, ap, subst, ◌∙◌, append_assoc}
-use Rattle.std.proofs.lemmas.Grind.{flat_map-append}
+use Rattle.std.proofs.Common.{◌≡◌, ℕ, true, false, cond, List, [], ◌∷◌, ◌++◌, refl, sym, ap, subst, ◌∙◌, append_assoc}
 use Rattle.std.proofs.lemmas.List.{append-nil}
 use Rattle.std.specs.Prelude.{Option}
-use Rattle.csl_style.specs.declared.formatting.Display.{Display}
+use Rattle.csl_elements.specs.declared.formatting.Display.{Display}
 use Rattle.csl_tree.specs.declared.formatting.Formatting.{Formatting}
 use Rattle.csl_tree.specs.Formatting.{same_formatting}
 use Rattle.csl_tree.specs.Tokens.{Token, Solid, Meta, text, solid, markup, link, transparent, elem_start, elem_end, token_text, leaf_text}
@@ -36,16 +35,6 @@ leaf_text-joined t (u ∷ a) b = ap (λ l. token_text t ++ l) (leaf_text-joined 
 pub leaf_text-join : (a b : List Token) → leaf_text (a ++> b) ≡ leaf_text a ++ leaf_text b
 leaf_text-join [] b = refl
 leaf_text-join (t ∷ a) b = leaf_text-joined t a b ∙ sym (append_assoc (token_text t) (leaf_text a) (leaf_text b))
-
--- an element has the leaf text of its content
-pub leaf_text-boxed : (d : Option Display) (m : Option Meta) (c : List Token) → leaf_text (elem_content d m c) ≡ leaf_text c
-leaf_text-boxed d m [] = refl
-leaf_text-boxed d m (t ∷ c) = flat_map-append token_text (t ∷ c) (solid (elem_end d) ∷ []) ∙ append-nil (leaf_text (t ∷ c))
-
--- a content between two others has the leaf text of all three, in order
-pub leaf_text-affixed : (p s c : List Token) → 0 < length c → leaf_text (affixed_content p s c) ≡ leaf_text p ++ (leaf_text c ++ leaf_text s)
-leaf_text-affixed p s [] h = absurd (omega (arith, h))
-leaf_text-affixed p s (t ∷ c) h = leaf_text-join p ((t ∷ c) ++> s) ∙ ap (λ l. leaf_text p ++ l) (leaf_text-join (t ∷ c) s)
 
 pub IsContent-text : (x : List ℕ) (f : Formatting) → IsContent (text_content x f)
 IsContent-text [] f = nothing

@@ -1,16 +1,16 @@
 -- Joining is associative, and the empty content is its unit.
 use Rattle.std.proofs.Common.{◌≡◌, ℕ, ◌<◌, suc, zero, length, true, false, cond, List, [], ◌∷◌, ◌++◌, refl, sym, ap, ◌∙◌, append_assoc, arith}
 use Rattle.std.proofs.lemmas.Grind.{common_steps}
-use Rattle.csl_style.specs.declared.formatting.FontStyle.{FontStyle}
-use Rattle.csl_style.specs.declared.formatting.FontStyle.TheVariants as style
-use Rattle.csl_style.specs.declared.formatting.FontVariant.{FontVariant}
-use Rattle.csl_style.specs.declared.formatting.FontVariant.TheVariants as variant
-use Rattle.csl_style.specs.declared.formatting.FontWeight.{FontWeight}
-use Rattle.csl_style.specs.declared.formatting.FontWeight.TheVariants as weight
-use Rattle.csl_style.specs.declared.formatting.TextDecoration.{TextDecoration}
-use Rattle.csl_style.specs.declared.formatting.TextDecoration.TheVariants as decoration
-use Rattle.csl_style.specs.declared.formatting.VerticalAlign.{VerticalAlign}
-use Rattle.csl_style.specs.declared.formatting.VerticalAlign.TheVariants as align
+use Rattle.csl_elements.specs.declared.formatting.FontStyle.{FontStyle}
+use Rattle.csl_elements.specs.declared.formatting.FontStyle.TheVariants as style
+use Rattle.csl_elements.specs.declared.formatting.FontVariant.{FontVariant}
+use Rattle.csl_elements.specs.declared.formatting.FontVariant.TheVariants as variant
+use Rattle.csl_elements.specs.declared.formatting.FontWeight.{FontWeight}
+use Rattle.csl_elements.specs.declared.formatting.FontWeight.TheVariants as weight
+use Rattle.csl_elements.specs.declared.formatting.TextDecoration.{TextDecoration}
+use Rattle.csl_elements.specs.declared.formatting.TextDecoration.TheVariants as decoration
+use Rattle.csl_elements.specs.declared.formatting.VerticalAlign.{VerticalAlign}
+use Rattle.csl_elements.specs.declared.formatting.VerticalAlign.TheVariants as align
 use Rattle.csl_tree.specs.declared.formatting.Formatting.{Formatting}
 use Rattle.csl_tree.specs.Formatting.{same_formatting, style_place, variant_place, weight_place, decoration_place, align_place}
 use Rattle.csl_tree.specs.Tokens.{Token, text, solid}

@@ -17,7 +17,7 @@ use Rattle.csl_tree.specs.declared.elem.ElemChild.TheFolds.{map-ElemChild, map-E
 use Rattle.csl_tree.specs.declared.elem.Elem as elem
 use Rattle.csl_tree.specs.declared.elem.ElemChildren.{ElemChildren}
 use Rattle.csl_tree.specs.Tokens.{Token, Meta, solid, elem_end, elem_around, optional_meta, child_step, elem_step, children_step, child_tokens, elem_tokens, tokens, token_text, leaf_text, last_char}
-use Rattle.csl_style.specs.declared.formatting.Display.{Display}
+use Rattle.csl_elements.specs.declared.formatting.Display.{Display}
 
 -- the leaf text of children in a row
 abbrev pub leaf_of : List ElemChild → List ℕ

@@ -22,7 +22,7 @@ pub mod Walks
 pub mod LastPlace
 pub mod NamesPlace
 pub mod NamesFirst
-pub mod NormalTest
+pub mod OnePass
 pub mod KeptLinks
 pub mod Fronts
 pub mod Escaped

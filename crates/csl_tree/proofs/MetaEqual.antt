@@ -11,18 +11,18 @@ use Rattle.lit_model.specs.contracts.person.PersonPartialEq.TheImpl.{eq-value as
 use Rattle.lit_model.proofs.PersonEqual.{person_decides}
 use Rattle.lit_model.proofs.PageEqual.{pointwise_view}
 use Rattle.lit_model.proofs.ByValue.{both, through, text_decides}
-use Rattle.csl_style.specs.declared.taxonomy.NameVariable.{NameVariable}
-use Rattle.csl_style.specs.contracts.taxonomy.NameVariablePartialEq.TheImpl.{eq-value as eq_variable}
-use Rattle.csl_style.specs.declared.formatting.FontStyle.{FontStyle}
-use Rattle.csl_style.specs.contracts.formatting.FontStylePartialEq.TheImpl.{eq-value as eq_style}
-use Rattle.csl_style.specs.declared.formatting.FontVariant.{FontVariant}
-use Rattle.csl_style.specs.contracts.formatting.FontVariantPartialEq.TheImpl.{eq-value as eq_variant}
-use Rattle.csl_style.specs.declared.formatting.FontWeight.{FontWeight}
-use Rattle.csl_style.specs.contracts.formatting.FontWeightPartialEq.TheImpl.{eq-value as eq_weight}
-use Rattle.csl_style.specs.declared.formatting.TextDecoration.{TextDecoration}
-use Rattle.csl_style.specs.contracts.formatting.TextDecorationPartialEq.TheImpl.{eq-value as eq_decoration}
-use Rattle.csl_style.specs.declared.formatting.VerticalAlign.{VerticalAlign}
-use Rattle.csl_style.specs.contracts.formatting.VerticalAlignPartialEq.TheImpl.{eq-value as eq_align}
+use Rattle.csl_elements.specs.declared.taxonomy.NameVariable.{NameVariable}
+use Rattle.csl_elements.specs.contracts.taxonomy.NameVariablePartialEq.TheImpl.{eq-value as eq_variable}
+use Rattle.csl_elements.specs.declared.formatting.FontStyle.{FontStyle}
+use Rattle.csl_elements.specs.contracts.formatting.FontStylePartialEq.TheImpl.{eq-value as eq_style}
+use Rattle.csl_elements.specs.declared.formatting.FontVariant.{FontVariant}
+use Rattle.csl_elements.specs.contracts.formatting.FontVariantPartialEq.TheImpl.{eq-value as eq_variant}
+use Rattle.csl_elements.specs.declared.formatting.FontWeight.{FontWeight}
+use Rattle.csl_elements.specs.contracts.formatting.FontWeightPartialEq.TheImpl.{eq-value as eq_weight}
+use Rattle.csl_elements.specs.declared.formatting.TextDecoration.{TextDecoration}
+use Rattle.csl_elements.specs.contracts.formatting.TextDecorationPartialEq.TheImpl.{eq-value as eq_decoration}
+use Rattle.csl_elements.specs.declared.formatting.VerticalAlign.{VerticalAlign}
+use Rattle.csl_elements.specs.contracts.formatting.VerticalAlignPartialEq.TheImpl.{eq-value as eq_align}
 use Rattle.csl_tree.specs.Tokens.{Token, text, text_tokens, names_of, Meta, of_names, meta_of, optional_meta}
 use Rattle.csl_tree.specs.Formatting.{default_formatting}
 use Rattle.csl_tree.specs.declared.formatting.Formatting.{Formatting}

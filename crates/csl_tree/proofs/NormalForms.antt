@@ -3,7 +3,7 @@
 use Rattle.std.proofs.Common.{◌≡◌, ℕ, zero, suc, ◌≤◌, Bool, true, false, not, ◌&&◌, cond, List, [], ◌∷◌, ◌++◌, ◌↔◌, refl, sym, ap, ◌∙◌, append_assoc, arith}
 use Rattle.std.specs.Prelude.{Option, Some, None}
 use Rattle.std.proofs.lemmas.List.{append-nil}
-use Rattle.csl_style.specs.declared.formatting.Display.{Display}
+use Rattle.csl_elements.specs.declared.formatting.Display.{Display}
 use Rattle.csl_tree.specs.declared.formatting.Formatting.{Formatting}
 use Rattle.csl_tree.specs.Formatting.{same_formatting}
 use Rattle.csl_tree.specs.Tokens.{Token, Meta, text, solid, elem_start, elem_end, elem_around}
@@ -12,7 +12,7 @@ use Rattle.csl_tree.specs.Tree.{Tree, empty_tree, text_then, leaf_then, element_
 use Rattle.csl_tree.specs.Simplify.{is_plain, is_empty_tree, with_text, simplified_elem, simplify_once_after, simplify_once, styled_bytes, styled_value, begins_with, is_normal, node_count, simplify_times, normal_form, is_nonempty_text, has_no_empty_text}
 use Rattle.csl_tree.proofs.Joins.{same_formatting-refl, text_before-same}
 use Rattle.csl_tree.proofs.TreeTokens.{tokens_tell}
-use Rattle.csl_tree.proofs.Rounds.{nodes-round_behind, styled_kept, normal_unchanged, fewer}
+use Rattle.csl_tree.proofs.Rounds.{styled_kept, normal_unchanged, fewer}
 
 -- ---- one round for each node
 
@@ -35,32 +35,6 @@ enough (suc n) t h =
 pub ends_normal : (t : Tree) → is_normal (normal_form t) ≡ true
 ends_normal t = enough (node_count t) t (omega arith)
 
-stays_for_ever : (n : ℕ) (t : Tree) → is_normal t ≡ true → simplify_times n t ≡ t
-stays_for_ever zero t h = refl
-stays_for_ever (suc n) t h = ap (simplify_times n) (normal_unchanged t h) ∙ stays_for_ever n t h
-
--- more rounds than nodes change nothing
-enough_alike : (n m : ℕ) (t : Tree) → node_count t ≤ n → node_count t ≤ m → simplify_times n t ≡ simplify_times m t
-enough_alike zero m t h k = sym (stays_for_ever m t (enough zero t h))
-enough_alike (suc n) zero t h k = stays_for_ever (suc n) t (enough zero t k)
-enough_alike (suc n) (suc m) t h k =
-    elim (is_normal t) as (λ s. is_normal t ≡ s → simplify_times n (simplify_once t) ≡ simplify_times m (simplify_once t)) [
-      | true ↦ λ e. stays_for_ever (suc n) t e ∙ sym (stays_for_ever (suc m) t e)
-      | false ↦ λ e. let less = fewer t e in enough_alike n m (simplify_once t) (omega (arith, less, h)) (omega (arith, less, k))
-    ] refl
-
-pub normal_form-normal : (t : Tree) → is_normal t ≡ true → normal_form t ≡ t
-normal_form-normal t h = stays_for_ever (node_count t) t h
-
-pub nodes-round : (t : Tree) → node_count (simplify_once t) ≤ node_count t
-nodes-round t = let h = nodes-round_behind empty_tree t in omega (arith, h)
-
--- one round first does not change the normal form
-pub normal_form-round : (t : Tree) → normal_form (simplify_once t) ≡ normal_form t
-normal_form-round t =
-    let less = nodes-round t in
-    enough_alike (node_count (simplify_once t)) (node_count t) (simplify_once t) (omega arith) (omega (arith, less)) ∙ enough_alike (suc (node_count t)) (node_count t) t (omega arith) (omega arith)
-
 pub rounds_kept : (n : ℕ) (t : Tree) → styled_value (simplify_times n t) ≡ styled_value t
 rounds_kept zero t = refl
 rounds_kept (suc n) t = rounds_kept n (simplify_once t) ∙ styled_kept t
@@ -70,11 +44,11 @@ rounds_kept (suc n) t = rounds_kept n (simplify_once t) ∙ styled_kept t
 both : (p q : Bool) → p ≡ true → q ≡ true → (p && q) ≡ true
 both p q h k = ap (λ s. s && q) h ∙ k
 
-left : (p q : Bool) → (p && q) ≡ true → p ≡ true
+pub left : (p q : Bool) → (p && q) ≡ true → p ≡ true
 left true q h = refl
 left false q h = h
 
-right : (p q : Bool) → (p && q) ≡ true → q ≡ true
+pub right : (p q : Bool) → (p && q) ≡ true → q ≡ true
 right true q h = h
 right false q h = absurd (cc h)
 
@@ -148,7 +122,7 @@ not_joined bs f (element_then d m inside t) r h k = refl
 gathered-shown : (d : Option Display) (m : Option Meta) (inside t r : List Token) → gathered ((elem_around d m inside ++ t) ++ r) ≡ solid (elem_start d m) ∷ gathered (inside ++ solid (elem_end d) ∷ (t ++ r))
 gathered-shown d m inside t r = ap (λ l. solid (elem_start d m) ∷ gathered l) (append_assoc (inside ++ solid (elem_end d) ∷ []) t r ∙ append_assoc inside (solid (elem_end d) ∷ []) (t ++ r))
 
-not_true : (p : Bool) → not p ≡ true → p ≡ false
+pub not_true : (p : Bool) → not p ≡ true → p ≡ false
 not_true true h = absurd (cc h)
 not_true false h = refl
 
@@ -182,7 +156,3 @@ end_equal t u e i = (
   λ h. sym (rounds_kept (node_count t) t) ∙ ap styled_value h ∙ rounds_kept (node_count u) u,
   λ h. styled_tells (simplify_times (node_count t) t) (simplify_times (node_count u) u) (ends_normal t) (ends_normal u) (no_empty_ever (node_count t) t e) (no_empty_ever (node_count u) u i) (rounds_kept (node_count t) t ∙ h ∙ sym (rounds_kept (node_count u) u)),
 )
-
--- a normal tree with the normal form of another tree is that normal form
-pub reached : (t u : Tree) → is_normal t ≡ true → normal_form t ≡ normal_form u → t ≡ normal_form u
-reached t u n h = sym (normal_form-normal t n) ∙ h

@@ -1,7 +1,7 @@
 -- Formattings applied to one another and to that of a place.
 use Rattle.std.proofs.Common.{◌≡◌}
-use Rattle.csl_style.specs.declared.formatting.Formatting as partial
-use Rattle.csl_style.specs.Formatting.{IsBoth}
+use Rattle.csl_elements.specs.declared.formatting.Formatting as partial
+use Rattle.csl_elements.specs.Formatting.{IsBoth}
 use Rattle.csl_tree.specs.declared.formatting.Formatting.{Formatting}
 use Rattle.csl_tree.specs.Formatting.{apply_formatting}
 

@@ -3,7 +3,7 @@
 use Rattle.std.proofs.Common.{◌≡◌, ◌<◌, ◌⊎◌, inl, inr, ℕ, true, false, List, [], ◌∷◌, ◌++◌, length, get_or, refl, sym, ap, subst, ◌∙◌, append_assoc, length-append, arith, lit<}
 use Rattle.std.specs.Prelude.{Option, Some, None, not, ◌==◌, unwrap_or, option_and_then, codes, if◌then◌else◌}
 use Rattle.std.proofs.lemmas.Grind.{common_steps}
-use Rattle.csl_style.specs.declared.formatting.Display.TheVariants.{Block, LeftMargin, RightInline, Indent}
+use Rattle.csl_elements.specs.declared.formatting.Display.TheVariants.{Block, LeftMargin, RightInline, Indent}
 use Rattle.csl_tree.specs.declared.marks.Element.{Element}
 use Rattle.csl_tree.specs.declared.marks.Element.TheVariants as element
 use Rattle.csl_tree.specs.Escapes.{escape, escape_all, is_reserved}

@@ -12,7 +12,7 @@ use Rattle.std.proofs.lemmas.List.Folds.{list_any-append}
 use Rattle.std.proofs.lemmas.Bool.{false≢true}
 use mathlib.Core.HLevel.{is_prop→PathP}
 use native.Mathlib.Nat.{ℕ_set}
-use Rattle.csl_style.specs.declared.formatting.Display.{Display}
+use Rattle.csl_elements.specs.declared.formatting.Display.{Display}
 use Rattle.csl_tree.specs.Tokens.{Token, solid, elem_start, elem_end, elem_around, optional_meta, child_step, elem_step, children_step, child_tokens, elem_tokens, tokens}
 use Rattle.csl_tree.specs.Places.{layer_children, children_of, layer_with, with_children}
 use Rattle.csl_tree.specs.Search.{preorder, child_preorder, has_meta, child_has_meta, layer_has_meta, elem_of, layer_elem, opens_meta, HasNoMeta, MetaRemoved}

@@ -5,7 +5,7 @@ use Rattle.std.specs.Bool.{OnFalse}
 use Rattle.std.specs.declared.string.String.{String}
 use Rattle.std.specs.declared.alloc.Global.{Global}
 use Rattle.std.specs.List.{flat_map}
-use Rattle.csl_style.specs.declared.formatting.Display.{Display}
+use Rattle.csl_elements.specs.declared.formatting.Display.{Display}
 use Rattle.csl_tree.specs.declared.formatting.Formatting.{Formatting}
 use Rattle.csl_tree.specs.declared.formatting.Formatted.{Formatted}
 use Rattle.csl_tree.specs.declared.elem.ElemChild.{ElemChild}
@@ -48,7 +48,7 @@ tokens_of-with_text (element_then d m inner t) bs f = ap (λ l. elem_around d m 
 
 -- ---- children in a row
 
-row-append : (xs ys : List ElemChild) → row (xs ++ ys) ≡ row xs ⊕ row ys
+pub row-append : (xs ys : List ElemChild) → row (xs ++ ys) ≡ row xs ⊕ row ys
 row-append [] ys = refl
 row-append (x ∷ xs) ys = ap (λ t. child_tree x ⊕ t) (row-append xs ys) ∙ sym (⊕-assoc (child_tree x) (row xs) (row ys))
 
@@ -67,10 +67,10 @@ round_behind-⊕ b (element_then d m inner t) u = round_behind-⊕ (b ⊕ simpli
 
 -- ---- one child
 
-pub text_tree : (f : Formatted) → child_tree (variants.Text f) ≡ text_then (string_bytes f.text) f.formatting empty_tree
+text_tree : (f : Formatted) → child_tree (variants.Text f) ≡ text_then (string_bytes f.text) f.formatting empty_tree
 text_tree f = ap child_tree (sym (variants.rolls-Text f)) ∙ fold-roll-ElemChild Tree Tree Tree child_level elem_level children_level (Text f)
 
-elem_child_tree : (e : elem.Elem) → child_tree (variants.Elem e) ≡ elem_tree e
+pub elem_child_tree : (e : elem.Elem) → child_tree (variants.Elem e) ≡ elem_tree e
 elem_child_tree e = ap child_tree (sym (variants.rolls-Elem e)) ∙ fold-roll-ElemChild Tree Tree Tree child_level elem_level children_level (Elem e)
 
 -- a child that is a leaf

@@ -2,7 +2,7 @@
 use Rattle.std.proofs.Common.{◌≡◌, ℕ, ◌+◌, ◌<◌, ◌≤◌, Bool, true, false, not, ◌&&◌, ◌||◌, cond, List, [], ◌∷◌, ◌++◌, refl, sym, ap, ◌∙◌, append_assoc, arith}
 use Rattle.std.specs.Prelude.{Option, Some, None, if◌then◌else◌}
 use Rattle.std.proofs.lemmas.List.{append-nil, map-append}
-use Rattle.csl_style.specs.declared.formatting.Display.{Display}
+use Rattle.csl_elements.specs.declared.formatting.Display.{Display}
 use Rattle.csl_tree.specs.declared.formatting.Formatting.{Formatting}
 use Rattle.csl_tree.specs.Formatting.{same_formatting}
 use Rattle.csl_tree.specs.Tokens.{Token, Meta, text, solid, elem_around}
@@ -203,7 +203,7 @@ nodes-stands_for None None inside rounded h = omega (arith, h)
 nodes-stands_for None (Some m) inside rounded h = omega (arith, h)
 nodes-stands_for (Some d) m inside rounded h = omega (arith, h)
 
-pub nodes-round_behind : (b t : Tree) → node_count (simplify_once_after b t) ≤ node_count b + node_count t
+nodes-round_behind : (b t : Tree) → node_count (simplify_once_after b t) ≤ node_count b + node_count t
 nodes-round_behind b empty_tree = omega arith
 nodes-round_behind b (text_then bs f t) = let h = nodes-round_behind (with_text b bs f) t in let e = nodes-with_text b bs f in omega (arith, h, e)
 nodes-round_behind b (leaf_then l t) = let h = nodes-round_behind (b ⊕ leaf_then l empty_tree) t in let e = nodes-⊕ b (leaf_then l empty_tree) in omega (arith, h, e)

@@ -1,18 +1,18 @@
 -- The start tag or end tag that HTML begins with, and the rest after it.
 use Rattle.std.proofs.Common.{◌≡◌, ◌⊎◌, inl, inr, ℕ, List, ◌++◌, refl, sym, ap, ◌∙◌, append_assoc}
 use Rattle.std.specs.Prelude.{Option, Some, None, unwrap_or, option_and_then, codes}
-use Rattle.csl_style.specs.declared.formatting.Display.{Display}
-use Rattle.csl_style.specs.declared.formatting.Display.TheVariants.{Block, LeftMargin, RightInline, Indent}
-use Rattle.csl_style.specs.declared.formatting.FontStyle.{FontStyle}
-use Rattle.csl_style.specs.declared.formatting.FontStyle.TheVariants as style
-use Rattle.csl_style.specs.declared.formatting.FontVariant.{FontVariant}
-use Rattle.csl_style.specs.declared.formatting.FontVariant.TheVariants as variant
-use Rattle.csl_style.specs.declared.formatting.FontWeight.{FontWeight}
-use Rattle.csl_style.specs.declared.formatting.FontWeight.TheVariants as weight
-use Rattle.csl_style.specs.declared.formatting.TextDecoration.{TextDecoration}
-use Rattle.csl_style.specs.declared.formatting.TextDecoration.TheVariants as decoration
-use Rattle.csl_style.specs.declared.formatting.VerticalAlign.{VerticalAlign}
-use Rattle.csl_style.specs.declared.formatting.VerticalAlign.TheVariants as align
+use Rattle.csl_elements.specs.declared.formatting.Display.{Display}
+use Rattle.csl_elements.specs.declared.formatting.Display.TheVariants.{Block, LeftMargin, RightInline, Indent}
+use Rattle.csl_elements.specs.declared.formatting.FontStyle.{FontStyle}
+use Rattle.csl_elements.specs.declared.formatting.FontStyle.TheVariants as style
+use Rattle.csl_elements.specs.declared.formatting.FontVariant.{FontVariant}
+use Rattle.csl_elements.specs.declared.formatting.FontVariant.TheVariants as variant
+use Rattle.csl_elements.specs.declared.formatting.FontWeight.{FontWeight}
+use Rattle.csl_elements.specs.declared.formatting.FontWeight.TheVariants as weight
+use Rattle.csl_elements.specs.declared.formatting.TextDecoration.{TextDecoration}
+use Rattle.csl_elements.specs.declared.formatting.TextDecoration.TheVariants as decoration
+use Rattle.csl_elements.specs.declared.formatting.VerticalAlign.{VerticalAlign}
+use Rattle.csl_elements.specs.declared.formatting.VerticalAlign.TheVariants as align
 use Rattle.csl_tree.specs.declared.formatting.Formatting.{Formatting}
 use Rattle.csl_tree.specs.declared.marks.Element.{Element}
 use Rattle.csl_tree.specs.declared.marks.Element.TheVariants as element

@@ -6,8 +6,8 @@ use Rattle.std.specs.Cmp.Lexicographic.{pointwise}
 use Rattle.std.proofs.lemmas.Bool.{false≢true}
 use Rattle.lit_model.proofs.ByValue.{both, through, option_same, text_decides}
 use Rattle.lit_model.proofs.Depth.{EachOf}
-use Rattle.csl_style.specs.declared.formatting.Display.{Display}
-use Rattle.csl_style.specs.contracts.formatting.DisplayPartialEq.TheImpl.{eq-value as eq_display}
+use Rattle.csl_elements.specs.declared.formatting.Display.{Display}
+use Rattle.csl_elements.specs.contracts.formatting.DisplayPartialEq.TheImpl.{eq-value as eq_display}
 use Rattle.csl_tree.specs.contracts.elem.ElemChildPartialEq.TheImpl.{eq-value as eq_child}
 use Rattle.csl_tree.specs.contracts.elem.ElemPartialEq.TheImpl.{eq-value as eq_elem}
 use Rattle.csl_tree.specs.contracts.elem.ElemChildrenPartialEq.TheImpl.{eq-value as eq_children}

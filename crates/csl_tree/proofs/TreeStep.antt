@@ -11,7 +11,7 @@ use denote.Hole.Carrier.{listed, list-listed}
 use denote.Hole.Compared.{Local, compared, compared_is}
 use denote.Hole.Rolled.{depth, depth_falls, repeat, onto}
 use Rattle.lit_model.proofs.Depth.{EachOf}
-use Rattle.csl_style.specs.contracts.formatting.DisplayPartialEq.TheImpl.{eq-value as eq_display}
+use Rattle.csl_elements.specs.contracts.formatting.DisplayPartialEq.TheImpl.{eq-value as eq_display}
 use Rattle.csl_tree.specs.contracts.formatting.FormattingPartialEq.TheImpl.{eq-value as eq_formatting}
 use Rattle.csl_tree.specs.contracts.formatting.FormattedPartialEq.TheImpl.{eq-value as eq_formatted}
 use Rattle.csl_tree.specs.contracts.elem.ElemMetaPartialEq.TheImpl.{eq-value as eq_meta}

@@ -5,9 +5,8 @@
 -- (`IsContent`). An element that is appended whole is kept as it is, even without children.
 -- A content between affixes (CSL 1.0.2, Affixes) is empty if the content is empty, else prefix,
 -- content and suffix in a row.
-use Rattle.std.specs.Prelude.{◌≡◌, ℕ, List, [], ◌∷◌, ◌++◌, Option, Some, None, option_map, string_bytes, if◌then◌else◌}
-use Rattle.std.specs.Borrow.{Bor}
-use Rattle.csl_style.specs.declared.formatting.Display.{Display}
+use Rattle.std.specs.Prelude.{ℕ, List, [], ◌∷◌, ◌++◌, Option, string_bytes, if◌then◌else◌}
+use Rattle.csl_elements.specs.declared.formatting.Display.{Display}
 use Rattle.csl_tree.specs.declared.formatting.Formatting.{Formatting}
 use Rattle.csl_tree.specs.Formatting.{same_formatting}
 use Rattle.csl_tree.specs.Tokens.{Token, Meta, text, solid, markup, link, transparent, elem_start, elem_end, elem_around, optional_meta, tokens}
@@ -42,15 +41,6 @@ abbrev pub ◌++>◌ : List Token → List Token → List Token
 abbrev pub text_content : List ℕ → Formatting → List Token
 text_content [] f = []
 text_content (b ∷ bs) f = text (b ∷ bs) f ∷ []
-
--- the content of a text, if there is one
-abbrev pub optional_text : Option (List ℕ) → Formatting → List Token
-optional_text None f = []
-optional_text (Some bs) f = text_content bs f
-
--- the content of a borrowed text, if there is one
-abbrev pub lent_text : Option (Bor (List ℕ)) → Formatting → List Token
-lent_text t f = optional_text (option_map (λ s. s.now) t) f
 
 -- an element around a content, or nothing if the content is empty
 abbrev pub elem_content : Option Display → Option Meta → List Token → List Token
@@ -92,11 +82,3 @@ pub data IsContent : List Token → Type 0 where
   transparent_then : (n : ℕ) (f : Formatting) (rest : List Token) → IsContent rest → IsContent (solid (transparent n f) ∷ rest)
   element_then : (d : Option Display) (m : Option Meta) (t : Token) (inside rest : List Token)
       → IsContent (t ∷ inside) → IsContent rest → IsContent (solid (elem_start d m) ∷ (t ∷ (inside ++ solid (elem_end d) ∷ rest)))
-
--- the new tokens are the old ones and a further content in a row (`++>`)
-abbrev pub Appends : ElemChildren → ElemChildren → List Token → Type 0
-Appends old new more = tokens new ≡ tokens old ++> more
-
--- the tokens of the children are unchanged
-abbrev pub Stays : ElemChildren → ElemChildren → Type 0
-Stays old new = tokens new ≡ tokens old

@@ -3,17 +3,17 @@
 -- applied to that of its place. The result has each attribute that the node sets, and the place's
 -- value for each other attribute. Two formattings are equal if all five attributes are.
 use Rattle.std.specs.Prelude.{ℕ, Bool, ◌&&◌, ◌==◌, unwrap_or}
-use Rattle.csl_style.specs.declared.formatting.FontStyle.{FontStyle}
-use Rattle.csl_style.specs.declared.formatting.FontStyle.TheVariants as style
-use Rattle.csl_style.specs.declared.formatting.FontVariant.{FontVariant}
-use Rattle.csl_style.specs.declared.formatting.FontVariant.TheVariants as variant
-use Rattle.csl_style.specs.declared.formatting.FontWeight.{FontWeight}
-use Rattle.csl_style.specs.declared.formatting.FontWeight.TheVariants as weight
-use Rattle.csl_style.specs.declared.formatting.TextDecoration.{TextDecoration}
-use Rattle.csl_style.specs.declared.formatting.TextDecoration.TheVariants as decoration
-use Rattle.csl_style.specs.declared.formatting.VerticalAlign.{VerticalAlign}
-use Rattle.csl_style.specs.declared.formatting.VerticalAlign.TheVariants as align
-use Rattle.csl_style.specs.declared.formatting.Formatting as partial
+use Rattle.csl_elements.specs.declared.formatting.FontStyle.{FontStyle}
+use Rattle.csl_elements.specs.declared.formatting.FontStyle.TheVariants as style
+use Rattle.csl_elements.specs.declared.formatting.FontVariant.{FontVariant}
+use Rattle.csl_elements.specs.declared.formatting.FontVariant.TheVariants as variant
+use Rattle.csl_elements.specs.declared.formatting.FontWeight.{FontWeight}
+use Rattle.csl_elements.specs.declared.formatting.FontWeight.TheVariants as weight
+use Rattle.csl_elements.specs.declared.formatting.TextDecoration.{TextDecoration}
+use Rattle.csl_elements.specs.declared.formatting.TextDecoration.TheVariants as decoration
+use Rattle.csl_elements.specs.declared.formatting.VerticalAlign.{VerticalAlign}
+use Rattle.csl_elements.specs.declared.formatting.VerticalAlign.TheVariants as align
+use Rattle.csl_elements.specs.declared.formatting.Formatting as partial
 use Rattle.csl_tree.specs.declared.formatting.Formatting.{Formatting}
 
 -- each attribute that the node sets, else that of its place

@@ -11,18 +11,18 @@
 -- HTML has exactly one text. For the HTML of a tree, it is the leaf text of the tree.
 use Rattle.std.specs.Prelude.{◌≡◌, ℕ, List, [], ◌∷◌, ◌++◌, Some, None, codes, if◌then◌else◌}
 use Rattle.std.specs.List.{flat_map}
-use Rattle.csl_style.specs.declared.formatting.Display.{Display}
-use Rattle.csl_style.specs.declared.formatting.Display.TheVariants.{Block, LeftMargin, RightInline, Indent}
-use Rattle.csl_style.specs.declared.formatting.FontStyle.{FontStyle}
-use Rattle.csl_style.specs.declared.formatting.FontStyle.TheVariants as style
-use Rattle.csl_style.specs.declared.formatting.FontVariant.{FontVariant}
-use Rattle.csl_style.specs.declared.formatting.FontVariant.TheVariants as variant
-use Rattle.csl_style.specs.declared.formatting.FontWeight.{FontWeight}
-use Rattle.csl_style.specs.declared.formatting.FontWeight.TheVariants as weight
-use Rattle.csl_style.specs.declared.formatting.TextDecoration.{TextDecoration}
-use Rattle.csl_style.specs.declared.formatting.TextDecoration.TheVariants as decoration
-use Rattle.csl_style.specs.declared.formatting.VerticalAlign.{VerticalAlign}
-use Rattle.csl_style.specs.declared.formatting.VerticalAlign.TheVariants as align
+use Rattle.csl_elements.specs.declared.formatting.Display.{Display}
+use Rattle.csl_elements.specs.declared.formatting.Display.TheVariants.{Block, LeftMargin, RightInline, Indent}
+use Rattle.csl_elements.specs.declared.formatting.FontStyle.{FontStyle}
+use Rattle.csl_elements.specs.declared.formatting.FontStyle.TheVariants as style
+use Rattle.csl_elements.specs.declared.formatting.FontVariant.{FontVariant}
+use Rattle.csl_elements.specs.declared.formatting.FontVariant.TheVariants as variant
+use Rattle.csl_elements.specs.declared.formatting.FontWeight.{FontWeight}
+use Rattle.csl_elements.specs.declared.formatting.FontWeight.TheVariants as weight
+use Rattle.csl_elements.specs.declared.formatting.TextDecoration.{TextDecoration}
+use Rattle.csl_elements.specs.declared.formatting.TextDecoration.TheVariants as decoration
+use Rattle.csl_elements.specs.declared.formatting.VerticalAlign.{VerticalAlign}
+use Rattle.csl_elements.specs.declared.formatting.VerticalAlign.TheVariants as align
 use Rattle.csl_tree.specs.declared.formatting.Formatting.{Formatting}
 use Rattle.csl_tree.specs.Escapes.{escape_all}
 use Rattle.csl_tree.specs.Formatting.{same_formatting, default_formatting}

@@ -8,8 +8,9 @@
 -- - A tree is *normal* if, at every depth, no element is plain and no neighbouring texts have equal
 --   formatting.
 -- - The *normal form* of a tree with `n` nodes, at all depths, is the tree after `n` rounds.
+-- `simplify_fully_after` is internal: only the contracts of private functions cite it.
 use Rattle.std.specs.Prelude.{ℕ, zero, suc, ◌+◌, Bool, true, false, not, ◌&&◌, List, [], ◌∷◌, ◌++◌, map, Option, Some, None, if◌then◌else◌}
-use Rattle.csl_style.specs.declared.formatting.Display.{Display}
+use Rattle.csl_elements.specs.declared.formatting.Display.{Display}
 use Rattle.csl_tree.specs.declared.formatting.Formatting.{Formatting}
 use Rattle.csl_tree.specs.Formatting.{same_formatting}
 use Rattle.csl_tree.specs.declared.elem.Elem as elem
@@ -112,14 +113,11 @@ has_no_empty_text (text_then bs f t) = is_nonempty_text bs && has_no_empty_text 
 has_no_empty_text (leaf_then l t) = has_no_empty_text t
 has_no_empty_text (element_then d m inside t) = has_no_empty_text inside && has_no_empty_text t
 
--- the formatting of the last node, if that is a text
-abbrev pub last_formatting : Tree → Option Formatting
-last_formatting empty_tree = None
-last_formatting (text_then bs f t) = if is_empty_tree t then Some f else last_formatting t
-last_formatting (leaf_then l t) = last_formatting t
-last_formatting (element_then d m inside t) = last_formatting t
-
--- normal, and a first text differs in formatting from a text before it
-abbrev pub is_normal_after : Option Formatting → Tree → Bool
-is_normal_after None t = is_normal t
-is_normal_after (Some f) t = not (begins_with f t) && is_normal t
+-- The normal form of two trees in a row, if the first is normal. Unlike in a round, a plain element
+-- is replaced by its children's normal form, so texts from it join texts before and after it; any
+-- other element is put around the normal form of its children.
+abbrev pub simplify_fully_after : Tree → Tree → Tree
+simplify_fully_after before empty_tree = before
+simplify_fully_after before (text_then bs f t) = simplify_fully_after (with_text before bs f) t
+simplify_fully_after before (leaf_then l t) = simplify_fully_after (before ⊕ leaf_then l empty_tree) t
+simplify_fully_after before (element_then d m inside t) = simplify_fully_after (if is_plain d m then simplify_fully_after before inside else before ⊕ element_then d m (simplify_fully_after empty_tree inside) empty_tree) t

@@ -3,7 +3,7 @@
 -- It leaves out only how texts are stored. CSL has no section on this.
 -- `child_tree` and `row` are internal: only the contracts of private functions cite them.
 use Rattle.std.specs.Prelude.{ℕ, List, [], ◌∷◌, ◌++◌, map, Option, string_bytes}
-use Rattle.csl_style.specs.declared.formatting.Display.{Display}
+use Rattle.csl_elements.specs.declared.formatting.Display.{Display}
 use Rattle.csl_tree.specs.declared.formatting.Formatting.{Formatting}
 use Rattle.csl_tree.specs.declared.elem.ElemChild.{ElemChild}
 use Rattle.csl_tree.specs.declared.elem.ElemChild.TheOpen.{ElemChild-F, Elem-F, ElemChildren-F, Text, Elem, Markup, Link, Transparent}

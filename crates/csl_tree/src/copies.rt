@@ -6,7 +6,7 @@ ghost use Rattle.csl_tree.specs.Tokens.{tokens, elem_tokens, child_tokens, text_
 
 use crate::elem::{Elem, ElemChild, ElemChildren, ElemMeta};
 use crate::formatting::Formatted;
-use csl_style::NameVariable;
+use csl_elements::NameVariable;
 use lit_model::{Memory, Person};
 use std::alloc::Global;
 

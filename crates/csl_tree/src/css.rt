@@ -3,7 +3,7 @@
 ghost use Rattle.std.specs.Prelude.{◌≡◌};
 ghost use Rattle.csl_tree.specs.Html.{style_css, variant_css, weight_css, decoration_css, align_css, div_start};
 
-use csl_style::{Display, FontStyle, FontVariant, FontWeight, TextDecoration, VerticalAlign};
+use csl_elements::{Display, FontStyle, FontVariant, FontWeight, TextDecoration, VerticalAlign};
 
 /// The CSS declaration of a font style, empty for the normal one.
 pub(crate) fn declare_style(style: FontStyle) -> &'static str

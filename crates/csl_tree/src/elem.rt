@@ -6,7 +6,7 @@ ghost use Rattle.csl_tree.specs.declared.elem.Elem.{out-Elem};
 ghost use Rattle.csl_tree.specs.Tokens.{tokens, elem_tokens, child_tokens, leaf_text, is_empty, has_content, has_visible, optional_meta, text_tokens};
 
 use crate::formatting::{Formatted, Formatting};
-use csl_style::{Display, NameVariable};
+use csl_elements::{Display, NameVariable};
 use lit_model::Person;
 use std::alloc::Global;
 

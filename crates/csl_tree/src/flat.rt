@@ -12,7 +12,7 @@ use crate::flat_items::{
     push_str_item, run_len, splice_items, take_part,
 };
 use crate::formatting::{Formatted, Formatting};
-use csl_style::Display;
+use csl_elements::Display;
 use lit_model::Memory;
 use std::alloc::Global;
 use std::marker::Model;

@@ -12,7 +12,7 @@ ghost use Rattle.csl_tree.specs.declared.flat_items.Item.TheVariants.{Mark};
 use crate::content::join_last;
 use crate::elem::{Elem, ElemChild, ElemChildren, ElemMeta};
 use crate::formatting::{Formatted, Formatting};
-use csl_style::Display;
+use csl_elements::Display;
 use lit_model::Memory;
 use std::alloc::Global;
 use std::mem;

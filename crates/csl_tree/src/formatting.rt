@@ -3,7 +3,7 @@
 ghost use Rattle.std.specs.Prelude.{◌≡◌};
 ghost use Rattle.csl_tree.specs.Formatting.{apply_formatting};
 
-use csl_style::{FontStyle, FontVariant, FontWeight, TextDecoration, VerticalAlign, formatting};
+use csl_elements::{FontStyle, FontVariant, FontWeight, TextDecoration, VerticalAlign, formatting};
 
 /// The formatting of a text. Every attribute has a value.
 #[derive(Clone, Copy, Debug, Default, PartialEq, Eq, Hash)]

@@ -9,12 +9,11 @@ ghost use Rattle.std.specs.Prelude.{◌≡◌, ◌<◌, ◌↔◌, IsTrue, OnOk,
 ghost use Rattle.std.specs.Bool.{OnFalse};
 ghost use Rattle.csl_tree.specs.Tokens.{tokens};
 ghost use Rattle.csl_tree.specs.Tree.{Tree, tree, elem_tree, child_tree, row, tokens_of};
-ghost use Rattle.csl_tree.specs.Simplify.{simplify_once, simplify_once_after, tree_inside, with_inside, styled_value, is_normal, is_normal_after, last_formatting, has_no_empty_text, normal_form, node_count};
+ghost use Rattle.csl_tree.specs.Simplify.{simplify_once, simplify_once_after, simplify_fully_after, tree_inside, with_inside, styled_value, is_normal, has_no_empty_text, normal_form, node_count};
 
 use crate::content::push_text_to;
 use crate::copies::clone_meta;
 use crate::elem::{Elem, ElemChild, ElemChildren};
-use crate::formatting::Formatting;
 use lit_model::Memory;
 use std::alloc::Global;
 
@@ -102,9 +101,9 @@ impl Elem {
     }
 }
 
-/// Returns the normal form of the children: repeats rounds until a further one would change
-/// nothing. No more rounds are needed than there are nodes. Trees without empty texts have the same
-/// normal form exactly if they have the same styled value.
+/// Returns the normal form of the children, in one pass: what rounds give once a further one would
+/// change nothing. No more rounds are needed than there are nodes. Trees without empty texts have
+/// the same normal form exactly if they have the same styled value.
 ///
 /// # Errors
 /// [`Memory`]: out of memory.
@@ -115,55 +114,60 @@ pub fn simplify_fully(alloc: Global, children: &ElemChildren) -> Result<ElemChil
         → IsTrue (has_no_empty_text u)
         → (tree r ≡ normal_form u) ↔ (styled_value (tree children.now) ≡ styled_value u)) }
 {
-    let mut simplified = simplify_children(alloc, children)?;
-    while !simplified.is_normal() {
-        simplified = simplify_children(alloc, &simplified)?;
-    }
-    Ok(simplified)
+    let mut simplified = Vec::new(alloc);
+    children.simplify_fully_into(alloc, &mut simplified)?;
+    Ok(ElemChildren(simplified))
 }
 
 impl ElemChildren {
-    /// Whether the children are normal: at every depth, each element has a display or a meta, and
-    /// adjacent texts differ in formatting.
-    #[cycle(normal)]
-    fn is_normal(&self) -> bool
-        ensures { result ≡ is_normal (tree self.now) }
+    /// Appends the children to `simplified`, which is in normal form, so that it stays so.
+    #[cycle(pass)]
+    fn simplify_fully_into(
+        &self,
+        alloc: Global,
+        simplified: &mut Vec<ElemChild>,
+    ) -> Result<(), Memory>
+        ensures ok { OnOk result (row simplified.new.items
+            ≡ simplify_fully_after (row simplified.old.items) (tree self.now)) }
     {
-        let mut last: Option<Formatting> = None;
         for child in &self.0 {
-            if !child.is_normal_after(last) {
-                return false;
-            }
-            last = child.text_formatting();
+            child.simplify_fully_into(alloc, simplified)?;
         }
-        true
+        Ok(())
     }
 }
 
 impl ElemChild {
-    /// The formatting of the child if it is a text, else `None`.
-    fn text_formatting(&self) -> Option<Formatting>
-        ensures { result ≡ last_formatting (child_tree self.now) }
+    /// Appends the child to `simplified`, which is in normal form, so that it stays so. For a child
+    /// other than an element a round does the same.
+    #[cycle(pass)]
+    fn simplify_fully_into(
+        &self,
+        alloc: Global,
+        simplified: &mut Vec<ElemChild>,
+    ) -> Result<(), Memory>
+        ensures ok { OnOk result (row simplified.new.items
+            ≡ simplify_fully_after (row simplified.old.items) (child_tree self.now)) }
     {
         match self {
-            ElemChild::Text(text) => Some(text.formatting),
-            _ => None,
+            ElemChild::Elem(elem) => {
+                if elem.may_inline() {
+                    elem.children.simplify_fully_into(alloc, simplified)?;
+                } else {
+                    let mut inside = Vec::new(alloc);
+                    elem.children.simplify_fully_into(alloc, &mut inside)?;
+                    let meta = clone_meta(&elem.meta, alloc)?;
+                    simplified.push(ElemChild::Elem(Elem {
+                        children: ElemChildren(inside),
+                        display: elem.display,
+                        meta,
+                    }))?;
+                }
+            }
+            _ => {
+                self.simplify_into(alloc, simplified)?;
+            }
         }
-    }
-
-    /// Whether the child is normal and, if it is a text, differs in formatting from a text right
-    /// before it. `last` is the formatting of that text, or `None` if there is none.
-    #[cycle(normal)]
-    fn is_normal_after(&self, last: Option<Formatting>) -> bool
-        ensures { result ≡ is_normal_after last (child_tree self.now) }
-    {
-        match self {
-            ElemChild::Text(text) => match last {
-                None => true,
-                Some(last) => last != text.formatting,
-            },
-            ElemChild::Elem(elem) => !elem.may_inline() && elem.children.is_normal(),
-            _ => true,
-        }
+        Ok(())
     }
 }

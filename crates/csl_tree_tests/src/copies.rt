@@ -1,87 +1,86 @@
 //! Copies are equal to their originals.
 
 use crate::trees::{MIXED, assert_tree, names, one, read};
-use csl_style::NameVariable;
+use csl_elements::NameVariable;
 use csl_tree::{ElemChild, ElemChildren, ElemMeta};
-use lit_model::Memory;
 use std::alloc::Global;
 use std::process::Abort;
-use std::test::Fail;
 
 /// A tree of this child only.
-fn alone(alloc: Global, child: ElemChild) -> Result<ElemChildren, Memory> {
-    Ok(ElemChildren(one(alloc, child)?))
+fn alone(rt: &impl Abort, alloc: Global, child: ElemChild) -> ElemChildren {
+    ElemChildren(one(rt, alloc, child))
 }
 
 /// A copy of the first child of a tree. With `is_inner`, the element or text in the child is
 /// copied.
 fn copy_of_first(
+    rt: &impl Abort,
     alloc: Global,
     tree: &ElemChildren,
     is_inner: bool,
-) -> Result<ElemChildren, Memory> {
+) -> ElemChildren {
     match tree.0.first() {
         Some(ElemChild::Elem(elem)) if is_inner => {
-            alone(alloc, ElemChild::from(elem.clone(alloc)?))
+            let elem = elem.clone(alloc).expect(rt, "memory");
+            alone(rt, alloc, ElemChild::from(elem))
         }
         Some(ElemChild::Text(text)) if is_inner => {
-            alone(alloc, ElemChild::from(text.clone(alloc)?))
+            let text = text.clone(alloc).expect(rt, "memory");
+            alone(rt, alloc, ElemChild::from(text))
         }
-        Some(child) => alone(alloc, child.clone(alloc)?),
-        None => Ok(ElemChildren::new(alloc)),
+        Some(child) => alone(rt, alloc, child.clone(alloc).expect(rt, "memory")),
+        None => ElemChildren::new(alloc),
     }
 }
 
-fn assert_copies(rt: &impl Abort, alloc: Global, source: &str) -> Result<(), Fail> {
+fn assert_copies(rt: &impl Abort, alloc: Global, source: &str) {
     for is_inner in [false, true] {
-        let tree = read(alloc, source)?;
-        let copy = copy_of_first(alloc, &tree, is_inner);
+        let tree = read(rt, alloc, source);
+        let copy = copy_of_first(rt, alloc, &tree, is_inner);
         drop(tree);
-        assert_tree(rt, alloc, copy?, source, source)?;
+        assert_tree(rt, alloc, copy, source, source);
     }
-    Ok(())
 }
 
-fn assert_children_copy(rt: &impl Abort, alloc: Global, source: &str) -> Result<(), Fail> {
-    let copy = read(alloc, source)?.clone(alloc)?;
-    assert_tree(rt, alloc, copy, source, source)
+fn assert_children_copy(rt: &impl Abort, alloc: Global, source: &str) {
+    let copy = read(rt, alloc, source).clone(alloc).expect(rt, "memory");
+    assert_tree(rt, alloc, copy, source, source);
 }
 
 /// One of four metas, by its index.
-fn meta(alloc: Global, row: usize) -> Result<ElemMeta, Memory> {
+fn meta(rt: &impl Abort, alloc: Global, row: usize) -> ElemMeta {
     match row {
-        0 => Ok(ElemMeta::Entry(3)),
-        1 => Ok(ElemMeta::Label),
-        2 => Ok(ElemMeta::Name(NameVariable::Translator, 3)),
-        _ => names(alloc, "Knuth", NameVariable::Author),
+        0 => ElemMeta::Entry(3),
+        1 => ElemMeta::Label,
+        2 => ElemMeta::Name(NameVariable::Translator, 3),
+        _ => names(rt, alloc, "Knuth", NameVariable::Author),
     }
 }
 
 /// Whether a meta is equal to its copy.
-fn equals_copy(alloc: Global, meta: &ElemMeta) -> Result<bool, Memory> {
-    let copy = meta.clone(alloc)?;
+fn equals_copy(rt: &impl Abort, alloc: Global, meta: &ElemMeta) -> bool {
+    let copy = meta.clone(alloc).expect(rt, "memory");
     let is_equal = copy == *meta;
     drop(copy);
-    Ok(is_equal)
+    is_equal
 }
 
 /// Whether the meta with this index is equal to its copy.
-fn is_copied(alloc: Global, row: usize) -> Result<bool, Memory> {
-    let meta = meta(alloc, row)?;
-    let is_copied = equals_copy(alloc, &meta);
+fn is_copied(rt: &impl Abort, alloc: Global, row: usize) -> bool {
+    let meta = meta(rt, alloc, row);
+    let is_copied = equals_copy(rt, alloc, &meta);
     drop(meta);
     is_copied
 }
 
 #[test]
-fn copies_are_equal(rt: HostRuntime) -> Result<(), Fail> {
+fn copies_are_equal(rt: HostRuntime) {
     for source in [MIXED, "é"] {
-        assert_copies(&rt, rt.alloc(), source)?;
-        assert_children_copy(&rt, rt.alloc(), source)?;
+        assert_copies(&rt, rt.alloc(), source);
+        assert_children_copy(&rt, rt.alloc(), source);
     }
-    assert_children_copy(&rt, rt.alloc(), "@/x|https://x.y/?a=1&b=2 $$m$ #7 ~")?;
+    assert_children_copy(&rt, rt.alloc(), "@/x|https://x.y/?a=1&b=2 $$m$ #7 ~");
     for row in 0..4 {
-        assert!(rt; is_copied(rt.alloc(), row)?, "in row {row}");
+        assert!(rt; is_copied(&rt, rt.alloc(), row), "in row {row}");
     }
-    Ok(())
 }

@@ -6,12 +6,10 @@ ghost use Rattle.csl_tree.specs.contracts.elem.ElemMetaHash.TheImpl.{hash_input-
 
 use crate::asserted::assert_of;
 use crate::trees::{MIXED, names, read};
-use csl_style::NameVariable;
+use csl_elements::NameVariable;
 use csl_tree::{ElemChild, ElemChildren, ElemMeta};
-use lit_model::Memory;
 use std::alloc::Global;
 use std::process::Abort;
-use std::test::Fail;
 
 /// Whether the metas are equal: exactly if their views are. Equal metas have the same hash.
 fn same_meta(a: &ElemMeta, b: &ElemMeta) -> bool
@@ -30,25 +28,25 @@ enum Meta {
     Date,
 }
 
-fn make_meta(alloc: Global, said: Meta) -> Result<ElemMeta, Memory> {
+fn make_meta(rt: &impl Abort, alloc: Global, said: Meta) -> ElemMeta {
     match said {
-        Meta::Names(name, variable) => names(alloc, name, variable),
-        Meta::Name(variable, index) => Ok(ElemMeta::Name(variable, index)),
-        Meta::Entry(index) => Ok(ElemMeta::Entry(index)),
-        Meta::Date => Ok(ElemMeta::Date),
+        Meta::Names(name, variable) => names(rt, alloc, name, variable),
+        Meta::Name(variable, index) => ElemMeta::Name(variable, index),
+        Meta::Entry(index) => ElemMeta::Entry(index),
+        Meta::Date => ElemMeta::Date,
     }
 }
 
-fn is_same(alloc: Global, a: &ElemMeta, b: Meta) -> Result<bool, Memory> {
-    let b = make_meta(alloc, b)?;
+fn is_same(rt: &impl Abort, alloc: Global, a: &ElemMeta, b: Meta) -> bool {
+    let b = make_meta(rt, alloc, b);
     let is_same = same_meta(a, &b);
     drop(b);
-    Ok(is_same)
+    is_same
 }
 
-fn are_same(alloc: Global, a: Meta, b: Meta) -> Result<bool, Memory> {
-    let a = make_meta(alloc, a)?;
-    let are_same = is_same(alloc, &a, b);
+fn are_same(rt: &impl Abort, alloc: Global, a: Meta, b: Meta) -> bool {
+    let a = make_meta(rt, alloc, a);
+    let are_same = is_same(rt, alloc, &a, b);
     drop(a);
     are_same
 }
@@ -69,23 +67,16 @@ static METAS: [(Meta, Meta, bool); 8] = [
     (Meta::Entry(1), Meta::Entry(2), false),
 ];
 
-fn assert_metas(
-    rt: &impl Abort,
-    alloc: Global,
-    row: usize,
-    &(a, b, same): &(Meta, Meta, bool),
-) -> Result<(), Fail> {
-    assert_of(rt, &are_same(alloc, a, b)?, &same, &row);
-    Ok(())
+fn assert_metas(rt: &impl Abort, alloc: Global, row: usize, &(a, b, same): &(Meta, Meta, bool)) {
+    assert_of(rt, &are_same(rt, alloc, a, b), &same, &row);
 }
 
 #[test]
-fn metas_are_equal_by_value(rt: HostRuntime) -> Result<(), Fail> {
+fn metas_are_equal_by_value(rt: HostRuntime) {
     let metas: &[(Meta, Meta, bool)] = &METAS;
     for (row, metas) in metas.iter().enumerate() {
-        assert_metas(&rt, rt.alloc(), row, metas)?;
+        assert_metas(&rt, rt.alloc(), row, metas);
     }
-    Ok(())
 }
 
 /// The results of the readers of a tree, of a child or of an element.
@@ -97,47 +88,49 @@ struct Asked {
 }
 
 /// The results of the readers of a tree, of its first child, and of the element in that child.
-fn answers_of(alloc: Global, tree: &ElemChildren) -> Result<Vec<Asked>, Fail> {
+fn answers_of(rt: &impl Abort, alloc: Global, tree: &ElemChildren) -> Vec<Asked> {
     let mut all = Vec::new(alloc);
     all.push(Asked {
         is_empty: tree.is_empty(),
         has_content: tree.has_content(),
         str_len: tree.str_len(),
-    })?;
+    })
+    .expect(rt, "memory");
     if let Some(child) = tree.0.first() {
         all.push(Asked {
             is_empty: child.is_empty(),
             has_content: child.has_content(),
             str_len: child.str_len(),
-        })?;
+        })
+        .expect(rt, "memory");
         if let ElemChild::Elem(elem) = child {
             all.push(Asked {
                 is_empty: elem.is_empty(),
                 has_content: elem.has_content(),
                 str_len: elem.str_len(),
-            })?;
+            })
+            .expect(rt, "memory");
         }
     }
-    Ok(all)
+    all
 }
 
 /// The results of the readers of the tree that a text describes.
-fn answers(alloc: Global, source: &str) -> Result<Vec<Asked>, Fail> {
-    let tree = read(alloc, source)?;
-    let answers = answers_of(alloc, &tree);
+fn answers(rt: &impl Abort, alloc: Global, source: &str) -> Vec<Asked> {
+    let tree = read(rt, alloc, source);
+    let answers = answers_of(rt, alloc, &tree);
     drop(tree);
     answers
 }
 
-fn assert_answers(rt: &impl Abort, alloc: Global, source: &str, wanted: Asked) -> Result<(), Fail> {
-    for answer in &answers(alloc, source)? {
+fn assert_answers(rt: &impl Abort, alloc: Global, source: &str, wanted: Asked) {
+    for answer in &answers(rt, alloc, source) {
         assert_of(rt, answer, &wanted, &source);
     }
-    Ok(())
 }
 
 #[test]
-fn white_space_is_no_content(rt: HostRuntime) -> Result<(), Fail> {
+fn white_space_is_no_content(rt: HostRuntime) {
     for (source, is_empty, has_content, str_len) in [
         (MIXED, false, true, 5),
         ("( ~\u{3000}\n )", false, false, 5),
@@ -148,17 +141,16 @@ fn white_space_is_no_content(rt: HostRuntime) -> Result<(), Fail> {
             has_content,
             str_len,
         };
-        assert_answers(&rt, rt.alloc(), source, wanted)?;
+        assert_answers(&rt, rt.alloc(), source, wanted);
     }
-    Ok(())
 }
 
 /// Whether the children of the first element may replace it.
-fn may_inline(alloc: Global, source: &str) -> Result<bool, Fail> {
-    let tree = read(alloc, source)?;
+fn may_inline(rt: &impl Abort, alloc: Global, source: &str) -> bool {
+    let tree = read(rt, alloc, source);
     match tree.0.first() {
-        Some(ElemChild::Elem(elem)) => Ok(elem.may_inline()),
-        _ => Err(Fail::from("no element")),
+        Some(ElemChild::Elem(elem)) => elem.may_inline(),
+        _ => panic!(rt; "no element"),
     }
 }
 
@@ -170,20 +162,14 @@ static INLINED: [(&str, bool); 4] = [
     ("( a )", true),
 ];
 
-fn assert_inlined(
-    rt: &impl Abort,
-    alloc: Global,
-    &(source, wanted): &(&str, bool),
-) -> Result<(), Fail> {
-    assert_of(rt, &may_inline(alloc, source)?, &wanted, &source);
-    Ok(())
+fn assert_inlined(rt: &impl Abort, alloc: Global, &(source, wanted): &(&str, bool)) {
+    assert_of(rt, &may_inline(rt, alloc, source), &wanted, &source);
 }
 
 #[test]
-fn an_element_with_a_display_or_a_meta_stays(rt: HostRuntime) -> Result<(), Fail> {
+fn an_element_with_a_display_or_a_meta_stays(rt: HostRuntime) {
     let inlined: &[(&str, bool)] = &INLINED;
     for row in inlined {
-        assert_inlined(&rt, rt.alloc(), row)?;
+        assert_inlined(&rt, rt.alloc(), row);
     }
-    Ok(())
 }

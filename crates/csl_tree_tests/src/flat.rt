@@ -14,36 +14,35 @@
 
 use crate::asserted::{assert_of, assert_same};
 use crate::trees::{assert_tree, read_formatted, read_leaf};
-use csl_style::Display;
+use csl_elements::Display;
 use csl_tree::{Elem, ElemChild, ElemChildren, ElemMeta, FlatTree, Formatted, Formatting};
 use std::alloc::Global;
 use std::process::Abort;
-use std::test::Fail;
 
 /// The text of an affix, or `None` if it is missing.
-fn read_affix(alloc: Global, word: &str) -> Result<Option<Formatted>, Fail> {
+fn read_affix(rt: &impl Abort, alloc: Global, word: &str) -> Option<Formatted> {
     if word.is_empty() {
-        return Ok(None);
+        return None;
     }
-    Ok(Some(read_formatted(alloc, word)?))
+    Some(read_formatted(rt, alloc, word))
 }
 
 /// Closes or discards the innermost part, by a word.
-fn close(tree: &mut FlatTree, alloc: Global, word: &str) -> Result<(), Fail> {
+fn close(rt: &impl Abort, tree: &mut FlatTree, alloc: Global, word: &str) {
     if tree.depth() == 1 {
-        return Err(Fail::from("a part is open"));
+        panic!(rt; "a part is open");
     }
     if let Some(affixes) = word.strip_prefix('}') {
-        let (before, after) = affixes.split_once('|').ok_or("there are two affixes")?;
-        let before = read_affix(alloc, before)?;
-        let after = read_affix(alloc, after)?;
-        return Ok(tree.close_spliced(before, after)?);
-    }
-    if word == "!" {
+        let (before, after) = affixes.split_once('|').expect(rt, "there are two affixes");
+        let before = read_affix(rt, alloc, before);
+        let after = read_affix(rt, alloc, after);
+        tree.close_spliced(before, after).expect(rt, "memory");
+    } else if word == "!" {
         tree.discard();
-        return Ok(());
+    } else {
+        tree.close_elem(Some(Display::Block), Some(ElemMeta::Date))
+            .expect(rt, "memory");
     }
-    Ok(tree.close_elem(Some(Display::Block), Some(ElemMeta::Date))?)
 }
 
 /// An element without children.
@@ -56,39 +55,38 @@ fn childless(alloc: Global) -> ElemChild {
 }
 
 /// Calls the function of a word.
-fn call(tree: &mut FlatTree, alloc: Global, word: &str) -> Result<(), Fail> {
+fn call(rt: &impl Abort, tree: &mut FlatTree, alloc: Global, word: &str) {
     if word == "[" {
-        return Ok(tree.open()?);
+        tree.open().expect(rt, "memory");
+    } else if let Some(text) = word.strip_prefix('=') {
+        tree.push_text(text, Formatting::default())
+            .expect(rt, "memory");
+    } else if word == "()" {
+        tree.push(childless(alloc)).expect(rt, "memory");
+    } else if word == "]" || word == "!" || word.starts_with('}') {
+        close(rt, tree, alloc, word);
+    } else {
+        tree.push(read_leaf(rt, alloc, word)).expect(rt, "memory");
     }
-    if let Some(text) = word.strip_prefix('=') {
-        return Ok(tree.push_text(text, Formatting::default())?);
-    }
-    if word == "()" {
-        return Ok(tree.push(childless(alloc))?);
-    }
-    if word == "]" || word == "!" || word.starts_with('}') {
-        return close(tree, alloc, word);
-    }
-    Ok(tree.push(read_leaf(alloc, word)?)?)
 }
 
 /// The flat tree after the calls of a script.
-fn written(alloc: Global, script: &str) -> Result<FlatTree, Fail> {
+fn written(rt: &impl Abort, alloc: Global, script: &str) -> FlatTree {
     let mut tree = FlatTree::new(alloc);
     for word in script.split(' ') {
         if !word.is_empty() {
-            call(&mut tree, alloc, word)?;
+            call(rt, &mut tree, alloc, word);
         }
     }
-    Ok(tree)
+    tree
 }
 
 /// The contents of the root.
-fn finished(tree: FlatTree) -> Result<ElemChildren, Fail> {
+fn finished(rt: &impl Abort, tree: FlatTree) -> ElemChildren {
     if tree.depth() != 1 {
-        return Err(Fail::from("the root alone is open"));
+        panic!(rt; "the root alone is open");
     }
-    Ok(tree.finish()?)
+    tree.finish().expect(rt, "memory")
 }
 
 /// A script, and the tree after its calls.
@@ -118,22 +116,17 @@ static CALLS: [(&str, &str); 22] = [
     ("a [ () ! b", "ab"),
 ];
 
-fn assert_calls(
-    rt: &impl Abort,
-    alloc: Global,
-    &(script, wanted): &(&str, &str),
-) -> Result<(), Fail> {
-    let tree = finished(written(alloc, script)?)?;
-    assert_tree(rt, alloc, tree, wanted, script)
+fn assert_calls(rt: &impl Abort, alloc: Global, &(script, wanted): &(&str, &str)) {
+    let tree = finished(rt, written(rt, alloc, script));
+    assert_tree(rt, alloc, tree, wanted, script);
 }
 
 #[test]
-fn the_calls_of_a_script_build_a_tree(rt: HostRuntime) -> Result<(), Fail> {
+fn the_calls_of_a_script_build_a_tree(rt: HostRuntime) {
     let calls: &[(&str, &str)] = &CALLS;
     for row in calls {
-        assert_calls(&rt, rt.alloc(), row)?;
+        assert_calls(&rt, rt.alloc(), row);
     }
-    Ok(())
 }
 
 /// A script of empty parts, and the tree after its calls.
@@ -149,26 +142,25 @@ static EMPTY: [(&str, &str); 8] = [
 ];
 
 #[test]
-fn an_empty_part_leaves_nothing(rt: HostRuntime) -> Result<(), Fail> {
+fn an_empty_part_leaves_nothing(rt: HostRuntime) {
     let empty: &[(&str, &str)] = &EMPTY;
     for row in empty {
-        assert_calls(&rt, rt.alloc(), row)?;
+        assert_calls(&rt, rt.alloc(), row);
     }
-    Ok(())
 }
 
 /// The number of open parts, and whether the innermost part is empty, has text, and ends in white
 /// space.
 type Flags = (usize, bool, bool, bool);
 
-fn flags(alloc: Global, script: &str) -> Result<Flags, Fail> {
-    let tree = written(alloc, script)?;
-    Ok((
+fn flags(rt: &impl Abort, alloc: Global, script: &str) -> Flags {
+    let tree = written(rt, alloc, script);
+    (
         tree.depth(),
         tree.is_empty(),
         tree.has_text(),
         tree.ends_in_white_space(),
-    ))
+    )
 }
 
 /// A script, and the flags of the part that is open after it.
@@ -192,39 +184,32 @@ static FLAGS: [(&str, Flags); 17] = [
     ("a~ [ ()", (2, false, false, false)),
 ];
 
-fn assert_flags(
-    rt: &impl Abort,
-    alloc: Global,
-    &(script, wanted): &(&str, Flags),
-) -> Result<(), Fail> {
-    assert_of(rt, &flags(alloc, script)?, &wanted, &script);
-    Ok(())
+fn assert_flags(rt: &impl Abort, alloc: Global, &(script, wanted): &(&str, Flags)) {
+    assert_of(rt, &flags(rt, alloc, script), &wanted, &script);
 }
 
 #[test]
-fn readers_of_the_innermost_part(rt: HostRuntime) -> Result<(), Fail> {
+fn readers_of_the_innermost_part(rt: HostRuntime) {
     let rows: &[(&str, Flags)] = &FLAGS;
     for row in rows {
-        assert_flags(&rt, rt.alloc(), row)?;
+        assert_flags(&rt, rt.alloc(), row);
     }
-    Ok(())
 }
 
 /// A tree of a thousand spliced parts.
-fn thousand(alloc: Global) -> Result<FlatTree, Fail> {
+fn thousand(rt: &impl Abort, alloc: Global) -> FlatTree {
     let mut tree = FlatTree::new(alloc);
     for _ in 0..1000 {
-        call(&mut tree, alloc, "[")?;
-        call(&mut tree, alloc, "a")?;
-        call(&mut tree, alloc, "}<|>")?;
+        call(rt, &mut tree, alloc, "[");
+        call(rt, &mut tree, alloc, "a");
+        call(rt, &mut tree, alloc, "}<|>");
     }
-    Ok(tree)
+    tree
 }
 
 #[test]
-fn a_thousand_splices_are_one_text(rt: HostRuntime) -> Result<(), Fail> {
-    let tree = finished(thousand(rt.alloc())?)?;
+fn a_thousand_splices_are_one_text(rt: HostRuntime) {
+    let tree = finished(&rt, thousand(&rt, rt.alloc()));
     assert_same(&rt, &tree.str_len(), &3000);
     assert_same(&rt, &tree.0.len(), &1);
-    Ok(())
 }

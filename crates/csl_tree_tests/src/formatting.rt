@@ -6,11 +6,10 @@ ghost use Rattle.csl_tree.specs.contracts.formatting.FormattedHash.TheImpl.{hash
 ghost use Rattle.csl_tree.specs.contracts.formatting.FormattingHash.TheImpl.{hash_input-value as hash_formatting};
 
 use crate::asserted::{assert_of, assert_same};
-use csl_style::{FontStyle, FontVariant, FontWeight, TextDecoration, VerticalAlign, formatting};
+use csl_elements::{FontStyle, FontVariant, FontWeight, TextDecoration, VerticalAlign, formatting};
 use csl_tree::{Formatted, Formatting};
-use lit_model::Memory;
 use std::alloc::Global;
-use std::test::Fail;
+use std::process::Abort;
 
 /// Whether the texts are equal: exactly if their tokens are. Equal texts have the same hash.
 fn same_text(a: &Formatted, b: &Formatted) -> bool
@@ -47,26 +46,26 @@ const ITALIC: Formatting = Formatting {
 };
 
 fn are_same(
+    rt: &impl Abort,
     alloc: Global,
     text: &str,
     formatting: Formatting,
     other: &str,
     of_other: Formatting,
-) -> Result<bool, Memory> {
-    let text = formatting.add_text(String::from_str(alloc, text)?);
-    let other = of_other.add_text(String::from_str(alloc, other)?);
-    Ok(same_text(&text, &other))
+) -> bool {
+    let text = formatting.add_text(String::from_str(alloc, text).expect(rt, "memory"));
+    let other = of_other.add_text(String::from_str(alloc, other).expect(rt, "memory"));
+    same_text(&text, &other)
 }
 
 #[test]
-fn texts_and_formattings_are_equal_by_value(rt: HostRuntime) -> Result<(), Fail> {
+fn texts_and_formattings_are_equal_by_value(rt: HostRuntime) {
     assert!(rt; same_formatting(BARE, BARE));
     assert!(rt; !same_formatting(BARE, ITALIC));
     for (other, of_other, same) in [("a", BARE, true), ("b", BARE, false), ("a", ITALIC, false)] {
-        let is_same = are_same(rt.alloc(), "a", BARE, other, of_other)?;
+        let is_same = are_same(&rt, rt.alloc(), "a", BARE, other, of_other);
         assert_of(&rt, &is_same, &same, &(other, of_other));
     }
-    Ok(())
 }
 
 #[test]

@@ -4,21 +4,17 @@
 #[cfg(test)]
 mod asserted;
 #[cfg(test)]
-mod content;
-#[cfg(test)]
-mod contents;
-#[cfg(test)]
 mod copies;
 #[cfg(test)]
 mod elem;
 #[cfg(test)]
 mod equal;
 #[cfg(test)]
+mod flags;
+#[cfg(test)]
 mod flat;
 #[cfg(test)]
 mod formatting;
-#[cfg(test)]
-mod laws;
 #[cfg(test)]
 mod links;
 #[cfg(test)]

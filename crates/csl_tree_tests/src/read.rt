@@ -5,7 +5,6 @@ use crate::trees::{MIXED, assert_text, read};
 use csl_tree::{BufWriteFormat, HtmlError, leaf_text_of_html};
 use std::alloc::Global;
 use std::process::Abort;
-use std::test::Fail;
 
 /// HTML, and its leaf text.
 static READ: [(&str, &str); 18] = [
@@ -99,16 +98,9 @@ static NOT_HTML: [&str; 36] = [
 ];
 
 /// Asserts the leaf text of HTML.
-fn assert_leaves(
-    rt: &impl Abort,
-    alloc: Global,
-    html: &str,
-    wanted: &str,
-    asked: &str,
-) -> Result<(), Fail> {
-    let leaves = leaf_text_of_html(alloc, html)?;
+fn assert_leaves(rt: &impl Abort, alloc: Global, html: &str, wanted: &str, asked: &str) {
+    let leaves = leaf_text_of_html(alloc, html).expect(rt, "memory");
     assert_text(rt, leaves.as_str(), wanted, asked);
-    Ok(())
 }
 
 /// Asserts that a text is not HTML.
@@ -117,56 +109,54 @@ fn assert_not_html(rt: &impl Abort, alloc: Global, text: &str, asked: &str) {
     assert_of(rt, &error, &Some(HtmlError::NotHtml), &asked);
 }
 
-fn assert_read(rt: &impl Abort, alloc: Global, &(html, text): &(&str, &str)) -> Result<(), Fail> {
-    assert_leaves(rt, alloc, html, text, html)
+fn assert_read(rt: &impl Abort, alloc: Global, &(html, text): &(&str, &str)) {
+    assert_leaves(rt, alloc, html, text, html);
 }
 
 #[test]
-fn html_and_its_leaf_text(rt: HostRuntime) -> Result<(), Fail> {
+fn html_and_its_leaf_text(rt: HostRuntime) {
     let rows: &[(&str, &str)] = &READ;
     for row in rows {
-        assert_read(&rt, rt.alloc(), row)?;
+        assert_read(&rt, rt.alloc(), row);
     }
-    Ok(())
 }
 
 #[test]
-fn texts_that_are_not_html(rt: HostRuntime) -> Result<(), Fail> {
+fn texts_that_are_not_html(rt: HostRuntime) {
     let texts: &[&str] = &NOT_HTML;
     for text in texts {
         assert_not_html(&rt, rt.alloc(), *text, *text);
     }
-    Ok(())
 }
 
 /// Ten thousand start tags, a text, and `ends` end tags.
-fn nested(alloc: Global, text: &str, ends: usize) -> Result<String, Fail> {
-    let mut html = "<div>".repeat(alloc, 10_000)?;
-    html.push_str(text)?;
-    html.push_str("</div>".repeat(alloc, ends)?.as_str())?;
-    Ok(html)
+fn nested(rt: &impl Abort, alloc: Global, text: &str, ends: usize) -> String {
+    let mut html = "<div>".repeat(alloc, 10_000).expect(rt, "memory");
+    html.push_str(text).expect(rt, "memory");
+    html.push_str("</div>".repeat(alloc, ends).expect(rt, "memory").as_str())
+        .expect(rt, "memory");
+    html
 }
 
 /// Asserts the text inside ten thousand nested elements.
-fn assert_nested(rt: &impl Abort, alloc: Global, text: &str) -> Result<(), Fail> {
-    let html = nested(alloc, text, 10_000)?;
-    assert_leaves(rt, alloc, html.as_str(), text, "nested")
+fn assert_nested(rt: &impl Abort, alloc: Global, text: &str) {
+    let html = nested(rt, alloc, text, 10_000);
+    assert_leaves(rt, alloc, html.as_str(), text, "nested");
 }
 
 /// Asserts that ten thousand start tags and `ends` end tags are not HTML.
-fn assert_not_nested(rt: &impl Abort, alloc: Global, ends: usize) -> Result<(), Fail> {
-    let html = nested(alloc, "", ends)?;
+fn assert_not_nested(rt: &impl Abort, alloc: Global, ends: usize) {
+    let html = nested(rt, alloc, "", ends);
     assert_not_html(rt, alloc, html.as_str(), "nested");
-    Ok(())
 }
 
 #[test]
-fn ten_thousand_elements(rt: HostRuntime) -> Result<(), Fail> {
-    assert_nested(&rt, rt.alloc(), "")?;
-    assert_nested(&rt, rt.alloc(), "x")?;
-    assert_not_nested(&rt, rt.alloc(), 0)?;
-    assert_not_nested(&rt, rt.alloc(), 9_999)?;
-    assert_not_nested(&rt, rt.alloc(), 10_001)
+fn ten_thousand_elements(rt: HostRuntime) {
+    assert_nested(&rt, rt.alloc(), "");
+    assert_nested(&rt, rt.alloc(), "x");
+    assert_not_nested(&rt, rt.alloc(), 0);
+    assert_not_nested(&rt, rt.alloc(), 9_999);
+    assert_not_nested(&rt, rt.alloc(), 10_001);
 }
 
 /// A tree, and its leaf text.
@@ -183,39 +173,35 @@ static TREES: [(&str, &str); 6] = [
 ];
 
 /// The HTML of the tree of a description.
-fn html_of(alloc: Global, source: &str) -> Result<String, Fail> {
-    let tree = read(alloc, source)?;
-    let html = tree.to_text(alloc, BufWriteFormat::Html);
+fn html_of(rt: &impl Abort, alloc: Global, source: &str) -> String {
+    let tree = read(rt, alloc, source);
+    let html = tree
+        .to_text(alloc, BufWriteFormat::Html)
+        .expect(rt, "memory");
     drop(tree);
-    Ok(html?)
+    html
 }
 
-fn assert_read_back(
-    rt: &impl Abort,
-    alloc: Global,
-    &(source, text): &(&str, &str),
-) -> Result<(), Fail> {
-    let html = html_of(alloc, source)?;
-    assert_leaves(rt, alloc, html.as_str(), text, source)
+fn assert_read_back(rt: &impl Abort, alloc: Global, &(source, text): &(&str, &str)) {
+    let html = html_of(rt, alloc, source);
+    assert_leaves(rt, alloc, html.as_str(), text, source);
 }
 
 #[test]
-fn trees_are_read_back(rt: HostRuntime) -> Result<(), Fail> {
+fn trees_are_read_back(rt: HostRuntime) {
     let rows: &[(&str, &str)] = &TREES;
     for row in rows {
-        assert_read_back(&rt, rt.alloc(), row)?;
+        assert_read_back(&rt, rt.alloc(), row);
     }
-    Ok(())
 }
 
-fn assert_said(rt: &impl Abort, alloc: Global, error: HtmlError, wanted: &str) -> Result<(), Fail> {
-    let said = error.to_string(alloc)?;
+fn assert_said(rt: &impl Abort, alloc: Global, error: HtmlError, wanted: &str) {
+    let said = error.to_string(alloc).expect(rt, "memory");
     assert_text(rt, said.as_str(), wanted, "error");
-    Ok(())
 }
 
 #[test]
-fn errors_in_words(rt: HostRuntime) -> Result<(), Fail> {
-    assert_said(&rt, rt.alloc(), HtmlError::Memory, "out of memory")?;
-    assert_said(&rt, rt.alloc(), HtmlError::NotHtml, "not html")
+fn errors_in_words(rt: HostRuntime) {
+    assert_said(&rt, rt.alloc(), HtmlError::Memory, "out of memory");
+    assert_said(&rt, rt.alloc(), HtmlError::NotHtml, "not html");
 }

@@ -4,7 +4,6 @@ use crate::trees::{assert_tree, one, put, read, read_meta};
 use csl_tree::{Elem, ElemChild, ElemChildren};
 use std::alloc::Global;
 use std::process::Abort;
-use std::test::Fail;
 
 /// An element without meta around names of `x`, then names of `y`.
 const TWO_NAMES: &str = "( ( x ):x ) ( y ):y";
@@ -27,29 +26,39 @@ enum Asked {
 }
 
 /// A tree of the found element, or an empty tree.
-fn found(alloc: Global, elem: Option<&Elem>) -> Result<ElemChildren, Fail> {
+fn found(rt: &impl Abort, alloc: Global, elem: Option<&Elem>) -> ElemChildren {
     match elem {
-        Some(elem) => Ok(ElemChildren(one(alloc, ElemChild::from(elem.clone(alloc)?))?)),
-        None => Ok(ElemChildren::new(alloc)),
+        Some(elem) => {
+            let child = ElemChild::from(elem.clone(alloc).expect(rt, "memory"));
+            ElemChildren(one(rt, alloc, child))
+        }
+        None => ElemChildren::new(alloc),
     }
 }
 
 /// The result of a search, as a tree.
-fn answer(alloc: Global, tree: &ElemChildren, asked: Asked) -> Result<ElemChildren, Fail> {
+fn answer(rt: &impl Abort, alloc: Global, tree: &ElemChildren, asked: Asked) -> ElemChildren {
     match asked {
-        Asked::Names => found(alloc, tree.find_names()),
+        Asked::Names => found(rt, alloc, tree.find_names()),
         Asked::Meta(word) => {
-            let meta = read_meta(alloc, word)?;
-            let found = found(alloc, tree.find_meta(&meta));
+            let meta = read_meta(rt, alloc, word);
+            let found = found(rt, alloc, tree.find_meta(&meta));
             drop(meta);
             found
         }
-        Asked::Any => found(alloc, tree.find_elem_by(&|_: &Elem| true)),
-        Asked::Noted => found(alloc, tree.find_elem_by(&|elem: &Elem| elem.meta.is_some())),
-        Asked::Nothing => found(alloc, tree.find_elem_by(&|_: &Elem| false)),
+        Asked::Any => found(rt, alloc, tree.find_elem_by(&|_: &Elem| true)),
+        Asked::Noted => found(
+            rt,
+            alloc,
+            tree.find_elem_by(&|elem: &Elem| elem.meta.is_some()),
+        ),
+        Asked::Nothing => found(rt, alloc, tree.find_elem_by(&|_: &Elem| false)),
         Asked::LastText => match tree.last_text() {
-            Some(text) => Ok(ElemChildren(one(alloc, ElemChild::from(text.clone(alloc)?))?)),
-            None => Ok(ElemChildren::new(alloc)),
+            Some(text) => {
+                let child = ElemChild::from(text.clone(alloc).expect(rt, "memory"));
+                ElemChildren(one(rt, alloc, child))
+            }
+            None => ElemChildren::new(alloc),
         },
     }
 }
@@ -71,55 +80,43 @@ static SEARCHES: [(&str, Asked, &str); 11] = [
     ("", Asked::LastText, ""),
 ];
 
-fn assert_found(
-    rt: &impl Abort,
-    alloc: Global,
-    &(source, asked, wanted): &(&str, Asked, &str),
-) -> Result<(), Fail> {
-    let answer = answer(alloc, &read(alloc, source)?, asked)?;
-    assert_tree(rt, alloc, answer, wanted, source)
+fn assert_found(rt: &impl Abort, alloc: Global, &(source, asked, wanted): &(&str, Asked, &str)) {
+    let answer = answer(rt, alloc, &read(rt, alloc, source), asked);
+    assert_tree(rt, alloc, answer, wanted, source);
 }
 
 #[test]
-fn searches_go_down_first(rt: HostRuntime) -> Result<(), Fail> {
+fn searches_go_down_first(rt: HostRuntime) {
     let searches: &[(&str, Asked, &str)] = &SEARCHES;
     for row in searches {
-        assert_found(&rt, rt.alloc(), row)?;
+        assert_found(&rt, rt.alloc(), row);
     }
-    Ok(())
 }
 
 /// The rest of a tree after a removal, and the removed child as a tree.
-fn removal(alloc: Global, source: &str) -> Result<Vec<ElemChildren>, Fail> {
-    let mut both = one(alloc, read(alloc, source)?)?;
-    let tree = both.first_mut().ok_or("a tree")?;
+fn removal(rt: &impl Abort, alloc: Global, source: &str) -> Vec<ElemChildren> {
+    let mut both = one(rt, alloc, read(rt, alloc, source));
+    let tree = both.first_mut().expect(rt, "a tree");
     let taken = match tree.remove_any_meta() {
-        Some(child) => one(alloc, child)?,
+        Some(child) => one(rt, alloc, child),
         None => Vec::new(alloc),
     };
-    put(&mut both, ElemChildren(taken))?;
-    Ok(both)
+    put(rt, &mut both, ElemChildren(taken));
+    both
 }
 
-fn assert_removal(
-    rt: &impl Abort,
-    alloc: Global,
-    source: &str,
-    taken: &str,
-    left: &str,
-) -> Result<(), Fail> {
-    let mut both = removal(alloc, source)?;
-    assert_tree(rt, alloc, both.pop().ok_or("taken")?, taken, source)?;
-    assert_tree(rt, alloc, both.pop().ok_or("left")?, left, source)
+fn assert_removal(rt: &impl Abort, alloc: Global, source: &str, taken: &str, left: &str) {
+    let mut both = removal(rt, alloc, source);
+    assert_tree(rt, alloc, both.pop().expect(rt, "taken"), taken, source);
+    assert_tree(rt, alloc, both.pop().expect(rt, "left"), left, source);
 }
 
 #[test]
-fn remove_any_meta_leaves_the_rest(rt: HostRuntime) -> Result<(), Fail> {
+fn remove_any_meta_leaves_the_rest(rt: HostRuntime) {
     for (source, taken, left) in [
         ("( a ( b ):date )", "( b ):date", "( a )"),
         ("( a )", "", "( a )"),
     ] {
-        assert_removal(&rt, rt.alloc(), source, taken, left)?;
+        assert_removal(&rt, rt.alloc(), source, taken, left);
     }
-    Ok(())
 }

@@ -4,7 +4,6 @@ use crate::trees::{assert_tree, one, read};
 use csl_tree::{ElemChild, ElemChildren, simplify_children, simplify_fully};
 use std::alloc::Global;
 use std::process::Abort;
-use std::test::Fail;
 
 /// A tree, and the tree after one round.
 static ROUNDS: [(&str, &str); 9] = [
@@ -30,53 +29,55 @@ static ROUNDS: [(&str, &str); 9] = [
     ),
 ];
 
-fn assert_round(
-    rt: &impl Abort,
-    alloc: Global,
-    &(source, wanted): &(&str, &str),
-) -> Result<(), Fail> {
-    let once = simplify_children(alloc, &read(alloc, source)?)?;
-    assert_tree(rt, alloc, once, wanted, source)
+fn assert_round(rt: &impl Abort, alloc: Global, &(source, wanted): &(&str, &str)) {
+    let once = simplify_children(alloc, &read(rt, alloc, source)).expect(rt, "memory");
+    assert_tree(rt, alloc, once, wanted, source);
 }
 
 /// The first element after a round inside it, as a tree.
-fn elem_round(alloc: Global, source: &str) -> Result<ElemChildren, Fail> {
-    let tree = read(alloc, source)?;
+fn elem_round(rt: &impl Abort, alloc: Global, source: &str) -> ElemChildren {
+    let tree = read(rt, alloc, source);
     match tree.0.first() {
         Some(ElemChild::Elem(elem)) => {
-            let once = ElemChild::from(elem.simplify(alloc)?);
-            Ok(ElemChildren(one(alloc, once)?))
+            let once = ElemChild::from(elem.simplify(alloc).expect(rt, "memory"));
+            ElemChildren(one(rt, alloc, once))
         }
-        _ => Err(Fail::from("no element")),
+        _ => panic!(rt; "no element"),
     }
 }
 
-fn assert_elem_round(rt: &impl Abort, alloc: Global, source: &str, once: &str) -> Result<(), Fail> {
-    let simplified = elem_round(alloc, source)?;
-    assert_tree(rt, alloc, simplified, once, source)
+fn assert_elem_round(rt: &impl Abort, alloc: Global, source: &str, once: &str) {
+    let simplified = elem_round(rt, alloc, source);
+    assert_tree(rt, alloc, simplified, once, source);
 }
 
-fn assert_normal(rt: &impl Abort, alloc: Global, source: &str, normal: &str) -> Result<(), Fail> {
-    let simplified = simplify_fully(alloc, &read(alloc, source)?)?;
-    assert_tree(rt, alloc, simplified, normal, source)
+fn assert_normal(rt: &impl Abort, alloc: Global, source: &str, normal: &str) {
+    let simplified = simplify_fully(alloc, &read(rt, alloc, source)).expect(rt, "memory");
+    assert_tree(rt, alloc, simplified, normal, source);
 }
 
 #[test]
-fn rounds_join_texts_and_end_in_one(rt: HostRuntime) -> Result<(), Fail> {
+fn rounds_join_texts_and_end_in_one(rt: HostRuntime) {
     let alloc = rt.alloc();
     let rounds: &[(&str, &str)] = &ROUNDS;
     for row in rounds {
-        assert_round(&rt, alloc, row)?;
+        assert_round(&rt, alloc, row);
     }
     for (source, once) in [
         ("( a ( ( b ) ) c )block", "( a ( b ) c )block"),
         ("( a ( b ) c )block", "( a bc )block"),
         ("( a bc )block", "( abc )block"),
     ] {
-        assert_elem_round(&rt, alloc, source, once)?;
+        assert_elem_round(&rt, alloc, source, once);
     }
-    for (source, normal) in [("( a b )", "ab"), ("( ( ( a ) ) )", "a")] {
-        assert_normal(&rt, alloc, source, normal)?;
+    for (source, normal) in [
+        ("( a b )", "ab"),
+        ("( ( ( a ) ) )", "a"),
+        ("a ( b ) c", "abc"),
+        ("( a ( b ) ) ( ( c ) ) ( ) d", "abcd"),
+        ("( a ( ( ( b ) ) c )block ):date", "( a ( bc )block ):date"),
+        ("a ( /_ ( b ) ) ( c /d ) /e", "a /_ bc /de"),
+    ] {
+        assert_normal(&rt, alloc, source, normal);
     }
-    Ok(())
 }

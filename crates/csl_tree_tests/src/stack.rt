@@ -7,39 +7,35 @@ use csl_tree::NonEmptyStack;
 use std::alloc::Global;
 use std::num::NonZeroUsize;
 use std::process::Abort;
-use std::test::Fail;
 
 /// The stack 1, 2, 3, 4.
-fn one_to_four(alloc: Global) -> Result<NonEmptyStack<u8>, Fail> {
-    let mut stack = NonEmptyStack::new(alloc, 1)?;
+fn one_to_four(rt: &impl Abort, alloc: Global) -> NonEmptyStack<u8> {
+    let mut stack = NonEmptyStack::new(alloc, 1).expect(rt, "memory");
     for item in 2..5 {
-        push(&mut stack, item)?;
+        push(rt, &mut stack, item);
     }
-    Ok(stack)
+    stack
 }
 
-fn push(stack: &mut NonEmptyStack<u8>, item: u8) -> Result<(), Fail> {
-    match stack.push(item) {
-        Ok(()) => Ok(()),
-        Err(_) => Err(Fail::from("no memory")),
-    }
+fn push(rt: &impl Abort, stack: &mut NonEmptyStack<u8>, item: u8) {
+    stack.push(item).expect(rt, "memory");
 }
 
-fn items(alloc: Global, stack: &NonEmptyStack<u8>) -> Result<Vec<u8>, Fail> {
-    Ok(stack.iter().copied().collect(alloc)?)
+fn items(rt: &impl Abort, alloc: Global, stack: &NonEmptyStack<u8>) -> Vec<u8> {
+    stack.iter().copied().collect(alloc).expect(rt, "memory")
 }
 
 /// The length of the stack 1, 2, 3, 4, the drained items from the third on, and the remaining
 /// items.
-fn drain(alloc: Global) -> Result<(usize, Vec<u8>, Vec<u8>), Fail> {
-    let mut stack = one_to_four(alloc)?;
-    let two = NonZeroUsize::new(2).ok_or("two")?;
+fn drain(rt: &impl Abort, alloc: Global) -> (usize, Vec<u8>, Vec<u8>) {
+    let mut stack = one_to_four(rt, alloc);
+    let two = NonZeroUsize::new(2).expect(rt, "two");
     let len = stack.len();
     if !(two < len) {
-        return Err(Fail::from("too few"));
+        panic!(rt; "too few");
     }
-    let taken = stack.drain(two)?;
-    Ok((len.get(), taken, items(alloc, &stack)?))
+    let taken = stack.drain(two).expect(rt, "memory");
+    (len.get(), taken, items(rt, alloc, &stack))
 }
 
 fn assert_items(rt: &impl Abort, items: &[u8], wanted: &[u8]) {
@@ -48,25 +44,25 @@ fn assert_items(rt: &impl Abort, items: &[u8], wanted: &[u8]) {
 
 /// The results of two calls of `pop` on a stack of the default item and 7, the last item after
 /// them, and all remaining items.
-fn pop_twice(alloc: Global) -> Result<(Option<u8>, Option<u8>, u8, Vec<u8>), Fail> {
-    let mut stack: NonEmptyStack<u8> = NonEmptyStack::with_default(alloc)?;
-    push(&mut stack, 7)?;
+fn pop_twice(rt: &impl Abort, alloc: Global) -> (Option<u8>, Option<u8>, u8, Vec<u8>) {
+    let mut stack: NonEmptyStack<u8> = NonEmptyStack::with_default(alloc).expect(rt, "memory");
+    push(rt, &mut stack, 7);
     let first = stack.pop();
     let second = stack.pop();
-    Ok((first, second, *stack.last(), items(alloc, &stack)?))
+    (first, second, *stack.last(), items(rt, alloc, &stack))
 }
 
 /// The stack 1, 2, 3, 4 with its last, its first and its last odd item overwritten, and whether an
 /// item is 99.
-fn write_items(alloc: Global) -> Result<(Vec<u8>, bool), Fail> {
-    let mut stack = one_to_four(alloc)?;
+fn write_items(rt: &impl Abort, alloc: Global) -> (Vec<u8>, bool) {
+    let mut stack = one_to_four(rt, alloc);
     *stack.last_mut() = 40;
     *stack.first_mut() = 10;
     if let Some(odd) = stack.last_mut_predicate(|item| *item % 2 == 1) {
         *odd = 30;
     }
     let absent = stack.last_mut_predicate(|item| *item == 99).is_some();
-    Ok((items(alloc, &stack)?, absent))
+    (items(rt, alloc, &stack), absent)
 }
 
 /// Whether the stacks are equal: exactly if they have the same items.
@@ -78,37 +74,41 @@ fn same_stack(a: &NonEmptyStack<u8>, b: &NonEmptyStack<u8>) -> bool
 
 /// Whether the stack 1, 2, 3, 4 is equal to another such stack, to one with another first item, and
 /// to one with one more item.
-fn is_same(alloc: Global) -> Result<(bool, bool, bool), Fail> {
-    let stack = one_to_four(alloc)?;
-    let mut other = one_to_four(alloc)?;
+fn is_same(rt: &impl Abort, alloc: Global) -> (bool, bool, bool) {
+    let stack = one_to_four(rt, alloc);
+    let mut other = one_to_four(rt, alloc);
     let itself = same_stack(&stack, &other);
     *other.first_mut() = 10;
     let rewritten = same_stack(&stack, &other);
     *other.first_mut() = 1;
-    push(&mut other, 5)?;
-    Ok((itself, rewritten, same_stack(&stack, &other)))
+    push(rt, &mut other, 5);
+    (itself, rewritten, same_stack(&stack, &other))
 }
 
 #[test]
-fn stacks_are_equal_by_their_items(rt: HostRuntime) -> Result<(), Fail> {
-    assert_same(&rt, &is_same(rt.alloc())?, &(true, false, false));
-    Ok(())
+fn stacks_are_equal_by_their_items(rt: HostRuntime) {
+    assert_same(&rt, &is_same(&rt, rt.alloc()), &(true, false, false));
 }
 
 #[test]
-fn a_stack_keeps_its_last_item(rt: HostRuntime) -> Result<(), Fail> {
-    let (len, taken, left) = drain(rt.alloc())?;
+fn a_stack_keeps_its_last_item(rt: HostRuntime) {
+    let (len, taken, left) = drain(&rt, rt.alloc());
     assert_same(&rt, &len, &4);
     assert_items(&rt, taken.as_slice(), &[3, 4]);
     assert_items(&rt, left.as_slice(), &[1, 2]);
-    let (first, second, last, kept) = pop_twice(rt.alloc())?;
+    let (first, second, last, kept) = pop_twice(&rt, rt.alloc());
     assert_same(&rt, &first, &Some(7));
     assert_same(&rt, &second, &None);
     assert_same(&rt, &last, &0);
     assert_items(&rt, kept.as_slice(), &[0]);
-    let (items, has_other) = write_items(rt.alloc())?;
+    let (items, has_other) = write_items(&rt, rt.alloc());
     assert_items(&rt, items.as_slice(), &[10, 2, 30, 40]);
     assert_same(&rt, &has_other, &false);
-    assert_same(&rt, &NonEmptyStack::new(rt.alloc(), 5u8)?.finish(), &5);
-    Ok(())
+    assert_same(
+        &rt,
+        &NonEmptyStack::new(rt.alloc(), 5u8)
+            .expect(&rt, "memory")
+            .finish(),
+        &5,
+    );
 }

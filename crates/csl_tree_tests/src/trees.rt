@@ -15,160 +15,157 @@
 //! its meta: `)block`, `):date`, `)block:entry`. A meta other than `date`, `label` and `entry` is
 //! the name of an author.
 
-use csl_style::{Display, FontStyle, NameVariable};
+use csl_elements::{Display, FontStyle, NameVariable};
 use csl_tree::{Elem, ElemChild, ElemChildren, ElemMeta, Formatted, Formatting};
 use lit_model::{Memory, Person};
 use std::alloc::Global;
 use std::mem;
 use std::process::Abort;
-use std::test::Fail;
 
 /// A block around a link, a markup, a place for a text of a cite, and a text of white space.
 pub const MIXED: &str = "( @/x|https://x.y/?a=1&b=2 $$m$ #7 ~ )block:entry";
 
 /// Appends an item.
-pub fn put<T: Drop>(items: &mut Vec<T>, item: T) -> Result<(), Memory> {
-    Ok(items.push(item)?)
+pub fn put<T: Drop>(rt: &impl Abort, items: &mut Vec<T>, item: T) {
+    items.push(item).expect(rt, "memory");
 }
 
 /// A list of one item.
-pub fn one<T: Drop>(alloc: Global, item: T) -> Result<Vec<T>, Memory> {
+pub fn one<T: Drop>(rt: &impl Abort, alloc: Global, item: T) -> Vec<T> {
     let mut items = Vec::new(alloc);
-    put(&mut items, item)?;
-    Ok(items)
+    put(rt, &mut items, item);
+    items
 }
 
 /// The text that a word describes.
-fn read_text(alloc: Global, word: &str) -> Result<String, Memory> {
+fn read_text(rt: &impl Abort, alloc: Global, word: &str) -> String {
     let mut text = String::new(alloc);
     for c in word.chars() {
         match c {
             '_' => {}
-            '~' => text.push(' ')?,
-            c => text.push(c)?,
+            '~' => text.push(' ').expect(rt, "memory"),
+            c => text.push(c).expect(rt, "memory"),
         }
     }
-    Ok(text)
+    text
 }
 
 /// The text that a word describes, with its formatting.
-pub fn read_formatted(alloc: Global, word: &str) -> Result<Formatted, Memory> {
+pub fn read_formatted(rt: &impl Abort, alloc: Global, word: &str) -> Formatted {
     let mut formatting = Formatting::default();
     match word.strip_prefix('/') {
         Some(word) => {
             formatting.font_style = FontStyle::Italic;
-            Ok(formatting.add_text(read_text(alloc, word)?))
+            formatting.add_text(read_text(rt, alloc, word))
         }
-        None => Ok(formatting.add_text(read_text(alloc, word)?)),
+        None => formatting.add_text(read_text(rt, alloc, word)),
     }
 }
 
 /// A child that is not an element.
-pub fn read_leaf(alloc: Global, word: &str) -> Result<ElemChild, Fail> {
+pub fn read_leaf(rt: &impl Abort, alloc: Global, word: &str) -> ElemChild {
     if let Some(markup) = word.strip_prefix('$') {
-        return Ok(ElemChild::Markup(read_text(alloc, markup)?));
+        return ElemChild::Markup(read_text(rt, alloc, markup));
     }
     if let Some(link) = word.strip_prefix('@') {
-        let (text, url) = link.split_once('|').ok_or("a link has an address")?;
-        return Ok(ElemChild::Link {
-            text: read_formatted(alloc, text)?,
-            url: String::from_str(alloc, url)?,
-        });
+        let (text, url) = link.split_once('|').expect(rt, "a link has an address");
+        return ElemChild::Link {
+            text: read_formatted(rt, alloc, text),
+            url: String::from_str(alloc, url).expect(rt, "memory"),
+        };
     }
     if let Some(index) = word.strip_prefix('#') {
-        return Ok(ElemChild::Transparent {
-            cite_idx: index.parse::<usize>()?,
+        return ElemChild::Transparent {
+            cite_idx: index.parse::<usize>().expect(rt, "a number"),
             format: Formatting::default(),
-        });
+        };
     }
-    Ok(ElemChild::Text(read_formatted(alloc, word)?))
+    ElemChild::Text(read_formatted(rt, alloc, word))
 }
 
 /// The meta of names with one person for a variable.
-pub fn names(alloc: Global, name: &str, variable: NameVariable) -> Result<ElemMeta, Memory> {
+pub fn names(rt: &impl Abort, alloc: Global, name: &str, variable: NameVariable) -> ElemMeta {
     let person = Person {
-        name: String::from_str(alloc, name)?,
+        name: String::from_str(alloc, name).expect(rt, "memory"),
         given_name: None,
         prefix: None,
         suffix: None,
         alias: None,
         comma_suffix: false,
     };
-    let persons = one(alloc, person)?;
-    Ok(ElemMeta::Names(one(alloc, (persons, variable))?))
+    let persons = one(rt, alloc, person);
+    ElemMeta::Names(one(rt, alloc, (persons, variable)))
 }
 
 /// The meta that a word names.
-pub fn read_meta(alloc: Global, word: &str) -> Result<ElemMeta, Memory> {
+pub fn read_meta(rt: &impl Abort, alloc: Global, word: &str) -> ElemMeta {
     match word {
-        "date" => Ok(ElemMeta::Date),
-        "label" => Ok(ElemMeta::Label),
-        "entry" => Ok(ElemMeta::Entry(3)),
-        name => names(alloc, name, NameVariable::Author),
+        "date" => ElemMeta::Date,
+        "label" => ElemMeta::Label,
+        "entry" => ElemMeta::Entry(3),
+        name => names(rt, alloc, name, NameVariable::Author),
     }
 }
 
 /// The display that a word names.
-fn read_display(word: &str) -> Result<Display, Fail> {
+fn read_display(rt: &impl Abort, word: &str) -> Display {
     match word {
-        "block" => Ok(Display::Block),
-        "indent" => Ok(Display::Indent),
-        "left" => Ok(Display::LeftMargin),
-        "right" => Ok(Display::RightInline),
-        _ => Err(Fail::from("no display")),
+        "block" => Display::Block,
+        "indent" => Display::Indent,
+        "left" => Display::LeftMargin,
+        "right" => Display::RightInline,
+        _ => panic!(rt; "no display"),
     }
 }
 
 /// The element with these children and the display and meta after its end.
-fn read_elem(alloc: Global, children: Vec<ElemChild>, end: &str) -> Result<ElemChild, Fail> {
+fn read_elem(rt: &impl Abort, alloc: Global, children: Vec<ElemChild>, end: &str) -> ElemChild {
     let (display, meta) = end.split_once(':').unwrap_or((end, ""));
     let display = if display.is_empty() {
         None
     } else {
-        Some(read_display(display)?)
+        Some(read_display(rt, display))
     };
     let meta = if meta.is_empty() {
         None
     } else {
-        Some(read_meta(alloc, meta)?)
+        Some(read_meta(rt, alloc, meta))
     };
-    Ok(ElemChild::from(Elem {
+    ElemChild::from(Elem {
         children: ElemChildren(children),
         display,
         meta,
-    }))
+    })
 }
 
 /// Reads a word. `children` are those before it in the same element, and `around` holds the
 /// children before each element around it.
 fn read_word(
+    rt: &impl Abort,
     alloc: Global,
     word: &str,
     around: &mut Vec<Vec<ElemChild>>,
     children: &mut Vec<ElemChild>,
-) -> Result<(), Fail> {
+) {
     if word == "(" {
-        return Ok(put(around, mem::replace(children, Vec::new(alloc)))?);
-    }
-    if let Some(end) = word.strip_prefix(')') {
-        let outside = around.pop().ok_or("an element ends that began")?;
+        put(rt, around, mem::replace(children, Vec::new(alloc)));
+    } else if let Some(end) = word.strip_prefix(')') {
+        let outside = around.pop().expect(rt, "an element ends that began");
         let inside = mem::replace(children, outside);
-        return Ok(put(children, read_elem(alloc, inside, end)?)?);
+        put(rt, children, read_elem(rt, alloc, inside, end));
+    } else if !word.is_empty() {
+        put(rt, children, read_leaf(rt, alloc, word));
     }
-    if word.is_empty() {
-        return Ok(());
-    }
-    Ok(put(children, read_leaf(alloc, word)?)?)
 }
 
 /// The tree of a description.
-pub fn read(alloc: Global, description: &str) -> Result<ElemChildren, Fail> {
+pub fn read(rt: &impl Abort, alloc: Global, description: &str) -> ElemChildren {
     let mut around = Vec::new(alloc);
     let mut children = Vec::new(alloc);
     for word in description.split(' ') {
-        read_word(alloc, word, &mut around, &mut children)?;
+        read_word(rt, alloc, word, &mut around, &mut children);
     }
-    Ok(ElemChildren(children))
+    ElemChildren(children)
 }
 
 /// Appends a text as one word.
@@ -264,10 +261,10 @@ fn say_children(children: &ElemChildren, said: &mut String) -> Result<(), Memory
 }
 
 /// The description of a tree.
-pub fn say(alloc: Global, children: &ElemChildren) -> Result<String, Memory> {
+pub fn say(rt: &impl Abort, alloc: Global, children: &ElemChildren) -> String {
     let mut said = String::new(alloc);
-    say_children(children, &mut said)?;
-    Ok(String::from_str(alloc, said.as_str().trim_start_matches(' '))?)
+    say_children(children, &mut said).expect(rt, "memory");
+    String::from_str(alloc, said.as_str().trim_start_matches(' ')).expect(rt, "memory")
 }
 
 /// Asserts that the text is the wanted text.
@@ -276,20 +273,16 @@ pub fn assert_text(rt: &impl Abort, text: &str, wanted: &str, asked: &str) {
 }
 
 /// Asserts that a tree is that of a description: by value, and by its own description.
-pub fn assert_tree(
-    rt: &impl Abort,
-    alloc: Global,
-    tree: ElemChildren,
-    wanted: &str,
-    asked: &str,
-) -> Result<(), Fail> {
-    let said = say(alloc, &tree)?;
+pub fn assert_tree(rt: &impl Abort, alloc: Global, tree: ElemChildren, wanted: &str, asked: &str) {
+    let said = say(rt, alloc, &tree);
     assert_text(rt, said.as_str(), wanted, asked);
-    assert!(rt; is_of(alloc, tree, wanted)?, "{wanted} by value at {asked}");
-    Ok(())
+    assert!(rt;
+        is_of(rt, alloc, tree, wanted),
+        "{wanted} by value at {asked}"
+    );
 }
 
 /// Whether a tree is equal to that of a description.
-fn is_of(alloc: Global, tree: ElemChildren, wanted: &str) -> Result<bool, Fail> {
-    Ok(tree == read(alloc, wanted)?)
+fn is_of(rt: &impl Abort, alloc: Global, tree: ElemChildren, wanted: &str) -> bool {
+    tree == read(rt, alloc, wanted)
 }

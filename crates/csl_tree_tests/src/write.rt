@@ -2,12 +2,11 @@
 
 use crate::asserted::assert_same;
 use crate::trees::{MIXED, assert_text, read};
-use csl_style::{FontStyle, FontVariant, FontWeight, TextDecoration, VerticalAlign};
+use csl_elements::{FontStyle, FontVariant, FontWeight, TextDecoration, VerticalAlign};
 use csl_tree::{BufWriteFormat, ElemChild, ElemChildren, Formatting};
 use std::alloc::Global;
 use std::fmt;
 use std::process::Abort;
-use std::test::Fail;
 
 /// Asserts the written text of a tree, of its first child, and of the element in that child.
 fn assert_tree_written(
@@ -16,23 +15,22 @@ fn assert_tree_written(
     tree: &ElemChildren,
     (source, format): (&str, BufWriteFormat),
     wanted: &str,
-) -> Result<(), Fail> {
-    let text = tree.to_text(alloc, format)?;
+) {
+    let text = tree.to_text(alloc, format).expect(rt, "memory");
     assert_text(rt, text.as_str(), wanted, source);
     let mut wrote = String::new(alloc);
-    tree.write_buf(&mut wrote, format)?;
+    tree.write_buf(&mut wrote, format).expect(rt, "memory");
     assert_text(rt, wrote.as_str(), wanted, source);
     if let Some(child) = tree.0.first() {
         wrote.clear();
-        child.write_buf(&mut wrote, format)?;
+        child.write_buf(&mut wrote, format).expect(rt, "memory");
         assert_text(rt, wrote.as_str(), wanted, source);
         if let ElemChild::Elem(elem) = child {
             wrote.clear();
-            elem.write_buf(&mut wrote, format)?;
+            elem.write_buf(&mut wrote, format).expect(rt, "memory");
             assert_text(rt, wrote.as_str(), wanted, source);
         }
     }
-    Ok(())
 }
 
 /// Asserts the written text of the tree that a text describes.
@@ -41,26 +39,19 @@ fn assert_written(
     alloc: Global,
     (source, format): (&str, BufWriteFormat),
     wanted: &str,
-) -> Result<(), Fail> {
-    let tree = read(alloc, source)?;
-    let asserted = assert_tree_written(rt, alloc, &tree, (source, format), wanted);
+) {
+    let tree = read(rt, alloc, source);
+    assert_tree_written(rt, alloc, &tree, (source, format), wanted);
     drop(tree);
-    asserted
 }
 
 /// Asserts the text of a value by `{}` and by `{:#}`.
-fn assert_formatted<T: fmt::Display>(
-    rt: &impl Abort,
-    alloc: Global,
-    value: &T,
-    wanted: &str,
-) -> Result<(), Fail> {
-    let mut text = format!(in alloc; "{value}")?;
+fn assert_formatted<T: fmt::Display>(rt: &impl Abort, alloc: Global, value: &T, wanted: &str) {
+    let mut text = format!(in alloc; "{value}").expect(rt, "memory");
     assert_text(rt, text.as_str(), wanted, "{}");
     text.clear();
-    write!(text, "{value:#}")?;
+    write!(text, "{value:#}").expect(rt, "memory");
     assert_text(rt, text.as_str(), wanted, "{:#}");
-    Ok(())
 }
 
 /// Asserts the text by `{}`, `{:#}` and `to_string` of a tree, its first child, and the element in
@@ -71,50 +62,39 @@ fn assert_tree_displayed(
     tree: &ElemChildren,
     source: &str,
     wanted: &str,
-) -> Result<(), Fail> {
-    assert_formatted(rt, alloc, tree, wanted)?;
-    let text = tree.to_string(alloc)?;
+) {
+    assert_formatted(rt, alloc, tree, wanted);
+    let text = tree.to_string(alloc).expect(rt, "memory");
     assert_text(rt, text.as_str(), wanted, source);
     if let Some(child) = tree.0.first() {
-        assert_formatted(rt, alloc, child, wanted)?;
-        let text = child.to_string(alloc)?;
+        assert_formatted(rt, alloc, child, wanted);
+        let text = child.to_string(alloc).expect(rt, "memory");
         assert_text(rt, text.as_str(), wanted, source);
         if let ElemChild::Elem(elem) = child {
-            assert_formatted(rt, alloc, elem, wanted)?;
-            let text = elem.to_string(alloc)?;
+            assert_formatted(rt, alloc, elem, wanted);
+            let text = elem.to_string(alloc).expect(rt, "memory");
             assert_text(rt, text.as_str(), wanted, source);
         }
     }
-    Ok(())
 }
 
 /// Asserts the displayed text of the tree that a text describes.
-fn assert_displayed(
-    rt: &impl Abort,
-    alloc: Global,
-    source: &str,
-    wanted: &str,
-) -> Result<(), Fail> {
-    let tree = read(alloc, source)?;
-    let asserted = assert_tree_displayed(rt, alloc, &tree, source, wanted);
+fn assert_displayed(rt: &impl Abort, alloc: Global, source: &str, wanted: &str) {
+    let tree = read(rt, alloc, source);
+    assert_tree_displayed(rt, alloc, &tree, source, wanted);
     drop(tree);
-    asserted
 }
 
 /// Asserts the HTML of the text `x` in a formatting.
-fn assert_span(
-    rt: &impl Abort,
-    alloc: Global,
-    formatting: Formatting,
-    html: &str,
-) -> Result<(), Fail> {
-    let child = ElemChild::from(formatting.add_text(String::from_str(alloc, "x")?));
+fn assert_span(rt: &impl Abort, alloc: Global, formatting: Formatting, html: &str) {
+    let text = String::from_str(alloc, "x").expect(rt, "memory");
+    let child = ElemChild::from(formatting.add_text(text));
     let mut wrote = String::new(alloc);
-    let written = child.write_buf(&mut wrote, BufWriteFormat::Html);
+    child
+        .write_buf(&mut wrote, BufWriteFormat::Html)
+        .expect(rt, "memory");
     drop(child);
-    written?;
     assert_text(rt, wrote.as_str(), html, "x");
-    Ok(())
 }
 
 /// A formatting with all attributes set.
@@ -132,7 +112,7 @@ fn the_default_format_is_plain(rt: HostRuntime) {
 }
 
 #[test]
-fn declarations_in_order(rt: HostRuntime) -> Result<(), Fail> {
+fn declarations_in_order(rt: HostRuntime) {
     let bare = Formatting::default();
     let baseline = Formatting {
         vertical_align: VerticalAlign::Baseline,
@@ -155,9 +135,8 @@ fn declarations_in_order(rt: HostRuntime) -> Result<(), Fail> {
             "<span style=\"font-weight: lighter;vertical-align: super;\">x</span>",
         ),
     ] {
-        assert_span(&rt, rt.alloc(), formatting, html)?;
+        assert_span(&rt, rt.alloc(), formatting, html);
     }
-    Ok(())
 }
 
 /// A tree, and its HTML.
@@ -176,25 +155,24 @@ static HTML: [(&str, &str); 6] = [
     ),
 ];
 
-fn assert_html(rt: &impl Abort, alloc: Global, &(source, html): &(&str, &str)) -> Result<(), Fail> {
-    assert_written(rt, alloc, (source, BufWriteFormat::Html), html)
+fn assert_html(rt: &impl Abort, alloc: Global, &(source, html): &(&str, &str)) {
+    assert_written(rt, alloc, (source, BufWriteFormat::Html), html);
 }
 
 #[test]
-fn displays_and_line_breaks_of_a_block(rt: HostRuntime) -> Result<(), Fail> {
+fn displays_and_line_breaks_of_a_block(rt: HostRuntime) {
     let html: &[(&str, &str)] = &HTML;
     for row in html {
-        assert_html(&rt, rt.alloc(), row)?;
+        assert_html(&rt, rt.alloc(), row);
     }
     for (source, plain) in [
         ("( A )block", "\nA\n"),
         ("( A )indent", "A"),
         (MIXED, "\nx$m$ \n"),
     ] {
-        assert_written(&rt, rt.alloc(), (source, BufWriteFormat::Plain), plain)?;
-        assert_displayed(&rt, rt.alloc(), source, plain)?;
+        assert_written(&rt, rt.alloc(), (source, BufWriteFormat::Plain), plain);
+        assert_displayed(&rt, rt.alloc(), source, plain);
     }
-    Ok(())
 }
 
 /// A tree of reserved characters, its HTML, and its plain text.
@@ -225,22 +203,17 @@ static RESERVED: [(&str, &str, &str); 7] = [
     ("&amp;</div>", "&amp;amp;&lt;/div&gt;", "&amp;</div>"),
 ];
 
-fn assert_reserved(
-    rt: &impl Abort,
-    alloc: Global,
-    &(source, html, plain): &(&str, &str, &str),
-) -> Result<(), Fail> {
-    assert_written(rt, alloc, (source, BufWriteFormat::Html), html)?;
-    assert_written(rt, alloc, (source, BufWriteFormat::Plain), plain)
+fn assert_reserved(rt: &impl Abort, alloc: Global, &(source, html, plain): &(&str, &str, &str)) {
+    assert_written(rt, alloc, (source, BufWriteFormat::Html), html);
+    assert_written(rt, alloc, (source, BufWriteFormat::Plain), plain);
 }
 
 #[test]
-fn reserved_characters_are_escaped_in_html(rt: HostRuntime) -> Result<(), Fail> {
+fn reserved_characters_are_escaped_in_html(rt: HostRuntime) {
     let rows: &[(&str, &str, &str)] = &RESERVED;
     for row in rows {
-        assert_reserved(&rt, rt.alloc(), row)?;
+        assert_reserved(&rt, rt.alloc(), row);
     }
-    Ok(())
 }
 
 /// A writer that accepts this number of texts and refuses the next.
@@ -265,20 +238,19 @@ fn is_taken(tree: &ElemChildren, texts: usize) -> bool {
 
 /// The least number of texts that a writer has to accept for the HTML, or 0 if it is not below a
 /// hundred.
-fn texts_taken(alloc: Global, source: &str) -> Result<usize, Fail> {
-    let tree = read(alloc, source)?;
+fn texts_taken(rt: &impl Abort, alloc: Global, source: &str) -> usize {
+    let tree = read(rt, alloc, source);
     for texts in 0..100 {
         if is_taken(&tree, texts) {
-            return Ok(texts);
+            return texts;
         }
     }
-    Ok(0)
+    0
 }
 
 #[test]
-fn a_refused_text_is_an_error(rt: HostRuntime) -> Result<(), Fail> {
-    let taken = texts_taken(rt.alloc(), MIXED)?;
+fn a_refused_text_is_an_error(rt: HostRuntime) {
+    let taken = texts_taken(&rt, rt.alloc(), MIXED);
     // These are at least the tags of the block, the link and the span, and the texts.
     assert!(rt; taken >= 8, "all was taken after {taken} texts");
-    Ok(())
 }

@@ -4,7 +4,7 @@ ghost use Rattle.std.specs.Prelude.{◌≡◌, IfOk};
 
 use crate::citation::numbers::{CitationNumber, NoteNumber};
 use crate::forms::name_properties::NameDisambiguationProperties;
-use csl_style::{Locator, Variable};
+use csl_elements::{Locator, Variable};
 use lit_model::Memory;
 use std::alloc::Global;
 

@@ -22,7 +22,7 @@ use crate::entry::chunk::one_chunk;
 use crate::entry::numeric_text::numeric_or_text;
 use crate::number_result::{NumberOrPageVariableResult, NumberVariableResult, PageVariableResult};
 use crate::taxonomy::EntryLike;
-use csl_style::{
+use csl_elements::{
     DateVariable, NameVariable, NumberOrPageVariable, NumberVariable, PageVariable,
     StandardVariable,
 };

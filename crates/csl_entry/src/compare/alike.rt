@@ -4,12 +4,12 @@
 ghost use Rattle.std.specs.Prelude.{◌≡◌, ◌&&◌, IfOk};
 ghost use Rattle.std.specs.Bool.{Decides};
 ghost use Rattle.csl_common.specs.declared.form.LongShortForm.{LongShortForm};
-ghost use Rattle.csl_style.specs.NamedWalk.{named_set};
+ghost use Rattle.csl_elements.specs.NamedSet.{named_set};
 ghost use Rattle.csl_entry.specs.Alike.{Each, SameNamedAnswers};
 
 use crate::compare::same::{same_date, same_number, same_pages, same_people, same_text};
 use crate::taxonomy::EntryLike;
-use csl_style::{
+use csl_elements::{
     DateVariable, Kind, NameVariable, Named, NumberVariable, PageVariable, StandardVariable,
 };
 use lit_model::{LongShortForm, Memory};

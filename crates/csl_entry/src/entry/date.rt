@@ -6,7 +6,7 @@ ghost use Rattle.lit_model.specs.Select.{event, original, bound_select};
 ghost use Rattle.csl_entry.specs.Answers.{cow_view};
 ghost use Rattle.csl_entry.specs.EntryDate.{date_of, date_in, visit_date};
 
-use csl_style::DateVariable;
+use csl_elements::DateVariable;
 use lit_model::select::event;
 use lit_model::{Date, Entry};
 use std::borrow::Cow;

@@ -2,10 +2,10 @@
 
 ghost use Rattle.std.specs.Prelude.{◌≡◌, ◌↔◌, ◌∷◌, [], IsTrue, IsSome, IfSome, IfNone};
 ghost use Rattle.lit_model.specs.declared.entry_type.EntryType.TheVariants.{Legislation};
-ghost use Rattle.csl_style.specs.declared.taxonomy.Kind.TheVariants as kind;
+ghost use Rattle.csl_elements.specs.declared.taxonomy.Kind.TheVariants as kind;
 ghost use Rattle.csl_entry.specs.EntryKind.{typing_of, TypingIsShown, is_a, stands_in, is_journal_article, is_newspaper_article, is_conference_paper, is_report, is_thesis, is_periodical, is_recording, is_musical_score, is_motion_picture, is_song, is_blog_post, is_post, is_online, is_figure, is_kind, kinds_among, recording_kinds, legislation_kinds};
 
-use csl_style::Kind;
+use csl_elements::Kind;
 use lit_model::{Bind, Clause, Entry, EntryType};
 
 /// The kind of an audio or a video. Each is of exactly one of `Broadcast`, `MotionPicture`,

@@ -8,7 +8,7 @@ ghost use Rattle.csl_entry.specs.Answers.{cow_view};
 ghost use Rattle.csl_entry.specs.Creators.{in_role};
 ghost use Rattle.csl_entry.specs.EntryName.{conference_clauses, exhibition, persons_of_bound, own_authors, own_editors, is_one_of, persons_of, names_of};
 
-use csl_style::NameVariable;
+use csl_elements::NameVariable;
 use lit_model::select::audio_video;
 use lit_model::{Bind, Clause, Entry, EntryType, Memory, Person, PersonRole};
 use std::alloc::Global;

@@ -7,7 +7,7 @@ ghost use Rattle.csl_entry.specs.Answers.{cow_view};
 ghost use Rattle.csl_entry.specs.EntryNumber.{number_of, number_answer, numeric_answer, serial_answer, first_page_of, chapter_number, collection_number, own_number, part_number, printing_number, version_number, volume_number};
 
 use crate::entry::numeric_text::numeric_or_text;
-use csl_style::NumberVariable;
+use csl_elements::NumberVariable;
 use lit_model::select::{chapter, part};
 use lit_model::{Entry, EntryType, MaybeTyped, Memory, Numeric};
 use std::alloc::Global;

@@ -5,7 +5,7 @@ ghost use Rattle.lit_model.specs.MaybeTyped.{maybe_view};
 ghost use Rattle.lit_model.specs.Page.{pages_view};
 ghost use Rattle.csl_entry.specs.EntryPage.{pages_of};
 
-use csl_style::PageVariable;
+use csl_elements::PageVariable;
 use lit_model::{Entry, MaybeTyped, Memory, PageRanges};
 use std::alloc::Global;
 

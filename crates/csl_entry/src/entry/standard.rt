@@ -12,7 +12,7 @@ ghost use Rattle.lit_model.specs.Text.{chunks};
 use crate::entry::chunk::one_chunk;
 use crate::entry::language::csl_language;
 use crate::label::citation_label::Alphanumerical;
-use csl_style::StandardVariable;
+use csl_elements::StandardVariable;
 use lit_model::select::{event, volume_title};
 use lit_model::{
     Bind, ChunkKind, ChunkedString, Clause, Entry, EntryType, FormatString, LanguageIdentifier,

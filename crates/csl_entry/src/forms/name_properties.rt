@@ -10,7 +10,7 @@ ghost use Rattle.csl_entry.specs.NameProperties.{shown_count, all_forms, forms_c
 
 use crate::forms::form_list::{count_shown, disambiguate_forms, holds_each, show_first, shown_mut};
 use crate::forms::name_form::DisambiguatedNameForm;
-use csl_style::NameVariable;
+use csl_elements::NameVariable;
 use lit_model::Memory;
 use std::alloc::Global;
 use std::cmp::Ordering;

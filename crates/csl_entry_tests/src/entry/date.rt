@@ -3,18 +3,19 @@
 use crate::asked::{borrowed, only};
 use crate::asserted::assert_of;
 use crate::described::described;
+use csl_elements::DateVariable;
 use csl_entry::EntryLike;
-use csl_style::DateVariable;
 use std::alloc::Global;
 use std::process::Abort;
-use std::test::Fail;
 
 /// The year of the date.
-fn year(alloc: Global, description: &str, variable: DateVariable) -> Result<Option<i32>, Fail> {
-    let works = described(alloc, description)?;
-    let entry = only(&works)?;
-    let date = entry.resolve_date_variable(alloc, variable)?;
-    Ok(borrowed(&date).map(|date| date.year()))
+fn year(rt: &impl Abort, alloc: Global, description: &str, variable: DateVariable) -> Option<i32> {
+    let works = described(rt, alloc, description);
+    let entry = only(rt, &works);
+    let date = entry
+        .resolve_date_variable(alloc, variable)
+        .expect(rt, "memory");
+    borrowed(&date).map(|date| date.year())
 }
 
 /// A blog post without a date. Its blog is of 2001 and was visited in 2015, its conference is of
@@ -47,21 +48,15 @@ static YEARS: [Row; 10] = [
     ("book; date 2014", DateVariable::OriginalDate, None),
 ];
 
-fn assert_year(
-    rt: &impl Abort,
-    alloc: Global,
-    &(description, variable, wanted): &Row,
-) -> Result<(), Fail> {
-    let year = year(alloc, description, variable)?;
+fn assert_year(rt: &impl Abort, alloc: Global, &(description, variable, wanted): &Row) {
+    let year = year(rt, alloc, description, variable);
     assert_of(rt, &year, &wanted, &(variable, description));
-    Ok(())
 }
 
 #[test]
-fn dates_of_an_entry_and_its_parents(rt: HostRuntime) -> Result<(), Fail> {
+fn dates_of_an_entry_and_its_parents(rt: HostRuntime) {
     let years: &[Row] = &YEARS;
     for row in years {
-        assert_year(&rt, rt.alloc(), row)?;
+        assert_year(&rt, rt.alloc(), row);
     }
-    Ok(())
 }

@@ -3,11 +3,10 @@
 use crate::asked::{assert_answer, only};
 use crate::asserted::assert_of;
 use crate::described::described;
+use csl_elements::Kind;
 use csl_entry::{EntryLike, legislation_kind, recording_kind};
-use csl_style::Kind;
 use std::alloc::Global;
 use std::process::Abort;
-use std::test::Fail;
 
 static NAMES: [&str; 45] = [
     "article",
@@ -58,31 +57,26 @@ static NAMES: [&str; 45] = [
 ];
 
 /// The names of all kinds of the entry, with a space after each.
-fn kinds(alloc: Global, description: &str, all: &[&'static str]) -> Result<String, Fail> {
-    let works = described(alloc, description)?;
-    let entry = only(&works)?;
+fn kinds(rt: &impl Abort, alloc: Global, description: &str, all: &[&'static str]) -> String {
+    let works = described(rt, alloc, description);
+    let entry = only(rt, &works);
     let mut kinds = String::new(alloc);
     for name in all {
-        let kind = Kind::from_name(*name).ok_or("the name of a kind")?;
+        let kind = Kind::from_name(*name).expect(rt, "the name of a kind");
         if entry.matches_entry_type(kind) {
-            kinds.push_str(*name)?;
-            kinds.push(' ')?;
+            kinds.push_str(*name).expect(rt, "memory");
+            kinds.push(' ').expect(rt, "memory");
         }
     }
-    Ok(kinds)
+    kinds
 }
 
 /// Asserts that each entry is of exactly these kinds.
-fn assert_kinds(
-    rt: &impl Abort,
-    alloc: Global,
-    rows: &[(&'static str, &'static str)],
-) -> Result<(), Fail> {
+fn assert_kinds(rt: &impl Abort, alloc: Global, rows: &[(&'static str, &'static str)]) {
     for (description, wanted) in rows {
-        let kinds = kinds(alloc, *description, &NAMES)?;
+        let kinds = kinds(rt, alloc, *description, &NAMES);
         assert_answer(rt, kinds.as_str(), *wanted, *description);
     }
-    Ok(())
 }
 
 /// A description, and the kinds of the entry, with a space after each.
@@ -156,15 +150,19 @@ static KINDS: [(&str, &str); 52] = [
 ];
 
 #[test]
-fn kinds_of_works(rt: HostRuntime) -> Result<(), Fail> {
-    assert_kinds(&rt, rt.alloc(), &KINDS)
+fn kinds_of_works(rt: HostRuntime) {
+    assert_kinds(&rt, rt.alloc(), &KINDS);
 }
 
 /// The kind of a recording and the kind of a law that the entry is.
-fn narrower_kinds(alloc: Global, description: &str) -> Result<(Option<Kind>, Option<Kind>), Fail> {
-    let works = described(alloc, description)?;
-    let entry = only(&works)?;
-    Ok((recording_kind(entry), legislation_kind(entry)))
+fn narrower_kinds(
+    rt: &impl Abort,
+    alloc: Global,
+    description: &str,
+) -> (Option<Kind>, Option<Kind>) {
+    let works = described(rt, alloc, description);
+    let entry = only(rt, &works);
+    (recording_kind(entry), legislation_kind(entry))
 }
 
 /// An entry, the kind of its recording and the kind of its law.
@@ -183,17 +181,15 @@ fn assert_narrower_kinds(
     rt: &impl Abort,
     alloc: Global,
     &(description, recording, law): &NarrowerRow,
-) -> Result<(), Fail> {
-    let kinds = narrower_kinds(alloc, description)?;
+) {
+    let kinds = narrower_kinds(rt, alloc, description);
     assert_of(rt, &kinds, &(recording, law), &description);
-    Ok(())
 }
 
 #[test]
-fn one_kind_of_a_recording_or_a_law(rt: HostRuntime) -> Result<(), Fail> {
+fn one_kind_of_a_recording_or_a_law(rt: HostRuntime) {
     let kinds: &[NarrowerRow] = &NARROWER_KINDS;
     for row in kinds {
-        assert_narrower_kinds(&rt, rt.alloc(), row)?;
+        assert_narrower_kinds(&rt, rt.alloc(), row);
     }
-    Ok(())
 }

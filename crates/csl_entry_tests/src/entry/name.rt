@@ -2,22 +2,25 @@
 
 use crate::asked::{assert_answer, only};
 use crate::described::described;
+use csl_elements::NameVariable;
 use csl_entry::EntryLike;
-use csl_style::NameVariable;
 use std::alloc::Global;
 use std::process::Abort;
-use std::test::Fail;
 
 /// The names, with a space after each.
-fn names(alloc: Global, description: &str, variable: NameVariable) -> Result<String, Fail> {
-    let works = described(alloc, description)?;
-    let entry = only(&works)?;
+fn names(rt: &impl Abort, alloc: Global, description: &str, variable: NameVariable) -> String {
+    let works = described(rt, alloc, description);
+    let entry = only(rt, &works);
+    let persons = entry
+        .resolve_name_variable(alloc, variable)
+        .expect(rt, "memory");
     let mut names = String::new(alloc);
-    for person in &entry.resolve_name_variable(alloc, variable)? {
-        names.push_str(person.as_ref().name.as_str())?;
-        names.push(' ')?;
+    for person in &persons {
+        let name = person.as_ref().name.as_str();
+        names.push_str(name).expect(rt, "memory");
+        names.push(' ').expect(rt, "memory");
     }
-    Ok(names)
+    names
 }
 
 fn assert_names(
@@ -26,11 +29,10 @@ fn assert_names(
     description: &str,
     variable: NameVariable,
     wanted: &str,
-) -> Result<(), Fail> {
-    let names = names(alloc, description, variable)?;
-    let asked = format!(in alloc; "{variable:?} of {description}")?;
+) {
+    let names = names(rt, alloc, description, variable);
+    let asked = format!(in alloc; "{variable:?} of {description}").expect(rt, "memory");
     assert_answer(rt, names.as_str(), wanted, asked.as_str());
-    Ok(())
 }
 
 /// A chapter of two authors without editors. It is in an anthology with an author and two editors,
@@ -124,37 +126,31 @@ static NAMES: [(&str, NameVariable, &str); 40] = [
     (PLAY, NameVariable::ReviewedAuthor, ""),
 ];
 
-fn assert_all(
-    rt: &impl Abort,
-    alloc: Global,
-    rows: &[(&'static str, NameVariable, &'static str)],
-) -> Result<(), Fail> {
+fn assert_all(rt: &impl Abort, alloc: Global, rows: &[(&'static str, NameVariable, &'static str)]) {
     for (description, variable, wanted) in rows {
-        assert_names(rt, alloc, *description, *variable, *wanted)?;
+        assert_names(rt, alloc, *description, *variable, *wanted);
     }
-    Ok(())
 }
 
 #[test]
-fn names_of_an_entry_and_its_parents(rt: HostRuntime) -> Result<(), Fail> {
-    assert_all(&rt, rt.alloc(), &NAMES)
+fn names_of_an_entry_and_its_parents(rt: HostRuntime) {
+    assert_all(&rt, rt.alloc(), &NAMES);
 }
 
 #[test]
-fn editors_who_translate(rt: HostRuntime) -> Result<(), Fail> {
+fn editors_who_translate(rt: HostRuntime) {
     for (editors, wanted) in [
         ("Tess, Cora", "Tess "),
         // An editor of another given name is another person.
         ("Tom, Tess, Tom/A.", "Tom Tess "),
     ] {
-        let book = format!(in rt.alloc(); "{BOOK}; editors {editors}")?;
+        let book = format!(in rt.alloc(); "{BOOK}; editors {editors}").expect(&rt, "memory");
         assert_names(
             &rt,
             rt.alloc(),
             book.as_str(),
             NameVariable::EditorTranslator,
             wanted,
-        )?;
+        );
     }
-    Ok(())
 }

@@ -2,17 +2,18 @@
 
 use crate::asked::{assert_answer, number_said, only};
 use crate::described::described;
+use csl_elements::NumberVariable;
 use csl_entry::EntryLike;
-use csl_style::NumberVariable;
 use std::alloc::Global;
 use std::process::Abort;
-use std::test::Fail;
 
-fn number(alloc: Global, description: &str, variable: NumberVariable) -> Result<String, Fail> {
-    let works = described(alloc, description)?;
-    let entry = only(&works)?;
-    let found = entry.resolve_number_variable(alloc, variable)?;
-    let number = number_said(alloc, found.as_ref());
+fn number(rt: &impl Abort, alloc: Global, description: &str, variable: NumberVariable) -> String {
+    let works = described(rt, alloc, description);
+    let entry = only(rt, &works);
+    let found = entry
+        .resolve_number_variable(alloc, variable)
+        .expect(rt, "memory");
+    let number = number_said(rt, alloc, found.as_ref());
     drop(found);
     number
 }
@@ -24,11 +25,10 @@ fn assert_number(
     description: &str,
     variable: NumberVariable,
     wanted: &str,
-) -> Result<(), Fail> {
-    let number = number(alloc, description, variable)?;
-    let asked = format!(in alloc; "{variable:?} of {description}")?;
+) {
+    let number = number(rt, alloc, description, variable);
+    let asked = format!(in alloc; "{variable:?} of {description}").expect(rt, "memory");
     assert_answer(rt, number.as_str(), wanted, asked.as_str());
-    Ok(())
 }
 
 /// Chapter 4 of an anthology, which is volume 2, in a series, which is volume 7.
@@ -100,14 +100,13 @@ fn assert_all(
     rt: &impl Abort,
     alloc: Global,
     rows: &[(&'static str, NumberVariable, &'static str)],
-) -> Result<(), Fail> {
+) {
     for (description, variable, wanted) in rows {
-        assert_number(rt, alloc, *description, *variable, *wanted)?;
+        assert_number(rt, alloc, *description, *variable, *wanted);
     }
-    Ok(())
 }
 
 #[test]
-fn numbers_of_an_entry_and_its_parents(rt: HostRuntime) -> Result<(), Fail> {
-    assert_all(&rt, rt.alloc(), &NUMBERS)
+fn numbers_of_an_entry_and_its_parents(rt: HostRuntime) {
+    assert_all(&rt, rt.alloc(), &NUMBERS);
 }

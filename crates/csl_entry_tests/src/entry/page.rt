@@ -2,21 +2,23 @@
 
 use crate::asked::{assert_answer, only};
 use crate::described::described;
+use csl_elements::PageVariable;
 use csl_entry::EntryLike;
-use csl_style::PageVariable;
 use lit_model::MaybeTyped;
 use std::alloc::Global;
 use std::process::Abort;
-use std::test::Fail;
 
 /// The pages, or `'` and the text if it is not pages, or `none` if there is no answer.
-fn pages(alloc: Global, description: &str) -> Result<String, Fail> {
-    let works = described(alloc, description)?;
-    let entry = only(&works)?;
-    match entry.resolve_page_variable(alloc, PageVariable::Page)? {
-        None => Ok(String::from_str(alloc, "none")?),
-        Some(MaybeTyped::Typed(pages)) => Ok(pages.to_string(alloc)?),
-        Some(MaybeTyped::String(text)) => Ok(format!(in alloc; "'{}", text.as_str())?),
+fn pages(rt: &impl Abort, alloc: Global, description: &str) -> String {
+    let works = described(rt, alloc, description);
+    let entry = only(rt, &works);
+    match entry
+        .resolve_page_variable(alloc, PageVariable::Page)
+        .expect(rt, "memory")
+    {
+        None => String::from_str(alloc, "none").expect(rt, "memory"),
+        Some(MaybeTyped::Typed(pages)) => pages.to_string(alloc).expect(rt, "memory"),
+        Some(MaybeTyped::String(text)) => format!(in alloc; "'{text}").expect(rt, "memory"),
     }
 }
 
@@ -33,17 +35,15 @@ fn assert_pages(
     rt: &impl Abort,
     alloc: Global,
     &(description, wanted): &(&'static str, &'static str),
-) -> Result<(), Fail> {
-    let pages = pages(alloc, description)?;
+) {
+    let pages = pages(rt, alloc, description);
     assert_answer(rt, pages.as_str(), wanted, description);
-    Ok(())
 }
 
 #[test]
-fn pages_of_a_work(rt: HostRuntime) -> Result<(), Fail> {
+fn pages_of_a_work(rt: HostRuntime) {
     let works: &[(&'static str, &'static str)] = &PAGES;
     for row in works {
-        assert_pages(&rt, rt.alloc(), row)?;
+        assert_pages(&rt, rt.alloc(), row);
     }
-    Ok(())
 }

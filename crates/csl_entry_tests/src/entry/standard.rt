@@ -3,25 +3,27 @@
 use crate::asked::{assert_answer, borrowed, only, text_said};
 use crate::asserted::assert_of;
 use crate::described::described;
+use csl_elements::StandardVariable;
 use csl_entry::EntryLike;
-use csl_style::StandardVariable;
 use lit_model::LongShortForm;
 use std::alloc::Global;
 use std::borrow::Cow;
 use std::process::Abort;
-use std::test::Fail;
 
 /// The text with the marks of its chunks.
 fn text(
+    rt: &impl Abort,
     alloc: Global,
     description: &str,
     form: LongShortForm,
     variable: StandardVariable,
-) -> Result<String, Fail> {
-    let works = described(alloc, description)?;
-    let entry = only(&works)?;
-    let found = entry.resolve_standard_variable(alloc, form, variable)?;
-    let text = text_said(alloc, borrowed(&found));
+) -> String {
+    let works = described(rt, alloc, description);
+    let entry = only(rt, &works);
+    let found = entry
+        .resolve_standard_variable(alloc, form, variable)
+        .expect(rt, "memory");
+    let text = text_said(rt, alloc, borrowed(&found));
     drop(found);
     text
 }
@@ -31,11 +33,10 @@ fn assert_text(
     alloc: Global,
     (description, form, variable): (&str, LongShortForm, StandardVariable),
     wanted: &str,
-) -> Result<(), Fail> {
-    let text = text(alloc, description, form, variable)?;
-    let asked = format!(in alloc; "{form:?} {variable:?} of {description}")?;
+) {
+    let text = text(rt, alloc, description, form, variable);
+    let asked = format!(in alloc; "{form:?} {variable:?} of {description}").expect(rt, "memory");
     assert_answer(rt, text.as_str(), wanted, asked.as_str());
-    Ok(())
 }
 
 /// A book of 2014 by one author.
@@ -285,55 +286,56 @@ fn assert_all(
     rt: &impl Abort,
     alloc: Global,
     rows: &[(&'static str, LongShortForm, StandardVariable, &'static str)],
-) -> Result<(), Fail> {
+) {
     for (description, form, variable, wanted) in rows {
-        assert_text(rt, alloc, (*description, *form, *variable), *wanted)?;
+        assert_text(rt, alloc, (*description, *form, *variable), *wanted);
     }
-    Ok(())
 }
 
 fn assert_all_in_both(
     rt: &impl Abort,
     alloc: Global,
     rows: &[(&'static str, StandardVariable, &'static str)],
-) -> Result<(), Fail> {
+) {
     for (description, variable, wanted) in rows {
-        assert_text(rt, alloc, (*description, LONG, *variable), *wanted)?;
-        assert_text(rt, alloc, (*description, SHORT, *variable), *wanted)?;
+        assert_text(rt, alloc, (*description, LONG, *variable), *wanted);
+        assert_text(rt, alloc, (*description, SHORT, *variable), *wanted);
     }
-    Ok(())
 }
 
 #[test]
-fn texts_of_an_entry_and_its_parents(rt: HostRuntime) -> Result<(), Fail> {
-    assert_all(&rt, rt.alloc(), &TEXTS)?;
-    assert_all_in_both(&rt, rt.alloc(), &TEXTS_OF_ONE_FORM)
+fn texts_of_an_entry_and_its_parents(rt: HostRuntime) {
+    assert_all(&rt, rt.alloc(), &TEXTS);
+    assert_all_in_both(&rt, rt.alloc(), &TEXTS_OF_ONE_FORM);
 }
 
 /// Whether the text in the short form is borrowed from the entry, or `None` if there is no answer.
 fn is_borrowed(
+    rt: &impl Abort,
     alloc: Global,
     description: &str,
     variable: StandardVariable,
-) -> Result<Option<bool>, Fail> {
-    let works = described(alloc, description)?;
-    let entry = only(&works)?;
-    match entry.resolve_standard_variable(alloc, LongShortForm::Short, variable)? {
-        Some(Cow::Borrowed(_)) => Ok(Some(true)),
-        Some(Cow::Owned(_)) => Ok(Some(false)),
-        None => Ok(None),
+) -> Option<bool> {
+    let works = described(rt, alloc, description);
+    let entry = only(rt, &works);
+    match entry
+        .resolve_standard_variable(alloc, LongShortForm::Short, variable)
+        .expect(rt, "memory")
+    {
+        Some(Cow::Borrowed(_)) => Some(true),
+        Some(Cow::Owned(_)) => Some(false),
+        None => None,
     }
 }
 
 #[test]
-fn texts_that_an_entry_holds_are_lent(rt: HostRuntime) -> Result<(), Fail> {
+fn texts_that_an_entry_holds_are_lent(rt: HostRuntime) {
     for (variable, wanted) in [
         (StandardVariable::TitleShort, Some(true)),
         (StandardVariable::CollectionTitle, Some(true)),
         (StandardVariable::CitationKey, Some(false)),
     ] {
-        let borrowed = is_borrowed(rt.alloc(), CHAPTER, variable)?;
+        let borrowed = is_borrowed(&rt, rt.alloc(), CHAPTER, variable);
         assert_of(&rt, &borrowed, &wanted, &variable);
     }
-    Ok(())
 }

@@ -2,10 +2,10 @@
 //! (CSL 1.0.2, Name: form, initialize, et-al-min and those after it).
 
 ghost use Rattle.std.specs.Prelude.{◌≡◌, map, IfOk};
-ghost use Rattle.csl_style.specs.NameOptions.{complete_options, inherited_options};
-ghost use Rattle.csl_style.specs.Names.{view_name};
-ghost use Rattle.csl_style.specs.NamesParts.{parts_node};
-ghost use Rattle.csl_style.specs.View.{view_child, name_children};
+ghost use Rattle.csl_elements.specs.NameOptions.{complete_options, inherited_options};
+ghost use Rattle.csl_elements.specs.Names.{view_name};
+ghost use Rattle.csl_elements.specs.NamesParts.{parts_node};
+ghost use Rattle.csl_elements.specs.View.{view_child, name_children};
 ghost use Rattle.csl_names.specs.NamesForms.{default_form, form_in, list_forms, default_forms, shown_count, count_of, saturated_count, hides_all, name_hides, each_hides, writes_no_name};
 ghost use Rattle.csl_names.specs.PersonLists.{list_of};
 

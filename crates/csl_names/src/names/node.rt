@@ -3,9 +3,9 @@
 ghost use Rattle.std.specs.Prelude.{◌≡◌, [], Some, true, map, is_some, decimal, IfOk};
 ghost use Rattle.std.specs.Bool.{OnFalse};
 ghost use Rattle.lit_model.specs.Person.{person_view};
-ghost use Rattle.csl_style.specs.NameOptions.{inherited_options};
-ghost use Rattle.csl_style.specs.Names.{view_name, view_et_al};
-ghost use Rattle.csl_style.specs.NamesParts.{parts_node, default_name, default_et_al};
+ghost use Rattle.csl_elements.specs.NameOptions.{inherited_options};
+ghost use Rattle.csl_elements.specs.Names.{view_name, view_et_al};
+ghost use Rattle.csl_elements.specs.NamesParts.{parts_node, default_name, default_et_al};
 ghost use Rattle.csl_tree.specs.Content.{◌++>◌, elem_content};
 ghost use Rattle.csl_tree.specs.Tokens.{meta_of};
 ghost use Rattle.csl_entry.specs.Answers.{cow_view};

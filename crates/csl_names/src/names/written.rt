@@ -3,8 +3,8 @@
 
 ghost use Rattle.std.specs.Prelude.{◌≡◌, map, slice_get, option_map, is_some, true};
 ghost use Rattle.lit_model.specs.Person.{person_view};
-ghost use Rattle.csl_style.specs.Names.{view_label};
-ghost use Rattle.csl_style.specs.NamesParts.{placed_label};
+ghost use Rattle.csl_elements.specs.Names.{view_label};
+ghost use Rattle.csl_elements.specs.NamesParts.{placed_label};
 ghost use Rattle.csl_entry.specs.Answers.{cow_view};
 ghost use Rattle.csl_context.specs.ContextView.{Runs, with_content};
 ghost use Rattle.csl_names.specs.NamesContent.{label_content, label_on, with_label, with_list, with_labelled_list, with_list_if_any, is_skipped, with_lists, names_style_view};

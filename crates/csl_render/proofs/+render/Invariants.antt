@@ -1,7 +1,7 @@
 use Rattle.std.proofs.Common.{◌≡◌, ◌+◌, ◌*◌, ◌≤◌, true, false, IfSome, drop}
-use Rattle.csl_style.specs.NamesParts.{parts_node}
-use Rattle.csl_style.specs.Node.{size, sizes, expanded_substitutes_size, expand, expand_nodes, expand_substitute_nodes}
-use Rattle.csl_style.specs.View.{view_node, view_text, view_group, view_choose, view_names, view_nodes}
+use Rattle.csl_elements.specs.NamesParts.{parts_node}
+use Rattle.csl_elements.specs.Node.{size, sizes, expanded_substitutes_size, expand, expand_nodes, expand_substitute_nodes}
+use Rattle.csl_elements.specs.View.{view_node, view_text, view_group, view_choose, view_names, view_nodes}
 use Rattle.csl_style.specs.Expanded.{macro_env}
 use Rattle.csl_context.specs.ContextView.{render_input}
 use Rattle.csl_render.specs.Names.{expanded_substitutes_of}

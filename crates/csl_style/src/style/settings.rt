@@ -2,7 +2,7 @@
 
 ghost use Rattle.csl_style.specs.Style.{AreDefaults};
 
-use crate::names::InheritableNameOptions;
+use csl_elements::InheritableNameOptions;
 
 /// How the second number of a page range is written (CSL 1.0.2, Appendix V: Page Range Formats).
 #[derive(Clone, Copy, Debug, Default, PartialEq, Eq, PartialOrd, Ord, Hash)]

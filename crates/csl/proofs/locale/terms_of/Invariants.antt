@@ -1,5 +1,5 @@
 use Rattle.std.proofs.Common.{◌≡◌, map, take}
-use Rattle.csl_style.specs.Locale.{term_view}
+use Rattle.csl_elements.specs.Locale.{term_view}
 use Rattle.csl.specs.English.{term_of_row}
 use Rattle.csl.proofs.locale.terms_of.Given as goal
 

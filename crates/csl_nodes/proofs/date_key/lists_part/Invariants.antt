@@ -1,5 +1,5 @@
 use Rattle.std.proofs.Common.{◌≡◌, map, drop}
-use Rattle.csl_style.specs.View.{view_date_part}
+use Rattle.csl_elements.specs.View.{view_date_part}
 use Rattle.csl_nodes.specs.DateKey.{lists_part}
 use Rattle.csl_nodes.proofs.date_key.lists_part.Given as goal
 

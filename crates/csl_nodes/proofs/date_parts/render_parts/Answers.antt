@@ -2,8 +2,8 @@ use Rattle.std.proofs.Common.{◌≡◌, ◌+◌, ◌<◌, ◌&&◌, not, length
 use Rattle.std.proofs.lemmas.Grind.{common_steps}
 use Rattle.std.proofs.lemmas.List.{at_drop_more}
 use Rattle.lit_model.specs.Date.{date_view}
-use Rattle.csl_style.specs.declared.date.DatePart.{DatePart}
-use Rattle.csl_style.specs.declared.date.DateParts.TheVariants.{YearMonthDay}
+use Rattle.csl_elements.specs.declared.date.DatePart.{DatePart}
+use Rattle.csl_elements.specs.declared.date.DateParts.TheVariants.{YearMonthDay}
 use Rattle.csl_tree.proofs.Joins.{join-none, join_assoc}
 use Rattle.csl_tree.specs.Content.{◌++>◌}
 use Rattle.csl_tree.specs.Tokens.{has_children}

@@ -1,5 +1,5 @@
 use Rattle.std.proofs.Common.{◌≡◌, option_map, sym, subst, rules, true}
-use Rattle.csl_style.specs.Dressing.{text_if}
+use Rattle.csl_elements.specs.Dressing.{text_if}
 use Rattle.csl_context.specs.ContextView as now
 use Rattle.csl_context.specs.ContextView.{Becomes, close_part_by}
 use Rattle.csl_nodes.specs.Text.{in_quotes_if, with_quotes_toggled_if}

@@ -1,6 +1,6 @@
 use Rattle.std.proofs.Common.{◌≡◌, false, Result, Ok, Err, ap, sym, subst, ◌∙◌, rules}
-use Rattle.csl_style.specs.Taxonomy.{term_of}
-use Rattle.csl_style.specs.View.{view_number}
+use Rattle.csl_elements.specs.Taxonomy.{term_of}
+use Rattle.csl_elements.specs.View.{view_number}
 use Rattle.csl_entry.specs.NumberResult.{number_or_page_view}
 use Rattle.csl_context.specs.ContextView.{ContextView, Runs, FailsAs, with_content}
 use Rattle.csl_context.specs.declared.error.RenderError.{RenderError}

@@ -1,6 +1,6 @@
 use Rattle.std.proofs.Common.{option_map, subst, sym, ap, ◌∙◌}
-use Rattle.csl_style.specs.Node.{expand_nodes}
-use Rattle.csl_style.specs.View.{view_nodes}
+use Rattle.csl_elements.specs.Node.{expand_nodes}
+use Rattle.csl_elements.specs.View.{view_nodes}
 use Rattle.csl_style.specs.Expanded.{macro_env}
 use Rattle.csl_context.specs.ContextView.{render_input}
 use Rattle.csl_render.specs.Plan.{AreOfTaken}

@@ -1,6 +1,6 @@
 use Rattle.std.proofs.Common.{◌≡◌, drop}
-use Rattle.csl_style.specs.Node.{expand_nodes}
-use Rattle.csl_style.specs.View.{view_nodes}
+use Rattle.csl_elements.specs.Node.{expand_nodes}
+use Rattle.csl_elements.specs.View.{view_nodes}
 use Rattle.csl_render.specs.Names.{Macros, any_is_names_of}
 use Rattle.csl_render.proofs.names.any_is_names_of.Given as goal
 

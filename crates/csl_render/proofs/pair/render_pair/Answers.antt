@@ -1,5 +1,5 @@
-use Rattle.csl_style.specs.Node.{expand_layout}
-use Rattle.csl_style.specs.View.{view_layout}
+use Rattle.csl_elements.specs.Node.{expand_layout}
+use Rattle.csl_elements.specs.View.{view_layout}
 use Rattle.csl_style.specs.Expanded.{macro_env}
 use Rattle.csl_entry.specs.Cite.{cite_state}
 use Rattle.csl_context.specs.LeftState.{left_state_view}

@@ -1,6 +1,6 @@
 use Rattle.std.proofs.Common.{◌∙◌}
 use Rattle.std.proofs.lemmas.Slice.Eq.{slice_eq-Decides}
-use Rattle.csl_style.proofs.Variables.{variable_decides}
+use Rattle.csl_elements.proofs.Variables.{variable_decides}
 use Rattle.csl_render.proofs.plan.are_suppressed.Goals as goal
 
 pub returns : goal.returns

@@ -1,6 +1,6 @@
 use Rattle.std.proofs.Common.{◌≡◌, subst, sym, ap, ◌∙◌}
-use Rattle.csl_style.specs.Node.{expand_nodes, expanded_macro}
-use Rattle.csl_style.specs.View.{view_nodes, text_dressing}
+use Rattle.csl_elements.specs.Node.{expand_nodes, expanded_macro}
+use Rattle.csl_elements.specs.View.{view_nodes, text_dressing}
 use Rattle.csl_style.specs.Expanded.{macro_env}
 use Rattle.csl_context.specs.ContextView.{render_input}
 use Rattle.csl_nodes.specs.Usage.{without_group_flag, macro_info, info_view}

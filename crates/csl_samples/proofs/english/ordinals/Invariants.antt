@@ -1,5 +1,5 @@
 use Rattle.std.proofs.Common.{◌≡◌, map, take}
-use Rattle.csl_style.specs.Locale.{ordinal_view}
+use Rattle.csl_elements.specs.Locale.{ordinal_view}
 use Rattle.csl_samples.specs.English.{ordinal_of_row}
 use Rattle.csl_samples.proofs.english.ordinals.Given as goal
 

@@ -1,5 +1,5 @@
 use Rattle.std.proofs.Common.{◌≡◌, map, take}
-use Rattle.csl_style.specs.Locale.{term_view}
+use Rattle.csl_elements.specs.Locale.{term_view}
 use Rattle.csl_samples.specs.English.{word_of_row}
 use Rattle.csl_samples.proofs.english.words.Given as goal
 

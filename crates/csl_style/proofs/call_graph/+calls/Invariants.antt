@@ -1,7 +1,7 @@
 use Rattle.std.proofs.Common.{◌≡◌, ◌++◌, drop, map, option_map}
-use Rattle.csl_style.specs.View.{definitions, view_nodes, view_child, view_branch, view_choose, substitutes, branches_of}
+use Rattle.csl_elements.specs.View.{definitions, view_nodes, view_child, view_branch, view_choose, substitutes, branches_of}
 use Rattle.csl_style.specs.Calls.{calls_in, calls_in_all, calls_in_substitutes, calls_in_branches}
-use Rattle.csl_style.specs.declared.element.Choose.{out-Choose}
+use Rattle.csl_elements.specs.declared.element.Choose.{out-Choose}
 use Rattle.csl_style.proofs.call_graph.+calls.Given as goal
 
 -- the calls so far and those of the remaining elements are all the calls

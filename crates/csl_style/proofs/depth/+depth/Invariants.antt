@@ -1,7 +1,7 @@
 use Rattle.std.proofs.Common.{◌≡◌, ◌+◌, ◌*◌, ◌≤◌, max, drop, map, option_map}
-use Rattle.csl_style.specs.declared.element.Choose.{out-Choose}
-use Rattle.csl_style.specs.Node.{size, sizes, expanded_branches_size, expand, expand_nodes, expand_branches}
-use Rattle.csl_style.specs.View.{view_node, view_nodes, view_names, view_child, view_choose, view_branch, substitutes, branches_of}
+use Rattle.csl_elements.specs.declared.element.Choose.{out-Choose}
+use Rattle.csl_elements.specs.Node.{size, sizes, expanded_branches_size, expand, expand_nodes, expand_branches}
+use Rattle.csl_elements.specs.View.{view_node, view_nodes, view_names, view_child, view_choose, view_branch, substitutes, branches_of}
 use Rattle.csl_style.specs.Expanded.{child_size, macro_env}
 use Rattle.csl_style.specs.Depth.{node_depth, nodes_depth, branches_depth}
 use Rattle.csl_style.proofs.YearSuffixes.{substitutes_size}

@@ -1,7 +1,7 @@
 use Rattle.std.proofs.Common.{◌≡◌, drop, map, option_map}
-use Rattle.csl_style.specs.View.{definitions, view_nodes, view_child, view_branch, view_choose, substitutes, branches_of}
+use Rattle.csl_elements.specs.View.{definitions, view_nodes, view_child, view_branch, view_choose, substitutes, branches_of}
 use Rattle.csl_style.specs.Missing.{missing_in, missing_in_all, missing_in_branches, missing_in_substitutes}
-use Rattle.csl_style.specs.declared.element.Choose.{out-Choose}
+use Rattle.csl_elements.specs.declared.element.Choose.{out-Choose}
 use Rattle.csl_style.proofs.missing.+missing.Given as goal
 
 -- the first missing name in the remaining elements is the first in all

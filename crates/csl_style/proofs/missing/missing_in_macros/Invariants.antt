@@ -1,5 +1,5 @@
 use Rattle.std.proofs.Common.{◌≡◌, drop}
-use Rattle.csl_style.specs.View.{definitions}
+use Rattle.csl_elements.specs.View.{definitions}
 use Rattle.csl_style.specs.Missing.{missing_in_macros}
 use Rattle.csl_style.proofs.missing.missing_in_macros.Given as goal
 

@@ -1,13 +1,13 @@
 use Rattle.std.proofs.Common.{arith, ap, map, sym, ◌∙◌, string_bytes}
 use Rattle.std.proofs.lemmas.Grind.{common_steps}
-use Rattle.csl_style.specs.declared.element.Choose.{out-Choose}
-use Rattle.csl_style.specs.declared.element.ChooseBranch.{out-ChooseBranch}
-use Rattle.csl_style.specs.declared.element.Names.{out-Names}
-use Rattle.csl_style.specs.NamedWalk.{named_set}
-use Rattle.csl_style.specs.Named.{named_union, named_in_branches, named_in_tests, named_in_nodes}
-use Rattle.csl_style.specs.Node.{expand_nodes, expand_branches}
-use Rattle.csl_style.specs.View.{substitutes, view_branch, view_child, view_nodes}
-use Rattle.csl_style.proofs.Sets.{join_assoc, join_none}
+use Rattle.csl_elements.specs.declared.element.Choose.{out-Choose}
+use Rattle.csl_elements.specs.declared.element.ChooseBranch.{out-ChooseBranch}
+use Rattle.csl_elements.specs.declared.element.Names.{out-Names}
+use Rattle.csl_elements.specs.NamedSet.{named_set, named_union}
+use Rattle.csl_style.specs.Named.{named_in_branches, named_in_tests, named_in_nodes}
+use Rattle.csl_elements.specs.Node.{expand_nodes, expand_branches}
+use Rattle.csl_elements.specs.View.{substitutes, view_branch, view_child, view_nodes}
+use Rattle.csl_elements.proofs.Sets.{join_assoc, join_none}
 use Rattle.csl_style.proofs.Walks.{absorbed, adds_at, branch_then, child_then, choose_named, names_named, of_substitutes}
 use Rattle.csl_style.proofs.YearSuffixes.{behind, children_sized, choose_sized, names_sized, nodes_out}
 use Rattle.csl_style.proofs.named.+named.Goals as goal

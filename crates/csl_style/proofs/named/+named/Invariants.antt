@@ -1,9 +1,9 @@
 use Rattle.std.proofs.Common.{◌≡◌, ◌+◌, ◌*◌, ◌≤◌, drop, map, option_map}
-use Rattle.csl_style.specs.declared.element.Choose.{out-Choose}
-use Rattle.csl_style.specs.NamedWalk.{named_set}
-use Rattle.csl_style.specs.Named.{named_union, named_in_node, named_in_nodes, named_in_branches}
-use Rattle.csl_style.specs.Node.{size, sizes, expanded_branches_size, expand, expand_nodes, expand_branches}
-use Rattle.csl_style.specs.View.{view_node, view_nodes, view_names, view_child, view_choose, view_branch, substitutes, branches_of}
+use Rattle.csl_elements.specs.declared.element.Choose.{out-Choose}
+use Rattle.csl_elements.specs.NamedSet.{named_set, named_union}
+use Rattle.csl_style.specs.Named.{named_in_node, named_in_nodes, named_in_branches}
+use Rattle.csl_elements.specs.Node.{size, sizes, expanded_branches_size, expand, expand_nodes, expand_branches}
+use Rattle.csl_elements.specs.View.{view_node, view_nodes, view_names, view_child, view_choose, view_branch, substitutes, branches_of}
 use Rattle.csl_style.proofs.Walks.{of_substitutes}
 use Rattle.csl_style.specs.Expanded.{child_size, macro_env}
 use Rattle.csl_style.proofs.YearSuffixes.{substitutes_size}

@@ -1,6 +1,6 @@
 use Rattle.std.proofs.Common.{arith}
 use Rattle.std.proofs.lemmas.Grind.{common_steps}
-use Rattle.csl_style.proofs.Sets.{none_join}
+use Rattle.csl_elements.proofs.Sets.{none_join}
 use Rattle.csl_style.proofs.named.named_by.Goals as goal
 
 pub returns : goal.returns

@@ -1,6 +1,6 @@
 use Rattle.std.proofs.Common.{◌≡◌, drop}
-use Rattle.csl_style.specs.Named.{named_union, each_of, the_date}
-use Rattle.csl_style.specs.NamedWalk.{named_set}
+use Rattle.csl_elements.specs.NamedSet.{named_union, named_set}
+use Rattle.csl_style.specs.Named.{each_of, the_date}
 use Rattle.csl_style.proofs.named.note_dates.Given as goal
 
 abbrev pub invariant-loop-v : goal.invariant-loop-v

@@ -1,6 +1,6 @@
 use Rattle.std.proofs.Common.{arith}
 use Rattle.std.proofs.lemmas.Grind.{common_steps}
-use Rattle.csl_style.proofs.Sets.{join_assoc, join_none}
+use Rattle.csl_elements.proofs.Sets.{join_assoc, join_none}
 use Rattle.csl_style.proofs.named.note_variables.Goals as goal
 
 pub loop-v-preserved : goal.loop-v-preserved

@@ -1,5 +1,5 @@
 use Rattle.std.proofs.Common.{sym}
-use Rattle.csl_style.specs.NamedWalk.{named_set}
+use Rattle.csl_elements.specs.NamedSet.{named_set}
 use Rattle.csl_style.proofs.Walks.{lacking_absorbed}
 use Rattle.csl_style.proofs.named.unseen_macro.Goals as goal
 use Rattle.csl_style.specs.Expanded.{macro_env}

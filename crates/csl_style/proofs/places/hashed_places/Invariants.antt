@@ -1,6 +1,6 @@
 use Rattle.std.proofs.Common.{◌≡◌, ℕ, List, drop}
 use Rattle.std.specs.HashMap.{get_by_text}
-use Rattle.csl_style.specs.View.{definitions}
+use Rattle.csl_elements.specs.View.{definitions}
 use Rattle.csl_style.specs.Expansion.{macro_index}
 use Rattle.csl_style.proofs.PlacesByName.{found}
 use Rattle.csl_style.proofs.places.hashed_places.Given as goal

@@ -1,7 +1,7 @@
 use Rattle.std.proofs.Common.{◌≡◌, ◌<◌, List, None, IfSome, length, string_bytes, sym, ap, ◌∙◌, subst, arith, rules}
 use Rattle.csl_style.specs.GraphReach.{Graph, HasRanks, IsFirstCyclicPlace}
-use Rattle.csl_style.specs.declared.element.CslMacro.{CslMacro}
-use Rattle.csl_style.specs.View.{definitions}
+use Rattle.csl_elements.specs.declared.element.CslMacro.{CslMacro}
+use Rattle.csl_elements.specs.View.{definitions}
 use Rattle.csl_style.specs.Calls.{IsCallGraph, name_at}
 use Rattle.csl_style.specs.Cyclic.{IsFirstCyclic}
 use Rattle.csl_style.proofs.Called.{name-read, length-definitions}

@@ -3,7 +3,7 @@ use Rattle.std.proofs.lemmas.Grind.{common_steps}
 use Rattle.csl_style.proofs.YearSuffixes.{names_out, names_sized, children_have, children_sized}
 use Rattle.csl_style.proofs.year_suffix.+reach.Goals as goal
 use Rattle.csl_style.specs.Expansion.{macro_expansion}
-use Rattle.csl_style.specs.View.{definitions}
+use Rattle.csl_elements.specs.View.{definitions}
 
 pub names_have_year_suffix-loop-child-init : goal.names_have_year_suffix-loop-child-init
 names_have_year_suffix-loop-child-init t c =

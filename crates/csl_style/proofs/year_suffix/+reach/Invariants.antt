@@ -1,7 +1,7 @@
 use Rattle.std.proofs.Common.{◌≡◌, ◌+◌, ◌*◌, ◌≤◌, drop, map, option_map}
-use Rattle.csl_style.specs.declared.element.Choose.{out-Choose}
-use Rattle.csl_style.specs.Node.{size, sizes, expanded_branches_size, expand, expand_nodes, expand_branches}
-use Rattle.csl_style.specs.View.{definitions, view_node, view_nodes, view_names, view_child, view_choose, view_branch, substitutes, branches_of}
+use Rattle.csl_elements.specs.declared.element.Choose.{out-Choose}
+use Rattle.csl_elements.specs.Node.{size, sizes, expanded_branches_size, expand, expand_nodes, expand_branches}
+use Rattle.csl_elements.specs.View.{definitions, view_node, view_nodes, view_names, view_child, view_choose, view_branch, substitutes, branches_of}
 use Rattle.csl_style.specs.Calls.{children_at}
 use Rattle.csl_style.specs.YearSuffix.{has_year_suffix, any_has_year_suffix, branches_have_year_suffix}
 use Rattle.csl_style.specs.Expanded.{child_size}

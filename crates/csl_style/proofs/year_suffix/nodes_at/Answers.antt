@@ -1,5 +1,5 @@
 use Rattle.std.proofs.Common.{sym, ap, ◌∙◌}
-use Rattle.csl_style.specs.View.{view_nodes}
+use Rattle.csl_elements.specs.View.{view_nodes}
 use Rattle.csl_style.proofs.Called.{children-read}
 use Rattle.csl_style.proofs.year_suffix.nodes_at.Goals as goal
 

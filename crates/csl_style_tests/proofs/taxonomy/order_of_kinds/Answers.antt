@@ -1,5 +1,5 @@
 use Rattle.std.proofs.Common.{sym, ◌∙◌}
-use Rattle.csl_style.proofs.Variables.{kind_ordered}
+use Rattle.csl_elements.proofs.Variables.{kind_ordered}
 use Rattle.csl_style_tests.proofs.taxonomy.order_of_kinds.Goals as goal
 
 pub returns : goal.returns

@@ -1,5 +1,5 @@
 use Rattle.std.proofs.Common.{sym, ◌∙◌}
-use Rattle.csl_style.proofs.Variables.{variable_decides}
+use Rattle.csl_elements.proofs.Variables.{variable_decides}
 use Rattle.csl_style_tests.proofs.taxonomy.same_variable.Goals as goal
 
 pub returns : goal.returns

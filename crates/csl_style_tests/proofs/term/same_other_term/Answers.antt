@@ -1,5 +1,5 @@
 use Rattle.std.proofs.Common.{sym, ◌∙◌}
-use Rattle.csl_style.proofs.Terms.{other_decides}
+use Rattle.csl_elements.proofs.Terms.{other_decides}
 use Rattle.csl_style_tests.proofs.term.same_other_term.Goals as goal
 
 pub returns : goal.returns

@@ -1,5 +1,5 @@
 use Rattle.std.proofs.Common.{sym, ◌∙◌}
-use Rattle.csl_style.proofs.Terms.{term_decides}
+use Rattle.csl_elements.proofs.Terms.{term_decides}
 use Rattle.csl_style_tests.proofs.term.same_term.Goals as goal
 
 pub returns : goal.returns

@@ -1,7 +1,7 @@
 use Rattle.std.proofs.Common.{◌≡◌, ◌+◌, ◌∷◌, drop, map, length, sym, ap, ◌∙◌, arith}
 use Rattle.std.proofs.lemmas.List.{at_drop_more}
 use Rattle.std.proofs.lemmas.Grind.{common_steps}
-use Rattle.csl_style.specs.NameOptions.{complete_options}
+use Rattle.csl_elements.specs.NameOptions.{complete_options}
 use Rattle.csl_names.specs.NamesForms.{count_of, saturated_count, shown_count}
 use Rattle.csl_names.specs.PersonLists.{list_of}
 use Rattle.csl_names.proofs.Counts.{capped, twice}

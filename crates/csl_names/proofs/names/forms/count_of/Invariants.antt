@@ -1,5 +1,5 @@
 use Rattle.std.proofs.Common.{◌≡◌, ◌+◌, map, drop}
-use Rattle.csl_style.specs.NameOptions.{complete_options}
+use Rattle.csl_elements.specs.NameOptions.{complete_options}
 use Rattle.csl_names.specs.NamesForms.{count_of, saturated_count}
 use Rattle.csl_names.specs.PersonLists.{list_of}
 use Rattle.csl_names.proofs.names.forms.count_of.Given as goal

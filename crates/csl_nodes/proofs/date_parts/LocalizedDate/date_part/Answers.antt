@@ -1,5 +1,5 @@
 use Rattle.std.proofs.Common.{map, ap}
-use Rattle.csl_style.specs.View.{view_date_part}
+use Rattle.csl_elements.specs.View.{view_date_part}
 use Rattle.csl_nodes.proofs.JoinedParts.{not_localized}
 use Rattle.csl_nodes.proofs.date_parts.LocalizedDate.date_part.Goals as goal
 

@@ -1,6 +1,6 @@
 use Rattle.std.proofs.Common.{sym, ap, ◌∙◌, subst}
 use Rattle.csl_style.specs.Style.{StyleParts, AreDefaults}
-use Rattle.csl_style.specs.View.{view_layout}
+use Rattle.csl_elements.specs.View.{view_layout}
 use Rattle.csl_samples.proofs.styles.BuiltInStyle.style.Goals as goal
 
 -- the style has the parts that it is built from

@@ -1,4 +1,4 @@
-use Rattle.csl_style.specs.NamedWalk.{named_set}
+use Rattle.csl_elements.specs.NamedSet.{named_set}
 use Rattle.csl_style.proofs.Walks.{learned}
 use Rattle.csl_style.proofs.named.Walk.mark_seen.Goals as goal
 use Rattle.csl_style.specs.Expanded.{macro_env}

@@ -1,5 +1,5 @@
 use Rattle.csl_style.specs.Named.{the_variable}
-use Rattle.csl_style.specs.NamedWalk.{named_set}
+use Rattle.csl_elements.specs.NamedSet.{named_set}
 use Rattle.csl_style.proofs.Walks.{kept}
 use Rattle.csl_style.proofs.named.Walk.note.Goals as goal
 use Rattle.csl_style.specs.Expanded.{macro_env}

@@ -1,7 +1,7 @@
 use Rattle.std.proofs.Common.{arith}
 use Rattle.std.proofs.lemmas.Grind.{common_steps}
-use Rattle.csl_style.specs.Node.{expand_layout}
-use Rattle.csl_style.specs.View.{view_layout}
+use Rattle.csl_elements.specs.Node.{expand_layout}
+use Rattle.csl_elements.specs.View.{view_layout}
 use Rattle.csl_style.specs.Expanded.{macro_env}
 use Rattle.csl_style.proofs.DepthsWithin.{depth_within}
 use Rattle.csl_style.proofs.style.Style.expanded_size.Goals as goal

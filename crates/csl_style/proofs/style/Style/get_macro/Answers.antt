@@ -1,5 +1,5 @@
 use Rattle.std.proofs.Common.{ap, ◌∙◌}
-use Rattle.csl_style.specs.View.{definitions, view_nodes}
+use Rattle.csl_elements.specs.View.{definitions, view_nodes}
 use Rattle.csl_style.specs.Expansion.{macro_body}
 use Rattle.csl_style.proofs.Meanings.{meaning-of}
 use Rattle.csl_style.proofs.style.Style.get_macro.Goals as goal

@@ -1,7 +1,7 @@
 use Rattle.std.proofs.Common.{◌≡◌, List, subst, sym}
 use Rattle.std.proofs.lemmas.Result.{err_from_is_err_and}
-use Rattle.csl_style.specs.declared.element.CslMacro.{CslMacro}
-use Rattle.csl_style.specs.View.{definitions}
+use Rattle.csl_elements.specs.declared.element.CslMacro.{CslMacro}
+use Rattle.csl_elements.specs.View.{definitions}
 use Rattle.csl_style.specs.Expansion.{IsAcyclic}
 use Rattle.csl_style.specs.Style.{IsRefusal}
 use Rattle.csl_style.proofs.Returns.{none-returns}

@@ -1,8 +1,8 @@
 use Rattle.std.proofs.Common.{◌≡◌, ◌<◌, List, length, slice_index_or, None, ap, arith}
 use Rattle.std.proofs.lemmas.Grind.{common_steps}
 use Rattle.std.proofs.lemmas.List.{get_or_read}
-use Rattle.csl_style.specs.declared.element.CslMacro.{CslMacro}
-use Rattle.csl_style.specs.View.{definitions}
+use Rattle.csl_elements.specs.declared.element.CslMacro.{CslMacro}
+use Rattle.csl_elements.specs.View.{definitions}
 use Rattle.csl_style.proofs.Called.{length-definitions}
 use Rattle.csl_style.proofs.SuffixSearch.{known-is}
 use Rattle.csl_style.proofs.year_suffix.Search.known.Goals as goal

@@ -1,5 +1,5 @@
 use Rattle.std.proofs.Common.{sym, ◌∙◌}
-use Rattle.csl_style.specs.View.{definitions}
+use Rattle.csl_elements.specs.View.{definitions}
 use Rattle.csl_style.proofs.PlacesByName.{within-list}
 use Rattle.csl_style.proofs.SuffixSearch.{none-has, meaning-if}
 use Rattle.csl_style.proofs.year_suffix.Search.place.Goals as goal

@@ -1,0 +1,10 @@
+pub mod InsideLaws
+pub mod Alike
+pub mod Locales
+pub mod Variables
+pub mod Terms
+pub mod Overlays
+pub mod NamesChildren
+pub mod Rolled
+pub mod Sets
+pub mod Options

@@ -1,0 +1,22 @@
+//! The variables that the citation answers, and not the entry (CSL 1.0.2, Appendix IV: Variables).
+
+ghost use Rattle.std.specs.Prelude.{◌≡◌};
+ghost use Rattle.csl_elements.specs.OfCitation.{is_of_citation};
+
+use crate::taxonomy::{NumberVariable, StandardVariable, Variable};
+
+impl Variable {
+    /// Whether the citation answers the variable, and not the entry. It answers four: the citation
+    /// number, the number of the note that first cites the entry, the locator and the year suffix.
+    pub fn is_of_citation(self) -> bool
+        ensures { result ≡ is_of_citation self }
+    {
+        matches!(
+            self,
+            Variable::Number(NumberVariable::CitationNumber)
+                | Variable::Number(NumberVariable::FirstReferenceNoteNumber)
+                | Variable::Number(NumberVariable::Locator)
+                | Variable::Standard(StandardVariable::YearSuffix)
+        )
+    }
+}

@@ -1,6 +1,0 @@
-use Rattle.std.proofs.Common.{◌≡◌, drop}
-use Rattle.csl_style.specs.Date.{date_in_form}
-use Rattle.csl_style.proofs.locale.lookup.localized_date.Given as goal
-
-abbrev pub invariant-loop-locale : goal.invariant-loop-locale
-invariant-loop-locale l = date_in_form (drop l.locale-index l.locales) l.form ≡ date_in_form l.locales l.form

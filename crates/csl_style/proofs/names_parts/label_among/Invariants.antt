@@ -1,6 +1,0 @@
-use Rattle.std.proofs.Common.{◌≡◌, false, map, drop}
-use Rattle.csl_style.specs.View.{view_child, first_label}
-use Rattle.csl_style.proofs.names_parts.label_among.Given as goal
-
-abbrev pub invariant-loop-child : goal.invariant-loop-child
-invariant-loop-child l = first_label l.is_after (map view_child (drop l.child-index l.children)) ≡ first_label false (map view_child l.children)

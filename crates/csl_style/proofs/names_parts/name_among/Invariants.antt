@@ -1,7 +1,0 @@
-use Rattle.std.proofs.Common.{◌≡◌, map, drop}
-use Rattle.csl_style.specs.Names.{first_of}
-use Rattle.csl_style.specs.View.{view_child, name_children}
-use Rattle.csl_style.proofs.names_parts.name_among.Given as goal
-
-abbrev pub invariant-loop-child : goal.invariant-loop-child
-invariant-loop-child l = first_of (name_children (map view_child (drop l.child-index l.children))) ≡ first_of (name_children (map view_child l.children))
