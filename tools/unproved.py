@@ -1,10 +1,32 @@
 """Rattle sources that nothing proves stand outside of the crates, as `.rs` files in FOLDER/src, since `rt ci` takes each `.rt` file for a crate's.
 FOLDER/uses names the libraries that they use. This module lays them out as a crate, named after the folder, in a copy of the checkout.
 
+Its `objects_of` keeps what `rt try` compiles, so that tools can link it into a program of their own.
+
 As a command, `python3 tools/unproved.py FOLDER..` formats the files of the folders where they stand."""
-import glob, os, subprocess, sys, tempfile
+import glob, os, shutil, subprocess, sys, tempfile, time
 
 TOP = os.path.dirname(os.path.dirname(os.path.realpath(__file__)))
+TARGET = "x86_64-unknown-linux-gnu"
+
+
+class Failure(Exception):
+    """A fault that ends a tool."""
+
+
+def kit():
+    """The kit's folder: that of `bin/rt`."""
+    command = shutil.which("rt")
+    if not command:
+        raise Failure("there is no command rt")
+    return os.path.dirname(os.path.dirname(os.path.realpath(command)))
+
+
+def checked(words):
+    """Runs a command that has to succeed."""
+    it = subprocess.run(words, stdin=subprocess.DEVNULL, stdout=subprocess.PIPE, stderr=subprocess.STDOUT, text=True)
+    if it.returncode != 0:
+        raise Failure(f"{words[0]} ended with {it.returncode}: {it.stdout[-1000:]}")
 
 
 def unpack(paths, commit, to, renamed=()):
@@ -36,6 +58,40 @@ def formatted(folder, crate):
             if old.read() != text:
                 texts[file] = text
     return texts
+
+
+def objects_of(crate, words, room):
+    """The object files that `rt try` links into the program of a crate, which it runs with these words. Each is there only while rt works, so a
+    second name is given to it as it begins to be written."""
+    name = os.path.basename(crate)
+    temp, objects = f"{room}/{name}-tmp", {}
+    os.mkdir(temp)
+    with open(f"{room}/{name}.log", "w+b") as log:
+        rt = subprocess.Popen(["rt", "try", "--seconds", "300", "--", *words], cwd=crate, env={**os.environ, "TMPDIR": temp},
+                              stdin=subprocess.DEVNULL, stdout=log, stderr=log)
+        while rt.poll() is None:
+            for it in glob.glob(f"{temp}/**/module*.o*", recursive=True):
+                try:
+                    file = os.stat(it).st_ino
+                    if file not in objects:
+                        second = f"{room}/{name}-{len(objects)}.o"
+                        os.link(it, second)
+                        objects[file] = second
+                except OSError:
+                    continue
+            time.sleep(0.01)
+        log.seek(0)
+        said = log.read().decode(errors="replace")
+    if rt.returncode != 0:
+        raise Failure(f"{name}: rt try ended with {rt.returncode}: {said[-1000:]}")
+    return list(objects.values())
+
+
+def link(program, objects):
+    """Links object files with the kit's libraries into a program. Its run-time checks stay in it."""
+    at = kit()
+    libraries = [f"{at}/c/{it}" for it in ("libos_c.a", "liblibc_c.a", "asan.a")]
+    checked([f"{at}/bin/rattle-link", "--target", TARGET, "--toolchain", f"{at}/toolchain", "-o", program, *objects, *libraries])
 
 
 if __name__ == "__main__":

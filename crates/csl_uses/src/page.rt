@@ -12,8 +12,9 @@ use csl::literature::{
     ChunkedString, Date, LongShortForm, MaybeTyped, Numeric, PageRanges, Person,
 };
 use csl::style::{
-    Affixes, DateVariable, Display, Group, Kind, Layout, LayoutRenderingElement, NameVariable,
-    Names, Number, NumberVariable, PageVariable, StandardVariable, Style, StyleSettings, Text,
+    Affixes, DateVariable, Display, FontVariant, Formatting, Group, Kind, Layout,
+    LayoutRenderingElement, NameVariable, Names, Number, NumberVariable, PageVariable,
+    StandardVariable, Style, StyleSettings, Text,
 };
 use csl::{
     BufWriteFormat, CitationNumber, CiteProperties, DisambiguateState, ElemChildren, EntryLike,
@@ -23,7 +24,8 @@ use std::alloc::Global;
 use std::borrow::{Cow, CowStr};
 
 /// The part of the page before the list. A flex box ignores floats, so each number is beside its
-/// entry.
+/// entry. Long addresses wrap. An author, a title and an address are each a `span` or an `a`, so a
+/// character in one of them that turns the direction of writing turns nothing else.
 const HEAD: &str = r#"<!doctype html>
 <html lang="en">
 <head>
@@ -31,6 +33,8 @@ const HEAD: &str = r#"<!doctype html>
 <title>References</title>
 <style>
 .entry { display: flex; gap: 1em; margin: 0.5em 0; }
+.entry > div { min-width: 0; overflow-wrap: anywhere; }
+.entry span, .entry a { unicode-bidi: isolate; }
 </style>
 </head>
 <body>
@@ -172,12 +176,19 @@ fn number(alloc: Global) -> Result<LayoutRenderingElement, Error> {
     Ok(number.into())
 }
 
-/// The authors, the title in quotes and the address, to the right of the number.
+/// The authors in small capitals, the title in italics and the address, to the right of the number.
 fn description(alloc: Global) -> Result<LayoutRenderingElement, Error> {
     let authors = vec![in alloc; NameVariable::Author]?;
-    let authors = Names::new(alloc, authors);
+    let formatting = Formatting {
+        font_variant: Some(FontVariant::SmallCaps),
+        ..Formatting::default()
+    };
+    let authors = Names {
+        formatting,
+        ..Names::new(alloc, authors)
+    };
     let title = Text {
-        quotes: true,
+        formatting: Formatting::italic(),
         ..Text::variable(StandardVariable::Title.into())
     };
     let address = Text::variable(StandardVariable::URL.into());

@@ -7,6 +7,7 @@ mod html;
 mod literature;
 mod nested;
 mod render;
+mod strangers;
 mod styles;
 mod tree;
 
@@ -27,6 +28,8 @@ pub fn count(alloc: Global, name: &str, size: usize) -> Result<usize, WorkError>
         "search_deep" => tree::search_deep(alloc, size),
         "simplify" => tree::simplify(alloc, size),
         "simplify_deep" => tree::simplify_deep(alloc, size),
+        "simplify_fully" => tree::normal_form(alloc, size),
+        "simplify_fully_deep" => tree::normal_form_deep(alloc, size),
         "html" => html::html(alloc, size),
         "html_plain" => html::html_plain(alloc, size),
         "style_chain" => styles::macro_chain(alloc, size),
@@ -47,6 +50,20 @@ pub fn count(alloc: Global, name: &str, size: usize) -> Result<usize, WorkError>
         "doubling" => nested::doubling(alloc, size),
         "doubling_named" => nested::doubling_named(alloc, size),
         "doubling_size" => nested::doubling_size(alloc, size),
+        "chains" => strangers::chains(alloc, size),
+        "chains_suppressed" => strangers::chains_suppressed(alloc, size),
+        "leaves" => strangers::leaves(alloc, size),
+        "leaves_suppressed" => strangers::leaves_suppressed(alloc, size),
+        "leaves_of_parents" => strangers::leaves_of_parents(alloc, size),
+        "all_authors" => strangers::all_authors(alloc, size),
+        "date_parts" => strangers::date_parts(alloc, size),
+        "tests" => strangers::tests(alloc, size),
+        "name_variables" => strangers::name_variables(alloc, size),
+        "long_texts" => strangers::long_texts(alloc, size),
+        "locale_terms" => strangers::locale_terms(alloc, size),
+        "many_macros" => strangers::many_macros(alloc, size),
+        "colliding_macros" => strangers::colliding_macros(alloc, size),
+        "doubled" => strangers::doubled(alloc, size),
         _ => Err(WorkError::Unexpected("no such work")),
     }
 }

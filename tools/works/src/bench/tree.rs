@@ -3,7 +3,9 @@
 use crate::error::WorkError;
 use crate::trees::{elem, text};
 use csl::style::Display;
-use csl::tree::{ElemChild, ElemChildren, ElemMeta, NonEmptyStack, simplify_children};
+use csl::tree::{
+    ElemChild, ElemChildren, ElemMeta, NonEmptyStack, simplify_children, simplify_fully,
+};
 use std::alloc::Global;
 use std::num::NonZeroUsize;
 
@@ -81,31 +83,42 @@ fn wide(alloc: Global, size: usize) -> Result<ElemChildren, WorkError> {
     Ok(ElemChildren(children))
 }
 
-/// A tree of `size` nested blocks, with two texts before each and in the innermost.
-fn deep(alloc: Global, size: usize) -> Result<ElemChildren, WorkError> {
+/// A tree of `size` nested elements of this display, with two texts before each and in the innermost.
+fn deep(alloc: Global, size: usize, display: Option<Display>) -> Result<ElemChildren, WorkError> {
     let mut children = texts(alloc)?;
     for _ in 0..size {
         let mut around = texts(alloc)?;
-        around.push(elem(children, Some(Display::Block), None))?;
+        around.push(elem(children, display, None))?;
         children = around;
     }
     Ok(ElemChildren(children))
 }
 
-/// Simplifies children by one round, and adds up the remaining children and bytes of text.
-fn simplified_size(alloc: Global, children: &ElemChildren) -> Result<usize, WorkError> {
-    let left = simplify_children(alloc, children)?;
-    Ok(left.str_len() + left.0.len())
+/// Adds up the children and the bytes of text.
+fn size_of(children: &ElemChildren) -> usize {
+    children.str_len() + children.0.len()
 }
 
 /// Simplifies a wide tree by one round.
 pub fn simplify(alloc: Global, size: usize) -> Result<usize, WorkError> {
-    simplified_size(alloc, &wide(alloc, size)?)
+    Ok(size_of(&simplify_children(alloc, &wide(alloc, size)?)?))
 }
 
-/// Simplifies a deep tree by one round.
+/// Simplifies nested blocks by one round.
 pub fn simplify_deep(alloc: Global, size: usize) -> Result<usize, WorkError> {
-    simplified_size(alloc, &deep(alloc, size)?)
+    let blocks = deep(alloc, size, Some(Display::Block))?;
+    Ok(size_of(&simplify_children(alloc, &blocks)?))
+}
+
+/// Makes the normal form of a wide tree.
+pub fn normal_form(alloc: Global, size: usize) -> Result<usize, WorkError> {
+    Ok(size_of(&simplify_fully(alloc, &wide(alloc, size)?)?))
+}
+
+/// Makes the normal form, a single text, of nested elements without display or meta.
+pub fn normal_form_deep(alloc: Global, size: usize) -> Result<usize, WorkError> {
+    let plain = deep(alloc, size, None)?;
+    Ok(size_of(&simplify_fully(alloc, &plain)?))
 }
 
 /// Appends an element of two texts, marked as the content of a date. Counts the bytes of text that
@@ -138,5 +151,5 @@ pub fn search(alloc: Global, size: usize) -> Result<usize, WorkError> {
 
 /// Searches a deep tree for the date at its end, and counts the bytes found and left.
 pub fn search_deep(alloc: Global, size: usize) -> Result<usize, WorkError> {
-    found_size(alloc, deep(alloc, size)?)
+    found_size(alloc, deep(alloc, size, Some(Display::Block))?)
 }

@@ -1,0 +1,91 @@
+"""A program that nothing proves, compiled as `rattle build` compiles a proved one. It is the bitcode of `rt try` without its run-time checks, and
+with those functions out of line that the sources keep so. For the tools that count instructions and stack."""
+import glob, os, re, shutil, signal, subprocess, time
+
+TARGET = "--target=x86_64-unknown-linux-gnu"
+
+# As `rattle build` compiles a program.
+COMPILED = """-march=x86-64 -mllvm -no-trap-after-noreturn -ffunction-sections -fdata-sections -mllvm -trap-unreachable
+    -mllvm -no-x86-call-frame-opt -mllvm -disable-machine-licm -mllvm -disable-postra-machine-licm -mllvm -sink-common-insts=false
+    --no-default-config -no-canonical-prefixes -fintegrated-cc1 -fno-crash-diagnostics -Werror -c -x ir -fPIE -O3""".split()
+
+
+class NotBuilt(Exception):
+    """The reason why there is no program."""
+
+
+class OtherKit(NotBuilt):
+    """The kit leaves no bitcode."""
+
+
+def kit():
+    """The folder of the kit that `rt` belongs to."""
+    rt = shutil.which("rt")
+    if not rt:
+        raise NotBuilt("there is no rt")
+    return os.path.dirname(os.path.dirname(os.path.realpath(rt)))
+
+
+def bitcode(crate, words, room):
+    """The bitcode that `rt try` compiles before it runs the program with these words. It is complete as soon as its object file exists."""
+    temp, kept = f"{room}/try", f"{room}/checked.bc"
+    os.mkdir(temp)
+    words = ["rt", "try", "--seconds", "300", "--", *words]
+    with open(f"{room}/said", "w+") as said:
+        tried = subprocess.Popen(words, cwd=crate, env={**os.environ, "TMPDIR": temp}, start_new_session=True, stdin=subprocess.DEVNULL,
+                                 stdout=said, stderr=said)
+        while tried.poll() is None and not os.path.exists(kept):
+            for it in glob.glob(f"{temp}/**/module*.o*", recursive=True):
+                module = f"{os.path.dirname(it)}/module.bc"
+                # The first module, of a few bytes, only shows that the compiler runs.
+                if os.path.exists(module) and os.path.getsize(module) > 100_000:
+                    os.link(module, kept)
+                    break
+            time.sleep(0.02)
+        if tried.poll() is None:
+            os.killpg(tried.pid, signal.SIGTERM)
+        tried.wait()
+        said.seek(0)
+        if not os.path.exists(kept):
+            raise (NotBuilt if tried.returncode else OtherKit)(f"{said.read()[-3000:]}\nrt try left no bitcode")
+        return kept
+
+
+def out_of_line(checkout):
+    """The functions that the sources keep out of line, as expressions: the bitcode of `rt try` does not say so."""
+    names = set()
+    for file in glob.glob(f"{checkout}/crates/*/src/**/*.rt", recursive=True):
+        crate = os.path.relpath(file, f"{checkout}/crates").partition("/")[0]
+        with open(file) as it:
+            marked = re.findall(r"#\[inline\(never\)\]\s+(?:#\[.*\]\s+)*(?:pub(?:\(crate\))? )?fn (\w+)", it.read())
+        names.update(rf"{crate}::(?:\w+::)*{name}" for name in marked)
+    return names
+
+
+def unchecked(text, kept):
+    """The program without its run-time checks: as in a proved program, it never reaches a place where they would stop it. It keeps these
+    functions out of line."""
+    for line in text:
+        if line.startswith(('  call void @"rattle-llvm-checks::', "  call void @llvm.trap()")):
+            continue
+        if line.startswith("attributes #"):
+            line = re.sub(r' "frame-pointer"="all"| sanitize_address', "", line).replace("{ }", "{ nounwind }")
+        elif line.startswith("define ") and kept.search(line):
+            line = line.replace(") #", ") noinline #", 1)
+        yield line
+
+
+def built(crate, words, room, kept=()):
+    """The program of a crate that was laid out in the room. The functions `kept` stay out of line too. With these words it succeeds."""
+    functions = "|".join(out_of_line(f"{room}/checkout").union(kept))
+    checked, tools = bitcode(crate, words, room), f"{kit()}/toolchain"
+    clang = [f"{tools}/bin/clang", TARGET, f"--sysroot={tools}"]
+    plain = ["-x", "ir", "-S", "-emit-llvm", "-O0", "-Xclang", "-disable-llvm-passes"]
+    subprocess.run([*clang, *plain, checked, "-o", f"{room}/checked.ll"], check=True)
+    with open(f"{room}/checked.ll") as text, open(f"{room}/program.ll", "w") as to:
+        to.writelines(unchecked(text, re.compile(rf'@"?(?:{functions})(::<|"|\()')))
+    subprocess.run([*clang, *COMPILED, f"{room}/program.ll", "-o", f"{room}/program.o"], check=True)
+    linked = ["--target", TARGET.partition("=")[2], "--toolchain", tools, "-o", f"{room}/program", f"{room}/program.o"]
+    libraries = [f"{kit()}/c/{it}" for it in ("libos_c.a", "liblibc_c.a")]
+    subprocess.run([f"{kit()}/bin/rattle-link", *linked, *libraries], check=True, stdout=subprocess.DEVNULL, stderr=subprocess.DEVNULL)
+    return f"{room}/program"

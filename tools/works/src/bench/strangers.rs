@@ -1,0 +1,287 @@
+//! Styles that are as expensive as the limits for strangers' styles allow. Each work makes a style
+//! whose citation layout has at most the expanded size `size` and the depth [`DEPTH`], and renders
+//! it for an article.
+
+use crate::bench::cites::{in_english, year};
+use crate::bench::entry::article;
+use crate::bench::literature::authors;
+use crate::bench::render::text_size;
+use crate::bench::styles::{call, linked};
+use crate::error::WorkError;
+use crate::nodes::{names_or, style, title};
+use crate::refuse::text_of;
+use csl::entry::SpecialForm;
+use csl::literature::EntryType;
+use csl::style::{
+    Choose, ChooseBranch, CslMacro, Date, DatePart, DatePartName, DateVariable, Group, Label,
+    LayoutRenderingElement, NameVariable, Names, NumberOrPageVariable, OtherTerm, PageVariable,
+    StandardVariable, Style, Term, Text,
+};
+use csl::{CiteProperties, DisambiguateState, Entry, InstanceContext};
+use std::alloc::Global;
+
+/// The limit of the depth, as `docs/CALLING.md` gives it.
+const DEPTH: usize = 64;
+
+/// How many substitutes in one another the depth allows, each with a group in it.
+const LEVELS: usize = 31;
+
+/// The size of such a level: a names node with one variable and a substitute, and a group.
+const LEVEL: usize = 6;
+
+/// How many items a macro's list has, and how many texts a long text.
+const ITEMS: usize = 100;
+
+/// A style, if its citation layout is within the limits.
+fn limited(style: Style, size: usize) -> Result<Style, WorkError> {
+    if style.expanded_within(style.citation(), size as u64, DEPTH) {
+        Ok(style)
+    } else {
+        Err(WorkError::Unexpected("above the limits"))
+    }
+}
+
+/// Renders a style within the limits for an article of one author, and counts the bytes of the plain
+/// text.
+fn size_within(alloc: Global, style: Style, size: usize) -> Result<usize, WorkError> {
+    text_size(alloc, &limited(style, size)?, &article(alloc, 1)?)
+}
+
+/// Renders a style within the limits for an article of one author, without the author, and counts
+/// the bytes of the plain text.
+fn suppressed_within(alloc: Global, style: Style, size: usize) -> Result<usize, WorkError> {
+    let style = limited(style, size)?;
+    let cite_props = CiteProperties::first(DisambiguateState::None);
+    let instance = InstanceContext {
+        entry: &article(alloc, 1)?,
+        cite_props: &cite_props,
+        sorting: None,
+        kind: Some(SpecialForm::SuppressAuthor),
+    };
+    Ok(text_of(alloc, &style, instance)?.len())
+}
+
+/// How many parts of a size the layout has room for, beside itself and what it already has.
+fn room(size: usize, taken: usize, part: usize) -> usize {
+    size.saturating_sub(1 + taken) / part
+}
+
+/// A node's list of `times` nodes, which the function makes.
+fn repeated<F: FnMut() -> Result<LayoutRenderingElement, WorkError>>(
+    alloc: Global,
+    times: usize,
+    mut node: F,
+) -> Result<Vec<LayoutRenderingElement>, WorkError> {
+    let mut nodes = Vec::new(alloc);
+    for _ in 0..times {
+        nodes.push(node()?)?;
+    }
+    Ok(nodes)
+}
+
+/// Nodes in a group, in the substitute of editors.
+fn of_editors(
+    alloc: Global,
+    nodes: Vec<LayoutRenderingElement>,
+) -> Result<LayoutRenderingElement, WorkError> {
+    let editors = vec![in alloc; NameVariable::Editor]?;
+    let group = vec![in alloc; Group::new(nodes).into()]?;
+    names_or(alloc, editors, group)
+}
+
+/// Nodes in [`LEVELS`] groups, each in the substitute of editors, which the article lacks.
+fn in_substitutes(
+    alloc: Global,
+    inside: Vec<LayoutRenderingElement>,
+) -> Result<LayoutRenderingElement, WorkError> {
+    let mut nodes = inside;
+    for _ in 1..LEVELS {
+        let names = of_editors(alloc, nodes)?;
+        nodes = vec![in alloc; names]?;
+    }
+    of_editors(alloc, nodes)
+}
+
+/// A style of chains of substitutes side by side, each with the title at its end. It shows in the first
+/// alone: a variable that a substitute has shown is suppressed from there on.
+fn chains_style(alloc: Global, size: usize) -> Result<Style, WorkError> {
+    let chains = repeated(alloc, room(size, 0, LEVELS * LEVEL + 1), || {
+        in_substitutes(alloc, vec![in alloc; title()]?)
+    })?;
+    style(alloc, Vec::new(alloc), chains)
+}
+
+/// Renders chains of substitutes, and counts the bytes of the plain text.
+pub fn chains(alloc: Global, size: usize) -> Result<usize, WorkError> {
+    size_within(alloc, chains_style(alloc, size)?, size)
+}
+
+/// Renders chains of substitutes without the author, and counts the bytes of the plain text.
+pub fn chains_suppressed(alloc: Global, size: usize) -> Result<usize, WorkError> {
+    suppressed_within(alloc, chains_style(alloc, size)?, size)
+}
+
+/// A style of one chain of substitutes around labels of pages, which the article lacks, and the title.
+fn leaves_style(alloc: Global, size: usize) -> Result<Style, WorkError> {
+    let pages = NumberOrPageVariable::Page(PageVariable::Page);
+    let mut leaves = repeated(alloc, room(size, LEVELS * LEVEL + 1, 1), || {
+        Ok(Label::short(pages).into())
+    })?;
+    leaves.push(title())?;
+    let chain = vec![in alloc; in_substitutes(alloc, leaves)?]?;
+    style(alloc, Vec::new(alloc), chain)
+}
+
+/// Renders labels in a chain of substitutes, and counts the bytes of the plain text.
+pub fn leaves(alloc: Global, size: usize) -> Result<usize, WorkError> {
+    size_within(alloc, leaves_style(alloc, size)?, size)
+}
+
+/// Renders labels in a chain of substitutes without the author, and counts the bytes of the plain
+/// text.
+pub fn leaves_suppressed(alloc: Global, size: usize) -> Result<usize, WorkError> {
+    suppressed_within(alloc, leaves_style(alloc, size)?, size)
+}
+
+/// An entry with a chain of `depth` parents.
+fn with_parents(alloc: Global, depth: usize) -> Result<Entry, WorkError> {
+    let mut entry = Entry::new(alloc, "part", EntryType::Misc)?;
+    for _ in 0..depth {
+        let parents = vec![in alloc; entry]?;
+        entry = Entry::new(alloc, "part", EntryType::Misc)?;
+        entry.parents = parents;
+    }
+    Ok(entry)
+}
+
+/// Renders labels in a chain of substitutes for an entry with [`ITEMS`] parents in one another, and
+/// counts the bytes of the plain text.
+pub fn leaves_of_parents(alloc: Global, size: usize) -> Result<usize, WorkError> {
+    let style = limited(leaves_style(alloc, size)?, size)?;
+    text_size(alloc, &style, &with_parents(alloc, ITEMS)?)
+}
+
+/// Renders the authors of an article of [`ITEMS`] authors many times, and counts the bytes of the
+/// plain text.
+pub fn all_authors(alloc: Global, size: usize) -> Result<usize, WorkError> {
+    let names = repeated(
+        alloc,
+        room(size, 0, 3),
+        || Ok(Names::new(alloc, vec![in alloc; NameVariable::Author]?).into()),
+    )?;
+    let style = limited(style(alloc, Vec::new(alloc), names)?, size)?;
+    let mut article = article(alloc, 1)?;
+    article.authors = Some(authors(alloc, ITEMS)?);
+    text_size(alloc, &style, &article)
+}
+
+/// Renders many calls of a macro of one node of this weight, and counts the bytes of the plain text.
+fn calls_of(
+    alloc: Global,
+    size: usize,
+    node: LayoutRenderingElement,
+    weight: usize,
+) -> Result<usize, WorkError> {
+    let nodes = vec![in alloc; node]?;
+    let macros = vec![in alloc; CslMacro::new(alloc, "macro 0", nodes)?]?;
+    let calls = repeated(alloc, room(size, 0, 3 + weight), || call(alloc, 0))?;
+    size_within(alloc, style(alloc, macros, calls)?, size)
+}
+
+/// Renders calls of a macro of a date of [`ITEMS`] years, and counts the bytes of the plain text.
+pub fn date_parts(alloc: Global, size: usize) -> Result<usize, WorkError> {
+    let mut years = Vec::new(alloc);
+    for _ in 0..ITEMS {
+        years.push(DatePart::new(DatePartName::Year))?;
+    }
+    let date = Date::new(DateVariable::Issued, years);
+    calls_of(alloc, size, date.into(), ITEMS)
+}
+
+/// Renders calls of a macro of a choice that tests the title [`ITEMS`] times, and counts the bytes of
+/// the plain text.
+pub fn tests(alloc: Global, size: usize) -> Result<usize, WorkError> {
+    let mut titles = Vec::new(alloc);
+    for _ in 0..ITEMS {
+        titles.push(StandardVariable::Title.into())?;
+    }
+    let branch = ChooseBranch {
+        variable: Some(titles),
+        ..ChooseBranch::new(vec![in alloc; title()]?)
+    };
+    calls_of(alloc, size, Choose::new(alloc, branch).into(), 3 + ITEMS)
+}
+
+/// Renders calls of a macro of names of [`ITEMS`] times the same variable, and counts the bytes of
+/// the plain text.
+pub fn name_variables(alloc: Global, size: usize) -> Result<usize, WorkError> {
+    let mut variables = Vec::new(alloc);
+    for _ in 0..ITEMS {
+        variables.push(NameVariable::Author)?;
+    }
+    let names = Names::new(alloc, variables);
+    calls_of(alloc, size, names.into(), 1 + ITEMS)
+}
+
+/// Renders calls of a macro of a text of ten times [`ITEMS`] letters, and counts the bytes of the
+/// plain text.
+pub fn long_texts(alloc: Global, size: usize) -> Result<usize, WorkError> {
+    let mut text = String::new(alloc);
+    for _ in 0..ITEMS {
+        text.push_str("abcdefghij")?;
+    }
+    let text = Text::value(alloc, text.as_str())?;
+    calls_of(alloc, size, text.into(), 0)
+}
+
+/// Renders a term many times in a locale of `size` other terms, and counts the bytes of the plain
+/// text.
+pub fn locale_terms(alloc: Global, size: usize) -> Result<usize, WorkError> {
+    let terms = repeated(alloc, room(size, 2, 1), || {
+        Ok(Text::term(Term::Other(OtherTerm::And)).into())
+    })?;
+    let style = in_english(alloc, Vec::new(alloc), Group::new(terms).into(), size)?;
+    size_within(alloc, style, size)
+}
+
+/// Renders the longest chain of macros within the size, each of which calls the next twice. The last
+/// is empty, so a dry run has nothing to reject, and rendering enters each call. A date comes before
+/// them, so that the year suffix is asked for too. Counts the bytes of the plain text.
+pub fn doubled(alloc: Global, size: usize) -> Result<usize, WorkError> {
+    let mut count = 1;
+    while 4 << count < size {
+        count += 1;
+    }
+    let mut macros = linked(alloc, count, 2, StandardVariable::Genre.into())?;
+    if let Some(last) = macros.last_mut() {
+        last.children = Vec::new(alloc);
+    }
+    let nodes = vec![in alloc; year(alloc, DateVariable::Issued)?, call(alloc, 0)?]?;
+    size_within(alloc, style(alloc, macros, nodes)?, size)
+}
+
+/// A style of macros with these names and their numbers, each of a title and called once.
+fn named_macros(alloc: Global, size: usize, prefix: &str) -> Result<Style, WorkError> {
+    let mut macros = Vec::new(alloc);
+    let mut calls = Vec::new(alloc);
+    for place in 0..room(size, 0, 3) {
+        let number = 10_000_000 + place;
+        let name = format!(in alloc; "{prefix}{number}")?;
+        let nodes = vec![in alloc; title()]?;
+        macros.push(CslMacro::new(alloc, name.as_str(), nodes)?)?;
+        calls.push(Text::macro_call(alloc, name.as_str())?.into())?;
+    }
+    style(alloc, macros, calls)
+}
+
+/// Renders many macros, and counts the bytes of the plain text.
+pub fn many_macros(alloc: Global, size: usize) -> Result<usize, WorkError> {
+    let style = named_macros(alloc, size, "a macro of many of its sort ")?;
+    size_within(alloc, style, size)
+}
+
+/// Renders many macros whose names all have one hash, and counts the bytes of the plain text.
+pub fn colliding_macros(alloc: Global, size: usize) -> Result<usize, WorkError> {
+    let style = named_macros(alloc, size, "x5F73gs_U.LWl3qDDUwmVmkM")?;
+    size_within(alloc, style, size)
+}
