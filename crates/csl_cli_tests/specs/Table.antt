@@ -3,16 +3,16 @@ use Rattle.std.specs.Prelude.{Bool, List, [], Option, Some, None, Vec, find, map
 use Rattle.std.specs.declared.alloc.Global.{Global}
 use Rattle.std.specs.List.{list_any}
 use denote.Enum.Bare.{sameb}
-use Rattle.csl_style.specs.declared.taxonomy.NumberVariable.{NumberVariable}
-use Rattle.csl_style.specs.declared.taxonomy.StandardVariable.{StandardVariable}
-use Rattle.csl_style.specs.declared.taxonomy.NameVariable.{NameVariable}
-use Rattle.csl_style.specs.declared.taxonomy.DateVariable.{DateVariable}
-use Rattle.csl_style.specs.declared.taxonomy.Kind.{Kind}
-use Rattle.csl_style.specs.contracts.taxonomy.NumberVariable.{the_type as the_number}
-use Rattle.csl_style.specs.contracts.taxonomy.StandardVariable.{the_type as the_standard}
-use Rattle.csl_style.specs.contracts.taxonomy.NameVariable.{the_type as the_name}
-use Rattle.csl_style.specs.contracts.taxonomy.DateVariable.{the_type as the_date}
-use Rattle.csl_style.specs.contracts.taxonomy.Kind.{the_type as the_kind}
+use Rattle.csl_elements.specs.declared.taxonomy.NumberVariable.{NumberVariable}
+use Rattle.csl_elements.specs.declared.taxonomy.StandardVariable.{StandardVariable}
+use Rattle.csl_elements.specs.declared.taxonomy.NameVariable.{NameVariable}
+use Rattle.csl_elements.specs.declared.taxonomy.DateVariable.{DateVariable}
+use Rattle.csl_elements.specs.declared.taxonomy.Kind.{Kind}
+use Rattle.csl_elements.specs.contracts.taxonomy.NumberVariable.{the_type as the_number}
+use Rattle.csl_elements.specs.contracts.taxonomy.StandardVariable.{the_type as the_standard}
+use Rattle.csl_elements.specs.contracts.taxonomy.NameVariable.{the_type as the_name}
+use Rattle.csl_elements.specs.contracts.taxonomy.DateVariable.{the_type as the_date}
+use Rattle.csl_elements.specs.contracts.taxonomy.Kind.{the_type as the_kind}
 use Rattle.lit_model.specs.declared.date.Date.{Date}
 use Rattle.lit_model.specs.declared.maybe_typed.MaybeTyped.{MaybeTyped}
 use Rattle.lit_model.specs.declared.numeric.Numeric.{Numeric}

@@ -1,0 +1,217 @@
+//! What a row asks of its nodes and its cite, and the answer in words.
+
+use crate::cite::{CITE, properties, special_form, start};
+use crate::entry::entry;
+use crate::fault::Fault;
+use crate::form::Forms;
+use crate::nodes::{layout_line, node_line};
+use crate::scene::Scene;
+use crate::style::style;
+use crate::tree_words::{add_state, add_tree};
+use crate::work::Work;
+use csl::context::Rendered;
+use csl::render::Pair;
+use csl::style::{RenderingElement, Variable};
+use csl::{
+    BufWriteFormat, CiteProperties, InstanceContext, Scope, Style, bibliography_entry, cite,
+    cite_pair, render_pair,
+};
+use std::alloc::Global;
+
+/// A question about a row.
+#[derive(Clone, Copy)]
+pub enum Question {
+    /// The content, as plain text or as HTML.
+    Text(BufWriteFormat),
+    /// The content, as a tree.
+    Tree,
+    /// The state after the nodes.
+    Left,
+    /// The usage flags of a dry run.
+    Dry,
+    /// Whether the nodes would show a variable.
+    Shows(Variable),
+    /// The tests of the first branch of a choice: 1 for one that holds, 0 for another.
+    Tests,
+    /// The errors of rendering and of a dry run.
+    Errors,
+    /// Whether the entry and the one beside it are alike, and the HTML of both.
+    Pair,
+}
+
+/// The lines that a row consists of. They are parsed for each question.
+#[derive(Clone, Copy)]
+pub struct Row<'r> {
+    pub alloc: Global,
+    pub base: &'r str,
+    pub style: &'r str,
+    /// The line of the nodes, or nothing for the style's own layout.
+    pub nodes: &'r str,
+    pub entry: &'r str,
+    /// The line of the entry beside it, or nothing.
+    pub beside: &'r str,
+    pub cite: &'r str,
+}
+
+impl<'r> Row<'r> {
+    /// The style: the forms of its own line come before those of all rows.
+    pub fn style(&self) -> Result<Style, Fault> {
+        let mut forms = Forms::read(self.alloc, self.style)?;
+        for form in Forms::read(self.alloc, self.base)?.items {
+            forms.items.push(form)?;
+        }
+        style(&forms)
+    }
+
+    /// The nodes, if a line has some.
+    pub fn element(&self) -> Result<Option<RenderingElement>, Fault> {
+        let (word, rest) = self.nodes.split_once(' ').unwrap_or((self.nodes, ""));
+        let forms = Forms::read(self.alloc, rest)?;
+        match word {
+            "node" => Ok(Some(node_line(&forms)?)),
+            "layout" => Ok(Some(layout_line(&forms)?)),
+            _ => Ok(None),
+        }
+    }
+
+    /// The entry of a line.
+    pub fn work(&self, line: &str) -> Result<Work, Fault> {
+        entry(&Forms::read(self.alloc, line)?)
+    }
+
+    /// The answer to a question.
+    pub fn answer(&self, question: Question) -> Result<String, Fault> {
+        let forms = Forms::read(self.alloc, self.cite)?;
+        let cite_props = properties(&forms)?;
+        let style = self.style()?;
+        let work = self.work(self.entry)?;
+        let scope = forms.choice("scope")?.unwrap_or(Scope::Citation);
+        let mut words = String::new(self.alloc);
+        match self.element()? {
+            Some(element) => {
+                let start = start(&forms)?;
+                let scene = Scene {
+                    alloc: self.alloc,
+                    style: &style,
+                    cite: InstanceContext {
+                        entry: &work,
+                        cite_props: &cite_props,
+                        sorting: forms.choice("sort")?,
+                        kind: special_form(&forms)?,
+                    },
+                    scope,
+                    start: &start,
+                    before: forms.value("before").unwrap_or(""),
+                    element: &element,
+                };
+                self.add_answer(&mut words, question, &scene)?;
+            }
+            None => {
+                forms.ensure_attributes(&[CITE])?;
+                let own = (&style, &work, &cite_props);
+                self.add_own_answer(&mut words, question, scope, own)?;
+            }
+        }
+        Ok(words)
+    }
+
+    /// Appends the answer of these nodes.
+    fn add_answer(
+        &self,
+        words: &mut String,
+        question: Question,
+        scene: &Scene<'_>,
+    ) -> Result<(), Fault> {
+        match question {
+            Question::Text(_) | Question::Tree | Question::Left => {
+                scene.add_content(words, question)
+            }
+            Question::Dry => scene.add_flags(words),
+            Question::Shows(variable) => scene.add_shows(words, variable),
+            Question::Tests => scene.add_tests(words),
+            Question::Errors => scene.add_errors(words),
+            Question::Pair => self.add_pair(words, scene),
+        }
+    }
+
+    /// The entry beside that of the row.
+    fn other_work(&self) -> Result<Work, Fault> {
+        match self.beside.strip_prefix("beside") {
+            Some(rest) => self.work(rest),
+            None => Err(Fault::Wrong("a pair needs a beside line")),
+        }
+    }
+
+    fn add_pair(&self, words: &mut String, scene: &Scene<'_>) -> Result<(), Fault> {
+        let RenderingElement::Layout(layout) = scene.element else {
+            return Err(Fault::Wrong("a pair needs a layout"));
+        };
+        let right = self.other_work()?;
+        let pair = render_pair(
+            self.alloc,
+            scene.style,
+            layout,
+            scene.scope,
+            scene.cite.cite_props,
+            scene.cite.sorting,
+            scene.cite.kind,
+            scene.start,
+            scene.cite.entry,
+            &right,
+        )?;
+        add_pair_words(words, &pair)
+    }
+
+    /// Appends the answer of the style's own layout.
+    fn add_own_answer(
+        &self,
+        words: &mut String,
+        question: Question,
+        scope: Scope,
+        (style, work, cite_props): (&Style, &Work, &CiteProperties<'_>),
+    ) -> Result<(), Fault> {
+        match (question, scope) {
+            (Question::Text(_) | Question::Tree | Question::Left, Scope::Citation) => {
+                add_rendered(words, question, &cite(self.alloc, style, work, cite_props)?)
+            }
+            (Question::Text(_) | Question::Tree | Question::Left, Scope::Bibliography) => {
+                match bibliography_entry(self.alloc, style, work, cite_props)? {
+                    Some(rendered) => add_rendered(words, question, &rendered),
+                    None => Ok(words.push_str("(no bibliography)")?),
+                }
+            }
+            (Question::Pair, Scope::Citation) => {
+                let right = self.other_work()?;
+                let pair = cite_pair(self.alloc, style, cite_props, work, &right)?;
+                add_pair_words(words, &pair)
+            }
+            _ => Err(Fault::Wrong("this needs a layout or a node line")),
+        }
+    }
+}
+
+/// Appends the content or the state of a rendering.
+pub fn add_rendered(
+    words: &mut String,
+    question: Question,
+    rendered: &Rendered,
+) -> Result<(), Fault> {
+    match question {
+        Question::Text(format) => Ok(rendered.content.write_buf(words, format)?),
+        Question::Left => add_state(words, &rendered.state),
+        _ => add_tree(words, &rendered.content),
+    }
+}
+
+/// Appends whether two entries are alike, and the HTML of both. Alike entries have equal contents.
+fn add_pair_words(words: &mut String, pair: &Pair) -> Result<(), Fault> {
+    let is_same = pair.left.content == pair.right.content;
+    words.push_str(match (pair.alike, is_same) {
+        (true, true) => "alike: ",
+        (true, false) => "alike with other contents: ",
+        (false, _) => "not alike: ",
+    })?;
+    words.push_str(pair.left_html.as_str())?;
+    words.push_str(", ")?;
+    Ok(words.push_str(pair.right_html.as_str())?)
+}
