@@ -1,8 +1,8 @@
 """A program that nothing proves, compiled as `rattle build` compiles a proved one. It is the bitcode of `rt try` without its run-time checks, and
 with those functions out of line that the sources keep so. For the tools that count instructions and stack."""
-import glob, os, re, shutil, signal, subprocess, time
+import glob, os, re, signal, subprocess, time
 
-TARGET = "--target=x86_64-unknown-linux-gnu"
+from unproved import TARGET, Failure, kit
 
 # As `rattle build` compiles a program.
 COMPILED = """-march=x86-64 -mllvm -no-trap-after-noreturn -ffunction-sections -fdata-sections -mllvm -trap-unreachable
@@ -10,20 +10,8 @@ COMPILED = """-march=x86-64 -mllvm -no-trap-after-noreturn -ffunction-sections -
     --no-default-config -no-canonical-prefixes -fintegrated-cc1 -fno-crash-diagnostics -Werror -c -x ir -fPIE -O3""".split()
 
 
-class NotBuilt(Exception):
-    """The reason why there is no program."""
-
-
-class OtherKit(NotBuilt):
+class OtherKit(Failure):
     """The kit leaves no bitcode."""
-
-
-def kit():
-    """The folder of the kit that `rt` belongs to."""
-    rt = shutil.which("rt")
-    if not rt:
-        raise NotBuilt("there is no rt")
-    return os.path.dirname(os.path.dirname(os.path.realpath(rt)))
 
 
 def bitcode(crate, words, room):
@@ -47,7 +35,7 @@ def bitcode(crate, words, room):
         tried.wait()
         said.seek(0)
         if not os.path.exists(kept):
-            raise (NotBuilt if tried.returncode else OtherKit)(f"{said.read()[-3000:]}\nrt try left no bitcode")
+            raise (Failure if tried.returncode else OtherKit)(f"{said.read()[-3000:]}\nrt try left no bitcode")
         return kept
 
 
@@ -79,13 +67,13 @@ def built(crate, words, room, kept=()):
     """The program of a crate that was laid out in the room. The functions `kept` stay out of line too. With these words it succeeds."""
     functions = "|".join(out_of_line(f"{room}/checkout").union(kept))
     checked, tools = bitcode(crate, words, room), f"{kit()}/toolchain"
-    clang = [f"{tools}/bin/clang", TARGET, f"--sysroot={tools}"]
+    clang = [f"{tools}/bin/clang", f"--target={TARGET}", f"--sysroot={tools}"]
     plain = ["-x", "ir", "-S", "-emit-llvm", "-O0", "-Xclang", "-disable-llvm-passes"]
     subprocess.run([*clang, *plain, checked, "-o", f"{room}/checked.ll"], check=True)
     with open(f"{room}/checked.ll") as text, open(f"{room}/program.ll", "w") as to:
         to.writelines(unchecked(text, re.compile(rf'@"?(?:{functions})(::<|"|\()')))
     subprocess.run([*clang, *COMPILED, f"{room}/program.ll", "-o", f"{room}/program.o"], check=True)
-    linked = ["--target", TARGET.partition("=")[2], "--toolchain", tools, "-o", f"{room}/program", f"{room}/program.o"]
+    linked = ["--target", TARGET, "--toolchain", tools, "-o", f"{room}/program", f"{room}/program.o"]
     libraries = [f"{kit()}/c/{it}" for it in ("libos_c.a", "liblibc_c.a")]
     subprocess.run([f"{kit()}/bin/rattle-link", *linked, *libraries], check=True, stdout=subprocess.DEVNULL, stderr=subprocess.DEVNULL)
     return f"{room}/program"

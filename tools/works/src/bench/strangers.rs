@@ -143,12 +143,12 @@ pub fn leaves_suppressed(alloc: Global, size: usize) -> Result<usize, WorkError>
     suppressed_within(alloc, leaves_style(alloc, size)?, size)
 }
 
-/// An entry with a chain of `depth` parents.
+/// A titled entry with a chain of `depth` parents.
 fn with_parents(alloc: Global, depth: usize) -> Result<Entry, WorkError> {
-    let mut entry = Entry::new(alloc, "part", EntryType::Misc)?;
+    let mut entry = Entry::titled(alloc, "part", EntryType::Misc, "Part")?;
     for _ in 0..depth {
         let parents = vec![in alloc; entry]?;
-        entry = Entry::new(alloc, "part", EntryType::Misc)?;
+        entry = Entry::titled(alloc, "part", EntryType::Misc, "Part")?;
         entry.parents = parents;
     }
     Ok(entry)
