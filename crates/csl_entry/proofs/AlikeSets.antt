@@ -30,7 +30,7 @@ decides_at r x y u v d h k = (λ t. sym h ∙ d.0 t ∙ k, λ p. d.1 (h ∙ p �
 
 -- ---- one set: P holds for each key exactly if it holds for each item in the set
 
-is_equal : (r : Ordering) → is_eq r ≡ true → r ≡ Equal
+pub is_equal : (r : Ordering) → is_eq r ≡ true → r ≡ Equal
 is_equal Less h = cc
 is_equal Equal h = refl
 is_equal Greater h = cc
@@ -81,27 +81,27 @@ module _ (n : Named) (a b : Answers) where
   alike_if f g h i j k (a_variable (variable.Date v)) e = each_contained cmp_date.it date_ordered (λ v. a.dates v ≡ b.dates v) n.dates.keys j v e
   alike_if f g h i j k (a_kind l) e = each_contained cmp_kind.it kind_ordered (λ v. a.kinds v ≡ b.kinds v) n.kinds.keys k l e
 
-  numbers_if : SameNamedAnswers (named_set n) a b → EachNumber
+  pub numbers_if : SameNamedAnswers (named_set n) a b → EachNumber
   unfolding named_set
   numbers_if h = contained_each cmp_number.it number_ordered _ n.numbers.keys (λ v e. h (a_variable (variable.Number v)) e)
 
-  pages_if : SameNamedAnswers (named_set n) a b → EachPage
+  pub pages_if : SameNamedAnswers (named_set n) a b → EachPage
   unfolding named_set
   pages_if h = contained_each cmp_page.it page_ordered _ n.pages.keys (λ v e. h (a_variable (variable.Page v)) e)
 
-  standards_if : SameNamedAnswers (named_set n) a b → EachStandard
+  pub standards_if : SameNamedAnswers (named_set n) a b → EachStandard
   unfolding named_set
   standards_if h = contained_each cmp_standard.it standard_ordered _ n.standards.keys (λ v e. h (a_variable (variable.Standard v)) e)
 
-  names_if : SameNamedAnswers (named_set n) a b → EachName
+  pub names_if : SameNamedAnswers (named_set n) a b → EachName
   unfolding named_set
   names_if h = contained_each cmp_name.it name_ordered _ n.names.keys (λ v e. h (a_variable (variable.Name v)) e)
 
-  dates_if : SameNamedAnswers (named_set n) a b → EachDate
+  pub dates_if : SameNamedAnswers (named_set n) a b → EachDate
   unfolding named_set
   dates_if h = contained_each cmp_date.it date_ordered _ n.dates.keys (λ v e. h (a_variable (variable.Date v)) e)
 
-  kinds_if : SameNamedAnswers (named_set n) a b → EachKind
+  pub kinds_if : SameNamedAnswers (named_set n) a b → EachKind
   unfolding named_set
   kinds_if h = contained_each cmp_kind.it kind_ordered _ n.kinds.keys (λ v e. h (a_kind v) e)
 

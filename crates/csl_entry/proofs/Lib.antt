@@ -14,3 +14,5 @@ pub mod FormLists
 pub mod FormOrder
 pub mod ShownForms
 pub mod ToldApart
+pub mod Kept
+pub mod SnapshotsEqual

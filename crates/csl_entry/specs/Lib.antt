@@ -22,3 +22,4 @@ pub mod NumberResult
 pub mod Numbers
 pub mod NumericText
 pub mod Alike
+pub mod Snapshot

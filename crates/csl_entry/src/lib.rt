@@ -8,6 +8,7 @@ mod entry;
 mod forms;
 mod label;
 mod number_result;
+mod snapshot;
 mod taxonomy;
 
 pub use citation::{
@@ -22,4 +23,5 @@ pub use entry::{csl_language, legislation_kind, recording_kind};
 pub use forms::{DisambiguatedNameForm, NameDisambiguationProperties};
 pub use label::Alphanumerical;
 pub use number_result::{NumberOrPageVariableResult, NumberVariableResult, PageVariableResult};
+pub use snapshot::Snapshot;
 pub use taxonomy::EntryLike;

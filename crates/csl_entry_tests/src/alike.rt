@@ -38,12 +38,12 @@ const REFERENCE: &[Variable] = &[
     Variable::Date(DateVariable::Issued),
 ];
 
-const ALIKE: &str = "alike";
+pub(crate) const ALIKE: &str = "alike";
 
 const NOT_ALIKE: &str = "not alike";
 
 /// Two entries, the named variables, and whether the entries answer them alike.
-static ROWS: [(&str, &str, &[Variable], &str); 22] = [
+pub(crate) static ROWS: [(&str, &str, &[Variable], &str); 22] = [
     ("book; title T|S", "web; title T|S", TITLE, ALIKE),
     // Both forms count.
     ("book; title T|S", "book; title T|U", TITLE, NOT_ALIKE),
@@ -154,7 +154,11 @@ fn name(named: &mut Named, variable: Variable) -> Result<(), Memory> {
 }
 
 /// The sets of these variables, with a kind if there is one.
-fn named(alloc: Global, variables: &[Variable], kind: Option<Kind>) -> Result<Named, Memory> {
+pub(crate) fn named(
+    alloc: Global,
+    variables: &[Variable],
+    kind: Option<Kind>,
+) -> Result<Named, Memory> {
     let mut named = Named {
         numbers: BTreeSet::new(alloc),
         pages: BTreeSet::new(alloc),

@@ -31,3 +31,5 @@ mod name_properties;
 mod number_result;
 #[cfg(test)]
 mod numbers;
+#[cfg(test)]
+mod snapshot;

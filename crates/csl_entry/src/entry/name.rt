@@ -130,7 +130,7 @@ fn editors_or_of_container(entry: &Entry) -> &[Person]
 }
 
 /// Returns these persons as an answer, each borrowed.
-fn name_answer(alloc: Global, persons: &[Person]) -> Result<Vec<Cow<'_, Person>>, Memory>
+pub(crate) fn name_answer(alloc: Global, persons: &[Person]) -> Result<Vec<Cow<'_, Person>>, Memory>
     ensures { IfOk result (λ found. map (cow_view person_view) found.items
         ≡ map person_view persons.now) }
 {

@@ -47,7 +47,7 @@ pub(crate) fn number_variable(
 }
 
 /// The number or text that was found. A number is borrowed, and a text is copied.
-fn number_answer(
+pub(crate) fn number_answer(
     alloc: Global,
     found: Option<&MaybeTyped<Numeric>>,
 ) -> Result<Option<MaybeTyped<Cow<'_, Numeric>>>, Memory>

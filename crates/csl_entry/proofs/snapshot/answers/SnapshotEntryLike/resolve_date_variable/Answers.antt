@@ -1,0 +1,12 @@
+use Rattle.std.proofs.Common.{◌≡◌, ◌∙◌, option_map, rules}
+use Rattle.std.specs.Option.{option_copied}
+use Rattle.lit_model.specs.Date.{date_view}
+use Rattle.csl_elements.specs.contracts.taxonomy.DateVariablePartialEq.TheImpl.{eq-value as same}
+use Rattle.csl_entry.specs.Answers.{cow_view}
+use Rattle.csl_entry.proofs.Kept.{viewed}
+use Rattle.csl_entry.proofs.snapshot.answers.SnapshotEntryLike.resolve_date_variable.Goals as goal
+
+pub returns : goal.returns
+returns c =
+    let lent : option_map (cow_view date_view) c.map.result ≡ option_map date_view (option_copied c.answer_at.result) = search rules in
+    lent ∙ viewed same.it date_view c.args.self.now.dates.items c.deref.result.now c.args.variable (option_copied c.answer_at.result) c.deref.ensures.value c.answer_at.ensures

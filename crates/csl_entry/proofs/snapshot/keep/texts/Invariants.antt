@@ -1,0 +1,9 @@
+use Rattle.std.proofs.Common.{◌≡◌, ◌++◌, map}
+use Rattle.lit_model.specs.Text.{chunks}
+use Rattle.csl_entry.specs.Snapshot.{keyed, kept_answers}
+use Rattle.csl_entry.proofs.snapshot.keep.texts.Given as goal
+
+-- what is kept so far, and the answers to the remaining variables, are the answers to all
+abbrev pub invariant-loop-variable : goal.invariant-loop-variable
+invariant-loop-variable g l =
+    map (keyed chunks) l.kept.items ++ kept_answers ((g.T.EntryLike.answers l.entry).standards l.form) l.variable-iterator ≡ kept_answers ((g.T.EntryLike.answers l.entry).standards l.form) l.variables.keys
