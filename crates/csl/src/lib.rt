@@ -18,7 +18,7 @@ pub use csl_context::{Context, LeftState, RenderError, Rendered};
 pub use csl_entry as entry;
 pub use csl_entry::{
     Alphanumerical, CitationNumber, CiteProperties, DisambiguateState, DisambiguatedNameForm,
-    EntryLike, InstanceContext, NameDisambiguationProperties, NoteNumber, same_answers,
+    EntryLike, InstanceContext, NameDisambiguationProperties, NoteNumber, Snapshot, same_answers,
 };
 pub use csl_names::{write_name, write_name_list};
 pub use csl_render as render;

@@ -4,7 +4,7 @@ use crate::bounds::has_type;
 use csl_entry::{
     Alphanumerical, CitationNumber, CiteProperties, DisambiguateState, DisambiguatedNameForm,
     EntryLike, InstanceContext, NameDisambiguationProperties, NoteNumber,
-    NumberOrPageVariableResult, NumberVariableResult, PageVariableResult,
+    NumberOrPageVariableResult, NumberVariableResult, PageVariableResult, Snapshot,
 };
 use csl_style::{
     DateVariable, Kind, NameVariable, Named, NumberVariable, PageVariable, StandardVariable,
@@ -42,6 +42,12 @@ fn entry_like<T: EntryLike>() {
 fn entries<T: EntryLike, U: EntryLike>() {
     entry_like::<Entry>();
     let _: fn(Global, &T, &U, &Named) -> Result<bool, Memory> = csl_entry::same_answers;
+}
+
+fn snapshots<T: EntryLike>() {
+    entry_like::<Snapshot>();
+    let _: fn(Global, &T, &Named) -> Result<Snapshot, Memory> = Snapshot::new;
+    let _: fn(&Snapshot, Global) -> Result<Snapshot, Memory> = Snapshot::clone;
 }
 
 fn labels() {

@@ -5,7 +5,7 @@ use csl_entry::{
     Alphanumerical, CertainCiteProperties, CitationNumber, CiteProperties, DisambiguateState,
     DisambiguatedNameForm, IbidState, InstanceContext, LocatorPayload,
     NameDisambiguationProperties, NoteNumber, NumberOrPageVariableResult, NumberVariableResult,
-    PageVariableResult, Sorting, SpecialForm, SpecificLocator, SpeculativeCiteProperties,
+    PageVariableResult, Snapshot, Sorting, SpecialForm, SpecificLocator, SpeculativeCiteProperties,
 };
 use csl_style::{Locator, Variable};
 use lit_model::{MaybeTyped, Numeric, PageRanges};
@@ -143,6 +143,11 @@ fn instance_context<'s, T>(it: &InstanceContext<'s, T>) {
 
 fn page_variable_result(it: &PageVariableResult) {
     has_type::<MaybeTyped<PageRanges>, _>(it);
+}
+
+// The fields of a snapshot are private.
+fn snapshot() {
+    equal::<Snapshot>();
 }
 
 // The fields of name forms are private.
