@@ -3,28 +3,26 @@
 ghost use Rattle.std.specs.Prelude.{◌≡◌, ◌<◌, List, not, IfOk, OnOk, IfErr, IfSome, option_map};
 ghost use Rattle.std.specs.List.{list_all, list_any};
 ghost use Rattle.csl_elements.specs.declared.taxonomy.Variable.{Variable};
-ghost use Rattle.csl_elements.specs.Node.{expand, expand_nodes, size, sizes};
+ghost use Rattle.csl_elements.specs.Node.{size, sizes};
 ghost use Rattle.csl_elements.specs.View.{view_nodes, view_branch, view_choose};
-ghost use Rattle.csl_style.specs.Expanded.{macro_env};
-ghost use Rattle.csl_context.specs.ContextView.{Runs, Reads, GivesBy, FailsSilently, render_input};
+ghost use Rattle.csl_context.specs.ContextView.{Reads, GivesBy, FailsSilently, render_input};
 ghost use Rattle.csl_context.specs.State.{State};
 ghost use Rattle.csl_nodes.specs.Conditions.{branch_matches, satisfies, chosen_children};
 ghost use Rattle.csl_nodes.specs.RemainingConditions.{remaining_conditions, context_of, after_first, after_deciding};
-ghost use Rattle.csl_nodes.specs.Text.{with_output};
 ghost use Rattle.csl_render.specs.declared.plan.NodeInfo.{NodeInfo};
-ghost use Rattle.csl_render.specs.Plan.{AreReadAlike, AreInside, IsInfo, IsPlan, AreOfTaken};
-ghost use Rattle.csl_render.specs.Rendering.{of_node};
+ghost use Rattle.csl_render.specs.Expanded.{expanded, expanded_nodes};
+ghost use Rattle.csl_render.specs.Plan.{AreReadAlike, AreInside, AreOfTaken};
 ghost use Rattle.csl_render.specs.Tree.{info, shows, node_output, choice_info, choice_shows, choice_output};
 
 use crate::dry_run::DryRun;
 use crate::element::{any_shows, nodes_info, render_with_delimiter};
+use crate::node::Node;
 use crate::plan::{NodeInfo, NodePlan, inside_plan};
 use crate::query::Query;
-use crate::render::RenderCsl;
 use csl_context::{Context, RenderError};
 use csl_entry::EntryLike;
-use csl_nodes::{BranchConditionIter, UsageInfo, no_info, push_nothing, without_group_flag};
-use csl_style::{Choose, ChooseBranch, ChooseMatch, LayoutRenderingElement, Variable};
+use csl_nodes::{BranchConditionIter, no_info, push_nothing, without_group_flag};
+use csl_style::{Choose, ChooseBranch, ChooseMatch, LayoutRenderingElement};
 use lit_model::Memory;
 
 /// Whether all remaining conditions hold. Reads up to the first that does not.
@@ -147,36 +145,34 @@ fn taken_nodes<'s, T: EntryLike>(
     choose: &'s Choose,
 ) -> Result<Option<&'s [LayoutRenderingElement]>, Memory>
     ensures within { IfOk result (λ taken. IfSome taken (λ ns.
-        sizes (expand_nodes (macro_env ctx.now.style) (view_nodes ns.now))
-        < size (expand (macro_env ctx.now.style) (view_choose choose.now)))) }
+        sizes (expanded_nodes ctx.now.style (view_nodes ns.now))
+        < size (expanded ctx.now.style (view_choose choose.now)))) }
     ensures info { IfOk result (λ taken. info (render_input T.answers ctx.now) ctx.now.state
-        (expand (macro_env ctx.now.style) (view_choose choose.now))
+        (expanded ctx.now.style (view_choose choose.now))
         ≡ choice_info (render_input T.answers ctx.now) ctx.now.state
-        (option_map (expand_nodes (macro_env ctx.now.style))
-        (option_map (λ ns. view_nodes ns.now) taken))) }
+        (option_map (expanded_nodes ctx.now.style) (option_map (λ ns. view_nodes ns.now) taken))) }
     ensures shown { IfOk result (λ taken. (v : Variable) → shows (render_input T.answers ctx.now)
-        ctx.now.state v (expand (macro_env ctx.now.style) (view_choose choose.now))
+        ctx.now.state v (expanded ctx.now.style (view_choose choose.now))
         ≡ choice_shows (render_input T.answers ctx.now) ctx.now.state v
-        (option_map (expand_nodes (macro_env ctx.now.style))
-        (option_map (λ ns. view_nodes ns.now) taken))) }
+        (option_map (expanded_nodes ctx.now.style) (option_map (λ ns. view_nodes ns.now) taken))) }
     ensures made { IfOk result (λ taken. node_output (render_input T.answers ctx.now)
-        (expand (macro_env ctx.now.style) (view_choose choose.now)) ctx.now.inherited ctx.now.state
+        (expanded ctx.now.style (view_choose choose.now)) ctx.now.inherited ctx.now.state
         ≡ choice_output (render_input T.answers ctx.now)
-        (option_map (expand_nodes (macro_env ctx.now.style))
-        (option_map (λ ns. view_nodes ns.now) taken)) ctx.now.inherited ctx.now.state) }
+        (option_map (expanded_nodes ctx.now.style) (option_map (λ ns. view_nodes ns.now) taken))
+        ctx.now.inherited ctx.now.state) }
     ensures asked { IfOk result (λ taken. (infos : List NodeInfo)
         → AreOfTaken (render_input T.answers ctx.now) ctx.now.state
-        (option_map (expand_nodes (macro_env ctx.now.style))
-        (option_map (λ ns. view_nodes ns.now) taken)) infos
+        (option_map (expanded_nodes ctx.now.style) (option_map (λ ns. view_nodes ns.now) taken))
+        infos
         → AreInside (render_input T.answers ctx.now) ctx.now.state
-        (expand (macro_env ctx.now.style) (view_choose choose.now)) infos) }
+        (expanded ctx.now.style (view_choose choose.now)) infos) }
     ensures planned { IfOk result (λ taken. (at : State)
         → AreReadAlike (render_input T.answers ctx.now) at ctx.now.state → (infos : List NodeInfo)
         → AreInside (render_input T.answers ctx.now) at
-        (expand (macro_env ctx.now.style) (view_choose choose.now)) infos
+        (expanded ctx.now.style (view_choose choose.now)) infos
         → AreOfTaken (render_input T.answers ctx.now) at
-        (option_map (expand_nodes (macro_env ctx.now.style))
-        (option_map (λ ns. view_nodes ns.now) taken)) infos) }
+        (option_map (expanded_nodes ctx.now.style) (option_map (λ ns. view_nodes ns.now) taken))
+        infos) }
 {
     match first_taken(ctx, choose) {
         Ok(taken) => Ok(taken),
@@ -184,84 +180,44 @@ fn taken_nodes<'s, T: EntryLike>(
     }
 }
 
-impl RenderCsl for Choose {
-    ghost rendering = { λ style c. of_node (expand (macro_env style) (view_choose c)) };
+impl Node for Choose {
+    ghost expansion = { λ style c. expanded style (view_choose c) };
 
-    fn will_have_info<'s, T: EntryLike>(
+    #[cycle(info)]
+    fn node_info<'c, 's, T: EntryLike>(
         &'s self,
-        ctx: &mut Context<'s, T>,
-    ) -> Result<(bool, UsageInfo), RenderError> {
-        let info = choose_info(self, &mut DryRun::new(ctx));
-        let info = ctx.attempt(info)?;
-        Ok(info.answer)
-    }
-
-    fn will_render<'s, T: EntryLike>(
-        &'s self,
-        ctx: &mut Context<'s, T>,
-        var: Variable,
-    ) -> Result<bool, RenderError> {
-        let shows = choose_shows(self, &mut Query::new(ctx, var));
-        ctx.attempt(shows)
-    }
-
-    fn render<'s, T: EntryLike>(&'s self, ctx: &mut Context<'s, T>) -> Result<(), RenderError> {
-        render_choose(ctx, self, None)
-    }
-}
-
-/// The dry run of a choice.
-#[cycle(info)]
-pub(crate) fn choose_info<'c, 's, T: EntryLike>(
-    choose: &'s Choose,
-    run: &mut DryRun<'c, 's, T>,
-) -> Result<NodeInfo, Memory>
-    ensures value { IfOk result (IsInfo (render_input T.answers run.old) run.old.state
-        (expand (macro_env run.old.style) (view_choose choose.now))) }
-    ensures kept { run.new ≡ run.old }
-{
-    match taken_nodes(run.context(), choose)? {
-        Some(nodes) => {
-            let (sum, inside) = nodes_info(nodes, run)?;
-            Ok(NodeInfo::new(without_group_flag(sum), inside))
+        run: &mut DryRun<'c, 's, T>,
+    ) -> Result<NodeInfo, Memory> {
+        match taken_nodes(run.context(), self)? {
+            Some(nodes) => {
+                let (sum, inside) = nodes_info(nodes, run)?;
+                Ok(NodeInfo::new(without_group_flag(sum), inside))
+            }
+            None => Ok(run.leaf(no_info())),
         }
-        None => Ok(run.leaf(no_info())),
     }
-}
 
-/// Whether a choice shows the variable.
-#[cycle(shows)]
-pub(crate) fn choose_shows<'c, 's, T: EntryLike>(
-    choose: &'s Choose,
-    query: &mut Query<'c, 's, T>,
-) -> Result<bool, Memory>
-    ensures value { GivesBy (λ answer. answer) result (shows (render_input T.answers query.old.now)
-        query.old.now.state query.old.variable
-        (expand (macro_env query.old.now.style) (view_choose choose.now))) }
-    ensures kept { query.new ≡ query.old }
-{
-    match taken_nodes(query.context(), choose)? {
-        Some(nodes) => any_shows(nodes, query),
-        None => Ok(false),
+    #[cycle(shows)]
+    fn node_shows<'c, 's, T: EntryLike>(
+        &'s self,
+        query: &mut Query<'c, 's, T>,
+    ) -> Result<bool, Memory> {
+        match taken_nodes(query.context(), self)? {
+            Some(nodes) => any_shows(nodes, query),
+            None => Ok(false),
+        }
     }
-}
 
-/// Renders a choice, by its plan if it has one.
-#[cycle(render)]
-pub(crate) fn render_choose<'p, 's, T: EntryLike>(
-    ctx: &mut Context<'s, T>,
-    choose: &'s Choose,
-    plan: Option<NodePlan<'p>>,
-) -> Result<(), RenderError>
-    requires { IfSome plan (IsPlan (render_input T.answers ctx.old) ctx.old.state
-        (expand (macro_env ctx.old.style) (view_choose choose.now))) }
-    ensures { Runs (λ now. with_output (node_output (render_input T.answers now)
-        (expand (macro_env now.style) (view_choose choose.now)) now.inherited now.state) now)
-        result ctx.old ctx.new }
-{
-    let taken = taken_nodes(ctx, choose);
-    match ctx.attempt(taken)? {
-        Some(nodes) => render_with_delimiter(ctx, nodes, inside_plan(plan)),
-        None => push_nothing(ctx),
+    #[cycle(render)]
+    fn render_by<'p, 's, T: EntryLike>(
+        &'s self,
+        ctx: &mut Context<'s, T>,
+        plan: Option<NodePlan<'p>>,
+    ) -> Result<(), RenderError> {
+        let taken = taken_nodes(ctx, self);
+        match ctx.attempt(taken)? {
+            Some(nodes) => render_with_delimiter(ctx, nodes, inside_plan(plan)),
+            None => push_nothing(ctx),
+        }
     }
 }

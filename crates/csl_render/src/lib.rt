@@ -7,14 +7,13 @@
 
 mod choose;
 mod cites;
-mod date;
 mod dry_run;
 mod element;
 mod group;
-mod label;
 mod layout;
+mod leaves;
 mod names;
-mod number;
+mod node;
 mod pair;
 mod plan;
 mod query;

@@ -13,18 +13,18 @@ ghost use Rattle.csl_context.specs.ContextView.{Runs, GivesBy, render_input};
 ghost use Rattle.csl_names.specs.NamesForms.{writes_no_name};
 ghost use Rattle.csl_names.specs.NamesLists.{all_empty, peeked_lists};
 ghost use Rattle.csl_names.specs.PersonLists.{list_of};
+ghost use Rattle.csl_render.specs.Expanded.{expanded, expanded_nodes, expanded_substitutes};
 ghost use Rattle.csl_render.specs.Names.{Macros, author, has_variable, is_of_names, is_names_of, any_is_names_of, substitute_has_names_of, expanded_substitutes_of, standing_in, refuses_alone, is_refused, names_show, names_or_substitute_info, in_substitute, suppressing_from, boxed_substitute};
-ghost use Rattle.csl_nodes.specs.Text.{Appends, render_output, with_output};
+ghost use Rattle.csl_nodes.specs.Text.{Appends, render_output};
 ghost use Rattle.csl_nodes.specs.Usage.{info_view};
-ghost use Rattle.csl_render.specs.Plan.{IsInfo};
-ghost use Rattle.csl_render.specs.Rendering.{of_node, with_whole_output};
-ghost use Rattle.csl_render.specs.Tree.{shows, node_output, substitute_shows, substitute_info, substitute_output, output_until_text, first_substitute_output, choice_info, choice_shows, names_output, shorthand_output};
+ghost use Rattle.csl_render.specs.Rendering.{with_whole_output};
+ghost use Rattle.csl_render.specs.Tree.{node_output, substitute_shows, substitute_info, substitute_output, output_until_text, first_substitute_output, choice_info, choice_shows, names_output, shorthand_output};
 
 use crate::dry_run::DryRun;
-use crate::element::{any_shows, nodes_info, render_node};
-use crate::plan::NodeInfo;
+use crate::element::{any_shows, nodes_info};
+use crate::node::Node;
+use crate::plan::{NodeInfo, NodePlan};
 use crate::query::Query;
-use crate::render::RenderCsl;
 use csl_context::{Context, RenderError};
 use csl_entry::{EntryLike, SpecialForm};
 use csl_names::{
@@ -33,32 +33,6 @@ use csl_names::{
 use csl_nodes::{UsageInfo, no_info, push_nothing, without_group_flag};
 use csl_style::{LayoutRenderingElement, NameVariable, Names, NamesParts, Variable};
 use lit_model::Memory;
-
-impl RenderCsl for Names {
-    ghost rendering = { λ style n. of_node (expand (macro_env style) (view_names n)) };
-
-    fn will_have_info<'s, T: EntryLike>(
-        &'s self,
-        ctx: &mut Context<'s, T>,
-    ) -> Result<(bool, UsageInfo), RenderError> {
-        let info = names_info(self, &mut DryRun::new(ctx));
-        let info = ctx.attempt(info)?;
-        Ok(info.answer)
-    }
-
-    fn will_render<'s, T: EntryLike>(
-        &'s self,
-        ctx: &mut Context<'s, T>,
-        var: Variable,
-    ) -> Result<bool, RenderError> {
-        let shows = names_show(self, &mut Query::new(ctx, var));
-        ctx.attempt(shows)
-    }
-
-    fn render<'s, T: EntryLike>(&'s self, ctx: &mut Context<'s, T>) -> Result<(), RenderError> {
-        render_names(ctx, self)
-    }
-}
 
 /// A summary of the lists of a names node in a dry run.
 #[derive(Clone, Copy)]
@@ -138,23 +112,18 @@ fn substitute_nodes<'n, 's, T: EntryLike>(
     ctx: &Context<'s, T>,
     names: &'n Names,
 ) -> Option<&'n [LayoutRenderingElement]>
-    ensures inside { IfSome result (λ ns. sizes
-        (expand_nodes (macro_env ctx.now.style) (view_nodes ns.now))
-        < expanded_substitutes_size (expanded_substitutes_of (macro_env ctx.now.style) names.now)) }
+    ensures inside { IfSome result (λ ns. sizes (expanded_nodes ctx.now.style (view_nodes ns.now))
+        < expanded_substitutes_size (expanded_substitutes ctx.now.style names.now)) }
     ensures said { substitute_info (render_input T.answers ctx.now) ctx.now.state
-        (expanded_substitutes_of (macro_env ctx.now.style) names.now)
+        (expanded_substitutes ctx.now.style names.now)
         ≡ choice_info (render_input T.answers ctx.now) ctx.now.state
-        (option_map (expand_nodes (macro_env ctx.now.style))
-        (option_map (λ ns. view_nodes ns.now) result)) }
-    ensures shown { (v : Variable) → substitute_shows
-        (render_input T.answers ctx.now) ctx.now.state v
-        (expanded_substitutes_of (macro_env ctx.now.style) names.now)
+        (option_map (expanded_nodes ctx.now.style) (option_map (λ ns. view_nodes ns.now) result)) }
+    ensures shown { (v : Variable) → substitute_shows (render_input T.answers ctx.now)
+        ctx.now.state v (expanded_substitutes ctx.now.style names.now)
         ≡ choice_shows (render_input T.answers ctx.now) ctx.now.state v
-        (option_map (expand_nodes (macro_env ctx.now.style))
-        (option_map (λ ns. view_nodes ns.now) result)) }
+        (option_map (expanded_nodes ctx.now.style) (option_map (λ ns. view_nodes ns.now) result)) }
     ensures made { (inh : Inherited) → (s : State) → substitute_output
-        (render_input T.answers ctx.now)
-        (expanded_substitutes_of (macro_env ctx.now.style) names.now) inh s
+        (render_input T.answers ctx.now) (expanded_substitutes ctx.now.style names.now) inh s
         ≡ first_substitute_output (render_input T.answers ctx.now)
         (option_map (expand_substitute_nodes (macro_env ctx.now.style) (names_node names.now))
         (option_map (λ ns. view_nodes ns.now) result)) inh s }
@@ -240,28 +209,6 @@ fn has_or_substitutes(variable: NameVariable, names: &Names, is_empty: bool) -> 
     substitute_has_names_of(variable, names)
 }
 
-/// The dry run of names.
-#[cycle(info)]
-#[inline(never)]
-pub(crate) fn names_info<'c, 's, T: EntryLike>(
-    names: &'s Names,
-    run: &mut DryRun<'c, 's, T>,
-) -> Result<NodeInfo, Memory>
-    ensures value { IfOk result (IsInfo (render_input T.answers run.old) run.old.state
-        (expand (macro_env run.old.style) (view_names names.now))) }
-    ensures kept { run.new ≡ run.old }
-{
-    let judged = summarize_names(run.context(), names.parts())?;
-    if refuses(run.context(), names, judged.is_empty)? {
-        return Ok(run.leaf(no_info()));
-    }
-    if !judged.is_void {
-        return Ok(run.leaf(names_or_substitute_info(false, no_info())));
-    }
-    let answer = substitute_info(names, run)?;
-    Ok(run.leaf(names_or_substitute_info(true, answer)))
-}
-
 /// The dry run of the first substitute, without the group flag.
 #[cycle(info)]
 fn substitute_info<'c, 's, T: EntryLike>(
@@ -270,7 +217,7 @@ fn substitute_info<'c, 's, T: EntryLike>(
 ) -> Result<(bool, UsageInfo), Memory>
     ensures value { GivesBy info_view result (substitute_info
         (render_input T.answers run.old) run.old.state
-        (expanded_substitutes_of (macro_env run.old.style) names.now)) }
+        (expanded_substitutes run.old.style names.now)) }
     ensures kept { run.new ≡ run.old }
 {
     match substitute_nodes(run.context(), names) {
@@ -282,19 +229,47 @@ fn substitute_info<'c, 's, T: EntryLike>(
     }
 }
 
-/// Whether names show the variable.
-#[cycle(shows)]
-pub(crate) fn names_show<'c, 's, T: EntryLike>(
-    names: &'s Names,
-    query: &mut Query<'c, 's, T>,
-) -> Result<bool, Memory>
-    ensures value { GivesBy (λ answer. answer) result (shows (render_input T.answers query.old.now)
-        query.old.now.state query.old.variable
-        (expand (macro_env query.old.now.style) (view_names names.now))) }
-    ensures kept { query.new ≡ query.old }
-{
-    let judged = summarize_names(query.context(), names.parts())?;
-    names_or_substitute_show(names, query, judged.is_empty)
+impl Node for Names {
+    ghost expansion = { λ style n. expanded style (view_names n) };
+
+    #[cycle(info)]
+    #[inline(never)]
+    fn node_info<'c, 's, T: EntryLike>(
+        &'s self,
+        run: &mut DryRun<'c, 's, T>,
+    ) -> Result<NodeInfo, Memory> {
+        let judged = summarize_names(run.context(), self.parts())?;
+        if refuses(run.context(), self, judged.is_empty)? {
+            return Ok(run.leaf(no_info()));
+        }
+        if !judged.is_void {
+            return Ok(run.leaf(names_or_substitute_info(false, no_info())));
+        }
+        let answer = substitute_info(self, run)?;
+        Ok(run.leaf(names_or_substitute_info(true, answer)))
+    }
+
+    #[cycle(shows)]
+    fn node_shows<'c, 's, T: EntryLike>(
+        &'s self,
+        query: &mut Query<'c, 's, T>,
+    ) -> Result<bool, Memory> {
+        let judged = summarize_names(query.context(), self.parts())?;
+        names_or_substitute_show(self, query, judged.is_empty)
+    }
+
+    #[cycle(render)]
+    #[inline(never)]
+    fn render_by<'p, 's, T: EntryLike>(
+        &'s self,
+        ctx: &mut Context<'s, T>,
+        _plan: Option<NodePlan<'p>>,
+    ) -> Result<(), RenderError> {
+        let parts = self.parts();
+        let lists = resolved_lists(ctx, parts.variables)?;
+        render_lists(ctx, self, &lists)?;
+        Ok(())
+    }
 }
 
 /// Whether names show the variable. `is_empty` is whether they have no persons.
@@ -307,7 +282,7 @@ fn names_or_substitute_show<'c, 's, T: EntryLike>(
     ensures value { GivesBy (λ answer. answer) result (names_show query.old.variable
         (names_node names.now) is_empty (substitute_shows (render_input T.answers query.old.now)
         query.old.now.state query.old.variable
-        (expanded_substitutes_of (macro_env query.old.now.style) names.now))) }
+        (expanded_substitutes query.old.now.style names.now))) }
     ensures kept { query.new ≡ query.old }
 {
     if is_of_names(query.variable(), names.parts().variables) {
@@ -330,11 +305,10 @@ fn refuses<'s, T: EntryLike>(
     is_empty: bool,
 ) -> Result<bool, Memory>
     ensures { GivesBy (λ refused. refused) result (is_refused ctx.now.special
-        (names_node names.now) is_empty (expanded_substitutes_of
-        (macro_env ctx.now.style) names.now)
+        (names_node names.now) is_empty (expanded_substitutes ctx.now.style names.now)
         (names_show author (names_node names.now) is_empty (substitute_shows
         (render_input T.answers ctx.now) ctx.now.state author
-        (expanded_substitutes_of (macro_env ctx.now.style) names.now)))) }
+        (expanded_substitutes ctx.now.style names.now)))) }
 {
     match ctx.special_form() {
         None => Ok(false),
@@ -353,27 +327,10 @@ fn shows_author<'s, T: EntryLike>(
 ) -> Result<bool, Memory>
     ensures { GivesBy (λ shows. shows) result (names_show author (names_node names.now) is_empty
         (substitute_shows (render_input T.answers ctx.now) ctx.now.state author
-        (expanded_substitutes_of (macro_env ctx.now.style) names.now))) }
+        (expanded_substitutes ctx.now.style names.now))) }
 {
     let mut query = Query::new(ctx, Variable::Name(NameVariable::Author));
     names_or_substitute_show(names, &mut query, is_empty)
-}
-
-/// Renders names.
-#[cycle(render)]
-#[inline(never)]
-pub(crate) fn render_names<'s, T: EntryLike>(
-    ctx: &mut Context<'s, T>,
-    names: &'s Names,
-) -> Result<(), RenderError>
-    ensures { Runs (λ now. with_output (node_output (render_input T.answers now)
-        (expand (macro_env now.style) (view_names names.now)) now.inherited now.state) now)
-        result ctx.old ctx.new }
-{
-    let parts = names.parts();
-    let lists = resolved_lists(ctx, parts.variables)?;
-    render_lists(ctx, names, &lists)?;
-    Ok(())
 }
 
 /// Appends the content of names with these lists.
@@ -383,14 +340,11 @@ fn render_lists<'s, T: EntryLike>(
     names: &'s Names,
     lists: &[PersonList<'s>],
 ) -> Result<(), RenderError>
-    ensures { Runs (λ now. with_output (names_output (render_input T.answers now)
-        (names_node names.now)
-        (expanded_substitutes_of (macro_env now.style) names.now) now.inherited
-        (substitute_output (render_input T.answers now)
-        (expanded_substitutes_of (macro_env now.style) names.now)
-        (in_substitute (names_node names.now) now.inherited)
-        (suppressing_from now.state)) (map list_of lists.now) now.state) now)
-        result ctx.old ctx.new }
+    ensures { Appends T.answers (λ w inherited s. names_output w (names_node names.now)
+        (expanded_substitutes w.style names.now) inherited
+        (substitute_output w (expanded_substitutes w.style names.now)
+        (in_substitute (names_node names.now) inherited) (suppressing_from s))
+        (map list_of lists.now) s) result ctx.old ctx.new }
 {
     let is_empty = all_empty(lists);
     let refused = refuses(ctx, names, is_empty);
@@ -410,12 +364,10 @@ fn render_substitute<'s, T: EntryLike>(
     names: &'s Names,
     lists: &[PersonList<'s>],
 ) -> Result<(), RenderError>
-    ensures { Runs (λ now. with_output (boxed_substitute (names_node names.now)
-        (map list_of lists.now)
-        (substitute_output (render_input T.answers now)
-        (expanded_substitutes_of (macro_env now.style) names.now)
-        (in_substitute (names_node names.now) now.inherited) (suppressing_from now.state))
-        now.state) now) result ctx.old ctx.new }
+    ensures { Appends T.answers (λ w inherited s. boxed_substitute (names_node names.now)
+        (map list_of lists.now) (substitute_output w (expanded_substitutes w.style names.now)
+        (in_substitute (names_node names.now) inherited) (suppressing_from s)) s)
+        result ctx.old ctx.new }
 {
     match substitute_nodes(ctx, names) {
         Some(nodes) => render_first_substitute(ctx, nodes, names, lists),
@@ -432,12 +384,11 @@ fn render_first_substitute<'s, T: EntryLike>(
     names: &'s Names,
     lists: &[PersonList<'s>],
 ) -> Result<(), RenderError>
-    ensures { Runs (λ now. with_output (boxed_substitute (names_node names.now)
-        (map list_of lists.now)
-        (output_until_text (render_input T.answers now)
-        (expand_substitute_nodes (macro_env now.style) (names_node names.now)
-        (view_nodes nodes.now)) (in_substitute (names_node names.now) now.inherited)
-        (render_output [] (suppressing_from now.state))) now.state) now) result ctx.old ctx.new }
+    ensures { Appends T.answers (λ w inherited s. boxed_substitute (names_node names.now)
+        (map list_of lists.now) (output_until_text w
+        (expand_substitute_nodes (macro_env w.style) (names_node names.now) (view_nodes nodes.now))
+        (in_substitute (names_node names.now) inherited) (render_output [] (suppressing_from s))) s)
+        result ctx.old ctx.new }
 {
     let parts = names.parts();
     ctx.push_name_options(&names.options)?;
@@ -513,15 +464,13 @@ fn render_in_place<'s, T: EntryLike>(
     node: &'s LayoutRenderingElement,
     original: NamesParts<'s>,
 ) -> Result<(), RenderError>
-    ensures { Runs (λ now. with_output (node_output (render_input T.answers now)
-        (as_substitute_child (parts_node original.entry)
-        (view_node node.now) (expand (macro_env now.style) (view_node node.now))) now.inherited
-        now.state) now)
+    ensures { Appends T.answers (λ w. node_output w (as_substitute_child
+        (parts_node original.entry) (view_node node.now) (expanded w.style (view_node node.now))))
         result ctx.old ctx.new }
 {
     match shorthand(node) {
         Some(names) => render_shorthand(ctx, names.parts_in_place_of(original)),
-        None => render_node(ctx, node, None),
+        None => node.render_by(ctx, None),
     }
 }
 

@@ -10,23 +10,23 @@ use Rattle.csl_render.specs.Plan.{AreInfos}
 use Rattle.csl_render.specs.Tree.{nodes_info}
 use Rattle.csl_render.proofs.+info.Given as goal
 
-abbrev pub decreases-element::node_info : goal.decreases-element::node_info
-decreases-element::node_info g l = 2 * size (expand (macro_env l.run.now.style) (view_node l.node.now)) + 1
+abbrev pub decreases-element::LayoutRenderingElementNode::node_info : goal.decreases-element::LayoutRenderingElementNode::node_info
+decreases-element::LayoutRenderingElementNode::node_info g l = 2 * size (expand (macro_env l.run.now.style) (view_node l.self.now)) + 1
 
-abbrev pub decreases-text::text_info : goal.decreases-text::text_info
-decreases-text::text_info g l = 2 * size (expand (macro_env l.run.now.style) (view_text l.text.now))
+abbrev pub decreases-text::TextNode::node_info : goal.decreases-text::TextNode::node_info
+decreases-text::TextNode::node_info g l = 2 * size (expand (macro_env l.run.now.style) (view_text l.self.now))
 
 abbrev pub decreases-text::call_info : goal.decreases-text::call_info
 decreases-text::call_info g l = 2 * sizes (expand_nodes (macro_env l.run.now.style) (view_nodes l.nodes.now)) + 1
 
-abbrev pub decreases-group::group_info : goal.decreases-group::group_info
-decreases-group::group_info g l = 2 * size (expand (macro_env l.run.now.style) (view_group l.group.now))
+abbrev pub decreases-group::GroupNode::node_info : goal.decreases-group::GroupNode::node_info
+decreases-group::GroupNode::node_info g l = 2 * size (expand (macro_env l.run.now.style) (view_group l.self.now))
 
-abbrev pub decreases-choose::choose_info : goal.decreases-choose::choose_info
-decreases-choose::choose_info g l = 2 * size (expand (macro_env l.run.now.style) (view_choose l.choose.now))
+abbrev pub decreases-choose::ChooseNode::node_info : goal.decreases-choose::ChooseNode::node_info
+decreases-choose::ChooseNode::node_info g l = 2 * size (expand (macro_env l.run.now.style) (view_choose l.self.now))
 
-abbrev pub decreases-names::names_info : goal.decreases-names::names_info
-decreases-names::names_info g l = 2 * size (expand (macro_env l.run.now.style) (view_names l.names.now))
+abbrev pub decreases-names::NamesNode::node_info : goal.decreases-names::NamesNode::node_info
+decreases-names::NamesNode::node_info g l = 2 * size (expand (macro_env l.run.now.style) (view_names l.self.now))
 
 abbrev pub decreases-names::substitute_info : goal.decreases-names::substitute_info
 decreases-names::substitute_info g l = 2 * expanded_substitutes_size (expanded_substitutes_of (macro_env l.run.now.style) l.names.now) + 1

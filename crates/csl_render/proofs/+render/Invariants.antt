@@ -11,11 +11,11 @@ use Rattle.csl_render.specs.Tree.{nodes_output, delimited_output, output_until_t
 use Rattle.csl_nodes.specs.Text.{render_output, with_output}
 use Rattle.csl_render.proofs.+render.Given as goal
 
-abbrev pub decreases-element::render_node : goal.decreases-element::render_node
-decreases-element::render_node g l = 6 * size (expand (macro_env l.ctx.now.style) (view_node l.node.now)) + 2
+abbrev pub decreases-element::LayoutRenderingElementNode::render_by : goal.decreases-element::LayoutRenderingElementNode::render_by
+decreases-element::LayoutRenderingElementNode::render_by g l = 6 * size (expand (macro_env l.ctx.now.style) (view_node l.self.now)) + 2
 
-abbrev pub decreases-text::render_text : goal.decreases-text::render_text
-decreases-text::render_text g l = 6 * size (expand (macro_env l.ctx.now.style) (view_text l.text.now))
+abbrev pub decreases-text::TextNode::render_by : goal.decreases-text::TextNode::render_by
+decreases-text::TextNode::render_by g l = 6 * size (expand (macro_env l.ctx.now.style) (view_text l.self.now))
 
 abbrev pub decreases-text::render_call : goal.decreases-text::render_call
 decreases-text::render_call g l = 6 * sizes (expand_nodes (macro_env l.ctx.now.style) (view_nodes l.nodes.now)) + 2
@@ -23,17 +23,17 @@ decreases-text::render_call g l = 6 * sizes (expand_nodes (macro_env l.ctx.now.s
 abbrev pub decreases-text::render_macro : goal.decreases-text::render_macro
 decreases-text::render_macro g l = 6 * sizes (expand_nodes (macro_env l.ctx.now.style) (view_nodes l.nodes.now)) + 1
 
-abbrev pub decreases-group::render_group : goal.decreases-group::render_group
-decreases-group::render_group g l = 6 * size (expand (macro_env l.ctx.now.style) (view_group l.group.now)) + 1
+abbrev pub decreases-group::GroupNode::render_by : goal.decreases-group::GroupNode::render_by
+decreases-group::GroupNode::render_by g l = 6 * size (expand (macro_env l.ctx.now.style) (view_group l.self.now)) + 1
 
 abbrev pub decreases-group::render_group_by_plan : goal.decreases-group::render_group_by_plan
 decreases-group::render_group_by_plan g l = 6 * size (expand (macro_env l.ctx.now.style) (view_group l.group.now))
 
-abbrev pub decreases-choose::render_choose : goal.decreases-choose::render_choose
-decreases-choose::render_choose g l = 6 * size (expand (macro_env l.ctx.now.style) (view_choose l.choose.now))
+abbrev pub decreases-choose::ChooseNode::render_by : goal.decreases-choose::ChooseNode::render_by
+decreases-choose::ChooseNode::render_by g l = 6 * size (expand (macro_env l.ctx.now.style) (view_choose l.self.now))
 
-abbrev pub decreases-names::render_names : goal.decreases-names::render_names
-decreases-names::render_names g l = 6 * size (expand (macro_env l.ctx.now.style) (view_names l.names.now))
+abbrev pub decreases-names::NamesNode::render_by : goal.decreases-names::NamesNode::render_by
+decreases-names::NamesNode::render_by g l = 6 * size (expand (macro_env l.ctx.now.style) (view_names l.self.now))
 
 abbrev pub decreases-names::render_lists : goal.decreases-names::render_lists
 decreases-names::render_lists g l = 6 * expanded_substitutes_size (expanded_substitutes_of (macro_env l.ctx.now.style) l.names.now) + 2

@@ -7,23 +7,23 @@ use Rattle.csl_render.specs.Names.{expanded_substitutes_of}
 use Rattle.csl_render.specs.Tree.{any_shows}
 use Rattle.csl_render.proofs.+shows.Given as goal
 
-abbrev pub decreases-element::node_shows : goal.decreases-element::node_shows
-decreases-element::node_shows g l = 2 * size (expand (macro_env l.query.now.now.style) (view_node l.node.now)) + 1
+abbrev pub decreases-element::LayoutRenderingElementNode::node_shows : goal.decreases-element::LayoutRenderingElementNode::node_shows
+decreases-element::LayoutRenderingElementNode::node_shows g l = 2 * size (expand (macro_env l.query.now.now.style) (view_node l.self.now)) + 1
 
-abbrev pub decreases-text::text_shows : goal.decreases-text::text_shows
-decreases-text::text_shows g l = 2 * size (expand (macro_env l.query.now.now.style) (view_text l.text.now))
+abbrev pub decreases-text::TextNode::node_shows : goal.decreases-text::TextNode::node_shows
+decreases-text::TextNode::node_shows g l = 2 * size (expand (macro_env l.query.now.now.style) (view_text l.self.now))
 
 abbrev pub decreases-text::call_shows : goal.decreases-text::call_shows
 decreases-text::call_shows g l = 2 * sizes (expand_nodes (macro_env l.query.now.now.style) (view_nodes l.nodes.now)) + 1
 
-abbrev pub decreases-group::group_shows : goal.decreases-group::group_shows
-decreases-group::group_shows g l = 2 * size (expand (macro_env l.query.now.now.style) (view_group l.group.now))
+abbrev pub decreases-group::GroupNode::node_shows : goal.decreases-group::GroupNode::node_shows
+decreases-group::GroupNode::node_shows g l = 2 * size (expand (macro_env l.query.now.now.style) (view_group l.self.now))
 
-abbrev pub decreases-choose::choose_shows : goal.decreases-choose::choose_shows
-decreases-choose::choose_shows g l = 2 * size (expand (macro_env l.query.now.now.style) (view_choose l.choose.now))
+abbrev pub decreases-choose::ChooseNode::node_shows : goal.decreases-choose::ChooseNode::node_shows
+decreases-choose::ChooseNode::node_shows g l = 2 * size (expand (macro_env l.query.now.now.style) (view_choose l.self.now))
 
-abbrev pub decreases-names::names_show : goal.decreases-names::names_show
-decreases-names::names_show g l = 2 * size (expand (macro_env l.query.now.now.style) (view_names l.names.now))
+abbrev pub decreases-names::NamesNode::node_shows : goal.decreases-names::NamesNode::node_shows
+decreases-names::NamesNode::node_shows g l = 2 * size (expand (macro_env l.query.now.now.style) (view_names l.self.now))
 
 abbrev pub decreases-names::names_or_substitute_show : goal.decreases-names::names_or_substitute_show
 decreases-names::names_or_substitute_show g l = 2 * expanded_substitutes_size (expanded_substitutes_of (macro_env l.query.now.now.style) l.names.now) + 1
