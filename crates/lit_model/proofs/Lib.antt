@@ -35,6 +35,7 @@ pub mod ByValue
 pub mod TextEqual
 pub mod PersonEqual
 pub mod SourceEqual
+pub mod SerialsSet
 pub mod MaybeEqual
 pub mod Depth
 pub mod EntryStep

@@ -2,11 +2,11 @@
 -- of an entry is the entry, then the preorder of its first parent, then that of the second, and so
 -- on. So a parent's parents come before the next parent. `Entry::map(f)` returns the first value
 -- that `f` returns along the preorder.
-use Rattle.std.specs.Prelude.{◌≡◌, ℕ, List, [], ◌∷◌, Option, None, Some, option_copied, option_map, option_and_then, flat_map, string_bytes, Vec}
+use Rattle.std.specs.Prelude.{◌≡◌, ℕ, List, [], ◌∷◌, Option, None, Some, option_copied, option_map, option_and_then, unwrap_or, flat_map, string_bytes, Vec}
 use Rattle.std.specs.Borrow.{Bor}
 use Rattle.std.specs.declared.alloc.Global.{Global}
 use Rattle.lit_model.specs.declared.person.PersonsWithRoles.{PersonsWithRoles}
-use Rattle.lit_model.specs.Source.{serial}
+use Rattle.lit_model.specs.Source.{serial, serials, with_serial}
 use Rattle.lit_model.specs.declared.entry_type.EntryType.{EntryType}
 use Rattle.lit_model.specs.Text.{format_string_view, plain_forms}
 use Rattle.lit_model.specs.declared.entry.Entry.{Entry, Entry-F, out-Entry, roll-Entry, para-Entry}
@@ -70,6 +70,23 @@ pub record IsTitled (key : List ℕ) (entry_type : EntryType) (title : List ℕ)
 -- the entry's own number under the name of a scheme, if there is one
 abbrev pub own_serial : List ℕ → Entry → Option (List ℕ)
 own_serial scheme e = option_and_then (serial scheme) (out-Entry e).serial_number
+
+-- the entry's own serial numbers, each scheme with its number, if it has any
+abbrev pub own_serials : Entry → Option (List (List ℕ × List ℕ))
+own_serials e = option_map serials (out-Entry e).serial_number
+
+-- the entry with its serial numbers removed
+abbrev pub without_serials : Entry → Entry
+without_serials e = roll-Entry (record (out-Entry e) { serial_number = None })
+
+-- `new` is `old` with these serial numbers in place of its own
+pub record HasSerials (numbers : Option (List (List ℕ × List ℕ))) (old new : Entry) : Type 0 where
+  pub numbers_are : own_serials new ≡ numbers
+  pub rest_stays : without_serials new ≡ without_serials old
+
+-- the entry's own serial numbers with this number under this scheme
+abbrev pub serials_with : List ℕ → List ℕ → Entry → Option (List (List ℕ × List ℕ))
+serials_with scheme number e = Some (with_serial scheme number (unwrap_or (own_serials e) []))
 
 abbrev optional_items : Option (Vec PersonsWithRoles Global) → List PersonsWithRoles
 optional_items None = []

@@ -17,6 +17,7 @@ use csl_common::Memory;
 use std::alloc::Global;
 
 mod constructors;
+mod serial_numbers;
 
 /// A work, with the works that it is a part of.
 ///

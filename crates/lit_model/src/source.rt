@@ -1,7 +1,7 @@
 //! The publisher, the web address, the serial numbers and the language of a work.
 
-ghost use Rattle.std.specs.Prelude.{◌≡◌, codes, option_copied, IfOk};
-ghost use Rattle.lit_model.specs.Source.{press_of, address_of, serials, serial, language_of};
+ghost use Rattle.std.specs.Prelude.{◌≡◌, [], codes, option_copied, IfOk, OnOk, OnErr};
+ghost use Rattle.lit_model.specs.Source.{press_of, press_named, address_of, serials, serial, with_serial, language_of};
 
 use crate::date::Date;
 use crate::text::{FormatString, copy_forms, copy_text};
@@ -42,6 +42,29 @@ pub struct LanguageIdentifier {
 }
 
 impl SerialNumber {
+    /// No numbers.
+    pub fn new(alloc: Global) -> SerialNumber
+        ensures { serials result ≡ [] }
+    {
+        SerialNumber(BTreeMap::new(alloc))
+    }
+
+    /// Sets the number under the name of a scheme. It replaces the number that the scheme had.
+    ///
+    /// # Errors
+    /// [`Memory`]: out of memory. The numbers are unchanged.
+    #[tactic(auto, using(crate::proofs::SerialsSet::serials_set))]
+    pub fn set(&mut self, alloc: Global, scheme: &str, number: &str) -> Result<(), Memory>
+        ensures ok { OnOk result (serials self.new
+            ≡ with_serial scheme.now number.now (serials self.old)) }
+        ensures err { OnErr result (serials self.new ≡ serials self.old) }
+    {
+        let scheme = String::from_str(alloc, scheme)?;
+        let number = String::from_str(alloc, number)?;
+        self.0.insert(scheme, number)?;
+        Ok(())
+    }
+
     /// The number under the name of a scheme, if there is one.
     pub fn get(&self, scheme: &str) -> Option<&str>
         ensures { option_copied result ≡ serial scheme.now self.now }
@@ -89,6 +112,20 @@ impl SerialNumber {
 }
 
 impl Publisher {
+    /// A publisher with only a name. The name is one text, without a short form.
+    ///
+    /// # Errors
+    /// [`Memory`]: out of memory.
+    pub fn named(alloc: Global, name: &str) -> Result<Publisher, Memory>
+        ensures { IfOk result (λ p. press_of p ≡ press_named name.now) }
+    {
+        let name = FormatString::plain(alloc, name)?;
+        Ok(Publisher {
+            name: Some(name),
+            location: None,
+        })
+    }
+
     /// A copy.
     ///
     /// # Errors

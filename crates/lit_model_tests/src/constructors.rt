@@ -3,7 +3,7 @@
 use crate::samples::{alone, person, text};
 use lit_model::{
     ChunkKind, Date, Entry, EntryType, FormatString, MaybeTyped, Numeric, PageRanges,
-    PageRangesPart, Person, Publisher, QualifiedUrl,
+    PageRangesPart, Person, Publisher, QualifiedUrl, SerialNumber,
 };
 use std::alloc::Global;
 use std::process::Abort;
@@ -56,10 +56,7 @@ fn url(rt: &impl Abort, alloc: Global, address: &str) -> QualifiedUrl {
 }
 
 fn publisher(rt: &impl Abort, alloc: Global, name: &str) -> Publisher {
-    Publisher {
-        name: Some(FormatString::plain(alloc, name).expect(rt, "memory")),
-        location: None,
-    }
+    Publisher::named(alloc, name).expect(rt, "memory")
 }
 
 fn number(number: i32) -> MaybeTyped<Numeric> {
@@ -159,4 +156,45 @@ fn a_titled_entry_has_nothing_but_its_title(rt: HostRuntime) {
     });
     let titled = Entry::titled(alloc, "metropolis", EntryType::Video, "Metropolis");
     assert_eq!(rt; titled.expect(&rt, "memory") == wanted, true);
+}
+
+/// Schemes of serial numbers: each that has a call, and one that has none.
+static SCHEMES: [&str; 6] = ["doi", "isbn", "issn", "pmid", "pmcid", "arxiv"];
+
+/// Sets the number of a scheme by its call, or else by the call for every scheme.
+fn set_number(rt: &impl Abort, alloc: Global, entry: &mut Entry, scheme: &str, number: &str) {
+    let set = match scheme {
+        "doi" => entry.set_doi(alloc, number),
+        "isbn" => entry.set_isbn(alloc, number),
+        "issn" => entry.set_issn(alloc, number),
+        "pmid" => entry.set_pmid(alloc, number),
+        "pmcid" => entry.set_pmcid(alloc, number),
+        _ => entry.set_keyed_serial_number(alloc, scheme, number),
+    };
+    set.expect(rt, "memory");
+}
+
+/// Whether an entry to which calls give each scheme a number, and the first scheme then another, is
+/// equal to one whose numbers are assigned.
+fn are_numbers_set(rt: &impl Abort, alloc: Global) -> bool {
+    let mut called = old(rt, alloc);
+    let mut numbers = SerialNumber::new(alloc);
+    for scheme in &SCHEMES {
+        set_number(rt, alloc, &mut called, scheme, scheme);
+        numbers.set(alloc, scheme, scheme).expect(rt, "memory");
+    }
+    set_number(rt, alloc, &mut called, SCHEMES[0], "10.1000/182");
+    let last = numbers.set(alloc, SCHEMES[0], "10.1000/182");
+    last.expect(rt, "memory");
+    let mut assigned = old(rt, alloc);
+    assigned.serial_number = Some(numbers);
+    called == assigned
+}
+
+#[test]
+fn each_call_sets_the_number_of_its_scheme(rt: HostRuntime) {
+    assert!(rt;
+        are_numbers_set(&rt, rt.alloc()),
+        "of each scheme its last number"
+    );
 }

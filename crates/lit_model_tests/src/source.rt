@@ -57,12 +57,10 @@ fn same_language(a: &LanguageIdentifier, b: &LanguageIdentifier) -> bool
 }
 
 fn doi(rt: &impl Abort, alloc: Global) -> SerialNumber {
-    let mut numbers = BTreeMap::new(alloc);
-    let scheme = String::from_str(alloc, "doi").expect(rt, "memory");
-    let number = String::from_str(alloc, "10.1007/BF02731494").expect(rt, "memory");
-    let added: Result<_, _> = numbers.insert(scheme, number);
-    added.expect(rt, "memory");
-    SerialNumber(numbers)
+    let mut serial = SerialNumber::new(alloc);
+    let set = serial.set(alloc, "doi", "10.1007/BF02731494");
+    set.expect(rt, "memory");
+    serial
 }
 
 fn assert_numbers(rt: &impl Abort, alloc: Global) {
@@ -74,6 +72,35 @@ fn assert_numbers(rt: &impl Abort, alloc: Global) {
         "a DOI",
     );
     assert_text(rt, serial.isbn().unwrap_or("none"), "none", "no ISBN");
+}
+
+/// The serial numbers of these schemes, put into a map.
+fn mapped(rt: &impl Abort, alloc: Global, numbers: &[(&str, &str)]) -> SerialNumber {
+    let mut map = BTreeMap::new(alloc);
+    for (scheme, number) in numbers {
+        let scheme = String::from_str(alloc, scheme).expect(rt, "memory");
+        let number = String::from_str(alloc, number).expect(rt, "memory");
+        let added: Result<_, _> = map.insert(scheme, number);
+        added.expect(rt, "memory");
+    }
+    SerialNumber(map)
+}
+
+#[test]
+fn a_number_replaces_that_of_its_scheme_and_keeps_the_others(rt: HostRuntime) {
+    let alloc = rt.alloc();
+    let mut serial = doi(&rt, alloc);
+    serial
+        .set(alloc, "isbn", "0-13-110163-3")
+        .expect(&rt, "memory");
+    serial
+        .set(alloc, "doi", "10.1000/182")
+        .expect(&rt, "memory");
+    let wanted = [("isbn", "0-13-110163-3"), ("doi", "10.1000/182")];
+    assert!(rt;
+        serial == mapped(&rt, alloc, &wanted),
+        "both schemes have their last number"
+    );
 }
 
 /// Whether serial numbers are equal to a copy. With `loses_numbers`, the copy has no numbers.
@@ -105,6 +132,15 @@ fn is_address_its_copy(rt: &impl Abort, alloc: Global, loses_date: bool) -> bool
 
 /// A publisher of this name. If the name is empty, a publisher without a name, at a place with an
 /// empty text.
+#[test]
+fn a_publisher_by_its_name_has_no_place(rt: HostRuntime) {
+    let named = Publisher::named(rt.alloc(), "Aeon").expect(&rt, "memory");
+    assert!(rt;
+        named == press(&rt, rt.alloc(), "Aeon"),
+        "the name, and no place"
+    );
+}
+
 fn press(rt: &impl Abort, alloc: Global, name: &str) -> Publisher {
     let value = text(rt, alloc, name, ChunkKind::Normal);
     let form = Some(FormatString { value, short: None });

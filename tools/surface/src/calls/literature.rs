@@ -57,6 +57,16 @@ fn entries() {
     let _: fn(&Entry) -> Option<&str> = Entry::issn;
     let _: fn(&Entry) -> Option<&str> = Entry::pmid;
     let _: fn(&Entry) -> Option<&str> = Entry::pmcid;
+    let _: fn(&mut Entry, Global, &str, &str) -> Result<(), Memory> =
+        Entry::set_keyed_serial_number;
+    let _: fn(&mut Entry, Global, &str) -> Result<(), Memory> = Entry::set_doi;
+    let _: fn(&mut Entry, Global, &str) -> Result<(), Memory> = Entry::set_isbn;
+    let _: fn(&mut Entry, Global, &str) -> Result<(), Memory> = Entry::set_issn;
+    let _: fn(&mut Entry, Global, &str) -> Result<(), Memory> = Entry::set_pmid;
+    let _: fn(&mut Entry, Global, &str) -> Result<(), Memory> = Entry::set_pmcid;
+    let _: fn(Global) -> SerialNumber = SerialNumber::new;
+    let _: fn(&mut SerialNumber, Global, &str, &str) -> Result<(), Memory> = SerialNumber::set;
+    let _: fn(Global, &str) -> Result<Publisher, Memory> = Publisher::named;
     let _: fn(&Entry) -> Option<&Date> = Entry::date_any;
     let _: fn(&Entry) -> Option<&QualifiedUrl> = Entry::url_any;
     let _: fn(&Entry) -> &Entry = Entry::get_full;
