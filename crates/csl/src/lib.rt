@@ -18,12 +18,14 @@ pub use csl_context::{Context, LeftState, RenderError, Rendered};
 pub use csl_entry as entry;
 pub use csl_entry::{
     Alphanumerical, CitationNumber, CiteProperties, DisambiguateState, DisambiguatedNameForm,
-    EntryLike, InstanceContext, NameDisambiguationProperties, NoteNumber, Snapshot, same_answers,
+    EntryLike, InstanceContext, NameDisambiguationProperties, NoteNumber, Snapshot, Sorting,
+    SpecialForm, same_answers,
 };
 pub use csl_names::{write_name, write_name_list};
 pub use csl_render as render;
 pub use csl_render::{
-    Pair, RenderCsl, bibliography_entry, choose_children, cite, cite_pair, render_pair,
+    Pair, RenderCsl, bibliography_entry, choose_children, cite, cite_in, cite_pair, render_pair,
+    sort_key,
 };
 pub use csl_style as style;
 pub use csl_style::{Locale, Scope, Style, StyleError, named_by};

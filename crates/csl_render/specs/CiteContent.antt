@@ -2,23 +2,40 @@
 -- The cite is whole and not for a sort key (`whole_cite`). The citation layout of a style renders
 -- it for a note or a text. The bibliography layout, if there is one, renders it for the
 -- bibliography. A first cite without disambiguation has a definition of its own for its content
--- (`cite_content`).
-use Rattle.std.specs.Prelude.{List, None}
+-- (`cite_content`). A cite in a special form is rendered by the citation layout too, and is not for
+-- a sort key (`special_cite`). A sort key is the plain text of a whole cite by any layout, rendered
+-- for sorting in the citation or in the bibliography (Sorting; `sort_key_text`).
+use Rattle.std.specs.Prelude.{ℕ, List, Option, None, Some}
 use Rattle.csl_elements.specs.declared.element.Layout.{Layout}
 use Rattle.csl_style.specs.declared.style.settings.Scope.{Scope}
 use Rattle.csl_style.specs.declared.style.settings.Scope.TheVariants.{Citation}
 use Rattle.csl_style.specs.Style.{StyleParts}
 use Rattle.csl_tree.specs.Tokens.{Token}
+use Rattle.csl_tree.specs.Writing.{plain_text}
 use Rattle.csl_entry.specs.Answers.{Answers}
 use Rattle.csl_entry.specs.Cite.{CiteState, first_cite, no_disambiguation}
+use Rattle.csl_entry.specs.declared.citation.cite.Sorting.{Sorting}
+use Rattle.csl_entry.specs.declared.citation.cite.SpecialForm.{SpecialForm}
 use Rattle.csl_context.specs.ContextView.{initial_state}
 use Rattle.csl_nodes.specs.Text.{RenderOutput}
 use Rattle.csl_render.specs.PairOutput.{cite_input, layout_output_from}
 
+-- the content and the state of a cite by a layout, in a new context
+abbrev pub new_cite : StyleParts → Scope → CiteState → Option Sorting → Option SpecialForm → Answers → Layout → RenderOutput
+new_cite style scope cite sorting special answers layout = layout_output_from initial_state (cite_input style scope cite sorting special answers) layout
+
 -- the content and the state of a whole cite by a layout
 abbrev pub whole_cite : StyleParts → Scope → CiteState → Answers → Layout → RenderOutput
-whole_cite style scope cite answers layout = layout_output_from initial_state (cite_input style scope cite None None answers) layout
+whole_cite style scope cite answers layout = new_cite style scope cite None None answers layout
 
 -- the content of a first cite without disambiguation
 abbrev pub cite_content : StyleParts → Answers → List Token
 cite_content style answers = (whole_cite style Citation (first_cite no_disambiguation) answers style.citation).content
+
+-- the content and the state of a cite in a special form
+abbrev pub special_cite : StyleParts → CiteState → SpecialForm → Answers → RenderOutput
+special_cite style cite form answers = new_cite style Citation cite None (Some form) answers style.citation
+
+-- the text by which an entry is sorted
+abbrev pub sort_key_text : StyleParts → Scope → CiteState → Sorting → Answers → Layout → List ℕ
+sort_key_text style scope cite sorting answers key = plain_text (new_cite style scope cite (Some sorting) None answers key).content

@@ -10,14 +10,15 @@ ghost use Rattle.csl_style.specs.Expanded.{macro_env};
 ghost use Rattle.csl_entry.specs.Alike.{SameNamedAnswers};
 ghost use Rattle.csl_entry.specs.Cite.{cite_state};
 ghost use Rattle.csl_context.specs.LeftState.{left_state_view};
-ghost use Rattle.csl_render.specs.CiteContent.{whole_cite};
+ghost use Rattle.csl_render.specs.CiteContent.{new_cite, sort_key_text, special_cite, whole_cite};
 ghost use Rattle.csl_render.specs.PairOutput.{cite_input, layout_output_from, output_of, Prints, PrintsSame};
 
 use crate::pair::{Pair, render_pair};
 use crate::render::RenderCsl;
 use csl_context::{Context, LeftState, RenderError, Rendered};
-use csl_entry::{CiteProperties, EntryLike, InstanceContext};
+use csl_entry::{CiteProperties, EntryLike, InstanceContext, Sorting, SpecialForm};
 use csl_style::{Layout, Scope, Style};
+use csl_tree::BufWriteFormat;
 use std::alloc::Global;
 
 /// Renders a cite by a layout, from the state that another rendering left.
@@ -41,24 +42,26 @@ pub(crate) fn render_from<'s, T: EntryLike>(
     ctx.finish()
 }
 
-/// Renders a cite by a layout, in a new context: the whole cite, and not for a sort key.
-fn render_whole<T: EntryLike>(
+/// Renders a cite by a layout, in a new context.
+fn render_new<T: EntryLike>(
     alloc: Global,
     style: &Style,
     layout: &Layout,
     scope: Scope,
     entry: &T,
     cite_props: &CiteProperties<'_>,
+    sorting: Option<Sorting>,
+    kind: Option<SpecialForm>,
 ) -> Result<Rendered, RenderError>
-    ensures ok { IfOk result (λ r. output_of r ≡ whole_cite style.now scope
-        (cite_state cite_props.now) (T.answers entry.now) layout.now) }
+    ensures ok { IfOk result (λ r. output_of r ≡ new_cite style.now scope
+        (cite_state cite_props.now) sorting kind (T.answers entry.now) layout.now) }
     ensures err { IfErr result (λ e. e ≡ RenderError.Memory) }
 {
     let instance = InstanceContext {
         entry,
         cite_props,
-        sorting: None,
-        kind: None,
+        sorting,
+        kind,
     };
     let start = LeftState::new(alloc);
     render_from(alloc, style, layout, instance, scope, &start)
@@ -81,7 +84,46 @@ pub fn cite<T: EntryLike>(
     ensures err { IfErr result (λ e. e ≡ RenderError.Memory) }
 {
     let layout = style.citation();
-    render_whole(alloc, style, layout, Scope::Citation, entry, cite_props)
+    render_new(
+        alloc,
+        style,
+        layout,
+        Scope::Citation,
+        entry,
+        cite_props,
+        None,
+        None,
+    )
+}
+
+/// Renders one cite of an entry in a special form, such as the year alone or all but the author, by
+/// the style's citation layout, in a new context (CSL 1.0.2, Citation; Layout). It is not for a
+/// sort key. Returns the content, and the state that it leaves.
+///
+/// # Errors
+/// [`RenderError::Memory`]: out of memory, here or in the entry.
+pub fn cite_in<T: EntryLike>(
+    alloc: Global,
+    style: &Style,
+    entry: &T,
+    cite_props: &CiteProperties<'_>,
+    form: SpecialForm,
+) -> Result<Rendered, RenderError>
+    ensures ok { IfOk result (λ r. output_of r ≡ special_cite style.now (cite_state cite_props.now)
+        form (T.answers entry.now)) }
+    ensures err { IfErr result (λ e. e ≡ RenderError.Memory) }
+{
+    let (layout, scope) = (style.citation(), Scope::Citation);
+    render_new(
+        alloc,
+        style,
+        layout,
+        scope,
+        entry,
+        cite_props,
+        None,
+        Some(form),
+    )
 }
 
 /// Renders an entry by the style's bibliography layout, in a new context (CSL 1.0.2, Bibliography;
@@ -105,8 +147,35 @@ pub fn bibliography_entry<T: EntryLike>(
         return Ok(None);
     };
     let scope = Scope::Bibliography;
-    let rendered = render_whole(alloc, style, layout, scope, entry, cite_props)?;
+    let rendered = render_new(alloc, style, layout, scope, entry, cite_props, None, None)?;
     Ok(Some(rendered))
+}
+
+/// Renders an entry for sorting, by a layout and in the scope that is sorted, and returns the plain
+/// text (CSL 1.0.2, Sorting). The layout is that of one key: a call of a macro, for
+/// [`Sorting::Macro`], or one variable, for [`Sorting::Variable`]. Dates, numbers and names are
+/// written so that the texts sort as they do. The caller compares the texts, by its collation.
+///
+/// # Errors
+/// [`RenderError::Memory`]: out of memory, here or in the entry.
+pub fn sort_key<T: EntryLike>(
+    alloc: Global,
+    style: &Style,
+    entry: &T,
+    cite_props: &CiteProperties<'_>,
+    layout: &Layout,
+    scope: Scope,
+    sorting: Sorting,
+) -> Result<String, RenderError>
+    ensures ok { IfOk result (λ key. string_bytes key ≡ sort_key_text style.now scope
+        (cite_state cite_props.now) sorting (T.answers entry.now) layout.now) }
+    ensures err { IfErr result (λ e. e ≡ RenderError.Memory) }
+{
+    let sorting = Some(sorting);
+    let rendered = render_new(
+        alloc, style, layout, scope, entry, cite_props, sorting, None,
+    )?;
+    Ok(rendered.content.to_text(alloc, BufWriteFormat::Plain)?)
 }
 
 /// Renders a cite of each of two entries, of any types, as [`cite`] does. Also returns whether the

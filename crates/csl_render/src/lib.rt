@@ -21,7 +21,7 @@ mod render;
 mod text;
 
 pub use choose::choose_children;
-pub use cites::{bibliography_entry, cite, cite_pair};
+pub use cites::{bibliography_entry, cite, cite_in, cite_pair, sort_key};
 pub use csl_nodes::{BranchConditionIter, BranchConditionPos, UsageInfo, full_sort_key};
 pub use pair::{Pair, render_pair};
 pub use render::RenderCsl;

@@ -1,9 +1,11 @@
 //! The tests of `csl_render` that no row states (`tests/rows`): the flags of groups, the order of
-//! the tests of a branch, names after a text, and calls of functions that allocate.
+//! the tests of a branch, names after a text, cites in special forms, sort keys, and calls of
+//! functions that allocate.
 #![tactic(auto)]
 
 #[cfg(test)]
 mod calls;
+mod cites;
 #[cfg(test)]
 mod flags;
 #[cfg(test)]

@@ -1,7 +1,7 @@
 //! The calls of the crates above the context: names, nodes, pairs, and the program.
 
 use crate::bounds::{has_type, iterates};
-use csl_context::{Context, LeftState, RenderError};
+use csl_context::{Context, LeftState, RenderError, Rendered};
 use csl_entry::{CiteProperties, DisambiguatedNameForm, EntryLike, Sorting, SpecialForm};
 use csl_render::{BranchConditionIter, BranchConditionPos, Pair, RenderCsl, UsageInfo};
 use csl_samples::TitleOnly;
@@ -92,6 +92,32 @@ fn render_pair<'s, T: EntryLike, U: EntryLike>(
         alloc, style, layout, scope, cite_props, sorting, kind, start, left, right,
     );
     has_type::<Result<Pair, RenderError>, _>(&pair);
+}
+
+fn cites<T: EntryLike>(
+    alloc: Global,
+    style: &Style,
+    entry: &T,
+    cite_props: &CiteProperties<'_>,
+    form: SpecialForm,
+) {
+    let cite = csl_render::cite(alloc, style, entry, cite_props);
+    has_type::<Result<Rendered, RenderError>, _>(&cite);
+    let cite = csl_render::cite_in(alloc, style, entry, cite_props, form);
+    has_type::<Result<Rendered, RenderError>, _>(&cite);
+    let line = csl_render::bibliography_entry(alloc, style, entry, cite_props);
+    has_type::<Result<Option<Rendered>, RenderError>, _>(&line);
+}
+
+fn sort_key<T: EntryLike>(
+    alloc: Global,
+    style: &Style,
+    entry: &T,
+    cite_props: &CiteProperties<'_>,
+    (layout, scope, sorting): (&Layout, Scope, Sorting),
+) {
+    let key = csl_render::sort_key(alloc, style, entry, cite_props, layout, scope, sorting);
+    has_type::<Result<String, RenderError>, _>(&key);
 }
 
 fn is_entry<T: EntryLike>() {}
