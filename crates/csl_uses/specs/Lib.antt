@@ -2,4 +2,5 @@
 pub mod Book
 pub mod Cite
 pub mod Film
+pub mod InText
 pub mod Page

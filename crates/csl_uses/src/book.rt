@@ -4,7 +4,7 @@ ghost use Rattle.std.specs.Prelude.{◌≡◌, IfOk, string_bytes};
 ghost use Rattle.csl.specs.Entry.CitationLabel.{label};
 ghost use Rattle.csl_uses.specs.Book.{IsTheCBook};
 
-use csl::literature::{Date, Entry, EntryType, FormatString, Numeric, Person, Publisher};
+use csl::literature::{Date, Entry, EntryType, Numeric, Person, Publisher};
 use csl::{Alphanumerical, Error, Memory};
 use std::alloc::Global;
 
@@ -22,10 +22,7 @@ pub fn the_c_book(alloc: Global) -> Result<Entry, Error>
     // Months count from 0: this is February.
     let date = Date::new(1978, Some(1), None, None, false).ok_or(Error::DateOutOfRange)?;
     let authors = vec![in alloc; kernighan, ritchie]?;
-    let publisher = Publisher {
-        name: Some(FormatString::plain(alloc, "Prentice Hall")?),
-        location: None,
-    };
+    let publisher = Publisher::named(alloc, "Prentice Hall")?;
     let pages = Numeric::parse(alloc, "228")?;
 
     let title = "The C Programming Language";

@@ -3,6 +3,7 @@
 //! - `book`: an entry that is built field by field, and its label;
 //! - `film`: a caller's own type as an entry;
 //! - `cite`: a style that is built as a value, its cites and its bibliography;
+//! - `in_text`: cites in the running text, in the order of their sort keys;
 //! - `namesakes`: cites that are disambiguated by more of their names;
 //! - `pair`: two entries of two types, and whether they are alike for a style;
 //! - `page`: a reference list as a whole web page.
@@ -13,6 +14,7 @@
 mod book;
 mod cite;
 mod film;
+mod in_text;
 mod namesakes;
 mod page;
 mod pair;
@@ -21,6 +23,7 @@ use csl::literature::Entry;
 use csl::style::Style;
 use csl::{BufWriteFormat, EntryLike, Error};
 use film::Film;
+use std::alloc::Global;
 use std::rt::Env;
 use std::{env, io};
 
@@ -121,6 +124,27 @@ fn show_namesakes(rt: &(impl Print + AllocGlobal)) -> Result<(), UseError> {
     shown
 }
 
+/// Three books, not in the order of their names.
+fn three_books(alloc: Global) -> Result<Vec<Entry>, Error> {
+    let book = book::the_c_book(alloc)?;
+    let compilers = cite::the_compilers_book(alloc)?;
+    let novel = namesakes::book_by_miller(alloc, "Anna")?;
+    Ok(vec![in alloc; book, compilers, novel]?)
+}
+
+/// Prints the cites of three books in the running text, sorted by names and years.
+fn show_in_text(rt: &(impl Print + AllocGlobal)) -> Result<(), UseError> {
+    let style = in_text::bare_style(rt.alloc())?;
+    let books = three_books(rt.alloc())?;
+    let cites = in_text::sorted_cites(rt.alloc(), &style, books.as_slice());
+    drop(books);
+    drop(style);
+    for cite in &cites? {
+        println!(rt; "in the text: {cite}")?;
+    }
+    Ok(())
+}
+
 /// Prints the cites of two entries, and whether the entries are alike for the style.
 fn show_pair<T: EntryLike, U: EntryLike>(
     rt: &(impl Print + AllocGlobal),
@@ -176,6 +200,7 @@ fn show_uses(
 ) -> Result<(), UseError> {
     show_texts(rt, book, film)?;
     show_styled(rt, style, book, film)?;
+    show_in_text(rt)?;
     show_namesakes(rt)?;
     show_titles(rt, film)?;
     show_likeness(rt, style, film)?;
