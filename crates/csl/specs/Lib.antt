@@ -1,5 +1,5 @@
 pub mod Errors
-pub mod English
+pub mod Language
 pub use Rattle.csl_common.specs as Common
 pub use Rattle.lit_model.specs as Literature
 pub mod Style

@@ -1,40 +1,21 @@
-//! The English locale (CSL 1.0.2, Locale).
+//! The locales of languages (CSL 1.0.2, Locale).
 
 ghost use Rattle.std.specs.Prelude.{◌≡◌, false, true, IfOk, map};
-ghost use Rattle.csl_elements.specs.Locale.{term_view};
-ghost use Rattle.csl.specs.English.{term_of_row};
+ghost use Rattle.csl_elements.specs.Locale.{term_view, ordinal_view};
+ghost use Rattle.csl_elements.specs.View.{view_date, view_date_part};
+ghost use Rattle.csl_elements.specs.declared.date.DateForm.TheVariants.{Numeric, Text};
+ghost use Rattle.csl.specs.Language.{IsOfLanguage, date_of_rows, date_part_of_row};
+ghost use Rattle.csl.specs.Language.{gendered_term_of_row, ordinal_of_row, term_of_row};
 
-use crate::words::{LOCATORS, NUMBERS, OTHER, PEOPLE, Row};
-use csl_style::{
-    Affixes, Date, DateAnyForm, DateForm, DatePart, DatePartName, Locale, OrdinalSlot, OrdinalTerm,
-    TermEntry,
+use crate::words::{
+    DatePartRow, ENGLISH, FRENCH, GERMAN, GenderedTermRow, Language, OrdinalRow, TermRow,
 };
+use csl_style::{Affixes, Date, DateForm, DatePart, Locale, OrdinalTerm, TermEntry, TermForm};
 use lit_model::Memory;
 use std::alloc::Global;
 
-/// The ordinal suffixes, and the words for the first ten ordinals.
-static ORDINALS: [(OrdinalSlot, &str); 17] = [
-    (OrdinalSlot::Default, "th"),
-    (OrdinalSlot::Two(1), "st"),
-    (OrdinalSlot::Two(2), "nd"),
-    (OrdinalSlot::Two(3), "rd"),
-    (OrdinalSlot::Two(11), "th"),
-    (OrdinalSlot::Two(12), "th"),
-    (OrdinalSlot::Two(13), "th"),
-    (OrdinalSlot::Long(1), "first"),
-    (OrdinalSlot::Long(2), "second"),
-    (OrdinalSlot::Long(3), "third"),
-    (OrdinalSlot::Long(4), "fourth"),
-    (OrdinalSlot::Long(5), "fifth"),
-    (OrdinalSlot::Long(6), "sixth"),
-    (OrdinalSlot::Long(7), "seventh"),
-    (OrdinalSlot::Long(8), "eighth"),
-    (OrdinalSlot::Long(9), "ninth"),
-    (OrdinalSlot::Long(10), "tenth"),
-];
-
 /// The term of a row.
-fn term(alloc: Global, row: &Row) -> Result<TermEntry, Memory>
+fn term(alloc: Global, row: &TermRow) -> Result<TermEntry, Memory>
     ensures { IfOk result (λ made. term_view made ≡ term_of_row row.now) }
 {
     match row.3 {
@@ -44,7 +25,7 @@ fn term(alloc: Global, row: &Row) -> Result<TermEntry, Memory>
 }
 
 /// The terms of rows.
-fn terms_of(alloc: Global, rows: &[Row]) -> Result<Vec<TermEntry>, Memory>
+fn terms(alloc: Global, rows: &[TermRow]) -> Result<Vec<TermEntry>, Memory>
     ensures { IfOk result (λ made. map term_view made.items ≡ map term_of_row rows.now) }
 {
     let mut terms = Vec::new(alloc);
@@ -54,61 +35,91 @@ fn terms_of(alloc: Global, rows: &[Row]) -> Result<Vec<TermEntry>, Memory>
     Ok(terms)
 }
 
-/// The terms of all rows.
-fn terms(alloc: Global) -> Result<Vec<TermEntry>, Memory> {
-    let mut terms = terms_of(alloc, &OTHER)?;
-    terms.append(&mut terms_of(alloc, &PEOPLE)?)?;
-    terms.append(&mut terms_of(alloc, &NUMBERS)?)?;
-    terms.append(&mut terms_of(alloc, &LOCATORS)?)?;
+/// The term of a row with a gender.
+fn gendered_term(alloc: Global, row: &GenderedTermRow) -> Result<TermEntry, Memory>
+    ensures { IfOk result (λ made. term_view made ≡ gendered_term_of_row row.now) }
+{
+    let mut entry = term(alloc, &(row.0, TermForm::Long, row.2, row.3))?;
+    entry.gender = Some(row.1);
+    Ok(entry)
+}
+
+/// The terms of rows with a gender.
+fn gendered_terms(alloc: Global, rows: &[GenderedTermRow]) -> Result<Vec<TermEntry>, Memory>
+    ensures { IfOk result (λ made. map term_view made.items ≡ map gendered_term_of_row rows.now) }
+{
+    let mut terms = Vec::new(alloc);
+    for row in rows {
+        terms.push(gendered_term(alloc, row)?)?;
+    }
     Ok(terms)
 }
 
-/// The ordinals. They have no gender.
-fn ordinals(alloc: Global) -> Result<Vec<OrdinalTerm>, Memory> {
+/// The ordinal of a row.
+fn ordinal(alloc: Global, row: &OrdinalRow) -> Result<OrdinalTerm, Memory>
+    ensures { IfOk result (λ made. ordinal_view made ≡ ordinal_of_row row.now) }
+{
+    Ok(OrdinalTerm {
+        slot: row.0,
+        matching: row.1,
+        gender: row.2,
+        text: String::from_str(alloc, row.3)?,
+    })
+}
+
+/// The ordinals of rows.
+fn ordinals(alloc: Global, rows: &[OrdinalRow]) -> Result<Vec<OrdinalTerm>, Memory>
+    ensures { IfOk result (λ made. map ordinal_view made.items ≡ map ordinal_of_row rows.now) }
+{
     let mut ordinals = Vec::new(alloc);
-    for row in &ORDINALS {
-        ordinals.push(OrdinalTerm {
-            slot: row.0,
-            matching: None,
-            gender: None,
-            text: String::from_str(alloc, row.1)?,
-        })?;
+    for row in rows {
+        ordinals.push(ordinal(alloc, row)?)?;
     }
     Ok(ordinals)
 }
 
-/// The date format in numbers, as 01/05/2026.
-fn numeric_date(alloc: Global) -> Result<Date, Memory> {
-    let delimiter = String::from_str(alloc, "/")?;
-    let month = DatePart {
-        form: Some(DateAnyForm::NumericLeadingZeros),
-        ..DatePart::new(DatePartName::Month)
+/// The part of a date of a row.
+fn date_part(alloc: Global, row: &DatePartRow) -> Result<DatePart, Memory>
+    ensures { IfOk result (λ part. view_date_part part ≡ date_part_of_row row.now) }
+{
+    let affixes = match row.2 {
+        Some(suffix) => Affixes::after(alloc, suffix)?,
+        None => Affixes::default(),
     };
-    let day = DatePart {
-        form: Some(DateAnyForm::NumericLeadingZeros),
-        ..DatePart::new(DatePartName::Day)
-    };
-    let year = DatePart::new(DatePartName::Year);
-    let parts = vec![in alloc; month, day, year]?;
-    Ok(Date {
-        delimiter: Some(delimiter),
-        ..Date::localized(DateForm::Numeric, parts)
+    Ok(DatePart {
+        form: row.1,
+        affixes,
+        ..DatePart::new(row.0)
     })
 }
 
-/// The date format in words, as January 5, 2026.
-fn text_date(alloc: Global) -> Result<Date, Memory> {
-    let month = DatePart {
-        affixes: Affixes::after(alloc, " ")?,
-        ..DatePart::new(DatePartName::Month)
-    };
-    let day = DatePart {
-        affixes: Affixes::after(alloc, ", ")?,
-        ..DatePart::new(DatePartName::Day)
-    };
-    let year = DatePart::new(DatePartName::Year);
-    let parts = vec![in alloc; month, day, year]?;
-    Ok(Date::localized(DateForm::Text, parts))
+/// The date of this form with the parts of rows.
+fn date(alloc: Global, form: DateForm, rows: &[DatePartRow]) -> Result<Date, Memory>
+    ensures { IfOk result (λ date. view_date date ≡ date_of_rows form rows.now) }
+{
+    let mut parts = Vec::new(alloc);
+    for row in rows {
+        parts.push(date_part(alloc, row)?)?;
+    }
+    Ok(Date::localized(form, parts))
+}
+
+/// The locale of a language.
+fn locale(alloc: Global, language: &Language) -> Result<Locale, Memory>
+    ensures { IfOk result (IsOfLanguage language.now) }
+{
+    let mut all = terms(alloc, language.terms)?;
+    all.append(&mut gendered_terms(alloc, language.gendered_terms)?)?;
+    let ordinals = ordinals(alloc, language.ordinals)?;
+    let numeric = date(alloc, DateForm::Numeric, language.numeric_date)?;
+    let text = date(alloc, DateForm::Text, language.text_date)?;
+    Ok(Locale {
+        terms: all,
+        ordinals,
+        dates: vec![in alloc; numeric, text]?,
+        punctuation_in_quote: language.punctuation_in_quote,
+        limit_day_ordinals_to_day_1: language.limit_day_ordinals_to_day_1,
+    })
 }
 
 /// Returns the English locale. It has the words of CSL's own locale `en-US` (CSL 1.0.2; the file
@@ -126,15 +137,31 @@ pub fn english(alloc: Global) -> Result<Locale, Memory>
     ensures quote { IfOk result (λ locale. locale.punctuation_in_quote ≡ true) }
     ensures days { IfOk result (λ locale. locale.limit_day_ordinals_to_day_1 ≡ false) }
 {
-    let terms = terms(alloc)?;
-    let ordinals = ordinals(alloc)?;
-    let numeric = numeric_date(alloc)?;
-    let text = text_date(alloc)?;
-    Ok(Locale {
-        terms,
-        ordinals,
-        dates: vec![in alloc; numeric, text]?,
-        punctuation_in_quote: true,
-        limit_day_ordinals_to_day_1: false,
-    })
+    locale(alloc, &ENGLISH)
+}
+
+/// Returns the German locale, as [`english`] does the English one: the terms, ordinals, dates and
+/// options of CSL's own locale `de-DE`. Where `de-DE` has English words, such as those for
+/// performers, this has them too. A comma or period stays outside a closing quote.
+///
+/// # Errors
+/// [`Memory`]: out of memory.
+pub fn german(alloc: Global) -> Result<Locale, Memory>
+    ensures quote { IfOk result (λ locale. locale.punctuation_in_quote ≡ false) }
+    ensures days { IfOk result (λ locale. locale.limit_day_ordinals_to_day_1 ≡ false) }
+{
+    locale(alloc, &GERMAN)
+}
+
+/// Returns the French locale, as [`english`] does the English one: the terms with their genders, the
+/// ordinals of each gender, the dates and the options of CSL's own locale `fr-FR`. A comma or period
+/// stays outside a closing quote, and only the first day of a month is written as an ordinal.
+///
+/// # Errors
+/// [`Memory`]: out of memory.
+pub fn french(alloc: Global) -> Result<Locale, Memory>
+    ensures quote { IfOk result (λ locale. locale.punctuation_in_quote ≡ false) }
+    ensures days { IfOk result (λ locale. locale.limit_day_ordinals_to_day_1 ≡ true) }
+{
+    locale(alloc, &FRENCH)
 }

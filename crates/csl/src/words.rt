@@ -1,17 +1,49 @@
-//! The words of the English locale, as rows (CSL 1.0.2, Appendix II: Terms). They are those of CSL's
-//! own locale `en-US`; `tools/compare_english` lists the rows that differ.
+//! Languages as data: what their locales hold (CSL 1.0.2, Locale). A further language is a file of
+//! rows like those here, and a function that returns its locale.
+//!
+//! The rows have the words, ordinals, dates and options of CSL's own locales;
+//! `tools/compare_locales` lists those that differ.
 
-use csl_style::{Term, TermForm};
+use csl_style::{
+    DateAnyForm, DatePartName, GrammarGender, OrdinalMatch, OrdinalSlot, Term, TermForm,
+};
 
-mod locators;
-mod numbers;
-mod other;
-mod people;
+mod english;
+mod french;
+mod german;
 
-pub(crate) use locators::LOCATORS;
-pub(crate) use numbers::NUMBERS;
-pub(crate) use other::OTHER;
-pub(crate) use people::PEOPLE;
+pub(crate) use english::ENGLISH;
+pub(crate) use french::FRENCH;
+pub(crate) use german::GERMAN;
 
 /// A term, its form, its singular, and its plural if that differs.
-pub(crate) type Row = (Term, TermForm, &'static str, Option<&'static str>);
+pub(crate) type TermRow = (Term, TermForm, &'static str, Option<&'static str>);
+
+/// A term in the long form, its gender, its singular, and its plural if that differs.
+pub(crate) type GenderedTermRow = (Term, GrammarGender, &'static str, Option<&'static str>);
+
+/// The numbers that an ordinal is for, which of their digits count, its gender, and its text.
+pub(crate) type OrdinalRow = (
+    OrdinalSlot,
+    Option<OrdinalMatch>,
+    Option<GrammarGender>,
+    &'static str,
+);
+
+/// A part of a localized date, its form, and the text after it.
+pub(crate) type DatePartRow = (DatePartName, Option<DateAnyForm>, Option<&'static str>);
+
+/// What the locale of a language holds.
+pub(crate) struct Language {
+    /// The terms without a gender.
+    pub(crate) terms: &'static [TermRow],
+    /// The terms with a gender. Other forms than the long one have none.
+    pub(crate) gendered_terms: &'static [GenderedTermRow],
+    pub(crate) ordinals: &'static [OrdinalRow],
+    /// The date format in numbers.
+    pub(crate) numeric_date: &'static [DatePartRow],
+    /// The date format in words.
+    pub(crate) text_date: &'static [DatePartRow],
+    pub(crate) punctuation_in_quote: bool,
+    pub(crate) limit_day_ordinals_to_day_1: bool,
+}

@@ -1,4 +1,4 @@
-//! Tests of `csl`: its locale, its error, and cites and contexts through it alone.
+//! Tests of `csl`: its locales, its error, and cites and contexts through it alone.
 #![tactic(auto)]
 
 #[cfg(test)]
@@ -15,5 +15,7 @@ mod english;
 mod errors;
 #[cfg(test)]
 mod labels;
+#[cfg(test)]
+mod languages;
 #[cfg(test)]
 mod terms;

@@ -25,7 +25,7 @@ use people::PEOPLE;
 pub(crate) type Row = (Term, TermForm, &'static str, &'static str);
 
 /// Asserts the singular and the plural of a term.
-fn assert_term(rt: &impl Abort, style: &Style, &(term, form, one, several): &Row) {
+pub(crate) fn assert_term(rt: &impl Abort, style: &Style, &(term, form, one, several): &Row) {
     assert_text(rt, style.term(term, form, false), Some(one));
     assert_text(rt, style.term(term, form, true), Some(several));
 }

@@ -10,7 +10,7 @@ use csl::style::{
     CslMacro, DemoteNonDroppingParticle, InheritableNameOptions, Layout, OrdinalSlot, OrdinalTerm,
     StyleSettings, TermEntry, TermForm,
 };
-use csl::{Locale, Style, english};
+use csl::{Locale, Style, english, french, german};
 
 fn macro_of(forms: &Forms<'_>) -> Result<CslMacro, Fault> {
     forms.ensure_attributes(&["name"])?;
@@ -81,12 +81,31 @@ fn ordinal(forms: &Forms<'_>, text: &str, slot: OrdinalSlot) -> Result<OrdinalTe
 /// The attributes of a locale.
 const LOCALE: &str = "punctuation-in-quote limit-day-ordinals-to-day-1";
 
-/// The locale among the forms.
-fn locale(forms: &Forms<'_>) -> Result<Locale, Fault> {
+/// The locale of the language that the style names, if it names one.
+fn default_locale(forms: &Forms<'_>) -> Result<Option<Locale>, Fault> {
+    match forms.value("default-locale") {
+        None => Ok(None),
+        Some("en-US") => Ok(Some(english(forms.alloc)?)),
+        Some("de-DE") => Ok(Some(german(forms.alloc)?)),
+        Some("fr-FR") => Ok(Some(french(forms.alloc)?)),
+        Some(locale) => Err(forms.fault("no such locale", locale)),
+    }
+}
+
+/// The locale among the forms. An option that they do not set is that of the locale after it, if
+/// there is one.
+fn locale(forms: &Forms<'_>, after: Option<&Locale>) -> Result<Locale, Fault> {
     let mut locale = Locale::new(forms.alloc);
-    let inside = forms.boolean("punctuation-in-quote")?;
-    locale.punctuation_in_quote = inside.unwrap_or(forms.value("default-locale").is_some());
-    locale.limit_day_ordinals_to_day_1 = forms.is_true("limit-day-ordinals-to-day-1")?;
+    if let Some(after) = after {
+        locale.punctuation_in_quote = after.punctuation_in_quote;
+        locale.limit_day_ordinals_to_day_1 = after.limit_day_ordinals_to_day_1;
+    }
+    if let Some(inside) = forms.boolean("punctuation-in-quote")? {
+        locale.punctuation_in_quote = inside;
+    }
+    if let Some(limited) = forms.boolean("limit-day-ordinals-to-day-1")? {
+        locale.limit_day_ordinals_to_day_1 = limited;
+    }
     for form in &forms.items {
         match form {
             Form::List("term", inside) => {
@@ -103,22 +122,21 @@ fn locale(forms: &Forms<'_>) -> Result<Locale, Fault> {
     Ok(locale)
 }
 
-/// The locales: that of the style's own forms, each `(locale ..)`, and with
-/// `default-locale=en-US` the English one.
+/// The locales: that of the style's own forms, each `(locale ..)`, and that of the language that the
+/// style names.
 fn locales(forms: &Forms<'_>) -> Result<Vec<Locale>, Fault> {
+    let language = default_locale(forms)?;
     let mut locales = Vec::new(forms.alloc);
-    locales.push(locale(forms)?)?;
+    locales.push(locale(forms, language.as_ref())?)?;
     for form in &forms.items {
         if let Form::List("locale", inside) = form {
             inside.ensure_attributes(&[LOCALE])?;
             inside.ensure_lists("term date")?;
-            locales.push(locale(inside)?)?;
+            locales.push(locale(inside, None)?)?;
         }
     }
-    match forms.value("default-locale") {
-        None => {}
-        Some("en-US") => locales.push(english(forms.alloc)?)?,
-        Some(locale) => return Err(forms.fault("no such locale", locale)),
+    if let Some(language) = language {
+        locales.push(language)?;
     }
     Ok(locales)
 }

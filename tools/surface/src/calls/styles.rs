@@ -1,4 +1,4 @@
-//! The calls of `csl_style`.
+//! The calls of `csl_style`, and the locales of `csl`.
 
 use crate::bounds::has_type;
 use csl_style::{
@@ -38,6 +38,12 @@ fn styles() {
     let _: fn(&Style, DateForm) -> Option<&Date> = Style::localized_date;
     let _: fn(&Style, Scope) -> bool = Style::renders_year_suffix_implicitly;
     let _: fn(Global, &Style, &Layout) -> Result<Named, Memory> = csl_style::named_by;
+}
+
+fn languages() {
+    let _: fn(Global) -> Result<Locale, Memory> = csl::english;
+    let _: fn(Global) -> Result<Locale, Memory> = csl::german;
+    let _: fn(Global) -> Result<Locale, Memory> = csl::french;
 }
 
 fn is_suppressed(options: NameOptions<'_>, idx: usize, len: usize, subsequent: bool) {

@@ -1,0 +1,214 @@
+//! Tests of German and French: some terms of each sort, the ordinals by gender, the dates and the
+//! options. The rows of `tests/rows` render in these languages. The expected texts are those of
+//! CSL's own locales `de-DE` and `fr-FR`.
+
+use crate::asserted::{assert_same, assert_text};
+use crate::terms::{Row, assert_term};
+use csl::literature::Season;
+use csl::style::{
+    DateForm, GrammarGender, Layout, Locator, NameVariable, NumberVariable, OtherTerm,
+    PageVariable, StyleSettings, Term, TermForm,
+};
+use csl::{Error, Locale, Style, french, german};
+use std::alloc::Global;
+use std::process::Abort;
+use std::test::Fail;
+
+static GERMAN: [Row; 12] = [
+    (Term::Other(OtherTerm::And), TermForm::Long, "und", "und"),
+    (Term::Other(OtherTerm::OpenQuote), TermForm::Long, "„", "„"),
+    (
+        Term::Other(OtherTerm::CloseInnerQuote),
+        TermForm::Long,
+        "‘",
+        "‘",
+    ),
+    (
+        Term::Other(OtherTerm::Month(2)),
+        TermForm::Long,
+        "März",
+        "März",
+    ),
+    (
+        Term::Other(OtherTerm::Month(11)),
+        TermForm::Short,
+        "Dez.",
+        "Dez.",
+    ),
+    (
+        Term::Other(OtherTerm::Season(Season::Spring)),
+        TermForm::Long,
+        "Frühjahr",
+        "Frühjahr",
+    ),
+    (
+        Term::Name(NameVariable::Illustrator),
+        TermForm::Long,
+        "Illustrator",
+        "Illustratoren",
+    ),
+    (
+        Term::Name(NameVariable::Translator),
+        TermForm::VerbShort,
+        "übers. von",
+        "übers. von",
+    ),
+    (
+        Term::Number(NumberVariable::Volume),
+        TermForm::Short,
+        "Bd.",
+        "Bde.",
+    ),
+    (
+        Term::Page(PageVariable::Page),
+        TermForm::Long,
+        "Seite",
+        "Seiten",
+    ),
+    (
+        Term::Locator(Locator::Chapter),
+        TermForm::Short,
+        "Kap.",
+        "Kap.",
+    ),
+    (Term::Locator(Locator::Section), TermForm::Symbol, "§", "§§"),
+];
+
+static FRENCH: [Row; 12] = [
+    (Term::Other(OtherTerm::And), TermForm::Long, "et", "et"),
+    (
+        Term::Other(OtherTerm::OpenQuote),
+        TermForm::Long,
+        "«\u{a0}",
+        "«\u{a0}",
+    ),
+    (
+        Term::Other(OtherTerm::CloseInnerQuote),
+        TermForm::Long,
+        "”",
+        "”",
+    ),
+    (
+        Term::Other(OtherTerm::Month(7)),
+        TermForm::Long,
+        "août",
+        "août",
+    ),
+    (
+        Term::Other(OtherTerm::Month(6)),
+        TermForm::Short,
+        "juill.",
+        "juill.",
+    ),
+    (
+        Term::Other(OtherTerm::Season(Season::Winter)),
+        TermForm::Long,
+        "hiver",
+        "hiver",
+    ),
+    (
+        Term::Name(NameVariable::Editor),
+        TermForm::Long,
+        "éditeur",
+        "éditeurs",
+    ),
+    (
+        Term::Name(NameVariable::EditorialDirector),
+        TermForm::Verb,
+        "sous la direction de",
+        "sous la direction de",
+    ),
+    (
+        Term::Number(NumberVariable::Edition),
+        TermForm::Long,
+        "édition",
+        "éditions",
+    ),
+    (Term::Page(PageVariable::Page), TermForm::Short, "p.", "p."),
+    (Term::Locator(Locator::Folio), TermForm::Short, "fᵒ", "fᵒˢ"),
+    (
+        Term::Locator(Locator::Table),
+        TermForm::Long,
+        "tableau",
+        "tableaux",
+    ),
+];
+
+/// A number, a gender, and the ordinal suffix in French.
+type OrdinalRow = (i32, Option<GrammarGender>, &'static str);
+
+static FRENCH_ORDINALS: [OrdinalRow; 6] = [
+    (1, Some(GrammarGender::Feminine), "ʳᵉ"),
+    (1, Some(GrammarGender::Masculine), "ᵉʳ"),
+    (1, None, "ᵉ"),
+    (2, Some(GrammarGender::Feminine), "ᵉ"),
+    (11, Some(GrammarGender::Masculine), "ᵉ"),
+    (21, Some(GrammarGender::Feminine), "ᵉ"),
+];
+
+/// A style with only this locale.
+fn style(alloc: Global, locale: Locale) -> Result<Style, Error> {
+    let locales = vec![in alloc; locale]?;
+    let citation = Layout::new(Vec::new(alloc));
+    let settings = StyleSettings::default();
+    Ok(Style::new(alloc, settings, Vec::new(alloc), citation, None, locales)?)
+}
+
+fn assert_terms(rt: &impl Abort, style: &Style, rows: &[Row]) {
+    for row in rows {
+        assert_term(rt, style, row);
+    }
+}
+
+/// Asserts that both localized dates exist, that punctuation stays outside quotes, and whether day
+/// ordinals are limited.
+fn assert_settings(rt: &impl Abort, style: &Style, are_limited: bool) {
+    let numeric = style.localized_date(DateForm::Numeric).is_some();
+    let text = style.localized_date(DateForm::Text).is_some();
+    assert_same(rt, &(numeric, text), &(true, true));
+    let limited = style.are_day_ordinals_limited();
+    let wanted = (false, are_limited);
+    assert_same(rt, &(style.is_punctuation_in_quote(), limited), &wanted);
+}
+
+#[test]
+fn german_terms_ordinals_and_settings(rt: HostRuntime) -> Result<(), Fail> {
+    let style = style(rt.alloc(), german(rt.alloc())?)?;
+    assert_terms(&rt, &style, &GERMAN);
+    assert_text(&rt, style.ordinals().suffix(21, None), Some("."));
+    assert_text(&rt, style.ordinals().word(7, None), Some("siebter"));
+    assert_same(&rt, &style.gender(Term::Other(OtherTerm::Month(0))), &None);
+    assert_settings(&rt, &style, false);
+    drop(style);
+    Ok(())
+}
+
+/// Asserts the ordinal suffix of a number for a gender.
+fn assert_ordinal(rt: &impl Abort, style: &Style, &(number, gender, suffix): &OrdinalRow) {
+    assert_text(rt, style.ordinals().suffix(number, gender), Some(suffix));
+}
+
+/// Asserts the genders of an edition, a volume and a month, and that a page has none.
+fn assert_genders(rt: &impl Abort, style: &Style) {
+    let edition = style.gender(Term::Number(NumberVariable::Edition));
+    let volume = style.gender(Term::Locator(Locator::Volume));
+    let month = style.gender(Term::Other(OtherTerm::Month(11)));
+    let page = style.gender(Term::Page(PageVariable::Page));
+    let masculine = Some(GrammarGender::Masculine);
+    assert_same(rt, &edition, &Some(GrammarGender::Feminine));
+    assert_same(rt, &(volume, month, page), &(masculine, masculine, None));
+}
+
+#[test]
+fn french_terms_genders_and_settings(rt: HostRuntime) -> Result<(), Fail> {
+    let style = style(rt.alloc(), french(rt.alloc())?)?;
+    assert_terms(&rt, &style, &FRENCH);
+    for row in &FRENCH_ORDINALS {
+        assert_ordinal(&rt, &style, row);
+    }
+    assert_text(&rt, style.ordinals().word(10, None), Some("dixième"));
+    assert_genders(&rt, &style);
+    assert_settings(&rt, &style, true);
+    drop(style);
+    Ok(())
+}
