@@ -1,4 +1,5 @@
-//! The forms of a line: words, texts in quotes, attributes `name=value`, and lists in parentheses.
+//! The forms of a line: words, texts in double or single quotes, attributes `name=value`, and lists
+//! in parentheses.
 
 use crate::fault::Fault;
 use crate::names::Named;
@@ -29,22 +30,29 @@ fn is_end(c: char) -> bool {
     matches!(c, ' ' | '(' | ')' | '"' | '=')
 }
 
+/// The quote that a text begins with, if it is in quotes. A text in single quotes may hold double
+/// ones.
+fn opening_quote(text: &str) -> Option<char> {
+    text.chars().next().filter(|c| matches!(c, '"' | '\''))
+}
+
 /// The word that a text begins with, and the text after it.
 fn split_word(text: &str) -> (&str, &str) {
     let after = text.trim_start_matches(|c: char| !is_end(c));
     (text.strip_suffix(after).unwrap_or(""), after)
 }
 
-/// The text up to the next quote, and the text after it.
-fn split_quoted(text: &str) -> Result<(&str, &str), Fault> {
-    text.split_once('"')
+/// The text in quotes that a text begins with, and the text after them.
+fn split_quoted(text: &str, quote: char) -> Result<(&str, &str), Fault> {
+    text.strip_prefix(quote)
+        .and_then(|rest| rest.split_once(quote))
         .ok_or(Fault::Wrong("a quote is not closed"))
 }
 
 /// The value that a text begins with, and the text after it.
 fn split_value(text: &str) -> Result<(&str, &str), Fault> {
-    match text.strip_prefix('"') {
-        Some(quoted) => split_quoted(quoted),
+    match opening_quote(text) {
+        Some(quote) => split_quoted(text, quote),
         None => Ok(split_word(text)),
     }
 }
@@ -66,8 +74,8 @@ fn split_form<'t>(alloc: Global, text: &'t str) -> Result<(Form<'t>, &'t str), F
     if let Some(list) = text.strip_prefix('(') {
         return split_list(alloc, list);
     }
-    if let Some(quoted) = text.strip_prefix('"') {
-        let (text, after) = split_quoted(quoted)?;
+    if let Some(quote) = opening_quote(text) {
+        let (text, after) = split_quoted(text, quote)?;
         return Ok((Form::Text(text), after));
     }
     let (name, after) = split_word(text);
