@@ -1,6 +1,5 @@
 pub mod InsideLaws
 pub mod Alike
-pub mod Locales
 pub mod Variables
 pub mod Terms
 pub mod Overlays

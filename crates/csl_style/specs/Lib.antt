@@ -6,6 +6,7 @@ pub mod MacroCalls
 pub mod GraphReach
 pub mod Calls
 pub mod Cyclic
+pub mod TermPlaces
 pub mod Style
 pub mod YearSuffix
 pub mod Expanded

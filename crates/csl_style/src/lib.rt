@@ -12,6 +12,7 @@ mod scopes;
 mod size;
 pub mod style;
 mod style_ordinals;
+mod term_places;
 mod year_suffix;
 
 pub use csl_elements::{

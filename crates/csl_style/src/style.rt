@@ -17,6 +17,7 @@ ghost use Rattle.csl_style.specs.YearSuffix.{is_year_suffix_implicit, reached_la
 use crate::call_graph::{PlacedMacros, call_graph};
 use crate::cycles::{callers_first, first_cyclic};
 use crate::places::{Places, places_by_name};
+use crate::term_places::TermPlaces;
 use crate::year_suffix::{ImplicitSuffix, implicit_suffix};
 use csl_common::GrammarGender;
 use csl_elements::{CslMacro, Date, DateForm, Layout, Locale, Term, TermForm, lookup};
@@ -39,6 +40,8 @@ pub struct Style {
     locales: Vec<Locale>,
     /// The index in `macros` of the first macro of each name.
     places: Places,
+    /// The places of the terms in `locales`.
+    term_places: TermPlaces,
     /// Whether each layout reaches no text of the year suffix.
     implicit: ImplicitSuffix,
 }
@@ -58,6 +61,7 @@ impl Model for Style {
     ghost use Rattle.csl_style.specs.Expansion.{IsAcyclic};
     ghost use Rattle.csl_style.specs.Style.{is_chicago};
     ghost use Rattle.csl_style.specs.Calls.{ArePlacesByName};
+    ghost use Rattle.csl_style.specs.TermPlaces.{ArePlacesOfTerms};
     ghost use Rattle.csl_style.specs.YearSuffix.{is_implicit_in};
 
     ghost view = { λ s. record {
@@ -71,6 +75,7 @@ impl Model for Style {
     ghost invariant = { λ s. IsAcyclic (definitions s.macros.items)
         × (is_chicago s.settings.page_range_format ≡ false)
         × ArePlacesByName s.places (definitions s.macros.items)
+        × ArePlacesOfTerms s.term_places s.locales.items
         × (s.implicit.in_citation ≡ is_implicit_in (definitions s.macros.items) (Some s.citation))
         × (s.implicit.in_bibliography ≡ is_implicit_in (definitions s.macros.items)
         s.bibliography) };
@@ -172,6 +177,7 @@ impl Style {
             &citation,
             &bibliography,
         )?;
+        let term_places = TermPlaces::new(alloc, &locales)?;
         Ok(Style {
             settings,
             macros,
@@ -179,6 +185,7 @@ impl Style {
             bibliography,
             locales,
             places,
+            term_places,
             implicit,
         })
     }
@@ -267,14 +274,15 @@ impl Style {
         ensures { option_map (λ text. text.now) result
             ≡ term_text (map terms_of self.now.locales) term form plural }
     {
-        lookup::term(&self.locales, term, form, plural)
+        let entry = self.term_places.found_term(&self.locales, term, form)?;
+        Some(entry.text(plural))
     }
 
     /// The grammatical gender of a term (CSL 1.0.2, Gender-specific Ordinals).
     pub fn gender(&self, term: Term) -> Option<GrammarGender>
         ensures { result ≡ term_gender (map terms_of self.now.locales) term }
     {
-        lookup::gender(&self.locales, term)
+        self.term_places.gender(term)
     }
 
     /// The ordinal suffix of a number (CSL 1.0.2, Ordinals).

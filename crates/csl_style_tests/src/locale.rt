@@ -16,6 +16,8 @@ const AND: Term = Term::Other(OtherTerm::And);
 
 const VOLUME: Term = Term::Number(NumberVariable::Volume);
 
+const ISSUE: Term = Term::Number(NumberVariable::Issue);
+
 const PAGE: Term = Term::Locator(Locator::Page);
 
 const FEMININE: Option<GrammarGender> = Some(GrammarGender::Feminine);
@@ -191,13 +193,15 @@ fn ordinals_by_gender_and_digits(rt: HostRuntime) {
     assert_without_locales(&rt);
 }
 
-/// Terms in two locales.
+/// Terms in two locales. Some are there twice, in one locale or in both.
 const TERMS: StyleRows<'static> = StyleRows {
     locales: &[
         LocaleRows {
             terms: &[
                 (AND, TermForm::Long, "and", None, None),
                 (VOLUME, TermForm::Long, "volume", None, None),
+                (AND, TermForm::Long, "as well as", None, None),
+                (ISSUE, TermForm::Symbol, "#", None, None),
             ],
             ..SILENT
         },
@@ -206,6 +210,10 @@ const TERMS: StyleRows<'static> = StyleRows {
                 (VOLUME, TermForm::Short, "vol.", None, None),
                 (VOLUME, TermForm::Long, "tome", None, None),
                 (PAGE, TermForm::Verb, "page", Some("pages"), None),
+                (PAGE, TermForm::Verb, "leaf", Some("leaves"), None),
+                (ISSUE, TermForm::Symbol, "no.", None, None),
+                (ISSUE, TermForm::Verb, "issued", None, None),
+                (ISSUE, TermForm::VerbShort, "iss.", None, None),
             ],
             ..SILENT
         },
@@ -216,7 +224,7 @@ const TERMS: StyleRows<'static> = StyleRows {
 /// A term, its form, whether it is in the plural, and the text.
 type TextRow = (Term, TermForm, bool, Option<&'static str>);
 
-static TEXTS: [TextRow; 8] = [
+static TEXTS: [TextRow; 12] = [
     (AND, TermForm::Short, false, Some("and")),
     (AND, TermForm::Long, true, Some("and")),
     (VOLUME, TermForm::Long, false, Some("volume")),
@@ -225,6 +233,10 @@ static TEXTS: [TextRow; 8] = [
     (PAGE, TermForm::VerbShort, true, Some("pages")),
     (PAGE, TermForm::Verb, false, Some("page")),
     (PAGE, TermForm::Long, false, None),
+    (ISSUE, TermForm::Symbol, false, Some("#")),
+    (ISSUE, TermForm::Verb, false, Some("issued")),
+    (ISSUE, TermForm::VerbShort, false, Some("iss.")),
+    (ISSUE, TermForm::Short, false, None),
 ];
 
 fn assert_term(rt: &impl Abort, style: &Style, &(term, form, plural, wanted): &TextRow) {
@@ -244,19 +256,25 @@ fn assert_texts(rt: &impl Abort, alloc: Global) {
     drop(style);
 }
 
-/// A term with a gender and localized dates, in two locales.
+/// Terms with genders and localized dates, in two locales.
 const GENDERS_AND_DATES: StyleRows<'static> = StyleRows {
     locales: &[
         LocaleRows {
             terms: &[
                 (VOLUME, TermForm::Short, "vol.", None, FEMININE),
                 (VOLUME, TermForm::Long, "volume", None, None),
+                (ISSUE, TermForm::Long, "issue", None, FEMININE),
+                (PAGE, TermForm::Short, "p.", None, FEMININE),
             ],
             dates: &[(DateForm::Text, DateParts::Year)],
             ..SILENT
         },
         LocaleRows {
-            terms: &[(VOLUME, TermForm::Long, "volume", None, MASCULINE)],
+            terms: &[
+                (VOLUME, TermForm::Long, "volume", None, MASCULINE),
+                (VOLUME, TermForm::Long, "tome", None, FEMININE),
+                (ISSUE, TermForm::Long, "number", None, MASCULINE),
+            ],
             dates: &[
                 (DateForm::Numeric, DateParts::YearMonth),
                 (DateForm::Numeric, DateParts::Year),
@@ -276,7 +294,7 @@ type GenderRow = (
     Option<DateParts>,
 );
 
-static GENDERS: [GenderRow; 3] = [
+static GENDERS: [GenderRow; 5] = [
     (
         &GENDERS_AND_DATES,
         VOLUME,
@@ -287,6 +305,20 @@ static GENDERS: [GenderRow; 3] = [
     (
         &GENDERS_AND_DATES,
         AND,
+        DateForm::Text,
+        None,
+        Some(DateParts::Year),
+    ),
+    (
+        &GENDERS_AND_DATES,
+        ISSUE,
+        DateForm::Text,
+        FEMININE,
+        Some(DateParts::Year),
+    ),
+    (
+        &GENDERS_AND_DATES,
+        PAGE,
         DateForm::Text,
         None,
         Some(DateParts::Year),

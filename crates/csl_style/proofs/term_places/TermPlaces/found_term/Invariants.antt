@@ -2,7 +2,7 @@ use Rattle.std.proofs.Common.{◌≡◌, map, drop}
 use Rattle.csl_common.specs.Lists.{first_some}
 use Rattle.csl_elements.specs.Locale.{terms_of}
 use Rattle.csl_elements.specs.Term.{in_form}
-use Rattle.csl_elements.proofs.lookup.found_term.Given as goal
+use Rattle.csl_style.proofs.term_places.TermPlaces.found_term.Given as goal
 
 abbrev pub invariant-loop-form : goal.invariant-loop-form
 invariant-loop-form l =

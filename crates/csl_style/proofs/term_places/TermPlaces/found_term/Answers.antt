@@ -3,8 +3,8 @@ use Rattle.csl_common.specs.Lists.{first_some}
 use Rattle.csl_elements.specs.Locale.{term_view, terms_of}
 use Rattle.csl_elements.specs.Term.{in_form}
 use Rattle.csl_elements.specs.declared.term.TermForm.TheVariants.{Long}
-use Rattle.csl_elements.proofs.Locales.{first_some_here, first_some_past}
-use Rattle.csl_elements.proofs.lookup.found_term.Goals as goal
+use Rattle.csl_style.proofs.FirstSome.{first_some_here, first_some_past}
+use Rattle.csl_style.proofs.term_places.TermPlaces.found_term.Goals as goal
 
 pub loop-form-preserved : goal.loop-form-preserved
 loop-form-preserved c =
