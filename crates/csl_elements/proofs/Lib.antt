@@ -7,3 +7,7 @@ pub mod NamesChildren
 pub mod Rolled
 pub mod Sets
 pub mod Options
+pub mod Injective
+pub mod OneName
+pub mod OneTerm
+pub mod FirstTerm

@@ -12,6 +12,9 @@ pub mod Inside
 pub mod Constructors
 pub mod Ordinal
 pub mod Taxonomy
+pub mod VariableNames
+pub mod LocatorNames
+pub mod TermNames
 pub mod Term
 pub mod OfCitation
 pub mod NamesParts

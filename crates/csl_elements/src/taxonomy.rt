@@ -6,6 +6,9 @@ ghost use Rattle.csl_elements.specs.Taxonomy.{name_of, variable_of};
 ghost use Rattle.csl_elements.specs.declared.taxonomy.NumberOrPageVariable.TheVariants as numbers_or_pages;
 ghost use Rattle.csl_elements.specs.declared.taxonomy.Variable.TheVariants as variables;
 
+mod locator_names;
+pub(crate) mod variable_names;
+
 /// A variable that holds a number.
 #[derive(Clone, Copy, Debug, PartialEq, Eq, PartialOrd, Ord, Hash)]
 pub enum NumberVariable {

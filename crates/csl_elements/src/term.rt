@@ -7,6 +7,8 @@ ghost use Rattle.csl_elements.specs.declared.term.Term.TheVariants as terms;
 use crate::taxonomy::{Locator, NameVariable, NumberOrPageVariable, NumberVariable, PageVariable};
 use csl_common::Season;
 
+mod term_names;
+
 /// A term.
 #[derive(Clone, Copy, Debug, PartialEq, Eq, PartialOrd, Ord, Hash)]
 pub enum Term {
