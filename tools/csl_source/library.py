@@ -2,11 +2,8 @@
 import functools, glob, os, re
 
 TOP = os.path.dirname(os.path.dirname(os.path.dirname(os.path.realpath(__file__))))
-# CSL writes these variants otherwise than the rest: neither in capitals nor with hyphens alone.
-UNDERSCORED = {"ArchiveCollection": "archive_collection", "ArchiveLocation": "archive_location"}
-# Names of terms that CSL 1.0.1 has.
-OLD_TERMS = {"editortranslator": "editor-translator", "sub verbo": "sub-verbo"}
-SEASONS = ("Spring", "Summer", "Autumn", "Winter")
+# Other spellings: of Appendix IV of CSL 1.0.2, and of CSL 1.0.1.
+OTHER_SPELLINGS = {"editor-translator": "editortranslator", "sub verbo": "sub-verbo"}
 VARIABLES = ("StandardVariable", "NumberVariable", "PageVariable", "DateVariable", "NameVariable")
 
 
@@ -34,21 +31,22 @@ def body(head):
 
 
 def csl_name(variant):
-    """The name of a variant in CSL: `et-al-min` for `EtAlMin`, and capitals as they are."""
-    return UNDERSCORED.get(variant) or (variant if variant.isupper() else re.sub(r"(?<!^)(?=[A-Z])", "-", variant).lower())
+    """The name of a variant in CSL: `small-caps` for `SmallCaps`."""
+    return re.sub(r"(?<!^)(?=[A-Z])", "-", variant).lower()
 
 
 @functools.cache
 def variants(enum):
-    """The variants of an enum without a content, by their names in CSL."""
-    return {csl_name(it): f"{enum}::{it}" for it in re.findall(r"^    (\w+),$", body(f"pub enum {enum} "), re.M)}
+    """The variants of an enum, by the names that its `from_name` reads, else by their names in CSL."""
+    read = re.findall(rf'^ +"([\w -]+)" => Some\(({enum}::\w+(?:\([\w:]+\))?)\),$', "".join(sources()), re.M)
+    names = dict(read) or {csl_name(it): f"{enum}::{it}" for it in re.findall(r"^    (\w+),$", body(f"pub enum {enum} "), re.M)}
+    return names | {other: names[name] for other, name in OTHER_SPELLINGS.items() if name in names}
 
 
 @functools.cache
 def kinds():
-    """The kinds of entries, by the names that `Kind::from_name` reads."""
-    text = "".join(sources())
-    return dict(re.findall(r'"([\w-]+)" => Some\((Kind::\w+)\)', text))
+    """The kinds of entries, by name."""
+    return variants("Kind")
 
 
 @functools.cache
@@ -64,10 +62,4 @@ def terms():
     for sort, enum in re.findall(r"^    (\w+)\((\w+)\),$", body("pub enum Term "), re.M):
         for name, it in (locators() if enum == "Locator" else variants(enum)).items():
             found.setdefault(name, []).append(f"Term::{sort}({it})")
-            if enum == "OtherTerm" and "-" in name:
-                found.setdefault(name.replace("-", " "), []).append(f"Term::{sort}({it})")
-    for number in range(12):
-        found[f"month-{number + 1:02}"] = [f"Term::Other(OtherTerm::Month({number}))"]
-    for number, season in enumerate(SEASONS):
-        found[f"season-{number + 1:02}"] = [f"Term::Other(OtherTerm::Season(Season::{season}))"]
-    return found | {old: found[new] for old, new in OLD_TERMS.items()}
+    return found
