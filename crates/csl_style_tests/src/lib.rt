@@ -43,3 +43,7 @@ mod style_ordinals;
 mod taxonomy;
 #[cfg(test)]
 mod term;
+#[cfg(test)]
+mod term_names;
+#[cfg(test)]
+mod variable_names;

@@ -2,8 +2,9 @@
 
 use crate::bounds::has_type;
 use csl_style::{
-    Choose, ChooseBranch, CslMacro, Date, DateForm, Formatting, Kind, Layout, Locale, NameOptions,
-    Named, Scope, Style, StyleError, StyleSettings, Term, TermForm,
+    Choose, ChooseBranch, CslMacro, Date, DateForm, DateVariable, Formatting, Kind, Layout, Locale,
+    Locator, NameOptions, NameVariable, Named, NumberVariable, OtherTerm, PageVariable, Scope,
+    StandardVariable, Style, StyleError, StyleSettings, Term, TermForm, Variable,
 };
 use lit_model::{GrammarGender, Memory};
 use std::alloc::Global;
@@ -13,6 +14,24 @@ use std::slice::Iter;
 fn values() {
     let _: fn(Formatting, Formatting) -> Formatting = Formatting::apply;
     let _: fn(&str) -> Option<Kind> = Kind::from_name;
+    let _: fn(&str) -> Option<Variable> = Variable::from_name;
+    let _: fn(&Variable) -> &'static str = Variable::name;
+    let _: fn(&str) -> Option<StandardVariable> = StandardVariable::from_name;
+    let _: fn(&StandardVariable) -> &'static str = StandardVariable::name;
+    let _: fn(&str) -> Option<NumberVariable> = NumberVariable::from_name;
+    let _: fn(&NumberVariable) -> &'static str = NumberVariable::name;
+    let _: fn(&str) -> Option<PageVariable> = PageVariable::from_name;
+    let _: fn(&PageVariable) -> &'static str = PageVariable::name;
+    let _: fn(&str) -> Option<DateVariable> = DateVariable::from_name;
+    let _: fn(&DateVariable) -> &'static str = DateVariable::name;
+    let _: fn(&str) -> Option<NameVariable> = NameVariable::from_name;
+    let _: fn(&NameVariable) -> &'static str = NameVariable::name;
+    let _: fn(&str) -> Option<Locator> = Locator::from_name;
+    let _: fn(&Locator) -> &'static str = Locator::name;
+    let _: fn(&str) -> Option<Term> = Term::from_name;
+    let _: fn(&Term) -> Option<&'static str> = Term::name;
+    let _: fn(&str) -> Option<OtherTerm> = OtherTerm::from_name;
+    let _: fn(&OtherTerm) -> Option<&'static str> = OtherTerm::name;
     let _: for<'a> fn(&'a Choose) -> Chain<Once<&'a ChooseBranch>, Iter<'a, ChooseBranch>> =
         Choose::branches;
 }
