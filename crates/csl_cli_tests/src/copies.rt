@@ -2,119 +2,110 @@
 //! words alone do not cover. The expected texts are written by hand.
 
 use crate::asserted::{assert_status, assert_text};
-use crate::cited::{alone, assert_plain, entries, rendered_by_author_and_date};
-use crate::each_node::say_left;
+use crate::shared::{assert_plain, entries, put, state_words};
 use crate::words::NATURE;
 use csl_cli::run::run_into;
 use csl_common::TrackingWriter;
 use csl_context::{LeftState, Rendered};
 use csl_entry::{CiteProperties, DisambiguateState, SpeculativeCiteProperties};
-use csl_samples::BuiltIn;
-use csl_style::{Kind, StandardVariable, Variable};
+use csl_render::cite;
+use csl_samples::{BuiltIn, BuiltInStyle};
+use csl_style::{Kind, StandardVariable, Style, Variable};
 use csl_tree::{Formatted, Formatting};
-use lit_model::{Memory, Numeric, PageRanges, PageRangesPart};
-use std::alloc::{AllocError, Global};
+use lit_model::{Numeric, PageRanges, PageRangesPart};
+use std::alloc::Global;
 use std::process::Abort;
-use std::test::Fail;
 
 /// The same cite, with a copy of its speculative properties.
-fn copied_cite(
+fn copy_of_cite(
+    rt: &impl Abort,
     alloc: Global,
-    cite: CiteProperties<'static>,
-) -> Result<CiteProperties<'static>, Memory> {
-    let speculative = SpeculativeCiteProperties::clone(&cite.speculative, alloc);
-    let certain = cite.certain;
-    drop(cite);
-    Ok(CiteProperties {
+    cite_props: CiteProperties<'static>,
+) -> CiteProperties<'static> {
+    let speculative = SpeculativeCiteProperties::clone(&cite_props.speculative, alloc);
+    let certain = cite_props.certain;
+    drop(cite_props);
+    CiteProperties {
         certain,
-        speculative: speculative?,
-    })
-}
-
-/// Renders the book in a cite that is a copy of one with a year suffix.
-fn copy_made(alloc: Global) -> Result<Rendered, Fail> {
-    let suffix = DisambiguateState::YearSuffix(3);
-    let cite = copied_cite(alloc, CiteProperties::first(suffix))?;
-    let made = book_made(alloc, &cite);
-    drop(cite);
-    made
-}
-
-fn book_made(alloc: Global, cite: &CiteProperties<'_>) -> Result<Rendered, Fail> {
-    let works = entries(alloc, &[BuiltIn::CrazyRich])?;
-    let work = works.first().ok_or("an entry")?;
-    Ok(rendered_by_author_and_date(alloc, cite, None, work)?)
-}
-
-/// The state after a lookup of the title for printing, while such lookups suppress their variable.
-fn left(alloc: Global) -> Result<LeftState, AllocError> {
-    let mut left = LeftState::new(alloc);
-    let title = Variable::Standard(StandardVariable::Title);
-    let is_new = left.suppressed.insert(title);
-    left.suppressing = true;
-    match is_new {
-        Ok(_) => Ok(left),
-        Err(error) => {
-            drop(left);
-            Err(error.into())
-        }
+        speculative: speculative.expect(rt, "memory"),
     }
 }
 
-/// Appends a copy of [`left`], in words.
-fn say_copy(alloc: Global, said: &mut String) -> Result<(), Fail> {
-    let left = left(alloc)?;
-    let copy = LeftState::clone(&left, alloc);
-    drop(left);
-    let copy = copy?;
-    let answer = say_left(said, &copy);
+/// The cite of the book with a year suffix, from a copy of its properties.
+fn cite_from_copy(rt: &impl Abort, alloc: Global, style: &Style) -> Rendered {
+    let suffix = DisambiguateState::YearSuffix(3);
+    let cite_props = copy_of_cite(rt, alloc, CiteProperties::first(suffix));
+    let books = entries(rt, alloc, &[BuiltIn::CrazyRich]);
+    let book = books.first().expect(rt, "a book");
+    let rendered = cite(alloc, style, book, &cite_props).expect(rt, "memory");
+    drop(cite_props);
+    rendered
+}
+
+/// The state after a lookup of the title for printing, while such lookups suppress their variable.
+fn state_without_title(rt: &impl Abort, alloc: Global) -> LeftState {
+    let mut state = LeftState::new(alloc);
+    let title = Variable::Standard(StandardVariable::Title);
+    let _is_new = state.suppressed.insert(title).expect(rt, "memory");
+    state.suppressing = true;
+    state
+}
+
+/// The words of a copy of [`state_without_title`].
+fn words_of_state(rt: &impl Abort, alloc: Global) -> String {
+    let state = state_without_title(rt, alloc);
+    let copy = LeftState::clone(&state, alloc).expect(rt, "memory");
+    drop(state);
+    let words = state_words(rt, alloc, &copy);
     drop(copy);
-    Ok(answer?)
+    words
 }
 
-/// Appends the pages 7-8 from a copy.
-fn say_copied_pages(alloc: Global, said: &mut String) -> Result<(), Fail> {
+/// The pages 7-8, from a copy.
+fn pages(rt: &impl Abort, alloc: Global) -> String {
     let pages = PageRangesPart::Range(Numeric::new(7), Numeric::new(8));
-    let copy = PageRangesPart::clone(&pages, alloc)?;
-    let ranges = alone(alloc, copy)?;
-    write!(said, "{} ", PageRanges { ranges })?;
-    Ok(())
+    let copy = PageRangesPart::clone(&pages, alloc).expect(rt, "memory");
+    let mut ranges = Vec::new(alloc);
+    put(rt, &mut ranges, copy);
+    format!(in alloc; "{}", PageRanges { ranges }).expect(rt, "memory")
 }
 
-/// Appends a text from a copy.
-fn say_copied_text(alloc: Global, said: &mut String) -> Result<(), Fail> {
+/// A text, from a copy.
+fn text(rt: &impl Abort, alloc: Global) -> String {
     let text = Formatted {
-        text: String::from_str(alloc, "é")?,
+        text: String::from_str(alloc, "é").expect(rt, "memory"),
         formatting: Formatting::default(),
     };
-    let copy = Formatted::clone(&text, alloc)?;
-    write!(said, "{} ", copy.text)?;
-    Ok(())
+    Formatted::clone(&text, alloc).expect(rt, "memory").text
 }
 
 #[test]
-fn copies_are_equal(rt: HostRuntime) -> Result<(), Fail> {
+fn copies_are_equal(rt: HostRuntime) {
     let alloc = rt.alloc();
-    let made = copy_made(alloc)?;
-    let answer = assert_plain(&rt, alloc, &made, "(Kwan, 2014d)");
-    drop(made);
-    answer?;
-    let mut said = String::new(alloc);
-    say_copied_pages(alloc, &mut said)?;
-    say_copied_text(alloc, &mut said)?;
-    say_copy(alloc, &mut said)?;
-    let wanted = "7-8 é suppressed {Standard(Title)} suppressing true dated false names false";
-    assert_text(&rt, said.as_str(), wanted, &["copies"]);
-    Ok(())
+    let style = BuiltInStyle::AuthorDate.style(alloc).expect(&rt, "memory");
+    let rendered = cite_from_copy(&rt, alloc, &style);
+    drop(style);
+    assert_plain(&rt, alloc, &rendered, "(Kwan, 2014d)");
+    drop(rendered);
+    assert_text(&rt, pages(&rt, alloc).as_str(), "7-8", &["pages"]);
+    assert_text(&rt, text(&rt, alloc).as_str(), "é", &["text"]);
+    let wanted = "suppressed {Standard(Title)} suppressing true dated false names false";
+    let words = words_of_state(&rt, alloc);
+    assert_text(&rt, words.as_str(), wanted, &["state"]);
 }
 
 #[test]
-fn parts_of_the_program(rt: HostRuntime) -> Result<(), Fail> {
+fn parts_of_the_program(rt: HostRuntime) {
     let alloc = rt.alloc();
-    let label = BuiltIn::Feminism.label(alloc)?;
+    let label = BuiltIn::Feminism.label(alloc).expect(&rt, "memory");
     assert_text(&rt, label.as_str(), "Ung15", &["label"]);
-    let is_post = BuiltIn::Feminism.is_of_kind(alloc, Kind::PostWeblog)?;
-    assert!(rt; is_post, "an article of a blog");
+    let is_post = BuiltIn::Feminism.is_of_kind(alloc, Kind::PostWeblog);
+    assert!(rt; is_post.expect(&rt, "memory"), "an article of a blog");
+}
+
+#[test]
+fn no_words_are_a_title(rt: HostRuntime) {
+    let alloc = rt.alloc();
     let mut wrote = String::new(alloc);
     let mut said = String::new(alloc);
     let mut out = TrackingWriter::new(&mut wrote);
@@ -125,5 +116,4 @@ fn parts_of_the_program(rt: HostRuntime) -> Result<(), Fail> {
     assert_status(&rt, status, 0, &[]);
     assert_text(&rt, wrote.as_str(), NATURE, &["no words"]);
     assert_text(&rt, said.as_str(), "", &["no words"]);
-    Ok(())
 }

@@ -2,11 +2,10 @@
 //! the same cite.
 
 use crate::asserted::{assert_status, assert_text};
-use crate::words::{Row, assert_all, owned};
+use crate::words::{Row, assert_all, strings};
 use csl_cli::run::run;
 use std::alloc::Global;
 use std::process::Abort;
-use std::test::Fail;
 
 static LEAVES: [Row; 11] = [
     (&["leaf", ""], 0, "\n", ""),
@@ -58,8 +57,8 @@ static LEAVES: [Row; 11] = [
 ];
 
 #[test]
-fn leaf_texts(rt: HostRuntime) -> Result<(), Fail> {
-    assert_all(&rt, rt.alloc(), &LEAVES)
+fn leaf_texts(rt: HostRuntime) {
+    assert_all(&rt, rt.alloc(), &LEAVES);
 }
 
 const NOT_HTML: &str = "not html\n";
@@ -106,29 +105,28 @@ static TEXTS: [Row; 17] = [
 ];
 
 #[test]
-fn texts_that_are_not_html(rt: HostRuntime) -> Result<(), Fail> {
-    assert_all(&rt, rt.alloc(), &TEXTS)
+fn texts_that_are_not_html(rt: HostRuntime) {
+    assert_all(&rt, rt.alloc(), &TEXTS);
 }
 
 /// Runs the program with these words, and asserts success. Returns the answer without its newline.
-fn answer(rt: &impl Abort, alloc: Global, words: &[&str]) -> Result<String, Fail> {
-    let all = owned(alloc, words)?;
+fn answer(rt: &impl Abort, alloc: Global, words: &[&str]) -> String {
+    let strings = strings(rt, alloc, words);
     let mut wrote = String::new(alloc);
     let mut said = String::new(alloc);
-    let status = run(alloc, all.as_slice(), &mut wrote, &mut said);
+    let status = run(alloc, strings.as_slice(), &mut wrote, &mut said);
     assert_status(rt, status, 0, words);
     assert_text(rt, said.as_str(), "", words);
     wrote.pop();
-    Ok(wrote)
+    wrote
 }
 
 /// Asserts that the leaf text of a cite's HTML is the cite's plain text.
-fn assert_cite(rt: &impl Abort, alloc: Global, &(key, style): &(&str, &str)) -> Result<(), Fail> {
-    let html = answer(rt, alloc, &["cite", key, style, "html"])?;
-    let plain = answer(rt, alloc, &["cite", key, style, "plain"])?;
-    let leaf = answer(rt, alloc, &["leaf", html.as_str()])?;
+fn assert_cite(rt: &impl Abort, alloc: Global, &(key, style): &(&str, &str)) {
+    let html = answer(rt, alloc, &["cite", key, style, "html"]);
+    let plain = answer(rt, alloc, &["cite", key, style, "plain"]);
+    let leaf = answer(rt, alloc, &["leaf", html.as_str()]);
     assert_text(rt, leaf.as_str(), plain.as_str(), &[key, style]);
-    Ok(())
 }
 
 static CITES: [(&str, &str); 8] = [
@@ -143,10 +141,9 @@ static CITES: [(&str, &str); 8] = [
 ];
 
 #[test]
-fn leaf_texts_of_cites_are_their_plain_texts(rt: HostRuntime) -> Result<(), Fail> {
+fn leaf_texts_of_cites_are_their_plain_texts(rt: HostRuntime) {
     let cites: &[(&str, &str)] = &CITES;
     for cite in cites {
-        assert_cite(&rt, rt.alloc(), cite)?;
+        assert_cite(&rt, rt.alloc(), cite);
     }
-    Ok(())
 }

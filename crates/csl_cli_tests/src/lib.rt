@@ -1,31 +1,28 @@
-//! Tests of the program: its answers to words, the answers of its built-in entries, the variables
-//! that its built-in styles name, and cites in these styles. Other tests have entries with odd
-//! answers, entries that run out of memory, and writers that refuse texts. The rest test calls of
-//! the crates below that have no test elsewhere.
+//! Tests of the program: its answers to words, the answers of its built-in entries, and the
+//! variables that its built-in styles name. Other tests have entries that run out of memory, and
+//! writers that refuse texts. The rest test calls of the crates below that have no test elsewhere.
 #![tactic(auto)]
 
 #[cfg(test)]
+mod answers;
+#[cfg(test)]
 mod asserted;
-#[cfg(test)]
-mod blank;
-#[cfg(test)]
-mod cited;
 #[cfg(test)]
 mod cites;
 #[cfg(test)]
 mod copies;
 #[cfg(test)]
-mod each_node;
-#[cfg(test)]
-mod entries;
-#[cfg(test)]
-mod forms;
+mod dry_runs;
 #[cfg(test)]
 mod leaf;
 #[cfg(test)]
-mod leaf_calls;
+mod many_nodes;
 #[cfg(test)]
-mod nodes;
+mod named;
+#[cfg(test)]
+mod node_at;
+#[cfg(test)]
+mod node_calls;
 #[cfg(test)]
 mod pairs;
 #[cfg(test)]
@@ -33,11 +30,7 @@ mod refusing_entries;
 #[cfg(test)]
 mod refusing_writers;
 #[cfg(test)]
-mod styles;
-#[cfg(test)]
-mod table;
-#[cfg(test)]
-mod tables;
+mod shared;
 #[cfg(test)]
 mod titles;
 #[cfg(test)]

@@ -1,22 +1,20 @@
 //! Tests of cites of entries that run out of memory in one lookup, for each lookup in turn. The
 //! expected texts are written by hand.
 
-use crate::cited::{assert_plain, entries};
-use crate::cites::{BOOK, DEPENDENCE, ESSAY, VORTEX};
-use crate::pairs::{AUTHORS_AND_DATES, Row, line};
+use crate::cites::{BOOK, DEPENDENCE, ESSAY, THREE, VORTEX};
+use crate::shared::{assert_plain, entries, instance};
 use crate::without_memory::WithoutMemory;
 use csl_context::{Context, RenderError, Rendered};
-use csl_entry::{CiteProperties, DisambiguateState, EntryLike, InstanceContext};
+use csl_entry::{CiteProperties, DisambiguateState, EntryLike};
 use csl_render::{RenderCsl, cite};
 use csl_samples::{BuiltIn, BuiltInStyle};
 use csl_style::{DateVariable, NameVariable, NumberVariable, Scope, Style, Variable};
 use lit_model::Entry;
 use std::alloc::Global;
 use std::process::Abort;
-use std::test::Fail;
 
 /// Whether a call returned that the context had failed already.
-fn says_so(error: Option<RenderError>) -> bool {
+fn is_failed(error: Option<RenderError>) -> bool {
     match error {
         Some(RenderError::Failed) => true,
         Some(RenderError::Memory) | None => false,
@@ -28,14 +26,14 @@ fn says_so(error: Option<RenderError>) -> bool {
 fn is_refused<'s, T: EntryLike>(ctx: &mut Context<'s, T>, style: &'s Style) -> bool {
     let volume = NumberVariable::Volume;
     let layout = style.citation();
-    let asked = says_so(layout.will_have_info(ctx).err());
-    let shown = says_so(layout.will_render(ctx, Variable::Number(volume)).err());
-    let rendered = says_so(layout.render(ctx).err());
-    let peeked = says_so(ctx.peek_number_variable(volume).err());
-    let named = says_so(ctx.resolve_name_variable(NameVariable::Author).err());
-    let dated = says_so(ctx.resolve_date_variable(DateVariable::Issued).err());
-    let written = says_so(ctx.push_str("a").err());
-    let opened = says_so(ctx.push_elem().err());
+    let asked = is_failed(layout.will_have_info(ctx).err());
+    let shown = is_failed(layout.will_render(ctx, Variable::Number(volume)).err());
+    let rendered = is_failed(layout.render(ctx).err());
+    let peeked = is_failed(ctx.peek_number_variable(volume).err());
+    let named = is_failed(ctx.resolve_name_variable(NameVariable::Author).err());
+    let dated = is_failed(ctx.resolve_date_variable(DateVariable::Issued).err());
+    let written = is_failed(ctx.push_str("a").err());
+    let opened = is_failed(ctx.push_elem().err());
     asked && shown && rendered && peeked && named && dated && written && opened
 }
 
@@ -43,7 +41,7 @@ fn is_refused<'s, T: EntryLike>(ctx: &mut Context<'s, T>, style: &'s Style) -> b
 fn has_failed<'s, T: EntryLike>(mut ctx: Context<'s, T>, style: &'s Style) -> bool {
     let is_refused = is_refused(&mut ctx, style);
     if ctx.has_failed() {
-        let is_unfinished = says_so(ctx.finish().err());
+        let is_unfinished = is_failed(ctx.finish().err());
         is_refused && is_unfinished
     } else {
         drop(ctx);
@@ -51,71 +49,33 @@ fn has_failed<'s, T: EntryLike>(mut ctx: Context<'s, T>, style: &'s Style) -> bo
     }
 }
 
-/// Renders a cite of an entry in a style. Returns `None` if memory ran out and each call after that
+/// The cite of an entry in a style, or `None` if memory ran out. Asserts that each call after that
 /// returned that the context had failed already.
-///
-/// # Errors
-/// [`RenderError::Memory`]: out of memory in the context's first or last call.
-/// [`RenderError::Failed`]: the rendering returned this error. Or memory ran out in the rendering,
-/// and a later call did not return this error.
-fn tried<T: EntryLike>(
+fn rendering<T: EntryLike>(
+    rt: &impl Abort,
     alloc: Global,
     style: &Style,
-    cite_props: &CiteProperties<'_>,
     entry: &T,
-) -> Result<Option<Rendered>, RenderError> {
-    let instance = InstanceContext {
-        entry,
-        cite_props,
-        sorting: None,
-        kind: None,
-    };
-    let Ok(mut ctx) = Context::new(alloc, style, instance, Scope::Citation) else {
-        return Err(RenderError::Memory);
-    };
+) -> Option<Rendered> {
+    let cite_props = CiteProperties::first(DisambiguateState::None);
+    let cite = instance(entry, &cite_props);
+    let mut ctx = Context::new(alloc, style, cite, Scope::Citation).expect(rt, "memory");
     match style.citation().render(&mut ctx) {
-        Ok(()) => Ok(Some(ctx.finish()?)),
-        Err(RenderError::Memory) => {
-            if has_failed(ctx, style) {
-                Ok(None)
-            } else {
-                Err(RenderError::Failed)
-            }
-        }
-        Err(RenderError::Failed) => {
-            drop(ctx);
-            Err(RenderError::Failed)
+        Ok(()) => Some(ctx.finish().expect(rt, "memory")),
+        Err(error) => {
+            assert!(rt; error == RenderError::Memory, "memory ran out");
+            assert!(rt; has_failed(ctx, style), "the context has failed");
+            None
         }
     }
 }
 
-/// Renders a first cite of an entry in a style. Returns `None` if memory ran out.
-fn tried_first<T: EntryLike>(
-    alloc: Global,
-    style: &Style,
-    entry: &T,
-) -> Result<Option<Rendered>, RenderError> {
-    let cite = CiteProperties::first(DisambiguateState::None);
-    let made = tried(alloc, style, &cite, entry);
-    drop(cite);
-    made
-}
-
 /// Asserts the plain text of a first cite of an entry that refuses nothing.
-fn assert_alone(
-    rt: &impl Abort,
-    alloc: Global,
-    style: &Style,
-    entry: &Entry,
-    wanted: &str,
-) -> Result<(), Fail> {
+fn assert_cite(rt: &impl Abort, alloc: Global, style: &Style, entry: &Entry, wanted: &str) {
     let cite_props = CiteProperties::first(DisambiguateState::None);
-    let made = cite(alloc, style, entry, &cite_props);
-    drop(cite_props);
-    let made = made?;
-    let answer = assert_plain(rt, alloc, &made, wanted);
-    drop(made);
-    answer
+    let rendered = cite(alloc, style, entry, &cite_props).expect(rt, "memory");
+    assert_plain(rt, alloc, &rendered, wanted);
+    drop(rendered);
 }
 
 /// Cites an entry that refuses the lookup after the first `answered` ones, and asserts the plain
@@ -128,82 +88,73 @@ fn assert_refusal(
     entry: &Entry,
     answered: u32,
     wanted: &str,
-) -> Result<bool, Fail> {
+) -> bool {
     let refusing = WithoutMemory::behind(entry, answered);
-    match tried_first(alloc, style, &refusing)? {
-        Some(made) => {
-            let answer = assert_plain(rt, alloc, &made, wanted);
-            drop(made);
-            answer?;
+    match rendering(rt, alloc, style, &refusing) {
+        Some(rendered) => {
+            assert_plain(rt, alloc, &rendered, wanted);
+            drop(rendered);
         }
         None => {
             assert!(rt; refusing.has_refused(), "the entry refused");
-            assert_alone(rt, alloc, style, entry, wanted)?;
+            assert_cite(rt, alloc, style, entry, wanted);
         }
     }
-    Ok(refusing.has_refused())
+    refusing.has_refused()
 }
 
 /// Asserts the refusal of each lookup in turn, up to the last one.
-fn assert_refusals(
-    rt: &impl Abort,
-    alloc: Global,
-    style: &Style,
-    entry: &Entry,
-    wanted: &str,
-) -> Result<(), Fail> {
+fn assert_refusals(rt: &impl Abort, alloc: Global, style: &Style, entry: &Entry, wanted: &str) {
     for answered in 0..200 {
-        if !assert_refusal(rt, alloc, style, entry, answered, wanted)? {
+        if !assert_refusal(rt, alloc, style, entry, answered, wanted) {
             assert!(rt; answered > 0, "an entry is asked");
-            return Ok(());
+            return;
         }
     }
-    Err(Fail::from("an entry that is not asked so often"))
+    panic!(rt; "an entry that is not asked so often");
 }
 
-/// Asserts each refusal of the built-in entry of a row.
-fn assert_row(rt: &impl Abort, alloc: Global, style: &Style, row: &Row) -> Result<(), Fail> {
-    let entry = BuiltIn::of_key(row.0).ok_or("an entry")?;
-    let works = entries(alloc, &[entry])?;
-    let work = works.first().ok_or("an entry")?;
-    assert_refusals(rt, alloc, style, work, line(row.1))
-}
+/// An entry, and the line of its cite.
+type Row = (BuiltIn, &'static str);
 
-/// Asserts each refusal of the built-in entry of each row.
-fn assert_rows(rt: &impl Abort, alloc: Global, style: &Style, rows: &[Row]) -> Result<(), Fail> {
-    for row in rows {
-        assert_row(rt, alloc, style, row)?;
-    }
-    Ok(())
+static AUTHORS_AND_DATES: [Row; 4] = [
+    (BuiltIn::CrazyRich, "(Kwan, 2014)\n"),
+    (BuiltIn::Dependence, THREE),
+    (BuiltIn::Feminism, "(Ungard-Sargon, 2015)\n"),
+    (BuiltIn::QuantizedVortex, "(Gross, 1961)\n"),
+];
+
+static REFERENCES: [Row; 4] = [
+    (BuiltIn::CrazyRich, BOOK),
+    (BuiltIn::Dependence, DEPENDENCE),
+    (BuiltIn::Feminism, ESSAY),
+    (BuiltIn::QuantizedVortex, VORTEX),
+];
+
+/// Asserts each refusal of the entry of a row.
+fn assert_row(rt: &impl Abort, alloc: Global, style: &Style, (which, line): &Row) {
+    let entries = entries(rt, alloc, &[*which]);
+    let entry = entries.first().expect(rt, "an entry");
+    let wanted = line.strip_suffix('\n').unwrap_or(*line);
+    assert_refusals(rt, alloc, style, entry, wanted);
 }
 
 /// Asserts each refusal of each row in a built-in style.
-fn assert_style(
-    rt: &impl Abort,
-    alloc: Global,
-    style: BuiltInStyle,
-    rows: &[Row],
-) -> Result<(), Fail> {
-    let style = style.style(alloc)?;
-    let answer = assert_rows(rt, alloc, &style, rows);
+fn assert_rows(rt: &impl Abort, alloc: Global, style: BuiltInStyle, rows: &[Row]) {
+    let style = style.style(alloc).expect(rt, "memory");
+    for row in rows {
+        assert_row(rt, alloc, &style, row);
+    }
     drop(style);
-    answer
 }
 
-static REFERENCES: [Row; 4] = [
-    ("crazy-rich", BOOK),
-    ("dependence", DEPENDENCE),
-    ("feminism", ESSAY),
-    ("quantized-vortex", VORTEX),
-];
-
 #[test]
-fn refusing_entries_by_author_and_date(rt: HostRuntime) -> Result<(), Fail> {
+fn refusing_entries_by_author_and_date(rt: HostRuntime) {
     let style = BuiltInStyle::AuthorDate;
-    assert_style(&rt, rt.alloc(), style, &AUTHORS_AND_DATES)
+    assert_rows(&rt, rt.alloc(), style, &AUTHORS_AND_DATES);
 }
 
 #[test]
-fn refusing_entries_in_full(rt: HostRuntime) -> Result<(), Fail> {
-    assert_style(&rt, rt.alloc(), BuiltInStyle::Reference, &REFERENCES)
+fn refusing_entries_in_full(rt: HostRuntime) {
+    assert_rows(&rt, rt.alloc(), BuiltInStyle::Reference, &REFERENCES);
 }

@@ -5,19 +5,18 @@ ghost use Rattle.std.specs.Prelude.{Some, None, codes};
 
 use crate::asserted::{assert_status, assert_text};
 use crate::cites::{THREE, VORTEX_HTML};
-use crate::words::{NATURE, Row, owned};
+use crate::shared::title_only;
+use crate::words::{NATURE, Row, strings};
 use csl_cli::run::run;
 use csl_context::Rendered;
 use csl_entry::{CiteProperties, DisambiguateState};
 use csl_render::cite;
-use csl_samples::{TitleOnly, title_style};
-use csl_style::Style;
+use csl_samples::title_style;
 use csl_tree::{BufWriteFormat, ElemChildren};
-use lit_model::{ChunkedString, GrammarGender, NumberForm, Numeric, Ordinals, PageRanges, Person};
+use lit_model::{GrammarGender, NumberForm, Numeric, Ordinals, PageRanges, Person};
 use std::alloc::Global;
 use std::fmt::{self, Write};
 use std::process::Abort;
-use std::test::Fail;
 
 /// A writer that takes the given number of texts and refuses those after them.
 #[derive(Drop)]
@@ -69,15 +68,15 @@ fn is_row(rt: &impl Abort, alloc: Global, words: &[String], row: &Row, texts: us
 }
 
 /// Asserts the status 4 until both writers take all texts, and then the row.
-fn assert_row(rt: &impl Abort, alloc: Global, row: &Row) -> Result<(), Fail> {
-    let words = owned(alloc, row.0)?;
+fn assert_row(rt: &impl Abort, alloc: Global, row: &Row) {
+    let words = strings(rt, alloc, row.0);
     for texts in 0..200 {
         if is_row(rt, alloc, words.as_slice(), row, texts) {
             assert!(rt; texts > 0, "a text is written");
-            return Ok(());
+            return;
         }
     }
-    Err(Fail::from("a row of fewer texts"))
+    panic!(rt; "a row of fewer texts");
 }
 
 static ROWS: [Row; 9] = [
@@ -103,12 +102,11 @@ static ROWS: [Row; 9] = [
 ];
 
 #[test]
-fn a_refused_text_is_status_four(rt: HostRuntime) -> Result<(), Fail> {
+fn a_refused_text_is_status_four(rt: HostRuntime) {
     let rows: &[Row] = &ROWS;
     for row in rows {
-        assert_row(&rt, rt.alloc(), row)?;
+        assert_row(&rt, rt.alloc(), row);
     }
-    Ok(())
 }
 
 /// Asserts that a call returns an error of its writer if that refuses a text, and else writes the
@@ -118,7 +116,7 @@ fn assert_written<F: Fn(&mut Few) -> fmt::Result>(
     alloc: Global,
     write: &F,
     wanted: &str,
-) -> Result<(), Fail>
+)
     requires { F.IsAlwaysCallable write.now }
 {
     for texts in 0..200 {
@@ -126,69 +124,55 @@ fn assert_written<F: Fn(&mut Few) -> fmt::Result>(
         if write(&mut out).is_ok() {
             assert_text(rt, out.took.as_str(), wanted, &["written"]);
             assert!(rt; texts > 0, "a text is written");
-            return Ok(());
+            return;
         }
     }
-    Err(Fail::from("fewer texts are written"))
+    panic!(rt; "fewer texts are written");
 }
 
 const TITLE: &str = "(Title: <span style=\"font-style: italic;\">R&amp;D</span>)";
 
 /// Asserts the HTML, the plain text and the display text of a title's content.
-fn assert_content(rt: &impl Abort, alloc: Global, content: &ElemChildren) -> Result<(), Fail> {
+fn assert_content(rt: &impl Abort, alloc: Global, content: &ElemChildren) {
     let html = |w: &mut Few| content.write_buf(w, BufWriteFormat::Html);
     let plain = |w: &mut Few| content.write_buf(w, BufWriteFormat::Plain);
-    let displayed = |w: &mut Few| write!(w, "{content}");
-    assert_written(rt, alloc, &html, TITLE)?;
-    assert_written(rt, alloc, &plain, "(Title: R&D)")?;
-    assert_written(rt, alloc, &displayed, "(Title: R&D)")
+    let display = |w: &mut Few| write!(w, "{content}");
+    assert_written(rt, alloc, &html, TITLE);
+    assert_written(rt, alloc, &plain, "(Title: R&D)");
+    assert_written(rt, alloc, &display, "(Title: R&D)");
 }
 
-/// Renders an entry with only a title, in a style.
-fn titled(alloc: Global, style: &Style, title: &TitleOnly) -> Result<Rendered, Fail> {
+/// The cite of an entry with only a title, in the style of titles.
+fn title_cite(rt: &impl Abort, alloc: Global) -> Rendered {
+    let title = title_only(rt, alloc, Some("R&D"));
+    let style = title_style(alloc).expect(rt, "memory");
     let cite_props = CiteProperties::first(DisambiguateState::None);
-    let made = cite(alloc, style, title, &cite_props);
-    drop(cite_props);
-    Ok(made?)
-}
-
-/// Renders an entry with only a title, in the style of titles.
-fn content(alloc: Global) -> Result<Rendered, Fail> {
-    let title = ChunkedString::plain(alloc, "R&D")?;
-    let title = TitleOnly { title: Some(title) };
-    let style = title_style(alloc)?;
-    let made = titled(alloc, &style, &title);
+    let rendered = cite(alloc, &style, &title, &cite_props).expect(rt, "memory");
     drop(style);
-    made
+    rendered
 }
 
 #[test]
-fn refused_texts_of_trees(rt: HostRuntime) -> Result<(), Fail> {
-    let made = content(rt.alloc())?;
-    let answer = assert_content(&rt, rt.alloc(), &made.content);
-    drop(made);
-    answer
+fn refused_texts_of_trees(rt: HostRuntime) {
+    let rendered = title_cite(&rt, rt.alloc());
+    assert_content(&rt, rt.alloc(), &rendered.content);
+    drop(rendered);
 }
 
 /// Asserts the display text and the sort text of some numbers.
-fn assert_numbers(
-    rt: &impl Abort,
-    alloc: Global,
-    numbers: &str,
-    sort_text: &str,
-) -> Result<(), Fail> {
-    let number = Numeric::parse(alloc, numbers)?;
-    let displayed = |w: &mut Few| write!(w, "{number}");
-    let sorted = |w: &mut Few| number.fmt_value(w, true);
-    assert_written(rt, alloc, &displayed, numbers)?;
-    assert_written(rt, alloc, &sorted, sort_text)
+fn assert_numbers(rt: &impl Abort, alloc: Global, numbers: &str, sort_text: &str) {
+    let number = Numeric::parse(alloc, numbers).expect(rt, "numbers");
+    let display = |w: &mut Few| write!(w, "{number}");
+    let sort = |w: &mut Few| number.fmt_value(w, true);
+    assert_written(rt, alloc, &display, numbers);
+    assert_written(rt, alloc, &sort, sort_text);
 }
 
 /// Asserts the display text of some pages.
-fn assert_pages(rt: &impl Abort, alloc: Global, pages: &str) -> Result<(), Fail> {
-    let ranges = PageRanges::parse(alloc, pages)?;
-    let displayed = |w: &mut Few| write!(w, "{ranges}");
-    assert_written(rt, alloc, &displayed, pages)
+fn assert_pages(rt: &impl Abort, alloc: Global, pages: &str) {
+    let ranges = PageRanges::parse(alloc, pages).expect(rt, "pages");
+    let display = |w: &mut Few| write!(w, "{ranges}");
+    assert_written(rt, alloc, &display, pages);
 }
 
 /// Ordinals in which each number has the suffix `st`.
@@ -209,36 +193,36 @@ impl Ordinals for Suffix {
 }
 
 /// Asserts the text of 21 in a form.
-fn assert_form(rt: &impl Abort, alloc: Global, form: NumberForm, wanted: &str) -> Result<(), Fail> {
+fn assert_form(rt: &impl Abort, alloc: Global, form: NumberForm, wanted: &str) {
     let number = Numeric::new(21);
-    let formed = |w: &mut Few| number.with_form(w, form, None, &Suffix);
-    assert_written(rt, alloc, &formed, wanted)
+    let write = |w: &mut Few| number.with_form(w, form, None, &Suffix);
+    assert_written(rt, alloc, &write, wanted);
 }
 
 #[test]
-fn refused_texts_of_numbers(rt: HostRuntime) -> Result<(), Fail> {
-    assert_numbers(&rt, rt.alloc(), "4-6, 9", "0004-0006, 0009")?;
-    assert_pages(&rt, rt.alloc(), "321-328, 7")?;
-    assert_form(&rt, rt.alloc(), NumberForm::Ordinal, "21st")?;
-    assert_form(&rt, rt.alloc(), NumberForm::Roman, "xxi")
+fn refused_texts_of_numbers(rt: HostRuntime) {
+    assert_numbers(&rt, rt.alloc(), "4-6, 9", "0004-0006, 0009");
+    assert_pages(&rt, rt.alloc(), "321-328, 7");
+    assert_form(&rt, rt.alloc(), NumberForm::Ordinal, "21st");
+    assert_form(&rt, rt.alloc(), NumberForm::Roman, "xxi");
 }
 
 /// Asserts the initials of a given name.
-fn assert_initials(rt: &impl Abort, alloc: Global, given: &str, wanted: &str) -> Result<(), Fail> {
-    let person = Person::new(alloc, "x", given)?;
+fn assert_initials(rt: &impl Abort, alloc: Global, given: &str, wanted: &str) {
+    let person = Person::new(alloc, "x", given).expect(rt, "memory");
     let initials = |w: &mut Few| person.initials(w, Some(". "), true);
-    assert_written(rt, alloc, &initials, wanted)
+    assert_written(rt, alloc, &initials, wanted);
 }
 
 /// Asserts the text of a given name, with a dot after each word that is one uppercase letter.
-fn assert_given(rt: &impl Abort, alloc: Global, given: &str, wanted: &str) -> Result<(), Fail> {
-    let person = Person::new(alloc, "x", given)?;
+fn assert_given(rt: &impl Abort, alloc: Global, given: &str, wanted: &str) {
+    let person = Person::new(alloc, "x", given).expect(rt, "memory");
     let first = |w: &mut Few| person.first_name_with_delimiter(w, Some("."));
-    assert_written(rt, alloc, &first, wanted)
+    assert_written(rt, alloc, &first, wanted);
 }
 
 #[test]
-fn refused_texts_of_given_names(rt: HostRuntime) -> Result<(), Fail> {
-    assert_initials(&rt, rt.alloc(), "Jean-Luc Marie", "J.-L. M.")?;
-    assert_given(&rt, rt.alloc(), "Karl J", "Karl J.")
+fn refused_texts_of_given_names(rt: HostRuntime) {
+    assert_initials(&rt, rt.alloc(), "Jean-Luc Marie", "J.-L. M.");
+    assert_given(&rt, rt.alloc(), "Karl J", "Karl J.");
 }

@@ -2,13 +2,13 @@
 //! written by hand.
 
 use crate::asserted::{assert_status, assert_text};
+use crate::shared::put;
 use csl_cli::run::run;
 use std::alloc::Global;
 use std::process::Abort;
-use std::test::Fail;
 
 /// The words, the status, the answer and the fault.
-pub type Row = (&'static [&'static str], u8, &'static str, &'static str);
+pub(crate) type Row = (&'static [&'static str], u8, &'static str, &'static str);
 
 pub(crate) const NATURE: &str = "(Title: <span style=\"font-style: italic;\">Nature</span>)\n";
 
@@ -77,41 +77,34 @@ static ROWS: [Row; 36] = [
 ];
 
 /// The words as the program takes them.
-pub fn owned(alloc: Global, words: &[&str]) -> Result<Vec<String>, Fail> {
-    let mut all = Vec::new(alloc);
+pub(crate) fn strings(rt: &impl Abort, alloc: Global, words: &[&str]) -> Vec<String> {
+    let mut strings = Vec::new(alloc);
     for word in words {
-        all.push(String::from_str(alloc, word)?)?;
+        let string = String::from_str(alloc, word).expect(rt, "memory");
+        put(rt, &mut strings, string);
     }
-    Ok(all)
+    strings
 }
 
-/// Runs the words of a row, and asserts the status and the texts of both writers.
-fn assert_run(rt: &impl Abort, alloc: Global, words: &[String], row: &Row) {
-    let (of, status, out, fault) = row;
+/// Asserts the status and the texts of a row.
+fn assert_row(rt: &impl Abort, alloc: Global, (of, status, out, fault): &Row) {
+    let words = strings(rt, alloc, *of);
     let mut wrote = String::new(alloc);
     let mut said = String::new(alloc);
-    let answered = run(alloc, words, &mut wrote, &mut said);
+    let answered = run(alloc, words.as_slice(), &mut wrote, &mut said);
     assert_status(rt, answered, *status, *of);
     assert_text(rt, wrote.as_str(), *out, *of);
     assert_text(rt, said.as_str(), *fault, *of);
 }
 
-/// Asserts the status and the texts of a row.
-fn assert_row(rt: &impl Abort, alloc: Global, row: &Row) -> Result<(), Fail> {
-    let words = owned(alloc, row.0)?;
-    assert_run(rt, alloc, words.as_slice(), row);
-    Ok(())
-}
-
 /// Asserts the status and the texts of each row.
-pub fn assert_all(rt: &impl Abort, alloc: Global, rows: &[Row]) -> Result<(), Fail> {
+pub(crate) fn assert_all(rt: &impl Abort, alloc: Global, rows: &[Row]) {
     for row in rows {
-        assert_row(rt, alloc, row)?;
+        assert_row(rt, alloc, row);
     }
-    Ok(())
 }
 
 #[test]
-fn words_and_what_they_give(rt: HostRuntime) -> Result<(), Fail> {
-    assert_all(&rt, rt.alloc(), &ROWS)
+fn words_and_what_they_give(rt: HostRuntime) {
+    assert_all(&rt, rt.alloc(), &ROWS);
 }

@@ -4,9 +4,9 @@
 ghost use Rattle.std.specs.Prelude.{◌≡◌, OnOk};
 
 use crate::asserted::assert_text;
-use crate::cited::{assert_plain, entries};
-use crate::each_node::{instance, say_answer};
-use crate::nodes::{node_at, term, value};
+use crate::dry_runs::run_words;
+use crate::node_at::node_at;
+use crate::shared::{assert_plain, entries, instance};
 use csl_context::{Context, RenderError, Rendered};
 use csl_entry::{CiteProperties, DisambiguateState, EntryLike};
 use csl_names::{commit_names, peeked_lists, resolved_lists, write_names};
@@ -23,7 +23,6 @@ use csl_style::{
 use lit_model::LongShortForm;
 use std::alloc::Global;
 use std::process::Abort;
-use std::test::Fail;
 
 const TITLE: Variable = Variable::Standard(StandardVariable::Title);
 
@@ -36,7 +35,7 @@ const ISSUED: Variable = Variable::Date(DateVariable::Issued);
 type DryRun = ((bool, UsageInfo), bool);
 
 /// Renders a text of a variable. Returns its dry run, and whether it shows the variable `asked`.
-fn variable_told<'s, T: EntryLike>(
+fn variable_run<'s, T: EntryLike>(
     ctx: &mut Context<'s, T>,
     text: &'s Text,
     form: LongShortForm,
@@ -52,7 +51,7 @@ fn variable_told<'s, T: EntryLike>(
 }
 
 /// Renders a text of a term. Returns its dry run and `false`.
-fn term_told<'s, T: EntryLike>(
+fn term_run<'s, T: EntryLike>(
     ctx: &mut Context<'s, T>,
     text: &'s Text,
     term: Term,
@@ -68,7 +67,7 @@ fn term_told<'s, T: EntryLike>(
 /// Renders a text of a value, in quotes. Returns its dry run, and whether the front of its suffix
 /// moved into the quotes.
 #[tactic(auto, unfolding(csl_context::specs::ContextView::with_quotes))]
-fn value_told<'s, T: EntryLike>(
+fn value_run<'s, T: EntryLike>(
     ctx: &mut Context<'s, T>,
     text: &'s Text,
     value: &str,
@@ -84,7 +83,7 @@ fn value_told<'s, T: EntryLike>(
 
 /// Renders a text by the calls for its target, and returns their results. A text of a macro appends
 /// nothing.
-fn text_told<'s, T: EntryLike>(
+fn text_run<'s, T: EntryLike>(
     ctx: &mut Context<'s, T>,
     text: &'s Text,
     asked: Variable,
@@ -92,15 +91,15 @@ fn text_told<'s, T: EntryLike>(
     ensures { OnOk result (ctx.new.outer ≡ ctx.old.outer) }
 {
     match &text.target {
-        TextTarget::Variable { var, form } => variable_told(ctx, text, *form, *var, asked),
-        TextTarget::Term { term, form, .. } => term_told(ctx, text, *term, *form),
-        TextTarget::Value { val } => value_told(ctx, text, val.as_str()),
-        TextTarget::Macro { .. } => nothing_told(ctx),
+        TextTarget::Variable { var, form } => variable_run(ctx, text, *form, *var, asked),
+        TextTarget::Term { term, form, .. } => term_run(ctx, text, *term, *form),
+        TextTarget::Value { val } => value_run(ctx, text, val.as_str()),
+        TextTarget::Macro { .. } => no_run(ctx),
     }
 }
 
 /// Appends nothing. Returns the dry run of a node that prints nothing, and `false`.
-fn nothing_told<T: EntryLike>(ctx: &mut Context<'_, T>) -> Result<DryRun, RenderError>
+fn no_run<T: EntryLike>(ctx: &mut Context<'_, T>) -> Result<DryRun, RenderError>
     ensures { OnOk result (ctx.new.outer ≡ ctx.old.outer) }
 {
     push_nothing(ctx)?;
@@ -109,7 +108,7 @@ fn nothing_told<T: EntryLike>(ctx: &mut Context<'_, T>) -> Result<DryRun, Render
 
 /// Renders names, and after them a letter in a box of names. Returns whether silent lookups find
 /// one list, without usage flags, and whether lookups for printing find one.
-fn names_told<'s, T: EntryLike>(
+fn names_run<'s, T: EntryLike>(
     ctx: &mut Context<'s, T>,
     names: &'s Names,
 ) -> Result<DryRun, RenderError>
@@ -127,7 +126,7 @@ fn names_told<'s, T: EntryLike>(
 
 /// Renders a node by the calls for its kind, and returns their results. A group or a choice appends
 /// nothing.
-fn told<'s, T: EntryLike>(
+fn run_of<'s, T: EntryLike>(
     ctx: &mut Context<'s, T>,
     node: &'s LayoutRenderingElement,
     asked: Variable,
@@ -135,8 +134,8 @@ fn told<'s, T: EntryLike>(
     ensures { OnOk result (ctx.new.outer ≡ ctx.old.outer) }
 {
     match node {
-        LayoutRenderingElement::Text(text) => text_told(ctx, text, asked),
-        LayoutRenderingElement::Names(names) => names_told(ctx, names),
+        LayoutRenderingElement::Text(text) => text_run(ctx, text, asked),
+        LayoutRenderingElement::Names(names) => names_run(ctx, names),
         LayoutRenderingElement::Number(number) => {
             let info = ctx.attempt(number_info(ctx, number))?;
             let shown = number_shows(ctx, number, asked);
@@ -154,29 +153,24 @@ fn told<'s, T: EntryLike>(
             render_label(ctx, label)?;
             Ok((info, false))
         }
-        _ => nothing_told(ctx),
+        _ => no_run(ctx),
     }
 }
 
-/// The results and the rendering of a node's calls, for a cite of an entry.
-fn made<T: EntryLike>(
+/// The results and the rendering of a node's calls, for a first cite of an entry.
+fn run_and_rendering<T: EntryLike>(
+    rt: &impl Abort,
     alloc: Global,
     style: &Style,
     node: &LayoutRenderingElement,
     asked: Variable,
-    cite: &CiteProperties<'_>,
     entry: &T,
-) -> Result<(DryRun, Rendered), RenderError> {
-    let Ok(mut ctx) = Context::new(alloc, style, instance(entry, cite), Scope::Citation) else {
-        return Err(RenderError::Memory);
-    };
-    match told(&mut ctx, node, asked) {
-        Ok(told) => Ok((told, ctx.finish()?)),
-        Err(error) => {
-            drop(ctx);
-            Err(error)
-        }
-    }
+) -> (DryRun, Rendered) {
+    let cite_props = CiteProperties::first(DisambiguateState::None);
+    let cite = instance(entry, &cite_props);
+    let mut ctx = Context::new(alloc, style, cite, Scope::Citation).expect(rt, "memory");
+    let run = run_of(&mut ctx, node, asked).expect(rt, "memory");
+    (run, ctx.finish().expect(rt, "memory"))
 }
 
 /// A variable, the dry run in words, the flag, and the plain text.
@@ -189,37 +183,31 @@ fn assert_node<T: EntryLike>(
     style: &Style,
     node: &LayoutRenderingElement,
     entry: &T,
-    wanted: Wanted,
-) -> Result<(), Fail> {
-    let (asked, wanted_info, wanted_shown, wanted_text) = wanted;
-    let cite = CiteProperties::first(DisambiguateState::None);
-    let made = made(alloc, style, node, asked, &cite, entry);
-    drop(cite);
-    let ((info, shown), rendered) = made?;
-    let answer = assert_plain(rt, alloc, &rendered, wanted_text);
+    (asked, wanted_info, wanted_shown, wanted_text): Wanted,
+) {
+    let (run, rendered) = run_and_rendering(rt, alloc, style, node, asked, entry);
+    let (info, shown) = run;
+    assert_plain(rt, alloc, &rendered, wanted_text);
     drop(rendered);
-    answer?;
-    let mut said = String::new(alloc);
-    say_answer(&mut said, info)?;
-    assert_text(rt, said.as_str(), wanted_info, &[wanted_text]);
+    let words = run_words(rt, alloc, info);
+    assert_text(rt, words.as_str(), wanted_info, &[wanted_text]);
     assert!(rt; shown == wanted_shown, "shown, of {wanted_text}");
-    Ok(())
 }
 
-/// Asserts the results and the plain text of a row's node, for a first cite of an entry.
+/// Asserts the results and the plain text of a row's node.
 fn assert_place<T: EntryLike>(
     rt: &impl Abort,
     alloc: Global,
     style: &Style,
     entry: &T,
-    row: &Row,
-) -> Result<(), Fail> {
-    let node = node_at(style.citation(), row.0)?.ok_or("a node")?;
-    assert_node(rt, alloc, style, node, entry, row.1)
+    (places, wanted): &Row,
+) {
+    let node = node_at(rt, style.citation(), *places).expect(rt, "a node");
+    assert_node(rt, alloc, style, node, entry, *wanted);
 }
 
 /// The dry run, in words, of a node whose variable has an answer.
-const SAID: &str = " prints called non-empty";
+const ANSWERED: &str = " prints called non-empty";
 
 /// The places of a node in the style `reference`, and the expected values.
 type Row = (&'static [usize], Wanted);
@@ -230,59 +218,51 @@ static NODES: [Row; 7] = [
         &[0, 1],
         (
             TITLE,
-            SAID,
+            ANSWERED,
             true,
             "“Structure of a Quantized Vortex in Boson Systems”",
         ),
     ),
     (&[0, 3, 0], (VOLUME, " prints", false, "vol.")),
-    (&[0, 3, 1], (VOLUME, SAID, true, "20")),
-    (&[0, 3, 1], (TITLE, SAID, false, "20")),
-    (&[0, 5], (ISSUED, SAID, true, "May 1961")),
+    (&[0, 3, 1], (VOLUME, ANSWERED, true, "20")),
+    (&[0, 3, 1], (TITLE, ANSWERED, false, "20")),
+    (&[0, 5], (ISSUED, ANSWERED, true, "May 1961")),
     (&[1], (TITLE, "", false, "")),
 ];
 
-/// Asserts each row, and a value and a term.
-fn assert_rows<T: EntryLike>(
-    rt: &impl Abort,
-    alloc: Global,
-    style: &Style,
-    entry: &T,
-) -> Result<(), Fail> {
+/// Asserts each row.
+fn assert_rows<T: EntryLike>(rt: &impl Abort, alloc: Global, style: &Style, entry: &T) {
     let rows: &[Row] = &NODES;
     for row in rows {
-        assert_place(rt, alloc, style, entry, row)?;
+        assert_place(rt, alloc, style, entry, row);
     }
-    let node = value(alloc, "A")?;
-    let answer = assert_node(
-        rt,
-        alloc,
-        style,
-        &node,
-        entry,
-        (TITLE, " prints", false, "“A”"),
-    );
-    drop(node);
-    answer?;
-    let pages = term(Term::Page(PageVariable::Page), TermForm::Short);
-    let answer = assert_node(
-        rt,
-        alloc,
-        style,
-        &pages,
-        entry,
-        (TITLE, " prints", false, "pp."),
-    );
+}
+
+/// Asserts the results and the plain text of a value, and of a term in its short form.
+fn assert_value_and_term<T: EntryLike>(rt: &impl Abort, alloc: Global, style: &Style, entry: &T) {
+    let value = Text::value(alloc, "A").expect(rt, "memory").into();
+    let wanted = (TITLE, " prints", false, "“A”");
+    assert_node(rt, alloc, style, &value, entry, wanted);
+    drop(value);
+    let pages = Text::new(TextTarget::Term {
+        term: Term::Page(PageVariable::Page),
+        form: TermForm::Short,
+        plural: false,
+    })
+    .into();
+    let wanted = (TITLE, " prints", false, "pp.");
+    assert_node(rt, alloc, style, &pages, entry, wanted);
     drop(pages);
-    answer
 }
 
 #[test]
-fn calls_of_leaves_and_names(rt: HostRuntime) -> Result<(), Fail> {
-    let works = entries(rt.alloc(), &[BuiltIn::QuantizedVortex])?;
-    let work = works.first().ok_or("an entry")?;
-    let style = BuiltInStyle::Reference.style(rt.alloc())?;
-    let answer = assert_rows(&rt, rt.alloc(), &style, work);
+fn calls_of_leaves_and_names(rt: HostRuntime) {
+    let entries = entries(&rt, rt.alloc(), &[BuiltIn::QuantizedVortex]);
+    let entry = entries.first().expect(&rt, "an entry");
+    let style = BuiltInStyle::Reference
+        .style(rt.alloc())
+        .expect(&rt, "memory");
+    assert_rows(&rt, rt.alloc(), &style, entry);
+    assert_value_and_term(&rt, rt.alloc(), &style, entry);
     drop(style);
-    answer
 }
