@@ -9,129 +9,145 @@ use csl_style::{
     StyleSettings, Text, Variable,
 };
 use csl_tree::BufWriteFormat;
-use lit_model::{Date, Entry, EntryType, Memory};
+use lit_model::{Date, Entry, EntryType};
 use std::alloc::Global;
-use std::test::Fail;
+use std::process::Abort;
 
 const TITLE: Variable = Variable::Standard(StandardVariable::Title);
 
 /// The title of the entry.
-fn title_nodes(alloc: Global) -> Result<Vec<LayoutRenderingElement>, Memory> {
+fn title_nodes(rt: &impl Abort, alloc: Global) -> Vec<LayoutRenderingElement> {
     let title = Text::variable(TITLE).into();
-    Ok(vec![in alloc; title]?)
+    let nodes = vec![in alloc; title];
+    nodes.expect(rt, "memory")
 }
 
 /// A choice that takes the title, if there is one.
-fn choice(alloc: Global) -> Result<Choose, Memory> {
-    let nodes = title_nodes(alloc)?;
-    let titles = vec![in alloc; TITLE]?;
+fn choice(rt: &impl Abort, alloc: Global) -> Choose {
+    let titles = vec![in alloc; TITLE];
     let branch = ChooseBranch {
-        variable: Some(titles),
-        ..ChooseBranch::new(nodes)
+        variable: Some(titles.expect(rt, "memory")),
+        ..ChooseBranch::new(title_nodes(rt, alloc))
     };
-    Ok(Choose::new(alloc, branch))
+    Choose::new(alloc, branch)
 }
 
 /// A style whose bibliography entries are titles. Its cites are empty.
-fn style(alloc: Global) -> Result<Style, Fail> {
+fn style(rt: &impl Abort, alloc: Global) -> Style {
     let citation = Layout::new(Vec::new(alloc));
-    let bibliography = Some(Layout::new(title_nodes(alloc)?));
+    let bibliography = Some(Layout::new(title_nodes(rt, alloc)));
     let (macros, locales) = (Vec::new(alloc), Vec::new(alloc));
     let settings = StyleSettings::default();
-    Ok(Style::new(alloc, settings, macros, citation, bibliography, locales)?)
+    Style::new(alloc, settings, macros, citation, bibliography, locales).expect(rt, "a style")
+}
+
+/// A book with the title `T`.
+fn book(rt: &impl Abort, alloc: Global) -> Entry {
+    Entry::titled(alloc, "key", EntryType::Book, "T").expect(rt, "memory")
 }
 
 /// The plain text of the bibliography entry.
 fn entry_text(
+    rt: &impl Abort,
     alloc: Global,
     style: &Style,
     entry: &Entry,
     cite_props: &CiteProperties<'_>,
-) -> Result<String, Fail> {
-    let rendered = bibliography_entry(alloc, style, entry, cite_props)?;
-    let rendered = rendered.ok_or("a bibliography")?;
+) -> String {
+    let rendered = bibliography_entry(alloc, style, entry, cite_props).expect(rt, "memory");
+    let rendered = rendered.expect(rt, "a bibliography");
     let mut text = String::new(alloc);
     let written = rendered.content.write_buf(&mut text, BufWriteFormat::Plain);
     drop(rendered);
-    written?;
-    Ok(text)
+    written.expect(rt, "memory");
+    text
 }
 
 /// 1 for each test of the branch that holds, and 0 for each other one.
 fn tests_of(
+    rt: &impl Abort,
     alloc: Global,
     branch: &ChooseBranch,
     ctx: &Context<'_, Entry>,
-) -> Result<String, Fail> {
-    let mut said = String::new(alloc);
+) -> String {
+    let mut tests = String::new(alloc);
     for condition in BranchConditionIter::from_branch(branch, ctx) {
-        said.push(if condition? { '1' } else { '0' })?;
+        let digit = if condition.expect(rt, "memory") {
+            '1'
+        } else {
+            '0'
+        };
+        tests.push(digit).expect(rt, "memory");
     }
-    Ok(said)
+    tests
 }
 
 /// The tests of the first branch of a choice, for a cite of the entry.
 fn tests_for(
+    rt: &impl Abort,
     alloc: Global,
     style: &Style,
     choose: &Choose,
     cite: InstanceContext<'_, Entry>,
-) -> Result<String, Fail> {
-    let ctx = Context::new(alloc, style, cite, Scope::Citation)?;
-    let answer = tests_of(alloc, &choose.if_, &ctx);
+) -> String {
+    let ctx = Context::new(alloc, style, cite, Scope::Citation).expect(rt, "memory");
+    let tests = tests_of(rt, alloc, &choose.if_, &ctx);
     drop(ctx);
-    answer
+    tests
 }
 
 /// The number of nodes that the choice takes, for a cite of the entry.
-fn chosen_count(
+fn count_of(
+    rt: &impl Abort,
     alloc: Global,
     style: &Style,
     choose: &Choose,
     cite: InstanceContext<'_, Entry>,
-) -> Result<usize, Fail> {
-    let mut ctx = Context::new(alloc, style, cite, Scope::Citation)?;
-    let chosen = choose_children(choose, &mut ctx);
+) -> usize {
+    let mut ctx = Context::new(alloc, style, cite, Scope::Citation).expect(rt, "memory");
+    let nodes = choose_children(choose, &mut ctx).expect(rt, "memory");
     drop(ctx);
-    match chosen? {
-        Some(nodes) => Ok(nodes.len()),
-        None => Ok(0),
+    match nodes {
+        Some(nodes) => nodes.len(),
+        None => 0,
     }
 }
 
 #[test]
-fn a_bibliography_entry_is_rendered(rt: HostRuntime) -> Result<(), Fail> {
-    let style = style(rt.alloc())?;
-    let entry = Entry::titled(rt.alloc(), "key", EntryType::Book, "T")?;
+fn a_bibliography_entry_is_rendered(rt: HostRuntime) {
+    let style = style(&rt, rt.alloc());
+    let entry = book(&rt, rt.alloc());
     let cite_props = CiteProperties::first(DisambiguateState::None);
-    let text = entry_text(rt.alloc(), &style, &entry, &cite_props)?;
+    let text = entry_text(&rt, rt.alloc(), &style, &entry, &cite_props);
     assert_eq!(rt; text.as_str(), "T");
-    Ok(())
+    drop(style);
+    drop(entry);
 }
 
 #[test]
-fn a_choice_takes_the_nodes_of_a_branch(rt: HostRuntime) -> Result<(), Fail> {
-    let style = style(rt.alloc())?;
-    let entry = Entry::titled(rt.alloc(), "key", EntryType::Book, "T")?;
+fn a_choice_takes_the_nodes_of_a_branch(rt: HostRuntime) {
+    let style = style(&rt, rt.alloc());
+    let entry = book(&rt, rt.alloc());
     let cite_props = CiteProperties::first(DisambiguateState::None);
-    let choose = choice(rt.alloc())?;
+    let choose = choice(&rt, rt.alloc());
     let cite = InstanceContext {
         entry: &entry,
         cite_props: &cite_props,
         sorting: None,
         kind: None,
     };
-    let tests = tests_for(rt.alloc(), &style, &choose, cite)?;
+    let tests = tests_for(&rt, rt.alloc(), &style, &choose, cite);
     assert_eq!(rt; tests.as_str(), "1");
-    let count = chosen_count(rt.alloc(), &style, &choose, cite)?;
+    let count = count_of(&rt, rt.alloc(), &style, &choose, cite);
     assert!(rt; count == 1, "the title is taken");
-    Ok(())
+    drop(choose);
+    drop(style);
+    drop(entry);
 }
 
 #[test]
-fn a_sort_key_has_year_month_and_day(rt: HostRuntime) -> Result<(), Fail> {
-    let date = Date::new(2014, Some(4), Some(1), None, false).ok_or("a date")?;
-    let key = full_sort_key(rt.alloc(), &date)?;
+fn a_sort_key_has_year_month_and_day(rt: HostRuntime) {
+    let date = Date::new(2014, Some(4), Some(1), None, false).expect(&rt, "a date");
+    let key = full_sort_key(rt.alloc(), &date).expect(&rt, "memory");
     assert_eq!(rt; key.as_str(), "P0000020140502");
-    Ok(())
 }

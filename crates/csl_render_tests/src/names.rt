@@ -11,28 +11,30 @@ use csl_style::{
     TermEntry, TermForm,
 };
 use csl_tree::BufWriteFormat;
-use lit_model::{Memory, Person};
+use lit_model::Person;
 use std::alloc::Global;
 use std::borrow::Cow;
-use std::test::Fail;
+use std::process::Abort;
 
 /// The term `et al.`.
-fn terms(alloc: Global) -> Result<Vec<TermEntry>, Memory> {
+fn terms(rt: &impl Abort, alloc: Global) -> Vec<TermEntry> {
     let term = Term::Other(OtherTerm::EtAl);
-    let others = TermEntry::new(alloc, term, TermForm::Long, "et al.")?;
-    Ok(vec![in alloc; others]?)
+    let et_al = TermEntry::new(alloc, term, TermForm::Long, "et al.").expect(rt, "memory");
+    let terms = vec![in alloc; et_al];
+    terms.expect(rt, "memory")
 }
 
 /// A style without nodes, with the term `et al.`.
-fn style(alloc: Global) -> Result<Style, Fail> {
+fn style(rt: &impl Abort, alloc: Global) -> Style {
     let locale = Locale {
-        terms: terms(alloc)?,
+        terms: terms(rt, alloc),
         ..Locale::new(alloc)
     };
-    let locales = vec![in alloc; locale]?;
+    let locales = vec![in alloc; locale];
+    let locales = locales.expect(rt, "memory");
     let citation = Layout::new(Vec::new(alloc));
     let settings = StyleSettings::default();
-    Ok(Style::new(alloc, settings, Vec::new(alloc), citation, None, locales)?)
+    Style::new(alloc, settings, Vec::new(alloc), citation, None, locales).expect(rt, "a style")
 }
 
 /// Writes the text `by`, and then the list of a person that is not shown, or the person alone.
@@ -73,56 +75,49 @@ fn write_after(
 }
 
 /// The rendering of [`write_after`].
-fn rendered(
+fn rendering(
+    rt: &impl Abort,
     alloc: Global,
     style: &Style,
     cite_props: &CiteProperties<'_>,
     name: &Name,
     is_list: bool,
-) -> Result<Rendered, Fail> {
+) -> Rendered {
     let instance = InstanceContext {
         entry: &true,
         cite_props,
         sorting: None,
         kind: None,
     };
-    let person = Person::new(alloc, "Kwan", "Kevin")?;
-    let persons = vec![in alloc; Cow::Owned(person)]?;
-    let mut ctx = Context::new(alloc, style, instance, Scope::Citation)?;
-    let written = write_after(&mut ctx, name, &persons, is_list);
+    let person = Person::new(alloc, "Kwan", "Kevin").expect(rt, "memory");
+    let persons = vec![in alloc; Cow::Owned(person)];
+    let persons = persons.expect(rt, "memory");
+    let mut ctx = Context::new(alloc, style, instance, Scope::Citation).expect(rt, "memory");
+    write_after(&mut ctx, name, &persons, is_list).expect(rt, "memory");
     drop(persons);
-    match written {
-        Ok(()) => Ok(ctx.finish()?),
-        Err(error) => {
-            drop(ctx);
-            Err(Fail::from(error))
-        }
-    }
+    ctx.finish().expect(rt, "memory")
 }
 
 /// The plain text of [`write_after`].
-fn text(alloc: Global, is_list: bool) -> Result<String, Fail> {
-    let style = style(alloc)?;
+fn text(rt: &impl Abort, alloc: Global, is_list: bool) -> String {
+    let style = style(rt, alloc);
     let cite_props = CiteProperties::first(DisambiguateState::None);
     let name = Name::new(alloc);
-    let made = rendered(alloc, &style, &cite_props, &name, is_list);
+    let rendered = rendering(rt, alloc, &style, &cite_props, &name, is_list);
     drop(name);
-    drop(cite_props);
     drop(style);
-    let made = made?;
     let mut text = String::new(alloc);
-    let written = made.content.write_buf(&mut text, BufWriteFormat::Plain);
-    drop(made);
-    written?;
-    Ok(text)
+    let written = rendered.content.write_buf(&mut text, BufWriteFormat::Plain);
+    drop(rendered);
+    written.expect(rt, "memory");
+    text
 }
 
 #[test]
-fn names_follow_a_text(rt: HostRuntime) -> Result<(), Fail> {
+fn names_follow_a_text(rt: HostRuntime) {
     // The gap before `et al.` depends on the text before the list.
-    let list = text(rt.alloc(), true)?;
+    let list = text(&rt, rt.alloc(), true);
     assert_eq!(rt; list.as_str(), "by et al.");
-    let name = text(rt.alloc(), false)?;
+    let name = text(&rt, rt.alloc(), false);
     assert_eq!(rt; name.as_str(), "byKevin Kwan");
-    Ok(())
 }
