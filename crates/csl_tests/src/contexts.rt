@@ -1,14 +1,14 @@
 //! Tests of a context, its dry runs and its conditions, through `csl` alone.
 
-use crate::asserted::assert_same;
+use crate::assertions::assert_same;
+use crate::lists::{alone, layout};
 use csl::context::{Context, Mark, RenderError};
-use csl::literature::{Entry, EntryType, FormatString};
+use csl::literature::{Entry, EntryType};
 use csl::render::{BranchConditionIter, RenderCsl, UsageInfo};
 use csl::style::{ChooseBranch, Kind, Layout, Scope, StandardVariable, StyleSettings, Text};
-use csl::{CiteProperties, DisambiguateState, EntryLike, Error, InstanceContext, Style};
+use csl::{CiteProperties, DisambiguateState, EntryLike, InstanceContext, Style};
 use std::alloc::Global;
 use std::process::Abort;
-use std::test::Fail;
 
 /// Whether all tests of a branch hold.
 fn conditions_hold<'s, T: EntryLike>(
@@ -38,28 +38,20 @@ fn mark_of_element<'s, T: EntryLike>(ctx: &mut Context<'s, T>) -> Result<Mark, R
 }
 
 /// A branch that tests whether the entry is a book.
-fn of_books(alloc: Global) -> Result<ChooseBranch, Error> {
-    let kinds = vec![in alloc; Kind::Book]?;
-    Ok(ChooseBranch {
-        type_: Some(kinds),
+fn of_books(rt: &impl Abort, alloc: Global) -> ChooseBranch {
+    ChooseBranch {
+        type_: Some(alone(rt, alloc, Kind::Book)),
         ..ChooseBranch::new(Vec::new(alloc))
-    })
+    }
 }
 
 /// A style whose cite is the title.
-fn titles(alloc: Global) -> Result<Style, Error> {
+fn titles(rt: &impl Abort, alloc: Global) -> Style {
     let title = Text::variable(StandardVariable::Title.into());
-    let citation = Layout::new(vec![in alloc; title.into()]?);
+    let citation = layout(rt, alloc, title.into());
     let settings = StyleSettings::default();
     let (macros, locales) = (Vec::new(alloc), Vec::new(alloc));
-    Ok(Style::new(alloc, settings, macros, citation, None, locales)?)
-}
-
-fn faust(alloc: Global) -> Result<Entry, Error> {
-    let title = FormatString::plain(alloc, "Faust")?;
-    let mut entry = Entry::new(alloc, "faust", EntryType::Book)?;
-    entry.title = Some(title);
-    Ok(entry)
+    Style::new(alloc, settings, macros, citation, None, locales).expect(rt, "a style")
 }
 
 /// Asserts the usage flags of the cite, and that its entry is a book.
@@ -84,18 +76,19 @@ fn assert_context<'s, T: EntryLike>(
     style: &'s Style,
     branch: &ChooseBranch,
     cite: InstanceContext<'s, T>,
-) -> Result<(), RenderError> {
-    let mut ctx = Context::new(alloc, style, cite, Scope::Citation)?;
-    assert_flags(rt, style, branch, &mut ctx)?;
-    let _mark = mark_of_element(&mut ctx)?;
-    Ok(())
+) {
+    let mut ctx = Context::new(alloc, style, cite, Scope::Citation).expect(rt, "memory");
+    assert_flags(rt, style, branch, &mut ctx).expect(rt, "memory");
+    let _mark = mark_of_element(&mut ctx).expect(rt, "memory");
+    drop(ctx);
 }
 
-/// Asserts the flags of a cite of `Faust`.
-fn assert_faust(rt: &impl Abort, alloc: Global) -> Result<(), Error> {
-    let style = titles(alloc)?;
-    let branch = of_books(alloc)?;
-    let entry = faust(alloc)?;
+#[test]
+fn a_context_of_a_cite(rt: HostRuntime) {
+    let alloc = rt.alloc();
+    let style = titles(&rt, alloc);
+    let branch = of_books(&rt, alloc);
+    let entry = Entry::titled(alloc, "faust", EntryType::Book, "Faust").expect(&rt, "memory");
     let first = CiteProperties::first(DisambiguateState::None);
     let cite = InstanceContext {
         entry: &entry,
@@ -103,15 +96,8 @@ fn assert_faust(rt: &impl Abort, alloc: Global) -> Result<(), Error> {
         sorting: None,
         kind: None,
     };
-    let asserted = assert_context(rt, alloc, &style, &branch, cite);
+    assert_context(&rt, alloc, &style, &branch, cite);
     drop(style);
     drop(branch);
     drop(entry);
-    Ok(asserted?)
-}
-
-#[test]
-fn a_context_of_a_cite(rt: HostRuntime) -> Result<(), Fail> {
-    assert_faust(&rt, rt.alloc())?;
-    Ok(())
 }

@@ -1,12 +1,12 @@
 //! Tests of the localized dates of English (CSL 1.0.2, Localized Date Formats).
 
-use crate::asserted::assert_text;
+use crate::assertions::assert_text;
+use crate::lists::{alone, layout};
 use csl::literature::{Date as Day, Entry, EntryType};
-use csl::style::{Date, DateForm, DateVariable, Layout, StyleSettings};
-use csl::{BufWriteFormat, CiteProperties, DisambiguateState, Error, Style, cite, english};
+use csl::style::{Date, DateForm, DateVariable, StyleSettings};
+use csl::{BufWriteFormat, CiteProperties, DisambiguateState, Style, cite, english};
 use std::alloc::Global;
 use std::process::Abort;
-use std::test::Fail;
 
 /// A form, the year, month and day of a date (month and day count from 0), and the expected text.
 type Row = (DateForm, i32, Option<u8>, Option<u8>, &'static str);
@@ -32,49 +32,35 @@ static DATES: [Row; 9] = [
 ];
 
 /// A style whose cite is the date of issue in this form.
-fn style(alloc: Global, form: DateForm) -> Result<Style, Error> {
+fn style(rt: &impl Abort, alloc: Global, form: DateForm) -> Style {
     let date = Date {
         form: Some(form),
         ..Date::new(DateVariable::Issued, Vec::new(alloc))
     };
-    let citation = Layout::new(vec![in alloc; date.into()]?);
-    let locales = vec![in alloc; english(alloc)?]?;
+    let citation = layout(rt, alloc, date.into());
+    let locales = alone(rt, alloc, english(alloc).expect(rt, "memory"));
     let settings = StyleSettings::default();
-    Ok(Style::new(alloc, settings, Vec::new(alloc), citation, None, locales)?)
-}
-
-/// A date whose month and day are in range.
-fn day(year: i32, month: Option<u8>, day: Option<u8>) -> Result<Day, Error> {
-    match Day::new(year, month, day, None, false) {
-        Some(date) => Ok(date),
-        None => Err(Error::DateOutOfRange),
-    }
+    Style::new(alloc, settings, Vec::new(alloc), citation, None, locales).expect(rt, "a style")
 }
 
 /// The plain text of the cite of an entry with this date.
-fn cited(alloc: Global, &(form, year, month, in_month, _): &Row) -> Result<String, Error> {
-    let issued = day(year, month, in_month)?;
-    let style = style(alloc, form)?;
-    let mut entry = Entry::new(alloc, "aeon", EntryType::Periodical)?;
-    entry.date = Some(issued);
+fn cite_text(rt: &impl Abort, alloc: Global, &(form, year, month, day, _): &Row) -> String {
+    let style = style(rt, alloc, form);
+    let mut entry = Entry::new(alloc, "aeon", EntryType::Periodical).expect(rt, "memory");
+    entry.date = Day::new(year, month, day, None, false);
     let first = CiteProperties::first(DisambiguateState::None);
-    let rendered = cite(alloc, &style, &entry, &first);
+    let rendered = cite(alloc, &style, &entry, &first).expect(rt, "memory");
     drop(style);
     drop(entry);
-    let rendered = rendered?;
-    Ok(rendered.content.to_text(alloc, BufWriteFormat::Plain)?)
-}
-
-fn assert_date(rt: &impl Abort, alloc: Global, row: &Row) -> Result<(), Fail> {
-    let text = cited(alloc, row)?;
-    assert_text(rt, Some(text.as_str()), Some(row.4));
-    Ok(())
+    let text = rendered.content.to_text(alloc, BufWriteFormat::Plain);
+    drop(rendered);
+    text.expect(rt, "memory")
 }
 
 #[test]
-fn dates_in_numbers_and_in_words(rt: HostRuntime) -> Result<(), Fail> {
+fn dates_in_numbers_and_in_words(rt: HostRuntime) {
     for row in &DATES {
-        assert_date(&rt, rt.alloc(), row)?;
+        let text = cite_text(&rt, rt.alloc(), row);
+        assert_text(&rt, Some(text.as_str()), Some(row.4));
     }
-    Ok(())
 }

@@ -1,15 +1,15 @@
 //! Tests of the English locale: every term, the ordinals, the dates and the settings.
 
-use crate::asserted::{assert_same, assert_text};
+use crate::assertions::{assert_same, assert_text};
+use crate::lists::alone;
 use csl::literature::Season;
 use csl::style::{
     DateForm, Layout, Locator, NameVariable, NumberVariable, OtherTerm, PageVariable,
     StyleSettings, Term, TermForm,
 };
-use csl::{Error, Style, english};
+use csl::{Style, english};
 use std::alloc::Global;
 use std::process::Abort;
-use std::test::Fail;
 
 /// The roles that have a noun.
 static PERSONS: [NameVariable; 19] = [
@@ -145,11 +145,11 @@ static ORDINALS: [(i32, &str, &str); 16] = [
 ];
 
 /// A style with only the English locale.
-pub(crate) fn style(alloc: Global) -> Result<Style, Error> {
-    let locales = vec![in alloc; english(alloc)?]?;
+pub(crate) fn style(rt: &impl Abort, alloc: Global) -> Style {
+    let locales = alone(rt, alloc, english(alloc).expect(rt, "memory"));
     let citation = Layout::new(Vec::new(alloc));
     let settings = StyleSettings::default();
-    Ok(Style::new(alloc, settings, Vec::new(alloc), citation, None, locales)?)
+    Style::new(alloc, settings, Vec::new(alloc), citation, None, locales).expect(rt, "a style")
 }
 
 /// Asserts that the term has a singular and a plural in the long form.
@@ -185,14 +185,13 @@ fn assert_others(rt: &impl Abort, style: &Style) {
 }
 
 #[test]
-fn terms_with_a_long_form(rt: HostRuntime) -> Result<(), Fail> {
-    let style = style(rt.alloc())?;
+fn terms_with_a_long_form(rt: HostRuntime) {
+    let style = style(&rt, rt.alloc());
     assert_persons(&rt, &style);
     assert_numbers(&rt, &style);
     assert_locators(&rt, &style);
     assert_others(&rt, &style);
     drop(style);
-    Ok(())
 }
 
 /// Asserts the ordinal suffix and the ordinal word, if any, of a number.
@@ -203,13 +202,12 @@ fn assert_ordinal(rt: &impl Abort, style: &Style, &(number, suffix, word): &(i32
 }
 
 #[test]
-fn ordinals_and_words_for_the_first_ten(rt: HostRuntime) -> Result<(), Fail> {
-    let style = style(rt.alloc())?;
+fn ordinals_and_words_for_the_first_ten(rt: HostRuntime) {
+    let style = style(&rt, rt.alloc());
     for row in &ORDINALS {
         assert_ordinal(&rt, &style, row);
     }
     drop(style);
-    Ok(())
 }
 
 /// Asserts that both localized dates exist, that punctuation goes into quotes, and that day
@@ -227,9 +225,8 @@ fn assert_settings(rt: &impl Abort, style: &Style) {
 }
 
 #[test]
-fn both_dates_and_the_settings(rt: HostRuntime) -> Result<(), Fail> {
-    let style = style(rt.alloc())?;
+fn both_dates_and_the_settings(rt: HostRuntime) {
+    let style = style(&rt, rt.alloc());
     assert_settings(&rt, &style);
     drop(style);
-    Ok(())
 }

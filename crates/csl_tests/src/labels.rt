@@ -1,15 +1,15 @@
 //! Tests of labels in English (CSL 1.0.2, Label; Names; Substitute).
 
-use crate::asserted::assert_text;
+use crate::assertions::assert_text;
+use crate::lists::{alone, layout};
 use csl::literature::{Entry, EntryType, MaybeTyped, Numeric, Person};
 use csl::style::{
-    Affixes, CslMacro, Group, Label, Layout, LayoutRenderingElement, Name, NameVariable, Names,
-    Number, NumberVariable, StyleSettings, Substitute, TermForm, Text, VariablelessLabel,
+    Affixes, CslMacro, Group, Label, LayoutRenderingElement, Name, NameVariable, Names, Number,
+    NumberVariable, StyleSettings, Substitute, TermForm, Text, VariablelessLabel,
 };
-use csl::{BufWriteFormat, CiteProperties, DisambiguateState, Error, Style, cite, english};
+use csl::{BufWriteFormat, CiteProperties, DisambiguateState, Style, cite, english};
 use std::alloc::Global;
 use std::process::Abort;
-use std::test::Fail;
 
 /// The authors, the editors, and the expected cite.
 type CreatorsRow = (
@@ -37,62 +37,64 @@ static NUMBERS: [(NumberVariable, &str); 3] = [
 
 /// The macro `author`: the authors, or the editors in their place, with a short label after a
 /// comma.
-fn author(alloc: Global) -> Result<CslMacro, Error> {
-    let editors = vec![in alloc; NameVariable::Editor]?;
-    let children = vec![in alloc; Names::new(alloc, editors).into()]?;
-    let instead = Substitute { children };
+fn author(rt: &impl Abort, alloc: Global) -> CslMacro {
+    let editors = alone(rt, alloc, NameVariable::Editor);
+    let children = alone(rt, alloc, Names::new(alloc, editors).into());
     let label = VariablelessLabel {
         form: TermForm::Short,
-        affixes: Affixes::before(alloc, ", ")?,
+        affixes: Affixes::before(alloc, ", ").expect(rt, "memory"),
         ..VariablelessLabel::default()
     };
-    let children = vec![in alloc; Name::new(alloc).into(), label.into(), instead.into()]?;
-    let authors = vec![in alloc; NameVariable::Author]?;
+    let instead = Substitute { children };
+    let children = vec![in alloc; Name::new(alloc).into(), label.into(), instead.into()];
     let names = Names {
-        children,
-        ..Names::new(alloc, authors)
+        children: children.expect(rt, "memory"),
+        ..Names::new(alloc, alone(rt, alloc, NameVariable::Author))
     };
-    let children = vec![in alloc; names.into()]?;
-    Ok(CslMacro::new(alloc, "author", children)?)
+    CslMacro::new(alloc, "author", alone(rt, alloc, names.into())).expect(rt, "memory")
 }
 
 /// A number with its short label before it.
-fn labelled(alloc: Global, variable: NumberVariable) -> Result<LayoutRenderingElement, Error> {
+fn number_with_label(
+    rt: &impl Abort,
+    alloc: Global,
+    variable: NumberVariable,
+) -> LayoutRenderingElement {
     let label = Label::short(variable.into());
     let number = Number::new(variable.into());
-    let parts = vec![in alloc; label.into(), number.into()]?;
-    Ok(Group::delimited(alloc, " ", parts)?.into())
+    let parts = vec![in alloc; label.into(), number.into()];
+    let group = Group::delimited(alloc, " ", parts.expect(rt, "memory"));
+    group.expect(rt, "memory").into()
 }
 
 /// A style whose cite is this element. It has the macro `author`.
-fn style(alloc: Global, element: LayoutRenderingElement) -> Result<Style, Error> {
-    let citation = Layout::new(vec![in alloc; element]?);
-    let macros = vec![in alloc; author(alloc)?]?;
-    let locales = vec![in alloc; english(alloc)?]?;
+fn style(rt: &impl Abort, alloc: Global, element: LayoutRenderingElement) -> Style {
+    let citation = layout(rt, alloc, element);
+    let macros = alone(rt, alloc, author(rt, alloc));
+    let locales = alone(rt, alloc, english(alloc).expect(rt, "memory"));
     let settings = StyleSettings::default();
-    Ok(Style::new(alloc, settings, macros, citation, None, locales)?)
+    Style::new(alloc, settings, macros, citation, None, locales).expect(rt, "a style")
 }
 
 /// Persons of one name each, if there are any.
-fn persons(alloc: Global, names: &[&str]) -> Result<Option<Vec<Person>>, Error> {
+fn persons(rt: &impl Abort, alloc: Global, names: &[&str]) -> Option<Vec<Person>> {
     if names.is_empty() {
-        return Ok(None);
+        return None;
     }
     let mut persons = Vec::new(alloc);
     for name in names {
-        persons.push(Person::institution(alloc, name)?)?;
+        let person = Person::institution(alloc, name).expect(rt, "memory");
+        persons.push(person).expect(rt, "memory");
     }
-    Ok(Some(persons))
+    Some(persons)
 }
 
 /// A book of the authors and editors of a row.
-fn book_by(alloc: Global, &(authors, editors, _): &CreatorsRow) -> Result<Entry, Error> {
-    let authors = persons(alloc, authors)?;
-    let editors = persons(alloc, editors)?;
-    let mut book = Entry::new(alloc, "book", EntryType::Book)?;
-    book.authors = authors;
-    book.editors = editors;
-    Ok(book)
+fn book_by(rt: &impl Abort, alloc: Global, &(authors, editors, _): &CreatorsRow) -> Entry {
+    let mut book = Entry::new(alloc, "book", EntryType::Book).expect(rt, "memory");
+    book.authors = persons(rt, alloc, authors);
+    book.editors = persons(rt, alloc, editors);
+    book
 }
 
 fn numeric(value: i32) -> Option<MaybeTyped<Numeric>> {
@@ -100,70 +102,52 @@ fn numeric(value: i32) -> Option<MaybeTyped<Numeric>> {
 }
 
 /// The numbered book: volume 2, issue 3, and number 7 of its collection.
-fn numbered_book(alloc: Global) -> Result<Entry, Error> {
-    let mut collection = Entry::new(alloc, "collection", EntryType::Book)?;
+fn numbered_book(rt: &impl Abort, alloc: Global) -> Entry {
+    let mut collection = Entry::new(alloc, "collection", EntryType::Book).expect(rt, "memory");
     collection.volume = numeric(7);
-    let parents = vec![in alloc; collection]?;
-    let mut book = Entry::new(alloc, "book", EntryType::Book)?;
+    let mut book = Entry::new(alloc, "book", EntryType::Book).expect(rt, "memory");
     book.volume = numeric(2);
     book.issue = numeric(3);
-    book.parents = parents;
-    Ok(book)
+    book.parents = alone(rt, alloc, collection);
+    book
 }
 
-/// The plain text of the first cite.
-fn cited(alloc: Global, style: &Style, entry: &Entry) -> Result<String, Error> {
+/// Asserts the plain text of the first cite.
+fn assert_cite(rt: &impl Abort, alloc: Global, style: &Style, entry: &Entry, wanted: &str) {
     let first = CiteProperties::first(DisambiguateState::None);
-    let rendered = cite(alloc, style, entry, &first)?;
-    Ok(rendered.content.to_text(alloc, BufWriteFormat::Plain)?)
+    let rendered = cite(alloc, style, entry, &first).expect(rt, "memory");
+    let text = rendered.content.to_text(alloc, BufWriteFormat::Plain);
+    drop(rendered);
+    assert_text(rt, Some(text.expect(rt, "memory").as_str()), Some(wanted));
 }
 
-fn cited_creators(alloc: Global, row: &CreatorsRow) -> Result<String, Error> {
-    let book = book_by(alloc, row)?;
-    let style = style(alloc, Text::macro_call(alloc, "author")?.into())?;
-    let text = cited(alloc, &style, &book);
+fn assert_creators(rt: &impl Abort, alloc: Global, row: &CreatorsRow) {
+    let book = book_by(rt, alloc, row);
+    let call = Text::macro_call(alloc, "author").expect(rt, "memory");
+    let style = style(rt, alloc, call.into());
+    assert_cite(rt, alloc, &style, &book, row.2);
     drop(style);
     drop(book);
-    text
 }
 
-fn cited_number(alloc: Global, variable: NumberVariable) -> Result<String, Error> {
-    let book = numbered_book(alloc)?;
-    let style = style(alloc, labelled(alloc, variable)?)?;
-    let text = cited(alloc, &style, &book);
+fn assert_number(rt: &impl Abort, alloc: Global, &(variable, wanted): &(NumberVariable, &str)) {
+    let book = numbered_book(rt, alloc);
+    let style = style(rt, alloc, number_with_label(rt, alloc, variable));
+    assert_cite(rt, alloc, &style, &book, wanted);
     drop(style);
     drop(book);
-    text
-}
-
-fn assert_creators(rt: &impl Abort, alloc: Global, row: &CreatorsRow) -> Result<(), Fail> {
-    let text = cited_creators(alloc, row)?;
-    assert_text(rt, Some(text.as_str()), Some(row.2));
-    Ok(())
-}
-
-fn assert_number(
-    rt: &impl Abort,
-    alloc: Global,
-    &(variable, wanted): &(NumberVariable, &str),
-) -> Result<(), Fail> {
-    let text = cited_number(alloc, variable)?;
-    assert_text(rt, Some(text.as_str()), Some(wanted));
-    Ok(())
 }
 
 #[test]
-fn editors_in_place_of_authors_are_labelled(rt: HostRuntime) -> Result<(), Fail> {
+fn editors_in_place_of_authors_are_labelled(rt: HostRuntime) {
     for row in &CREATORS {
-        assert_creators(&rt, rt.alloc(), row)?;
+        assert_creators(&rt, rt.alloc(), row);
     }
-    Ok(())
 }
 
 #[test]
-fn numbers_and_their_labels(rt: HostRuntime) -> Result<(), Fail> {
+fn numbers_and_their_labels(rt: HostRuntime) {
     for row in &NUMBERS {
-        assert_number(&rt, rt.alloc(), row)?;
+        assert_number(&rt, rt.alloc(), row);
     }
-    Ok(())
 }

@@ -2,7 +2,7 @@
 #![tactic(auto)]
 
 #[cfg(test)]
-mod asserted;
+mod assertions;
 #[cfg(test)]
 mod cites;
 #[cfg(test)]
@@ -17,5 +17,7 @@ mod errors;
 mod labels;
 #[cfg(test)]
 mod languages;
+#[cfg(test)]
+mod lists;
 #[cfg(test)]
 mod terms;

@@ -1,13 +1,12 @@
 //! Tests of the terms of English. A row is one term in one form. The expected texts are those of
 //! CSL's own locale `en-US`.
 
-use crate::asserted::assert_text;
+use crate::assertions::assert_text;
 use crate::english::style;
 use csl::Style;
 use csl::style::{Term, TermForm};
 use std::alloc::Global;
 use std::process::Abort;
-use std::test::Fail;
 
 mod absent;
 mod locators;
@@ -30,33 +29,32 @@ pub(crate) fn assert_term(rt: &impl Abort, style: &Style, &(term, form, one, sev
     assert_text(rt, style.term(term, form, true), Some(several));
 }
 
-fn assert_terms(rt: &impl Abort, alloc: Global, rows: &[Row]) -> Result<(), Fail> {
-    let style = style(alloc)?;
+fn assert_terms(rt: &impl Abort, alloc: Global, rows: &[Row]) {
+    let style = style(rt, alloc);
     for row in rows {
         assert_term(rt, &style, row);
     }
     drop(style);
-    Ok(())
 }
 
 #[test]
-fn terms_that_name_no_variable(rt: HostRuntime) -> Result<(), Fail> {
-    assert_terms(&rt, rt.alloc(), &OTHER)
+fn terms_that_name_no_variable(rt: HostRuntime) {
+    assert_terms(&rt, rt.alloc(), &OTHER);
 }
 
 #[test]
-fn what_persons_are_called(rt: HostRuntime) -> Result<(), Fail> {
-    assert_terms(&rt, rt.alloc(), &PEOPLE)
+fn what_persons_are_called(rt: HostRuntime) {
+    assert_terms(&rt, rt.alloc(), &PEOPLE);
 }
 
 #[test]
-fn what_numbers_and_pages_are_called(rt: HostRuntime) -> Result<(), Fail> {
-    assert_terms(&rt, rt.alloc(), &NUMBERS)
+fn what_numbers_and_pages_are_called(rt: HostRuntime) {
+    assert_terms(&rt, rt.alloc(), &NUMBERS);
 }
 
 #[test]
-fn what_locators_are_called(rt: HostRuntime) -> Result<(), Fail> {
-    assert_terms(&rt, rt.alloc(), &LOCATORS)
+fn what_locators_are_called(rt: HostRuntime) {
+    assert_terms(&rt, rt.alloc(), &LOCATORS);
 }
 
 /// Asserts that a term has no text, neither in this form nor in those that replace it.
@@ -66,11 +64,10 @@ fn assert_absent(rt: &impl Abort, style: &Style, &(term, form): &(Term, TermForm
 }
 
 #[test]
-fn roles_numbers_and_locators_without_a_term(rt: HostRuntime) -> Result<(), Fail> {
-    let style = style(rt.alloc())?;
+fn roles_numbers_and_locators_without_a_term(rt: HostRuntime) {
+    let style = style(&rt, rt.alloc());
     for row in &ABSENT {
         assert_absent(&rt, &style, row);
     }
     drop(style);
-    Ok(())
 }
