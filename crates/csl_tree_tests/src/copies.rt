@@ -1,14 +1,14 @@
 //! Copies are equal to their originals.
 
-use crate::trees::{MIXED, assert_tree, names, one, read};
+use crate::trees::{MIXED, alone, assert_tree, names, read};
 use csl_elements::NameVariable;
 use csl_tree::{ElemChild, ElemChildren, ElemMeta};
 use std::alloc::Global;
 use std::process::Abort;
 
 /// A tree of this child only.
-fn alone(rt: &impl Abort, alloc: Global, child: ElemChild) -> ElemChildren {
-    ElemChildren(one(rt, alloc, child))
+fn tree_of(rt: &impl Abort, alloc: Global, child: ElemChild) -> ElemChildren {
+    ElemChildren(alone(rt, alloc, child))
 }
 
 /// A copy of the first child of a tree. With `is_inner`, the element or text in the child is
@@ -22,13 +22,13 @@ fn copy_of_first(
     match tree.0.first() {
         Some(ElemChild::Elem(elem)) if is_inner => {
             let elem = elem.clone(alloc).expect(rt, "memory");
-            alone(rt, alloc, ElemChild::from(elem))
+            tree_of(rt, alloc, ElemChild::from(elem))
         }
         Some(ElemChild::Text(text)) if is_inner => {
             let text = text.clone(alloc).expect(rt, "memory");
-            alone(rt, alloc, ElemChild::from(text))
+            tree_of(rt, alloc, ElemChild::from(text))
         }
-        Some(child) => alone(rt, alloc, child.clone(alloc).expect(rt, "memory")),
+        Some(child) => tree_of(rt, alloc, child.clone(alloc).expect(rt, "memory")),
         None => ElemChildren::new(alloc),
     }
 }

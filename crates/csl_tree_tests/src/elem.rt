@@ -4,7 +4,7 @@ ghost use Rattle.std.specs.Prelude.{◌≡◌, ◌↔◌, IsTrue};
 ghost use Rattle.csl_tree.specs.Tokens.{meta_of};
 ghost use Rattle.csl_tree.specs.contracts.elem.ElemMetaHash.TheImpl.{hash_input-value as hash_meta};
 
-use crate::asserted::assert_of;
+use crate::assertions::assert_of;
 use crate::trees::{MIXED, names, read};
 use csl_elements::NameVariable;
 use csl_tree::{ElemChild, ElemChildren, ElemMeta};

@@ -7,7 +7,7 @@ ghost use Rattle.csl_tree.specs.contracts.elem.ElemChildrenHash.TheImpl.{hash_in
 ghost use Rattle.csl_tree.specs.contracts.elem.ElemHash.TheImpl.{hash_input-value as hash_elem};
 ghost use Rattle.csl_tree.specs.contracts.elem.ElemChildHash.TheImpl.{hash_input-value as hash_child};
 
-use crate::asserted::assert_of;
+use crate::assertions::assert_of;
 use crate::trees::read;
 use csl_tree::{Elem, ElemChild, ElemChildren};
 use std::alloc::Global;

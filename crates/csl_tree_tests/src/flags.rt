@@ -1,6 +1,6 @@
 //! The flags of the text of contents.
 
-use crate::asserted::assert_of;
+use crate::assertions::assert_of;
 use crate::trees::read;
 use std::alloc::Global;
 use std::process::Abort;

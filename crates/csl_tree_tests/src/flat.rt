@@ -12,7 +12,7 @@
 //! | `()` | pushes an element without children |
 //! | any other | pushes the child that the word describes, as in descriptions of trees |
 
-use crate::asserted::{assert_of, assert_same};
+use crate::assertions::{assert_of, assert_same};
 use crate::trees::{assert_tree, read_formatted, read_leaf};
 use csl_elements::Display;
 use csl_tree::{Elem, ElemChild, ElemChildren, ElemMeta, FlatTree, Formatted, Formatting};
@@ -71,7 +71,7 @@ fn call(rt: &impl Abort, tree: &mut FlatTree, alloc: Global, word: &str) {
 }
 
 /// The flat tree after the calls of a script.
-fn written(rt: &impl Abort, alloc: Global, script: &str) -> FlatTree {
+fn tree_of(rt: &impl Abort, alloc: Global, script: &str) -> FlatTree {
     let mut tree = FlatTree::new(alloc);
     for word in script.split(' ') {
         if !word.is_empty() {
@@ -82,7 +82,7 @@ fn written(rt: &impl Abort, alloc: Global, script: &str) -> FlatTree {
 }
 
 /// The contents of the root.
-fn finished(rt: &impl Abort, tree: FlatTree) -> ElemChildren {
+fn contents(rt: &impl Abort, tree: FlatTree) -> ElemChildren {
     if tree.depth() != 1 {
         panic!(rt; "the root alone is open");
     }
@@ -117,7 +117,7 @@ static CALLS: [(&str, &str); 22] = [
 ];
 
 fn assert_calls(rt: &impl Abort, alloc: Global, &(script, wanted): &(&str, &str)) {
-    let tree = finished(rt, written(rt, alloc, script));
+    let tree = contents(rt, tree_of(rt, alloc, script));
     assert_tree(rt, alloc, tree, wanted, script);
 }
 
@@ -154,7 +154,7 @@ fn an_empty_part_leaves_nothing(rt: HostRuntime) {
 type Flags = (usize, bool, bool, bool);
 
 fn flags(rt: &impl Abort, alloc: Global, script: &str) -> Flags {
-    let tree = written(rt, alloc, script);
+    let tree = tree_of(rt, alloc, script);
     (
         tree.depth(),
         tree.is_empty(),
@@ -209,7 +209,7 @@ fn thousand(rt: &impl Abort, alloc: Global) -> FlatTree {
 
 #[test]
 fn a_thousand_splices_are_one_text(rt: HostRuntime) {
-    let tree = finished(&rt, thousand(&rt, rt.alloc()));
+    let tree = contents(&rt, thousand(&rt, rt.alloc()));
     assert_same(&rt, &tree.str_len(), &3000);
     assert_same(&rt, &tree.0.len(), &1);
 }

@@ -5,7 +5,7 @@ ghost use Rattle.csl_tree.specs.Tokens.{text_tokens};
 ghost use Rattle.csl_tree.specs.contracts.formatting.FormattedHash.TheImpl.{hash_input-value as hash_text};
 ghost use Rattle.csl_tree.specs.contracts.formatting.FormattingHash.TheImpl.{hash_input-value as hash_formatting};
 
-use crate::asserted::{assert_of, assert_same};
+use crate::assertions::{assert_of, assert_same};
 use csl_elements::{FontStyle, FontVariant, FontWeight, TextDecoration, VerticalAlign, formatting};
 use csl_tree::{Formatted, Formatting};
 use std::alloc::Global;

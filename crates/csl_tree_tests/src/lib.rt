@@ -2,7 +2,7 @@
 #![tactic(auto)]
 
 #[cfg(test)]
-mod asserted;
+mod assertions;
 #[cfg(test)]
 mod copies;
 #[cfg(test)]
@@ -18,7 +18,7 @@ mod formatting;
 #[cfg(test)]
 mod links;
 #[cfg(test)]
-mod named;
+mod names;
 #[cfg(test)]
 mod places;
 #[cfg(test)]

@@ -1,13 +1,13 @@
 //! The last text, by mutable reference.
 
-use crate::asserted::assert_of;
+use crate::assertions::assert_of;
 use crate::trees::{assert_tree, read};
 use csl_tree::ElemChildren;
 use std::alloc::Global;
 use std::process::Abort;
 
 /// The tree with `more` appended to its last text, and whether there is a last text.
-fn extended(rt: &impl Abort, alloc: Global, source: &str, more: &str) -> (ElemChildren, bool) {
+fn extended_tree(rt: &impl Abort, alloc: Global, source: &str, more: &str) -> (ElemChildren, bool) {
     let mut tree = read(rt, alloc, source);
     let lent = extend_last_text(rt, &mut tree, more);
     (tree, lent)
@@ -24,7 +24,7 @@ fn extend_last_text(rt: &impl Abort, tree: &mut ElemChildren, more: &str) -> boo
 }
 
 fn assert_extended(rt: &impl Abort, alloc: Global, source: &str, lent: bool, wanted: &str) {
-    let (tree, is_lent) = extended(rt, alloc, source, "c");
+    let (tree, is_lent) = extended_tree(rt, alloc, source, "c");
     assert_of(rt, &is_lent, &lent, &source);
     assert_tree(rt, alloc, tree, wanted, source);
 }

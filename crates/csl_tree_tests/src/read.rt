@@ -1,6 +1,6 @@
 //! Reading HTML back.
 
-use crate::asserted::assert_of;
+use crate::assertions::assert_of;
 use crate::trees::{MIXED, assert_text, read};
 use csl_tree::{BufWriteFormat, HtmlError, leaf_text_of_html};
 use std::alloc::Global;
@@ -130,7 +130,7 @@ fn texts_that_are_not_html(rt: HostRuntime) {
 }
 
 /// Ten thousand start tags, a text, and `ends` end tags.
-fn nested(rt: &impl Abort, alloc: Global, text: &str, ends: usize) -> String {
+fn deep_html(rt: &impl Abort, alloc: Global, text: &str, ends: usize) -> String {
     let mut html = "<div>".repeat(alloc, 10_000).expect(rt, "memory");
     html.push_str(text).expect(rt, "memory");
     html.push_str("</div>".repeat(alloc, ends).expect(rt, "memory").as_str())
@@ -140,13 +140,13 @@ fn nested(rt: &impl Abort, alloc: Global, text: &str, ends: usize) -> String {
 
 /// Asserts the text inside ten thousand nested elements.
 fn assert_nested(rt: &impl Abort, alloc: Global, text: &str) {
-    let html = nested(rt, alloc, text, 10_000);
+    let html = deep_html(rt, alloc, text, 10_000);
     assert_leaves(rt, alloc, html.as_str(), text, "nested");
 }
 
 /// Asserts that ten thousand start tags and `ends` end tags are not HTML.
 fn assert_not_nested(rt: &impl Abort, alloc: Global, ends: usize) {
-    let html = nested(rt, alloc, "", ends);
+    let html = deep_html(rt, alloc, "", ends);
     assert_not_html(rt, alloc, html.as_str(), "nested");
 }
 

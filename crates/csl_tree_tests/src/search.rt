@@ -1,6 +1,6 @@
 //! Searches in a tree, and removal from it.
 
-use crate::trees::{assert_tree, one, put, read, read_meta};
+use crate::trees::{alone, assert_tree, put, read, read_meta};
 use csl_tree::{Elem, ElemChild, ElemChildren};
 use std::alloc::Global;
 use std::process::Abort;
@@ -26,11 +26,11 @@ enum Asked {
 }
 
 /// A tree of the found element, or an empty tree.
-fn found(rt: &impl Abort, alloc: Global, elem: Option<&Elem>) -> ElemChildren {
+fn tree_of(rt: &impl Abort, alloc: Global, elem: Option<&Elem>) -> ElemChildren {
     match elem {
         Some(elem) => {
             let child = ElemChild::from(elem.clone(alloc).expect(rt, "memory"));
-            ElemChildren(one(rt, alloc, child))
+            ElemChildren(alone(rt, alloc, child))
         }
         None => ElemChildren::new(alloc),
     }
@@ -39,24 +39,24 @@ fn found(rt: &impl Abort, alloc: Global, elem: Option<&Elem>) -> ElemChildren {
 /// The result of a search, as a tree.
 fn answer(rt: &impl Abort, alloc: Global, tree: &ElemChildren, asked: Asked) -> ElemChildren {
     match asked {
-        Asked::Names => found(rt, alloc, tree.find_names()),
+        Asked::Names => tree_of(rt, alloc, tree.find_names()),
         Asked::Meta(word) => {
             let meta = read_meta(rt, alloc, word);
-            let found = found(rt, alloc, tree.find_meta(&meta));
+            let found = tree_of(rt, alloc, tree.find_meta(&meta));
             drop(meta);
             found
         }
-        Asked::Any => found(rt, alloc, tree.find_elem_by(&|_: &Elem| true)),
-        Asked::Noted => found(
+        Asked::Any => tree_of(rt, alloc, tree.find_elem_by(&|_: &Elem| true)),
+        Asked::Noted => tree_of(
             rt,
             alloc,
             tree.find_elem_by(&|elem: &Elem| elem.meta.is_some()),
         ),
-        Asked::Nothing => found(rt, alloc, tree.find_elem_by(&|_: &Elem| false)),
+        Asked::Nothing => tree_of(rt, alloc, tree.find_elem_by(&|_: &Elem| false)),
         Asked::LastText => match tree.last_text() {
             Some(text) => {
                 let child = ElemChild::from(text.clone(alloc).expect(rt, "memory"));
-                ElemChildren(one(rt, alloc, child))
+                ElemChildren(alone(rt, alloc, child))
             }
             None => ElemChildren::new(alloc),
         },
@@ -95,10 +95,10 @@ fn searches_go_down_first(rt: HostRuntime) {
 
 /// The rest of a tree after a removal, and the removed child as a tree.
 fn removal(rt: &impl Abort, alloc: Global, source: &str) -> Vec<ElemChildren> {
-    let mut both = one(rt, alloc, read(rt, alloc, source));
+    let mut both = alone(rt, alloc, read(rt, alloc, source));
     let tree = both.first_mut().expect(rt, "a tree");
     let taken = match tree.remove_any_meta() {
-        Some(child) => one(rt, alloc, child),
+        Some(child) => alone(rt, alloc, child),
         None => Vec::new(alloc),
     };
     put(rt, &mut both, ElemChildren(taken));

@@ -1,6 +1,6 @@
 //! Rounds of simplification, and the normal form after the last one.
 
-use crate::trees::{assert_tree, one, read};
+use crate::trees::{alone, assert_tree, read};
 use csl_tree::{ElemChild, ElemChildren, simplify_children, simplify_fully};
 use std::alloc::Global;
 use std::process::Abort;
@@ -40,7 +40,7 @@ fn elem_round(rt: &impl Abort, alloc: Global, source: &str) -> ElemChildren {
     match tree.0.first() {
         Some(ElemChild::Elem(elem)) => {
             let once = ElemChild::from(elem.simplify(alloc).expect(rt, "memory"));
-            ElemChildren(one(rt, alloc, once))
+            ElemChildren(alone(rt, alloc, once))
         }
         _ => panic!(rt; "no element"),
     }

@@ -2,7 +2,7 @@
 
 ghost use Rattle.std.specs.Prelude.{◌≡◌, ◌↔◌, IsTrue};
 
-use crate::asserted::assert_same;
+use crate::assertions::assert_same;
 use csl_tree::NonEmptyStack;
 use std::alloc::Global;
 use std::num::NonZeroUsize;

@@ -1,4 +1,4 @@
-//! Trees from descriptions, and descriptions of trees.
+//! Trees from descriptions.
 //!
 //! The words of a description have one space between them, and each stands for one child:
 //!
@@ -17,7 +17,7 @@
 
 use csl_elements::{Display, FontStyle, NameVariable};
 use csl_tree::{Elem, ElemChild, ElemChildren, ElemMeta, Formatted, Formatting};
-use lit_model::{Memory, Person};
+use lit_model::Person;
 use std::alloc::Global;
 use std::mem;
 use std::process::Abort;
@@ -31,7 +31,7 @@ pub fn put<T: Drop>(rt: &impl Abort, items: &mut Vec<T>, item: T) {
 }
 
 /// A list of one item.
-pub fn one<T: Drop>(rt: &impl Abort, alloc: Global, item: T) -> Vec<T> {
+pub fn alone<T: Drop>(rt: &impl Abort, alloc: Global, item: T) -> Vec<T> {
     let mut items = Vec::new(alloc);
     put(rt, &mut items, item);
     items
@@ -93,8 +93,8 @@ pub fn names(rt: &impl Abort, alloc: Global, name: &str, variable: NameVariable)
         alias: None,
         comma_suffix: false,
     };
-    let persons = one(rt, alloc, person);
-    ElemMeta::Names(one(rt, alloc, (persons, variable)))
+    let persons = alone(rt, alloc, person);
+    ElemMeta::Names(alone(rt, alloc, (persons, variable)))
 }
 
 /// The meta that a word names.
@@ -168,121 +168,15 @@ pub fn read(rt: &impl Abort, alloc: Global, description: &str) -> ElemChildren {
     ElemChildren(children)
 }
 
-/// Appends a text as one word.
-fn say_text(text: &str, said: &mut String) -> Result<(), Memory> {
-    if text.is_empty() {
-        said.push('_')?;
-    }
-    for c in text.chars() {
-        said.push(if c == ' ' { '~' } else { c })?;
-    }
-    Ok(())
-}
-
-/// Appends the description of a text with its formatting.
-fn say_formatted(text: &Formatted, said: &mut String) -> Result<(), Memory> {
-    if text.formatting != Formatting::default() {
-        said.push('/')?;
-    }
-    say_text(text.text.as_str(), said)
-}
-
-/// Appends the end of an element, with its display and its meta.
-fn say_end(
-    display: Option<Display>,
-    meta: &Option<ElemMeta>,
-    said: &mut String,
-) -> Result<(), Memory> {
-    said.push_str(match display {
-        Some(Display::Block) => ")block",
-        Some(Display::Indent) => ")indent",
-        Some(Display::LeftMargin) => ")left",
-        Some(Display::RightInline) => ")right",
-        None => ")",
-    })?;
-    match meta {
-        None => Ok(()),
-        Some(ElemMeta::Names(names)) => say_names(names.as_slice(), said),
-        Some(ElemMeta::Date) => Ok(said.push_str(":date")?),
-        Some(ElemMeta::Label) => Ok(said.push_str(":label")?),
-        Some(ElemMeta::Entry(3)) => Ok(said.push_str(":entry")?),
-        Some(_) => Ok(said.push_str(":another")?),
-    }
-}
-
-/// Appends the persons of each variable.
-fn say_names(names: &[(Vec<Person>, NameVariable)], said: &mut String) -> Result<(), Memory> {
-    for of_variable in names {
-        for person in &of_variable.0 {
-            said.push(':')?;
-            said.push_str(person.name.as_str())?;
-        }
-    }
-    Ok(())
-}
-
-/// Appends a space and the description of a child.
-#[cycle(say)]
-fn say_child(child: &ElemChild, said: &mut String) -> Result<(), Memory> {
-    match child {
-        ElemChild::Text(text) => {
-            said.push(' ')?;
-            say_formatted(text, said)
-        }
-        ElemChild::Elem(elem) => {
-            said.push_str(" (")?;
-            say_children(&elem.children, said)?;
-            said.push(' ')?;
-            say_end(elem.display, &elem.meta, said)
-        }
-        ElemChild::Markup(markup) => {
-            said.push_str(" $")?;
-            say_text(markup.as_str(), said)
-        }
-        ElemChild::Link { text, url } => {
-            said.push_str(" @")?;
-            say_formatted(text, said)?;
-            said.push('|')?;
-            Ok(said.push_str(url.as_str())?)
-        }
-        ElemChild::Transparent { cite_idx, .. } => Ok(write!(said, " #{}", *cite_idx).map_err(
-            |_| Memory,
-        )?),
-    }
-}
-
-/// Appends the descriptions of children, with a space before each.
-#[cycle(say)]
-fn say_children(children: &ElemChildren, said: &mut String) -> Result<(), Memory> {
-    for child in &children.0 {
-        say_child(child, said)?;
-    }
-    Ok(())
-}
-
-/// The description of a tree.
-pub fn say(rt: &impl Abort, alloc: Global, children: &ElemChildren) -> String {
-    let mut said = String::new(alloc);
-    say_children(children, &mut said).expect(rt, "memory");
-    String::from_str(alloc, said.as_str().trim_start_matches(' ')).expect(rt, "memory")
-}
-
 /// Asserts that the text is the wanted text.
 pub fn assert_text(rt: &impl Abort, text: &str, wanted: &str, asked: &str) {
     assert_eq!(rt; text, wanted, "at {asked}");
 }
 
-/// Asserts that a tree is that of a description: by value, and by its own description.
+/// Asserts that a tree is equal to that of a description. A failure shows its plain text.
 pub fn assert_tree(rt: &impl Abort, alloc: Global, tree: ElemChildren, wanted: &str, asked: &str) {
-    let said = say(rt, alloc, &tree);
-    assert_text(rt, said.as_str(), wanted, asked);
-    assert!(rt;
-        is_of(rt, alloc, tree, wanted),
-        "{wanted} by value at {asked}"
-    );
-}
-
-/// Whether a tree is equal to that of a description.
-fn is_of(rt: &impl Abort, alloc: Global, tree: ElemChildren, wanted: &str) -> bool {
-    tree == read(rt, alloc, wanted)
+    let described = read(rt, alloc, wanted);
+    assert!(rt; tree == described, "{wanted} at {asked}, and not {tree}");
+    drop(described);
+    drop(tree);
 }

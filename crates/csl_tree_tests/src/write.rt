@@ -1,6 +1,6 @@
 //! Writing trees.
 
-use crate::asserted::assert_same;
+use crate::assertions::assert_same;
 use crate::trees::{MIXED, assert_text, read};
 use csl_elements::{FontStyle, FontVariant, FontWeight, TextDecoration, VerticalAlign};
 use csl_tree::{BufWriteFormat, ElemChild, ElemChildren, Formatting};
@@ -238,7 +238,7 @@ fn is_taken(tree: &ElemChildren, texts: usize) -> bool {
 
 /// The least number of texts that a writer has to accept for the HTML, or 0 if it is not below a
 /// hundred.
-fn texts_taken(rt: &impl Abort, alloc: Global, source: &str) -> usize {
+fn text_count(rt: &impl Abort, alloc: Global, source: &str) -> usize {
     let tree = read(rt, alloc, source);
     for texts in 0..100 {
         if is_taken(&tree, texts) {
@@ -250,7 +250,7 @@ fn texts_taken(rt: &impl Abort, alloc: Global, source: &str) -> usize {
 
 #[test]
 fn a_refused_text_is_an_error(rt: HostRuntime) {
-    let taken = texts_taken(&rt, rt.alloc(), MIXED);
+    let taken = text_count(&rt, rt.alloc(), MIXED);
     // These are at least the tags of the block, the link and the span, and the texts.
     assert!(rt; taken >= 8, "all was taken after {taken} texts");
 }

@@ -1,6 +1,6 @@
 //! The first element of a `cs:names`, by mutable reference.
 
-use crate::asserted::assert_of;
+use crate::assertions::assert_of;
 use crate::trees::{assert_tree, read};
 use csl_tree::{ElemChildren, ElemMeta};
 use std::alloc::Global;
