@@ -1,7 +1,8 @@
-//! Tests of the answers of the program's built-in entries. The expected texts are written by hand.
+//! Tests of the answers of the program's built-in entries, and of an entry that has a title or
+//! nothing. The expected texts are written by hand.
 
-use crate::asserted::assert_text;
-use crate::shared::entries;
+use crate::assertions::assert_text;
+use crate::shared::{entries, title_only};
 use csl_entry::EntryLike;
 use csl_samples::BuiltIn;
 use csl_style::{DateVariable, NameVariable, NumberVariable, PageVariable, StandardVariable};
@@ -167,5 +168,15 @@ fn answers_of_built_in_entries(rt: HostRuntime) {
     let rows: &[Row] = &ANSWERS;
     for row in rows {
         assert_answer(&rt, rt.alloc(), row);
+    }
+}
+
+#[test]
+fn answers_of_a_title_alone(rt: HostRuntime) {
+    let title = Question::Text(StandardVariable::Title);
+    for (text, wanted) in [(Some("a"), "[a]"), (Some(""), "[]"), (None, "")] {
+        let entry = title_only(&rt, rt.alloc(), text);
+        let words = answer_words(&rt, rt.alloc(), &entry, title);
+        assert_text(&rt, words.as_str(), wanted, &["title"]);
     }
 }

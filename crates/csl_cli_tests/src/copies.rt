@@ -1,7 +1,7 @@
 //! Tests of copies of cite properties, states, pages and texts, and of calls that the program's
 //! words alone do not cover. The expected texts are written by hand.
 
-use crate::asserted::{assert_status, assert_text};
+use crate::assertions::{assert_status, assert_text};
 use crate::shared::{assert_plain, entries, put, state_words};
 use crate::words::NATURE;
 use csl_cli::run::run_into;

@@ -3,7 +3,7 @@
 
 ghost use Rattle.std.specs.Prelude.{◌≡◌, OnOk};
 
-use crate::asserted::assert_text;
+use crate::assertions::assert_text;
 use crate::node_at::node_at;
 use crate::shared::{entries, instance, state_words};
 use csl_context::{Context, LeftState, RenderError};

@@ -1,7 +1,7 @@
 //! Tests of the command `leaf`. The expected texts are written by hand, or are the plain text of
 //! the same cite.
 
-use crate::asserted::{assert_status, assert_text};
+use crate::assertions::{assert_status, assert_text};
 use crate::words::{Row, assert_all, strings};
 use csl_cli::run::run;
 use std::alloc::Global;

@@ -6,7 +6,7 @@
 #[cfg(test)]
 mod answers;
 #[cfg(test)]
-mod asserted;
+mod assertions;
 #[cfg(test)]
 mod cites;
 #[cfg(test)]
@@ -17,8 +17,6 @@ mod dry_runs;
 mod leaf;
 #[cfg(test)]
 mod many_nodes;
-#[cfg(test)]
-mod named;
 #[cfg(test)]
 mod node_at;
 #[cfg(test)]
@@ -32,7 +30,7 @@ mod refusing_writers;
 #[cfg(test)]
 mod shared;
 #[cfg(test)]
-mod titles;
+mod variables;
 #[cfg(test)]
 mod without_memory;
 #[cfg(test)]

@@ -3,7 +3,7 @@
 
 ghost use Rattle.std.specs.Prelude.{◌≡◌, OnOk};
 
-use crate::asserted::assert_text;
+use crate::assertions::assert_text;
 use crate::dry_runs::run_words;
 use crate::node_at::node_at;
 use crate::shared::{assert_plain, entries, instance};

@@ -1,6 +1,6 @@
 //! Tests of the calls that render two entries. Rows state more pairs (`tests/rows`).
 
-use crate::asserted::assert_text;
+use crate::assertions::assert_text;
 use crate::shared::{entries, put, title_only};
 use csl_context::LeftState;
 use csl_entry::{CiteProperties, DisambiguateState};

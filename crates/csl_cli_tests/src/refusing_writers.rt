@@ -3,7 +3,7 @@
 
 ghost use Rattle.std.specs.Prelude.{Some, None, codes};
 
-use crate::asserted::{assert_status, assert_text};
+use crate::assertions::{assert_status, assert_text};
 use crate::cites::{THREE, VORTEX_HTML};
 use crate::shared::title_only;
 use crate::words::{NATURE, Row, strings};

@@ -1,6 +1,6 @@
 //! Functions that tests share: lists, built-in entries, cites, and the words of a state.
 
-use crate::asserted::assert_text;
+use crate::assertions::assert_text;
 use csl_context::{LeftState, Rendered};
 use csl_entry::{CiteProperties, InstanceContext};
 use csl_samples::{BuiltIn, TitleOnly};

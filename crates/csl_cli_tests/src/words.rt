@@ -1,7 +1,7 @@
 //! Tests of the program's words: its status and the texts that it writes. The expected texts are
 //! written by hand.
 
-use crate::asserted::{assert_status, assert_text};
+use crate::assertions::{assert_status, assert_text};
 use crate::shared::put;
 use csl_cli::run::run;
 use std::alloc::Global;

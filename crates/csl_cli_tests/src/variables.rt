@@ -1,13 +1,13 @@
 //! Tests of the variables that the built-in styles name. The expected texts are written by hand.
 
-use crate::asserted::assert_text;
+use crate::assertions::assert_text;
 use csl_samples::BuiltInStyle;
 use csl_style::{Named, named_by};
 use std::alloc::Global;
 use std::process::Abort;
 
 /// The variables and kinds that a built-in style names.
-fn named(rt: &impl Abort, alloc: Global, style: BuiltInStyle) -> Named {
+fn variables_of(rt: &impl Abort, alloc: Global, style: BuiltInStyle) -> Named {
     let style = style.style(alloc).expect(rt, "memory");
     let named = named_by(alloc, &style, style.citation()).expect(rt, "memory");
     drop(style);
@@ -40,7 +40,7 @@ static NAMED: [(BuiltInStyle, &str); 2] = [
 ];
 
 fn assert_named(rt: &impl Abort, alloc: Global, style: BuiltInStyle, wanted: &str) {
-    let named = named(rt, alloc, style);
+    let named = variables_of(rt, alloc, style);
     let words = words_of(rt, alloc, &named);
     drop(named);
     assert_text(rt, words.as_str(), wanted, &["style"]);
