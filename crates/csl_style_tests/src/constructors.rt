@@ -11,8 +11,8 @@ ghost use Rattle.csl_elements.specs.Node.{of_value, of_variable};
 ghost use Rattle.csl_elements.specs.NameOptions.{no_options};
 ghost use Rattle.csl_elements.specs.View.{branches_of, first_et_al, first_label, name_children, substitutes, view_node, view_branch, view_child, view_date, view_nodes};
 
-use crate::asserted::{assert_same, assert_text};
-use crate::made::{one, put};
+use crate::assertions::{assert_same, assert_text};
+use crate::notation::{alone, put};
 use csl_style::{
     Affixes, Choose, ChooseBranch, ChooseMatch, CslMacro, Date, DateForm, DatePart, DatePartName,
     DateVariable, EtAl, FontStyle, Formatting, Group, Kind, Label, Layout, LayoutRenderingElement,
@@ -49,7 +49,7 @@ fn variable_in(variable: Variable, formatting: Formatting) -> LayoutRenderingEle
 }
 
 /// Words in quotes and in parentheses.
-fn quoted(alloc: Global, words: &str) -> Result<LayoutRenderingElement, Memory>
+fn quoted_words(alloc: Global, words: &str) -> Result<LayoutRenderingElement, Memory>
     ensures { IfOk result (λ made. view_node made ≡ node.text (of_value words.now) (record {
       dressing = record no_dressing { affixes = texts_around (codes "(") (codes ")") };
       quotes = true;
@@ -224,7 +224,7 @@ fn texts_print_words_and_macros(rt: HostRuntime) {
     assert_words(&rt, words.into(), "in press");
     let call = Text::macro_call(alloc, "author").expect(&rt, "memory");
     assert_words(&rt, call.into(), "author");
-    assert_words(&rt, quoted(alloc, "sic").expect(&rt, "memory"), "sic");
+    assert_words(&rt, quoted_words(alloc, "sic").expect(&rt, "memory"), "sic");
 }
 
 /// The attributes of a text node: its formatting, and whether it is in quotes.
@@ -244,7 +244,7 @@ fn texts_have_the_attributes_that_are_set(rt: HostRuntime) {
     let and = Text::term(OtherTerm::And.into());
     let plain = Formatting::default();
     assert_same(&rt, &attributes(and.into()), &Some((plain, false)));
-    let words = quoted(rt.alloc(), "sic").expect(&rt, "memory");
+    let words = quoted_words(rt.alloc(), "sic").expect(&rt, "memory");
     assert_same(&rt, &attributes(words), &Some((plain, true)));
 }
 
@@ -276,7 +276,7 @@ fn numbers_and_labels_have_their_forms(rt: HostRuntime) {
 
 /// A date node with the year of publication.
 fn issued(rt: &impl Abort, alloc: Global) -> LayoutRenderingElement {
-    let parts = one(rt, alloc, DatePart::new(DatePartName::Year));
+    let parts = alone(rt, alloc, DatePart::new(DatePartName::Year));
     spaced_date(alloc, DateVariable::Issued, parts).expect(rt, "memory")
 }
 
@@ -294,7 +294,7 @@ fn assert_date(rt: &impl Abort, element: LayoutRenderingElement) {
 
 #[test]
 fn a_localized_date_has_a_form_and_no_variable(rt: HostRuntime) {
-    let parts = one(&rt, rt.alloc(), DatePart::new(DatePartName::Year));
+    let parts = alone(&rt, rt.alloc(), DatePart::new(DatePartName::Year));
     let date = spaced_in_words(rt.alloc(), parts).expect(&rt, "memory");
     assert_same(&rt, &date.variable, &None);
     assert_same(&rt, &date.form, &Some(DateForm::Text));
@@ -319,13 +319,13 @@ fn assert_group(rt: &impl Abort, element: LayoutRenderingElement) {
 fn a_group_may_hold_a_date(rt: HostRuntime) {
     let alloc = rt.alloc();
     assert_date(&rt, issued(&rt, alloc));
-    let children = one(&rt, alloc, issued(&rt, alloc));
+    let children = alone(&rt, alloc, issued(&rt, alloc));
     assert_group(&rt, in_parentheses(alloc, children).expect(&rt, "memory"));
 }
 
 /// Authors with a name, et al., a long label and a substitute.
 fn authors(rt: &impl Abort, alloc: Global) -> LayoutRenderingElement {
-    let mut children: Vec<NamesChild> = one(rt, alloc, Name::new(alloc).into());
+    let mut children: Vec<NamesChild> = alone(rt, alloc, Name::new(alloc).into());
     put(rt, &mut children, EtAl::default().into());
     put(rt, &mut children, VariablelessLabel::default().into());
     let substitute = Substitute {
@@ -362,9 +362,9 @@ fn names_have_their_children(rt: HostRuntime) {
 fn books(rt: &impl Abort, alloc: Global) -> LayoutRenderingElement {
     let kinds = vec![in alloc; Kind::Book].expect(rt, "memory");
     let inner: LayoutRenderingElement = Group::new(Vec::new(alloc)).into();
-    let branch = of_kinds(kinds, one(rt, alloc, inner));
+    let branch = of_kinds(kinds, alone(rt, alloc, inner));
     let no = Text::value(alloc, "no").expect(rt, "memory");
-    let mut otherwise: Vec<LayoutRenderingElement> = one(rt, alloc, no.into());
+    let mut otherwise: Vec<LayoutRenderingElement> = alone(rt, alloc, no.into());
     let book = Text::value(alloc, "book").expect(rt, "memory");
     put(rt, &mut otherwise, book.into());
     either(alloc, branch, otherwise)
@@ -394,7 +394,7 @@ fn assert_choose(rt: &impl Abort, element: &LayoutRenderingElement) {
 #[test]
 fn a_macro_may_hold_a_choice(rt: HostRuntime) {
     let alloc = rt.alloc();
-    let children = one(&rt, alloc, books(&rt, alloc));
+    let children = alone(&rt, alloc, books(&rt, alloc));
     let books = CslMacro::new(alloc, "books", children).expect(&rt, "memory");
     assert_text(&rt, Some(books.name.as_str()), Some("books"));
     for element in &books.children {
@@ -407,7 +407,7 @@ fn a_macro_may_hold_a_choice(rt: HostRuntime) {
 #[test]
 fn a_layout_holds_its_elements(rt: HostRuntime) {
     let alloc = rt.alloc();
-    let layout = Layout::new(one(&rt, alloc, issued(&rt, alloc)));
+    let layout = Layout::new(alone(&rt, alloc, issued(&rt, alloc)));
     assert_same(&rt, &layout.elements.len(), &1);
     assert_text(&rt, layout.delimiter.as_deref(), None);
     drop(layout);

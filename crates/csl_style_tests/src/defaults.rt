@@ -1,6 +1,6 @@
 //! The default values of options that a style does not set.
 
-use crate::asserted::assert_same;
+use crate::assertions::assert_same;
 use csl_style::{
     ChooseMatch, DateParts, DelimiterBehavior, DemoteNonDroppingParticle, EtAl, FontStyle,
     FontVariant, FontWeight, LabelPluralize, LongShortForm, Name, NameForm, OtherTerm,

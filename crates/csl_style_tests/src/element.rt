@@ -1,7 +1,7 @@
 //! Nodes that hold nodes.
 
-use crate::asserted::assert_same;
-use crate::made::{branch, group, nested, put};
+use crate::assertions::assert_same;
+use crate::notation::{branch, group, nested_nodes, put};
 use csl_style::{Choose, ChooseMatch, LayoutRenderingElement};
 use std::alloc::Global;
 use std::mem::swap;
@@ -74,7 +74,7 @@ static NESTED: [&'static str; 6] = [
 
 /// Asserts that nested nodes drop, with `count` nodes at each time.
 fn assert_drop(rt: &impl Abort, alloc: Global, (words, others): (&str, &str), count: usize) {
-    let nodes = nested(rt, alloc, words, TIMES, others);
+    let nodes = nested_nodes(rt, alloc, words, TIMES, others);
     let answer = nodes.len();
     drop(nodes);
     assert_same(rt, &answer, &count);
@@ -106,7 +106,7 @@ fn take_children(alloc: Global, node: &mut LayoutRenderingElement) -> Vec<Layout
 #[test]
 fn a_group_is_taken_apart_through_a_reference(rt: HostRuntime) {
     let alloc = rt.alloc();
-    let mut node = group(nested(&rt, alloc, "if", 1, "'a"));
+    let mut node = group(nested_nodes(&rt, alloc, "if", 1, "'a"));
     let first = take_children(alloc, &mut node).len();
     let again = take_children(alloc, &mut node).len();
     drop(node);

@@ -4,7 +4,7 @@
 #![tactic(auto)]
 
 #[cfg(test)]
-mod asserted;
+mod assertions;
 #[cfg(test)]
 mod constructors;
 #[cfg(test)]
@@ -13,8 +13,6 @@ mod defaults;
 mod element;
 #[cfg(test)]
 mod locale;
-#[cfg(test)]
-mod made;
 #[cfg(test)]
 mod many_macros;
 #[cfg(test)]
@@ -25,6 +23,8 @@ mod named;
 mod names;
 #[cfg(test)]
 mod names_parts;
+#[cfg(test)]
+mod notation;
 #[cfg(test)]
 mod number;
 #[cfg(test)]

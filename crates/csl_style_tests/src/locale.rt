@@ -2,8 +2,8 @@
 
 ghost use Rattle.std.specs.Prelude.{◌≡◌, ◌↔◌, IsTrue};
 
-use crate::asserted::{assert_same, assert_text};
-use crate::made::{EMPTY, LocaleRows, SILENT, StyleRows, locales, style};
+use crate::assertions::{assert_same, assert_text};
+use crate::notation::{EMPTY, LocaleRows, SILENT, StyleRows, locales, style};
 use csl_style::{
     Date, DateForm, DateParts, LocaleOrdinals, Locator, NumberVariable, OrdinalMatch, OrdinalSlot,
     OtherTerm, Style, Term, TermForm,

@@ -1,7 +1,7 @@
 //! Styles of many macros, which are found by other means than those of a few.
 
-use crate::asserted::assert_of;
-use crate::made::{layout_of, one, put, text};
+use crate::assertions::assert_of;
+use crate::notation::{alone, layout_of, put, text};
 use csl_style::{CslMacro, LayoutRenderingElement, Style, StyleSettings, TextTarget};
 use std::alloc::Global;
 use std::process::Abort;
@@ -14,7 +14,7 @@ fn call(rt: &impl Abort, alloc: Global, number: usize) -> LayoutRenderingElement
     text(TextTarget::Macro { name })
 }
 
-fn numbered(
+fn macro_of_number(
     rt: &impl Abort,
     alloc: Global,
     number: usize,
@@ -29,21 +29,21 @@ fn numbered(
 fn chain(rt: &impl Abort, alloc: Global) -> Vec<CslMacro> {
     let mut macros = Vec::new(alloc);
     for number in 0..MANY {
-        let next = one(rt, alloc, call(rt, alloc, number + 1));
-        put(rt, &mut macros, numbered(rt, alloc, number, next));
+        let next = alone(rt, alloc, call(rt, alloc, number + 1));
+        put(rt, &mut macros, macro_of_number(rt, alloc, number, next));
         put(
             rt,
             &mut macros,
-            numbered(rt, alloc, number, Vec::new(alloc)),
+            macro_of_number(rt, alloc, number, Vec::new(alloc)),
         );
     }
     macros
 }
 
 /// A style of the chain, whose layout calls the first macro.
-fn chained(rt: &impl Abort, alloc: Global) -> Style {
+fn style_of_chain(rt: &impl Abort, alloc: Global) -> Style {
     let macros = chain(rt, alloc);
-    let citation = layout_of(one(rt, alloc, call(rt, alloc, 0)));
+    let citation = layout_of(alone(rt, alloc, call(rt, alloc, 0)));
     let settings = StyleSettings::default();
     Style::new(alloc, settings, macros, citation, None, Vec::new(alloc)).expect(rt, "a style")
 }
@@ -87,7 +87,7 @@ fn assert_chained(rt: &impl Abort, alloc: Global, style: &Style) {
 #[test]
 fn the_first_of_a_name_is_found_among_many(rt: HostRuntime) {
     let alloc = rt.alloc();
-    let style = chained(&rt, alloc);
+    let style = style_of_chain(&rt, alloc);
     assert_chained(&rt, alloc, &style);
     drop(style);
 }

@@ -1,7 +1,7 @@
 //! The first macro that a style calls but does not have.
 
-use crate::asserted::assert_text;
-use crate::made::{EMPTY, StyleRows, style};
+use crate::assertions::assert_text;
+use crate::notation::{EMPTY, StyleRows, style};
 use std::alloc::Global;
 use std::process::Abort;
 

@@ -1,7 +1,9 @@
 //! The variables and kinds that layouts name.
 
-use crate::asserted::assert_text;
-use crate::made::{EMPTY, StyleRows, branch, group, layout_of, names, names_or, one, put, style};
+use crate::assertions::assert_text;
+use crate::notation::{
+    EMPTY, StyleRows, alone, branch, group, layout_of, names, names_or, put, style,
+};
 use csl_style::{
     Choose, ChooseBranch, ChooseMatch, Date, DateVariable, Kind, Label, Layout,
     LayoutRenderingElement, NameVariable, Named, Number, NumberOrPageVariable, NumberVariable,
@@ -11,7 +13,7 @@ use std::alloc::Global;
 use std::process::Abort;
 
 /// The six sets as text.
-fn said(rt: &impl Abort, alloc: Global, named: &Named) -> String {
+fn words_of(rt: &impl Abort, alloc: Global, named: &Named) -> String {
     format!(in alloc;
         "numbers {:?} pages {:?} standards {:?} names {:?} dates {:?} kinds {:?}",
         named.numbers, named.pages, named.standards, named.names, named.dates, named.kinds
@@ -20,9 +22,9 @@ fn said(rt: &impl Abort, alloc: Global, named: &Named) -> String {
 }
 
 /// The variables and kinds that a layout of a style names, as text.
-fn named_in(rt: &impl Abort, alloc: Global, style: &Style, layout: &Layout) -> String {
+fn variables_in(rt: &impl Abort, alloc: Global, style: &Style, layout: &Layout) -> String {
     let named = named_by(alloc, style, layout).expect(rt, "memory");
-    let said = said(rt, alloc, &named);
+    let said = words_of(rt, alloc, &named);
     drop(named);
     said
 }
@@ -34,7 +36,7 @@ fn assert_said(
     layout: &Layout,
     wanted: &'static str,
 ) {
-    let said = named_in(rt, alloc, style, layout);
+    let said = variables_in(rt, alloc, style, layout);
     assert_text(rt, Some(said.as_str()), Some(wanted));
 }
 
@@ -137,15 +139,15 @@ const PAGE: NumberOrPageVariable = NumberOrPageVariable::Page(PageVariable::Page
 
 fn author_or_editor(rt: &impl Abort, alloc: Global) -> LayoutRenderingElement {
     let editor = names(rt, alloc, NameVariable::Editor, Vec::new(alloc));
-    names_or(rt, alloc, one(rt, alloc, editor))
+    names_or(rt, alloc, alone(rt, alloc, editor))
 }
 
 /// A layout of the author and the date of issue.
 pub(crate) fn author_date(rt: &impl Abort, alloc: Global) -> Layout {
     let author = names(rt, alloc, NameVariable::Author, Vec::new(alloc));
-    let mut parts = one(rt, alloc, author);
+    let mut parts = alone(rt, alloc, author);
     push_leaves(rt, alloc, &mut parts, &[Leaf::Issued]);
-    layout_of(one(rt, alloc, group(parts)))
+    layout_of(alone(rt, alloc, group(parts)))
 }
 
 static TITLES: [Leaf; 2] = [
@@ -172,14 +174,14 @@ fn push_parts(rt: &impl Abort, alloc: Global, parts: &mut Vec<LayoutRenderingEle
 
 /// Authors or else editors, and the title, container, volume, pages and date of issue.
 fn parts_of_reference(rt: &impl Abort, alloc: Global) -> Vec<LayoutRenderingElement> {
-    let mut parts = one(rt, alloc, author_or_editor(rt, alloc));
+    let mut parts = alone(rt, alloc, author_or_editor(rt, alloc));
     push_parts(rt, alloc, &mut parts);
     parts
 }
 
 /// A layout of the parts of a reference and the DOI.
 pub(crate) fn reference(rt: &impl Abort, alloc: Global) -> Layout {
-    let mut elements = one(rt, alloc, group(parts_of_reference(rt, alloc)));
+    let mut elements = alone(rt, alloc, group(parts_of_reference(rt, alloc)));
     push_group(rt, alloc, &mut elements, &OF_DOI);
     layout_of(elements)
 }
@@ -211,7 +213,7 @@ pub(crate) fn uncertain_or_placed(rt: &impl Abort, alloc: Global) -> ChooseBranc
 /// A layout of a choice of one branch.
 pub(crate) fn choice(rt: &impl Abort, alloc: Global, if_: ChooseBranch) -> Layout {
     let choose = Choose::new(alloc, if_);
-    layout_of(one(rt, alloc, choose.into()))
+    layout_of(alone(rt, alloc, choose.into()))
 }
 
 /// Three numbers that the citation answers, one that the entry answers, and its pages as a number.

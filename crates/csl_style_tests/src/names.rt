@@ -1,7 +1,7 @@
 //! The options of names.
 
-use crate::asserted::{assert_same, assert_text};
-use crate::made::copy_text;
+use crate::assertions::{assert_same, assert_text};
+use crate::notation::copy_text;
 use csl_style::{
     DelimiterBehavior, InheritableNameOptions, InheritedNameOptions, NameForm, NameOptions,
 };

@@ -1,7 +1,7 @@
 //! The parts of names: those of a node, and those of a node in the place of another.
 
-use crate::asserted::{assert_same, assert_text};
-use crate::made::{copy_text, put};
+use crate::assertions::{assert_same, assert_text};
+use crate::notation::{copy_text, put};
 use csl_style::{
     Affixes, Display, EtAl, FontStyle, Formatting, InheritableNameOptions, Name, NameForm,
     NamePart, NamePartName, NameVariable, Names, NamesChild, NamesParts, OtherTerm, Substitute,
@@ -49,7 +49,7 @@ const SILENT: Own = Own {
     display: None,
 };
 
-fn slanted(font_style: Option<FontStyle>) -> Formatting {
+fn font(font_style: Option<FontStyle>) -> Formatting {
     Formatting {
         font_style,
         ..Formatting::default()
@@ -110,7 +110,7 @@ fn names(rt: &impl Abort, alloc: Global, own: &Own, rows: &[Child]) -> Names {
         affixes,
         children,
         options,
-        formatting: slanted(own.font_style),
+        formatting: font(own.font_style),
         display: own.display,
     }
 }
@@ -317,7 +317,7 @@ fn name_of_parts(rt: &impl Abort, alloc: Global, rows: &[Part]) -> Name {
     for (part, font_style) in rows {
         let part = NamePart {
             name: *part,
-            formatting: slanted(Some(*font_style)),
+            formatting: font(Some(*font_style)),
             affixes: Affixes::default(),
         };
         put(rt, &mut parts, part);

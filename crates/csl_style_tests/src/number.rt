@@ -5,7 +5,7 @@ ghost use Rattle.csl_elements.specs.Dressing.{dressing_of};
 ghost use Rattle.csl_elements.specs.Node.{number};
 ghost use Rattle.csl_elements.specs.View.{view_node};
 
-use crate::asserted::assert_same;
+use crate::assertions::assert_same;
 use csl_style::{
     Affixes, Formatting, LayoutRenderingElement, Number, NumberForm, NumberOrPageVariable,
     NumberVariable, PageVariable,

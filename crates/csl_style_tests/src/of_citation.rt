@@ -1,6 +1,6 @@
 //! The variables that the citation answers, and two formattings applied over a third.
 
-use crate::asserted::assert_same;
+use crate::assertions::assert_same;
 use csl_style::{
     DateVariable, FontStyle, FontWeight, Formatting, NameVariable, NumberVariable, PageVariable,
     StandardVariable, Variable,

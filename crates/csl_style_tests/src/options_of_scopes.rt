@@ -1,7 +1,7 @@
 //! The name options of a scope, and the options of the first locale.
 
-use crate::asserted::{assert_same, assert_text};
-use crate::made::{EMPTY, LocaleRows, SILENT, StyleRows, copy_text, layout_of, style};
+use crate::assertions::{assert_same, assert_text};
+use crate::notation::{EMPTY, LocaleRows, SILENT, StyleRows, copy_text, layout_of, style};
 use csl_style::{InheritableNameOptions, NameForm, Scope, Style, StyleSettings};
 use std::alloc::Global;
 use std::process::Abort;

@@ -1,7 +1,7 @@
 //! Layouts that reach a text of the year suffix.
 
-use crate::asserted::assert_of;
-use crate::made::{EMPTY, StyleRows, style};
+use crate::assertions::assert_of;
+use crate::notation::{EMPTY, StyleRows, style};
 use csl_style::Scope;
 use std::alloc::Global;
 use std::process::Abort;

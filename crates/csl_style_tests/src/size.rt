@@ -1,8 +1,8 @@
 //! The size and the depth of layouts with their macros expanded.
 
-use crate::asserted::assert_of;
-use crate::made::{EMPTY, StyleRows, layout_of, names, one, put, style};
+use crate::assertions::assert_of;
 use crate::named::{author_date, choice, numeric_book, reference, uncertain_or_placed};
+use crate::notation::{EMPTY, StyleRows, alone, layout_of, names, put, style};
 use csl_style::{
     Affixes, Date, DatePart, DatePartName, DateVariable, Formatting, Layout, Name, NamePart,
     NamePartName, NameVariable, Names, NamesChild, Scope, Style, Substitute, VariablelessLabel,
@@ -106,7 +106,7 @@ fn each_node_branch_and_expanded_macro_counts(rt: HostRuntime) {
 
 /// Names of an editor with a name, a label and an empty substitute.
 fn editor(rt: &impl Abort, alloc: Global) -> Layout {
-    let mut children = one(rt, alloc, NamesChild::Name(Name::new(alloc)));
+    let mut children = alone(rt, alloc, NamesChild::Name(Name::new(alloc)));
     put(
         rt,
         &mut children,
@@ -117,7 +117,7 @@ fn editor(rt: &impl Abort, alloc: Global) -> Layout {
     };
     put(rt, &mut children, NamesChild::Substitute(substitute));
     let editor = names(rt, alloc, NameVariable::Editor, children);
-    layout_of(one(rt, alloc, editor))
+    layout_of(alone(rt, alloc, editor))
 }
 
 fn assert_layout(rt: &impl Abort, alloc: Global, layout: Layout, size: u64, of: &str) {
@@ -138,10 +138,10 @@ fn variables_name_children_and_substitutes_of_names_count(rt: HostRuntime) {
 
 /// A date of issue with a year and a month.
 fn year_and_month(rt: &impl Abort, alloc: Global) -> Layout {
-    let mut parts = one(rt, alloc, DatePart::new(DatePartName::Year));
+    let mut parts = alone(rt, alloc, DatePart::new(DatePartName::Year));
     put(rt, &mut parts, DatePart::new(DatePartName::Month));
     let issued = Date::new(DateVariable::Issued, parts);
-    layout_of(one(rt, alloc, issued.into()))
+    layout_of(alone(rt, alloc, issued.into()))
 }
 
 /// A part of a name without formatting.
@@ -159,12 +159,12 @@ fn authors_and_editors(rt: &impl Abort, alloc: Global) -> Layout {
     put(rt, &mut name.parts, name_part(NamePartName::Given));
     put(rt, &mut name.parts, name_part(NamePartName::Family));
     let variables = vec![in alloc; NameVariable::Author, NameVariable::Editor].expect(rt, "memory");
-    let children = one(rt, alloc, NamesChild::Name(name));
+    let children = alone(rt, alloc, NamesChild::Name(name));
     let names = Names {
         children,
         ..Names::new(alloc, variables)
     };
-    layout_of(one(rt, alloc, names.into()))
+    layout_of(alone(rt, alloc, names.into()))
 }
 
 #[test]

@@ -1,7 +1,7 @@
 //! Styles: which are rejected, and the parts that they return.
 
-use crate::asserted::{assert_same, assert_text};
-use crate::made::{EMPTY, LocaleRows, SILENT, StyleRows, accepted, style};
+use crate::assertions::{assert_same, assert_text};
+use crate::notation::{EMPTY, LocaleRows, SILENT, StyleRows, style, style_or_error};
 use csl_style::{
     CslMacro, DateForm, Layout, LayoutRenderingElement, OrdinalSlot, OtherTerm, PageRangeFormat,
     Scope, Style, Term, TermForm, TextTarget,
@@ -22,7 +22,7 @@ fn refusal(
         macros,
         ..EMPTY
     };
-    match accepted(rt, alloc, &rows).err() {
+    match style_or_error(rt, alloc, &rows).err() {
         None => None,
         Some(error) => Some(format!(in alloc; "{}", error).expect(rt, "memory")),
     }

@@ -1,7 +1,7 @@
 //! The ordinals of a style, as a value.
 
-use crate::asserted::assert_text;
-use crate::made::{EMPTY, LocaleRows, SILENT, StyleRows, style};
+use crate::assertions::assert_text;
+use crate::notation::{EMPTY, LocaleRows, SILENT, StyleRows, style};
 use csl_style::{OrdinalSlot, Style};
 use std::alloc::Global;
 use std::process::Abort;

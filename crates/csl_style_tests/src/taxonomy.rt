@@ -3,7 +3,7 @@
 ghost use Rattle.std.specs.Prelude.{◌≡◌, ◌↔◌, IsTrue};
 ghost use Rattle.std.specs.declared.cmp.Ordering.TheVariants.{Equal};
 
-use crate::asserted::{assert_of, assert_same};
+use crate::assertions::{assert_of, assert_same};
 use csl_style::{
     DateVariable, Kind, NameVariable, NumberOrPageVariable, NumberVariable, PageVariable,
     StandardVariable, Term, Variable,

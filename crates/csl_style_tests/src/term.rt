@@ -2,7 +2,7 @@
 
 ghost use Rattle.std.specs.Prelude.{◌≡◌, ◌↔◌, IsTrue};
 
-use crate::asserted::assert_same;
+use crate::assertions::assert_same;
 use csl_style::{Locator, NumberVariable, OtherTerm, Season, Term};
 use std::process::Abort;
 

@@ -51,7 +51,7 @@ pub(crate) fn put<T: Drop>(rt: &impl Abort, items: &mut Vec<T>, item: T) {
 }
 
 /// A list of one item.
-pub(crate) fn one<T: Drop>(rt: &impl Abort, alloc: Global, item: T) -> Vec<T> {
+pub(crate) fn alone<T: Drop>(rt: &impl Abort, alloc: Global, item: T) -> Vec<T> {
     let mut items = Vec::new(alloc);
     put(rt, &mut items, item);
     items
@@ -191,7 +191,12 @@ pub(crate) fn names_or(
     children: Vec<LayoutRenderingElement>,
 ) -> LayoutRenderingElement {
     let substitute = NamesChild::Substitute(Substitute { children });
-    names(rt, alloc, NameVariable::Author, one(rt, alloc, substitute))
+    names(
+        rt,
+        alloc,
+        NameVariable::Author,
+        alone(rt, alloc, substitute),
+    )
 }
 
 /// Names of a variable.
@@ -229,7 +234,7 @@ fn node_around(
             let empty = branch(ChooseMatch::All, told, Vec::new(alloc));
             let chosen = branch(ChooseMatch::All, told, children);
             let choose = Choose {
-                else_if: one(rt, alloc, chosen),
+                else_if: alone(rt, alloc, chosen),
                 ..Choose::new(alloc, empty)
             };
             choose.into()
@@ -296,7 +301,7 @@ fn nodes_around(
     let mut nodes = inside;
     for word in words.iter().rev() {
         if let Some(around) = read_around(*word) {
-            nodes = one(rt, alloc, node_around(rt, alloc, around, nodes));
+            nodes = alone(rt, alloc, node_around(rt, alloc, around, nodes));
         }
     }
     nodes
@@ -304,7 +309,7 @@ fn nodes_around(
 
 /// Nested nodes: `times` times the nodes that the words put around each other. At each time the
 /// other nodes stand beside the nested ones.
-pub(crate) fn nested(
+pub(crate) fn nested_nodes(
     rt: &impl Abort,
     alloc: Global,
     words: &str,
@@ -388,11 +393,11 @@ pub(crate) const EMPTY: StyleRows<'static> = StyleRows {
 
 /// The style that rows describe.
 pub(crate) fn style(rt: &impl Abort, alloc: Global, rows: &StyleRows<'_>) -> Style {
-    accepted(rt, alloc, rows).expect(rt, "a style")
+    style_or_error(rt, alloc, rows).expect(rt, "a style")
 }
 
 /// The style that rows describe, or the error of a style that is rejected.
-pub(crate) fn accepted(
+pub(crate) fn style_or_error(
     rt: &impl Abort,
     alloc: Global,
     rows: &StyleRows<'_>,
