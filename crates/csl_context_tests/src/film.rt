@@ -1,6 +1,6 @@
 //! The entry type of these tests.
 
-use crate::made::pieces;
+use crate::samples::pieces;
 use csl_entry::EntryLike;
 use csl_style::{DateVariable, Kind, NameVariable, NumberVariable, PageVariable, StandardVariable};
 use lit_model::{

@@ -3,16 +3,16 @@
 #![tactic(auto)]
 
 #[cfg(test)]
-mod asked;
+mod acts;
 #[cfg(test)]
 mod film;
 #[cfg(test)]
-mod looked;
+mod lookups;
 #[cfg(test)]
-mod made;
+mod queries;
 #[cfg(test)]
-mod performed;
+mod samples;
 #[cfg(test)]
-mod said;
+mod words;
 #[cfg(test)]
-mod written;
+mod writes;

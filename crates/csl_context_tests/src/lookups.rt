@@ -2,15 +2,15 @@
 
 ghost use Rattle.std.specs.Prelude.{◌≡◌, OnOk};
 
-use crate::asked::put;
 use crate::film::Film;
-use crate::written::yes;
+use crate::queries::put;
+use crate::writes::yes;
 use csl_context::{Context, RenderError};
 use csl_style::{DateVariable, NameVariable, NumberVariable, PageVariable, StandardVariable};
 use lit_model::LongShortForm;
 
 /// Whether each of five variables is found by a silent lookup.
-fn found(ctx: &Context<'_, Film>) -> Result<[bool; 5], RenderError> {
+fn are_found(ctx: &Context<'_, Film>) -> Result<[bool; 5], RenderError> {
     let title = ctx
         .peek_standard_variable(LongShortForm::Short, StandardVariable::Title)?
         .is_some();
@@ -26,7 +26,7 @@ fn found(ctx: &Context<'_, Film>) -> Result<[bool; 5], RenderError> {
 fn peek_all(ctx: &mut Context<'_, Film>) -> Result<(), RenderError>
     ensures { OnOk result (ctx.new.outer ≡ ctx.old.outer) }
 {
-    let found = found(ctx);
+    let found = are_found(ctx);
     if found.is_err() {
         ctx.fail();
     }

@@ -2,14 +2,14 @@
 
 ghost use Rattle.std.specs.Prelude.{◌≡◌, [], OnOk, IfOk};
 
-use crate::asked::{
+use crate::film::{Film, UNANSWERED, metropolis};
+use crate::lookups::{look, look_and_suppress, suppress_genre};
+use crate::queries::{
     ask_cite, ask_locale, ask_terms, attempt, delimit, inherit_options, keep_names, mark_dates,
 };
-use crate::film::{Film, UNANSWERED, metropolis};
-use crate::looked::{look, look_and_suppress, suppress_genre};
-use crate::made::{affixes, alone, style};
-use crate::said::say;
-use crate::written::{
+use crate::samples::{affixes, alone, style};
+use crate::words::say;
+use crate::writes::{
     affix, discard, format, join, nest, quote, quote_twice, space, splice, strip, write_pieces,
 };
 use csl_context::{Context, RenderError, Rendered};
@@ -136,7 +136,7 @@ fn new_context<'s>(rt: &impl Abort, world: World<'s>) -> Context<'s, Film> {
 
 /// Returns the error of a call if the context and later calls report the failure. Otherwise returns
 /// [`RenderError::Failed`].
-fn refused(ctx: &mut Context<'_, Film>, error: RenderError) -> RenderError {
+fn error_of(ctx: &mut Context<'_, Film>, error: RenderError) -> RenderError {
     let written = ctx.push_str("a").err();
     let guard = ctx.ensure_live().err();
     let failed = Some(RenderError::Failed);
@@ -147,7 +147,10 @@ fn refused(ctx: &mut Context<'_, Film>, error: RenderError) -> RenderError {
 }
 
 /// The context of an act: a new one, or one with the state that another act left.
-fn begun<'s>(world: World<'s>, before: Option<&Rendered>) -> Result<Context<'s, Film>, RenderError>
+fn context_of<'s>(
+    world: World<'s>,
+    before: Option<&Rendered>,
+) -> Result<Context<'s, Film>, RenderError>
     ensures { IfOk result (λ ctx. ctx.outer ≡ []) }
 {
     let (cite, scope) = (instance(world), Scope::Citation);
@@ -162,16 +165,16 @@ fn begun<'s>(world: World<'s>, before: Option<&Rendered>) -> Result<Context<'s, 
 }
 
 /// The content and the state of an act, after another act if there is one.
-fn made<'s>(
+fn rendering_or_error<'s>(
     world: World<'s>,
     before: Option<&Rendered>,
     act: Act,
 ) -> Result<Rendered, RenderError> {
-    let mut ctx = begun(world, before)?;
+    let mut ctx = context_of(world, before)?;
     match perform(&mut ctx, world.affixes, act) {
         Ok(()) => ctx.finish(),
         Err(error) => {
-            let error = refused(&mut ctx, error);
+            let error = error_of(&mut ctx, error);
             drop(ctx);
             Err(error)
         }
@@ -179,43 +182,49 @@ fn made<'s>(
 }
 
 /// The content and the state of an act. If memory runs out, the act runs again in a new context.
-fn rendered<'s>(
+fn rendering<'s>(
     rt: &impl Abort,
     world: World<'s>,
     before: Option<&Rendered>,
     act: Act,
 ) -> Rendered {
-    match made(world, before, act) {
+    match rendering_or_error(world, before, act) {
         Ok(rendered) => rendered,
-        Err(RenderError::Memory) => made(world, before, act).expect(rt, "memory"),
+        Err(RenderError::Memory) => rendering_or_error(world, before, act).expect(rt, "memory"),
         Err(RenderError::Failed) => panic!(rt; "a refusal is forgotten"),
     }
 }
 
 /// The rendering of the last of one or two acts in the world of these things, in words.
-fn said_in(rt: &impl Abort, alloc: Global, things: &Things, act: Act, next: Option<Act>) -> String {
+fn words_in(
+    rt: &impl Abort,
+    alloc: Global,
+    things: &Things,
+    act: Act,
+    next: Option<Act>,
+) -> String {
     let world = world_of(rt, alloc, things);
-    let first = rendered(rt, world, None, act);
+    let first = rendering(rt, world, None, act);
     let said = match next {
         None => say(rt, world.alloc, &first),
-        Some(act) => said_behind(rt, world, &first, act),
+        Some(act) => words_after(rt, world, &first, act),
     };
     drop(first);
     said
 }
 
 /// The rendering of an act after another act, in words.
-fn said_behind<'s>(rt: &impl Abort, world: World<'s>, before: &Rendered, act: Act) -> String {
-    let made = rendered(rt, world, Some(before), act);
+fn words_after<'s>(rt: &impl Abort, world: World<'s>, before: &Rendered, act: Act) -> String {
+    let made = rendering(rt, world, Some(before), act);
     let said = say(rt, world.alloc, &made);
     drop(made);
     said
 }
 
 /// The rendering of the last of one or two acts in a new world, in words.
-fn said(rt: &impl Abort, alloc: Global, act: Act, next: Option<Act>) -> String {
+fn words_of(rt: &impl Abort, alloc: Global, act: Act, next: Option<Act>) -> String {
     let things = new_things(rt, alloc);
-    let said = said_in(rt, alloc, &things, act, next);
+    let said = words_in(rt, alloc, &things, act, next);
     drop(things);
     said
 }
@@ -228,7 +237,7 @@ type Refusals = ([Option<RenderError>; 4], [bool; 2]);
 fn refusals_in(rt: &impl Abort, alloc: Global, things: &Things) -> Refusals {
     let world = world_of(rt, alloc, things);
     let mut ctx = new_context(rt, world);
-    let looked = refused_look(&ctx);
+    let looked = look_error(&ctx);
     let had_failed = ctx.has_failed();
     let printed = ctx
         .resolve_standard_variable(LongShortForm::Long, UNANSWERED)
@@ -241,7 +250,7 @@ fn refusals_in(rt: &impl Abort, alloc: Global, things: &Things) -> Refusals {
 }
 
 /// The error, if any, of a silent lookup that runs out of memory in the entry.
-fn refused_look(ctx: &Context<'_, Film>) -> Option<RenderError> {
+fn look_error(ctx: &Context<'_, Film>) -> Option<RenderError> {
     ctx.peek_standard_variable(LongShortForm::Long, UNANSWERED)
         .err()
 }
@@ -281,7 +290,7 @@ fn attempts(rt: &impl Abort, alloc: Global) -> ([Option<RenderError>; 2], bool) 
 }
 
 /// The text of an error.
-fn words_of(rt: &impl Abort, alloc: Global, error: RenderError) -> String {
+fn error_words(rt: &impl Abort, alloc: Global, error: RenderError) -> String {
     format!(in alloc; "{error}").expect(rt, "memory")
 }
 
@@ -363,14 +372,14 @@ static TWO_ACTS: [(Act, Act, &str); 5] = [
 
 fn assert_acts(rt: &impl Abort, alloc: Global, rows: &[(Act, &'static str)]) {
     for (act, wanted) in rows {
-        let said = said(rt, alloc, *act, None);
+        let said = words_of(rt, alloc, *act, None);
         assert_said(rt, said.as_str(), *wanted, *act);
     }
 }
 
 fn assert_two_acts(rt: &impl Abort, alloc: Global, rows: &[(Act, Act, &'static str)]) {
     for (act, next, wanted) in rows {
-        let said = said(rt, alloc, *act, Some(*next));
+        let said = words_of(rt, alloc, *act, Some(*next));
         assert_said(rt, said.as_str(), *wanted, *next);
     }
 }
@@ -391,8 +400,8 @@ fn a_context_resumes_from_a_state_and_a_failed_one_returns_failed(rt: HostRuntim
 
 #[test]
 fn an_error_is_written_out(rt: HostRuntime) {
-    let memory = words_of(&rt, rt.alloc(), RenderError::from(Memory));
+    let memory = error_words(&rt, rt.alloc(), RenderError::from(Memory));
     assert_eq!(rt; memory.as_str(), "out of memory");
-    let failed = words_of(&rt, rt.alloc(), RenderError::Failed);
+    let failed = error_words(&rt, rt.alloc(), RenderError::Failed);
     assert_eq!(rt; failed.as_str(), "the context had failed before");
 }

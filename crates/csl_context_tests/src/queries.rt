@@ -4,7 +4,7 @@
 ghost use Rattle.std.specs.Prelude.{◌≡◌, OnOk};
 
 use crate::film::Film;
-use crate::written::yes;
+use crate::writes::yes;
 use csl_context::{Context, RenderError};
 use csl_entry::{DisambiguatedNameForm, NameDisambiguationProperties, Sorting, SpecialForm};
 use csl_style::{DateForm, Kind, OtherTerm, PageVariable, Scope, StandardVariable, Term, TermForm};

@@ -2,8 +2,8 @@
 
 ghost use Rattle.std.specs.Prelude.{◌≡◌, OnOk};
 
-use crate::asked::put;
 use crate::film::Film;
+use crate::queries::put;
 use csl_context::{Context, RenderError};
 use csl_style::{Affixes, Display, FontStyle, FontWeight, StandardVariable, formatting};
 use csl_tree::ElemMeta;
