@@ -131,7 +131,7 @@ fn old(rt: &impl Abort, alloc: Global) -> Entry {
 
 /// Whether an entry with a field set by its call is equal to one with the field assigned, and
 /// whether it is equal to the entry before.
-fn compared(rt: &impl Abort, alloc: Global, field: Field) -> (bool, bool) {
+fn equalities(rt: &impl Abort, alloc: Global, field: Field) -> (bool, bool) {
     let mut assigned = old(rt, alloc);
     assign(rt, alloc, &mut assigned, field, NEW);
     let called = by_call(rt, alloc, old(rt, alloc), field, NEW);
@@ -141,7 +141,7 @@ fn compared(rt: &impl Abort, alloc: Global, field: Field) -> (bool, bool) {
 #[test]
 fn each_call_sets_its_field_alone(rt: HostRuntime) {
     for field in &FIELDS {
-        let compared = compared(&rt, rt.alloc(), *field);
+        let compared = equalities(&rt, rt.alloc(), *field);
         assert_eq!(rt; compared, (true, false), "of {field:?}");
     }
 }

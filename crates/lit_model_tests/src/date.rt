@@ -1,6 +1,6 @@
 //! Dates.
 
-use crate::asserted::assert_same;
+use crate::assertions::assert_same;
 use lit_model::{Date, Season};
 use std::process::Abort;
 

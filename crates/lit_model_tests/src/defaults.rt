@@ -1,6 +1,6 @@
 //! Default values.
 
-use crate::asserted::assert_same;
+use crate::assertions::assert_same;
 use lit_model::{ChunkKind, LongShortForm, NumberForm};
 
 #[test]

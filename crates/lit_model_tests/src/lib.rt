@@ -2,7 +2,7 @@
 #![tactic(auto)]
 
 #[cfg(test)]
-mod asserted;
+mod assertions;
 #[cfg(test)]
 mod chunks;
 #[cfg(test)]

@@ -5,7 +5,7 @@ ghost use Rattle.lit_model.specs.Numeric.{numeric_view, value_view};
 ghost use Rattle.lit_model.specs.contracts.numeric.NumericHash.TheImpl.{hash_input-value as hash_number};
 ghost use Rattle.lit_model.specs.contracts.numeric.NumericValueHash.TheImpl.{hash_input-value as hash_value};
 
-use crate::asserted::assert_of;
+use crate::assertions::assert_of;
 use crate::samples::{assert_text, assert_whether};
 use lit_model::{
     GrammarGender, NumberForm, Numeric, NumericDelimiter, NumericError, NumericValue, Ordinals,
@@ -49,7 +49,7 @@ impl Ordinals for Word {
 }
 
 /// Equal numbers have the same hash.
-fn hashed_alike(a: &Numeric, b: &Numeric)
+fn have_one_hash(a: &Numeric, b: &Numeric)
     ensures { numeric_view a.now ≡ numeric_view b.now
         → hash_number.it a.now ≡ hash_number.it b.now }
 {
@@ -212,14 +212,14 @@ enum Way {
     Form(NumberForm),
 }
 
-fn made(rt: &impl Abort, alloc: Global, number: Number) -> Numeric {
+fn numeric_of(rt: &impl Abort, alloc: Global, number: Number) -> Numeric {
     match number {
         Number::Of(value) => Numeric::new(value),
         Number::Read(text) => Numeric::parse(alloc, text).expect(rt, "a number"),
     }
 }
 
-fn written<O: Ordinals>(
+fn text_in<O: Ordinals>(
     rt: &impl Abort,
     alloc: Global,
     number: &Numeric,
@@ -275,8 +275,8 @@ fn assert_written<O: Ordinals>(
     &(given, way, wanted): &Row,
     ordinals: &O,
 ) {
-    let number = made(rt, alloc, given);
-    let written = written(rt, alloc, &number, (way, ordinals));
+    let number = numeric_of(rt, alloc, given);
+    let written = text_in(rt, alloc, &number, (way, ordinals));
     assert_text(rt, written.as_str(), wanted, wanted);
 }
 

@@ -5,14 +5,14 @@ ghost use Rattle.lit_model.specs.Page.{part_view, pages_view};
 ghost use Rattle.lit_model.specs.contracts.page.PageRangesHash.TheImpl.{hash_input-value as hash_pages};
 ghost use Rattle.lit_model.specs.contracts.page.PageRangesPartHash.TheImpl.{hash_input-value as hash_part};
 
-use crate::asserted::assert_of;
+use crate::assertions::assert_of;
 use crate::samples::{assert_text, assert_whether};
 use lit_model::{Numeric, NumericError, PageRanges, PageRangesPart};
 use std::alloc::Global;
 use std::process::Abort;
 
 /// Equal pages have the same hash.
-fn hashed_alike(a: &PageRanges, b: &PageRanges)
+fn have_one_hash(a: &PageRanges, b: &PageRanges)
     ensures { pages_view a.now ≡ pages_view b.now → hash_pages.it a.now ≡ hash_pages.it b.now }
 {
     let _same = *a == *b;

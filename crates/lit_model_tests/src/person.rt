@@ -4,7 +4,7 @@ ghost use Rattle.std.specs.Prelude.{◌≡◌, ◌↔◌, IsTrue};
 ghost use Rattle.lit_model.specs.Person.{person_view, role_of, role_group};
 ghost use Rattle.lit_model.specs.contracts.person.PersonHash.TheImpl.{hash_input-value as hash_person};
 
-use crate::asserted::assert_of;
+use crate::assertions::assert_of;
 use crate::samples::{alone, assert_text, assert_whether, person};
 use lit_model::{Person, PersonRole, PersonsWithRoles};
 use std::alloc::Global;
@@ -18,7 +18,7 @@ fn same_person(a: &Person, b: &Person) -> bool
 }
 
 /// Equal persons have the same hash.
-fn hashed_alike(a: &Person, b: &Person)
+fn have_one_hash(a: &Person, b: &Person)
     ensures { person_view a.now ≡ person_view b.now → hash_person.it a.now ≡ hash_person.it b.now }
 {
     let _same = *a == *b;

@@ -1,6 +1,6 @@
 //! Samples for the tests, and assertions.
 
-use crate::asserted::assert_of;
+use crate::assertions::assert_of;
 use lit_model::{
     ChunkKind, ChunkedString, Date, Entry, EntryType, FormatString, Person, StringChunk,
 };

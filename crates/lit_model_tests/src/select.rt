@@ -2,7 +2,7 @@
 
 ghost use Rattle.std.specs.Prelude.{◌≡◌, ◌↔◌, IsTrue, option_copied};
 
-use crate::asserted::{assert_of, assert_same};
+use crate::assertions::{assert_of, assert_same};
 use crate::samples::{Shown, Work, alone, assert_text, entries, person, put};
 use lit_model::select::{audio_video, chapter, event, part, volume_title};
 use lit_model::{Bind, Clause, Entry, EntryType, Field, PersonRole, PersonsWithRoles};

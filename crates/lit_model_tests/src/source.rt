@@ -6,7 +6,7 @@ ghost use Rattle.lit_model.specs.Date.{date_view};
 ghost use Rattle.url.specs.Canonical.{IsCanonical};
 ghost use Rattle.url.specs.Parts.{serialize};
 
-use crate::asserted::assert_same;
+use crate::assertions::assert_same;
 use crate::samples::{assert_text, assert_whether, text};
 use lit_model::{
     ChunkKind, Date, FormatString, LanguageIdentifier, Publisher, QualifiedUrl, SerialNumber,
