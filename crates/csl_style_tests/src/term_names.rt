@@ -1,6 +1,6 @@
 //! The names of locators and terms, as CSL 1.0.2 has them in Locators and in Appendix II.
 
-use crate::asserted::{assert_of, assert_same};
+use crate::assertions::{assert_of, assert_same};
 use csl_style::{Locator, NameVariable, NumberVariable, OtherTerm, PageVariable, Season, Term};
 
 /// The kinds of locators by their names.

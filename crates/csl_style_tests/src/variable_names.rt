@@ -1,6 +1,6 @@
 //! The names of variables, as CSL 1.0.2 has them in Appendix IV.
 
-use crate::asserted::{assert_of, assert_same};
+use crate::assertions::{assert_of, assert_same};
 use csl_style::{
     DateVariable, NameVariable, NumberVariable, PageVariable, StandardVariable, Variable,
 };

@@ -2,7 +2,7 @@
 //! options. The rows of `tests/rows` render in these languages. The expected texts are those of
 //! CSL's own locales `de-DE` and `fr-FR`.
 
-use crate::asserted::{assert_same, assert_text};
+use crate::assertions::{assert_same, assert_text};
 use crate::terms::{Row, assert_term};
 use csl::literature::Season;
 use csl::style::{

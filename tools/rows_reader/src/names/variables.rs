@@ -3,7 +3,7 @@
 use crate::names::Named;
 use csl::style::{
     DateVariable, Kind, Locator, NameVariable, NumberOrPageVariable, NumberVariable, OtherTerm,
-    PageVariable, Term, Variable,
+    PageVariable, StandardVariable, Term, Variable,
 };
 
 /// Reads names by the library's own call.
@@ -19,7 +19,7 @@ macro_rules! named_by_the_library {
     };
 }
 
-named_by_the_library! { Kind Variable NameVariable DateVariable Locator OtherTerm }
+named_by_the_library! { Kind Variable NameVariable DateVariable StandardVariable Locator OtherTerm }
 
 impl Named for NumberOrPageVariable {
     fn from_name(name: &str) -> Option<NumberOrPageVariable> {
