@@ -10,8 +10,6 @@ from csl_source.styles import Style, plain
 
 # The locales of the library.
 LANGUAGES = ("en-US", "de-DE", "fr-FR")
-# What the notation names otherwise than CSL.
-NAMES = {"archive_collection": "archive-collection", "archive_location": "archive-location", "editor-translator": "editortranslator"}
 NAME_OPTIONS = ("and", "delimiter-precedes-et-al", "delimiter-precedes-last", "et-al-min", "et-al-use-first", "et-al-subsequent-min",
                 "et-al-subsequent-use-first", "et-al-use-last", "initialize", "initialize-with", "name-as-sort-order", "sort-separator")
 INHERITED = ("name-form", "name-delimiter", "names-delimiter", *NAME_OPTIONS)
@@ -120,7 +118,7 @@ class Rows:
 
     def words(self, node, name):
         """An attribute that is a list of names."""
-        return [NAMES.get(it, it) for it in node.get(name, "").split()]
+        return node.get(name, "").split()
 
     # ---- nodes
 
@@ -148,7 +146,6 @@ class Rows:
             if value not in library.terms():
                 return None
             value = self.term_names(value)[0]
-        value = NAMES.get(value, value) if target == "variable" else value
         form = Form("text", [self.attribute(node, target, value)])
         return self.dressed(node, form, target == "variable" and value != "year-suffix")
 
@@ -188,7 +185,7 @@ class Rows:
         return Form("name", self.attributes(node, (*OWN["name"], *FORMATTING)), parts)
 
     def et_al(self, node):
-        term = ["term=and-others"] if node.get("term") == "and others" else []
+        term = ['term="and others"'] if node.get("term") == "and others" else []
         return Form("et-al", term + self.attributes(node, FORMATTING))
 
     def group(self, node, around=(), **_):
@@ -240,14 +237,15 @@ class Rows:
             return [Form(f"term {name}", self.attributes(node, ("match", "gender-form")), [self.quoted(node, one)])]
         texts = [self.quoted(node, it) for it in (one, many) if it is not None]
         texts = texts[:1] if texts[0] == texts[-1] else texts
-        return [Form(f"term {it}", self.attributes(node, ("form", "gender")), texts) for it in self.term_names(name)]
+        names = [f'"{it}"' if " " in it else it for it in self.term_names(name)]
+        return [Form(f"term {it}", self.attributes(node, ("form", "gender")), texts) for it in names]
 
     def term_names(self, name):
         """The names of a term in the notation: of a locator and of a variable, where CSL has one name for both."""
         found = library.terms().get(name, [])
-        name = library.OLD_TERMS.get(name, name).replace(" ", "-")
+        name = library.OTHER_SPELLINGS.get(name, name)
         is_other = [not it.startswith("Term::Locator") for it in found]
-        own = [NAMES.get(name, name)] if any(is_other) else []
+        own = [name] if any(is_other) else []
         return own + [f"locator:{name}" for it in is_other if not it]
 
     def macros(self):

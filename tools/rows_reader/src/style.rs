@@ -31,10 +31,12 @@ fn term_parts<'t>(forms: &Forms<'t>) -> Result<TermParts<'t>, Fault> {
         .filter(|it| !matches!(it, Form::Attribute(_, _)));
     let parts: Vec<&Form<'t>> = parts.collect(forms.alloc)?;
     match parts.as_slice() {
-        [Form::Word(name), Form::Text(single)] => Ok((*name, *single, None)),
-        [Form::Word(name), Form::Text(single), Form::Text(multiple)] => {
-            Ok((*name, *single, Some(*multiple)))
-        }
+        [Form::Word(name) | Form::Text(name), Form::Text(single)] => Ok((*name, *single, None)),
+        [
+            Form::Word(name) | Form::Text(name),
+            Form::Text(single),
+            Form::Text(multiple),
+        ] => Ok((*name, *single, Some(*multiple))),
         _ => Err(Fault::Wrong("a term is a name and one or two texts")),
     }
 }
