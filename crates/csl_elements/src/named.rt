@@ -1,8 +1,12 @@
 //! Variables and kinds as sets, as a layout names them.
 
+ghost use Rattle.std.specs.Prelude.{◌≡◌, IfOk};
+
 use crate::taxonomy::{
     DateVariable, Kind, NameVariable, NumberVariable, PageVariable, StandardVariable,
 };
+use csl_common::Memory;
+use std::alloc::Global;
 use std::collections::BTreeSet;
 
 /// Named variables, by their type, and named kinds.
@@ -14,4 +18,29 @@ pub struct Named {
     pub names: BTreeSet<NameVariable>,
     pub dates: BTreeSet<DateVariable>,
     pub kinds: BTreeSet<Kind>,
+}
+
+impl Named {
+    /// An equal value.
+    ///
+    /// # Errors
+    /// [`Memory`]: out of memory.
+    pub fn clone(&self, _alloc: Global) -> Result<Named, Memory>
+        ensures { IfOk result (λ copy. copy ≡ self.now) }
+    {
+        let numbers = self.numbers.clone()?;
+        let pages = self.pages.clone()?;
+        let standards = self.standards.clone()?;
+        let names = self.names.clone()?;
+        let dates = self.dates.clone()?;
+        let kinds = self.kinds.clone()?;
+        Ok(Named {
+            numbers,
+            pages,
+            standards,
+            names,
+            dates,
+            kinds,
+        })
+    }
 }

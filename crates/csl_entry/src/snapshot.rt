@@ -26,7 +26,7 @@ use std::alloc::Global;
 ///
 /// Two snapshots by the same [`Named`] are equal exactly if their entries answer alike on it. So a
 /// layout that names no more renders both alike.
-#[derive(PartialEq, Eq, Drop)]
+#[derive(PartialEq, Eq, Hash, Drop)]
 pub struct Snapshot {
     numbers: Vec<(NumberVariable, MaybeTyped<Numeric>)>,
     pages: Vec<(PageVariable, MaybeTyped<PageRanges>)>,

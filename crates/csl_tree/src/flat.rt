@@ -9,13 +9,16 @@ ghost use Rattle.csl_tree.specs.Flat.{only_root, with_tokens, open_part, close_p
 use crate::elem::{ElemChild, ElemChildren, ElemMeta};
 use crate::flat_items::{
     Item, close_items, drop_part, is_fresh, join_texts, last_char, push_child_item, push_item,
-    push_str_item, run_len, splice_items, take_part,
+    push_str_item, reserve_first, run_len, splice_items, take_part,
 };
 use crate::formatting::{Formatted, Formatting};
 use csl_elements::Display;
 use lit_model::Memory;
 use std::alloc::Global;
 use std::marker::Model;
+
+/// The room made for the items when the first part opens. It is what most cites need.
+const ITEMS_OF_A_CITE: usize = 8;
 
 /// A tree under construction: its open parts, each with its content. The root is always open.
 #[derive(Drop)]
@@ -120,6 +123,7 @@ impl FlatTree {
         ensures ok { OnOk result (self.new ≡ open_part self.old) }
         ensures err { OnErr result (self.new ≡ self.old) }
     {
+        reserve_first(&mut self.items, ITEMS_OF_A_CITE)?;
         push_item(&mut self.items, Item::Mark)?;
         self.opened += 1;
         Ok(())

@@ -35,6 +35,16 @@ pub(crate) fn push_item(items: &mut Vec<Item>, item: Item) -> Result<(), Memory>
     Ok(())
 }
 
+/// Makes room for items if there is none yet, so that a short list is allocated once.
+pub(crate) fn reserve_first(items: &mut Vec<Item>, count: usize) -> Result<(), Memory>
+    ensures { items.new.items ≡ items.old.items }
+{
+    if items.is_empty() {
+        items.reserve(count)?;
+    }
+    Ok(())
+}
+
 /// Appends a text to an item if that is a text of equal formatting. Returns whether it is.
 fn join_item(item: &mut Item, more: &str, formatting: Formatting) -> Result<bool, Memory>
     ensures joins { IfOk result (λ did. OnTrue did (JoinsAs item.old (text more.now formatting ∷

@@ -4,6 +4,7 @@ ghost use Rattle.std.specs.Prelude.{◌≡◌, ℕ, ◌+◌, ◌-◌, ◌<◌, [
 ghost use Rattle.std.specs.Borrow.{sem};
 ghost use Rattle.std.specs.Cmp.Lexicographic.{pointwise, lists_per, lists_equiv};
 ghost use Rattle.std.specs.Int.NonZero.{non_zero_usize_get};
+ghost use Rattle.std.specs.List.{AllZip};
 ghost use Rattle.std.specs.Slice.Iter.{iter_rest};
 ghost use Rattle.csl_tree.specs.Stack.{lends_item, lends_accepted, IsLastAccepted, IsLastAt, RejectsFrom};
 
@@ -54,6 +55,19 @@ impl<T> NonEmptyStack<T> {
         ensures { IfOk result (λ stack. (item : T) × T.is_default item × (stack ≡ item ∷ [])) }
     {
         NonEmptyStack::new(alloc, T::default())
+    }
+
+    /// Returns a stack of the items' clones, in order.
+    ///
+    /// # Errors
+    /// [`Memory`]: out of memory.
+    pub fn clone(&self, alloc: Global) -> Result<Self, Memory>
+    where
+        T: Clone + Drop,
+        ensures { IfOk result (λ copy. AllZip T.is_clone self.now copy) }
+    {
+        let items = self.items.as_slice().to_vec(alloc)?;
+        Ok(NonEmptyStack { items })
     }
 
     /// The number of items.

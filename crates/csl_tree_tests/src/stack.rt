@@ -85,6 +85,20 @@ fn is_same(rt: &impl Abort, alloc: Global) -> (bool, bool, bool) {
     (itself, rewritten, same_stack(&stack, &other))
 }
 
+/// The items of a copy of the stack 1, 2, 3, 4, and whether the copy equals the stack.
+fn copy(rt: &impl Abort, alloc: Global) -> (Vec<u8>, bool) {
+    let stack = one_to_four(rt, alloc);
+    let copy = stack.clone(alloc).expect(rt, "memory");
+    (items(rt, alloc, &copy), same_stack(&copy, &stack))
+}
+
+#[test]
+fn a_copy_of_a_stack_has_its_items(rt: HostRuntime) {
+    let (items, is_same) = copy(&rt, rt.alloc());
+    assert_items(&rt, items.as_slice(), &[1, 2, 3, 4]);
+    assert_same(&rt, &is_same, &true);
+}
+
 #[test]
 fn stacks_are_equal_by_their_items(rt: HostRuntime) {
     assert_same(&rt, &is_same(&rt, rt.alloc()), &(true, false, false));

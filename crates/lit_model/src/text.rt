@@ -19,7 +19,7 @@ pub enum ChunkKind {
 }
 
 /// A piece of a text.
-#[derive(PartialEq, Eq, Drop)]
+#[derive(PartialEq, Eq, Hash, Drop)]
 pub struct StringChunk {
     /// The text.
     pub value: String,
@@ -28,7 +28,7 @@ pub struct StringChunk {
 }
 
 /// A text in pieces.
-#[derive(PartialEq, Eq, Drop)]
+#[derive(PartialEq, Eq, Hash, Drop)]
 pub struct ChunkedString(pub Vec<StringChunk>);
 
 /// A text, with a short form if it has one.
