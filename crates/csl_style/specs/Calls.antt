@@ -9,33 +9,26 @@ use Rattle.std.specs.BTreeMap as tree
 use Rattle.csl_style.specs.declared.places.Places.{Places}
 use Rattle.csl_style.specs.declared.places.Places.TheVariants.{Few, Many}
 use Rattle.csl_style.specs.GraphReach.{Graph, row_at}
-use Rattle.csl_elements.specs.Node.{Node, text, call, number, label, date, names, choose, group, Nodes, no_nodes, node, Branches, no_branches, otherwise, branch, Substitutes, no_substitutes, substitute}
+use Rattle.csl_elements.specs.Node.{Node, Nodes, no_nodes, Branches, Substitutes}
 use Rattle.csl_elements.specs.View.{Definition}
 use Rattle.csl_style.specs.Expansion.{macro_index}
+use Rattle.csl_style.specs.OverCalls.{over_node, over_nodes, over_branches, over_substitutes}
 
-abbrev mutual
-  pub calls_in : List Definition → Node → List ℕ
-  calls_in ds (text t d) = []
-  calls_in ds (call name d) = option_to_list (macro_index name ds)
-  calls_in ds (number n) = []
-  calls_in ds (label v l) = []
-  calls_in ds (date d) = []
-  calls_in ds (names n ss) = calls_in_substitutes ds ss
-  calls_in ds (choose bs) = calls_in_branches ds bs
-  calls_in ds (group delimiter d ns) = calls_in_all ds ns
+-- the place of the first macro of a name, if there is one
+abbrev pub call_of : List Definition → List ℕ → List ℕ
+call_of ds name = option_to_list (macro_index name ds)
 
-  pub calls_in_all : List Definition → Nodes → List ℕ
-  calls_in_all ds no_nodes = []
-  calls_in_all ds (node n ns) = calls_in ds n ++ calls_in_all ds ns
+abbrev pub calls_in : List Definition → Node → List ℕ
+calls_in ds n = over_node [] (call_of ds) (λ a b. a ++ b) n
 
-  pub calls_in_branches : List Definition → Branches → List ℕ
-  calls_in_branches ds no_branches = []
-  calls_in_branches ds (otherwise ns) = calls_in_all ds ns
-  calls_in_branches ds (branch ts ns bs) = calls_in_all ds ns ++ calls_in_branches ds bs
+abbrev pub calls_in_all : List Definition → Nodes → List ℕ
+calls_in_all ds ns = over_nodes [] (call_of ds) (λ a b. a ++ b) ns
 
-  pub calls_in_substitutes : List Definition → Substitutes → List ℕ
-  calls_in_substitutes ds no_substitutes = []
-  calls_in_substitutes ds (substitute ns ss) = calls_in_all ds ns ++ calls_in_substitutes ds ss
+abbrev pub calls_in_branches : List Definition → Branches → List ℕ
+calls_in_branches ds bs = over_branches [] (call_of ds) (λ a b. a ++ b) bs
+
+abbrev pub calls_in_substitutes : List Definition → Substitutes → List ℕ
+calls_in_substitutes ds ss = over_substitutes [] (call_of ds) (λ a b. a ++ b) ss
 
 abbrev pub name_at : List Definition → ℕ → List ℕ
 name_at [] i = []

@@ -4,8 +4,9 @@
 -- its macro, with each name in them replaced in the same way (`macro_expansion`).
 use Rattle.std.specs.Prelude.{◌≡◌, ℕ, zero, suc, nat_lt, Bool, true, ◌&&◌, List, [], ◌∷◌, length, slice_index, Option, Some, None, option_map, if◌then◌else◌}
 use Rattle.std.specs.Str.{bytes_eq}
-use Rattle.csl_elements.specs.Node.{Node, text, call, number, label, date, names, choose, group, Nodes, no_nodes, node, Branches, no_branches, otherwise, branch, Substitutes, no_substitutes, substitute, ExpandedNodes, expand_nodes}
+use Rattle.csl_elements.specs.Node.{Node, Nodes, Branches, Substitutes, ExpandedNodes, expand_nodes}
 use Rattle.csl_elements.specs.View.{Definition}
+use Rattle.csl_style.specs.OverCalls.{over_node, over_nodes, over_branches, over_substitutes}
 
 -- the place of the first macro of the name
 abbrev pub macro_index : List ℕ → List Definition → Option ℕ
@@ -35,30 +36,22 @@ abbrev pub is_below : Option ℕ → ℕ → Bool
 is_below None r = true
 is_below (Some q) r = nat_lt q r
 
--- each name that is called has a rank below r, or no macro
-abbrev mutual
-  pub calls_below : (List ℕ → Option ℕ) → ℕ → Node → Bool
-  calls_below rank r (text t d) = true
-  calls_below rank r (call name d) = is_below (rank name) r
-  calls_below rank r (number n) = true
-  calls_below rank r (label v l) = true
-  calls_below rank r (date d) = true
-  calls_below rank r (names n ss) = substitutes_below rank r ss
-  calls_below rank r (choose bs) = branches_below rank r bs
-  calls_below rank r (group delimiter d ns) = all_below rank r ns
+-- whether a name has a rank below r, or no macro
+abbrev pub name_below : (List ℕ → Option ℕ) → ℕ → List ℕ → Bool
+name_below rank r name = is_below (rank name) r
 
-  pub all_below : (List ℕ → Option ℕ) → ℕ → Nodes → Bool
-  all_below rank r no_nodes = true
-  all_below rank r (node n ns) = calls_below rank r n && all_below rank r ns
+-- whether each name that is called has
+abbrev pub calls_below : (List ℕ → Option ℕ) → ℕ → Node → Bool
+calls_below rank r n = over_node true (name_below rank r) (λ a b. a && b) n
 
-  pub branches_below : (List ℕ → Option ℕ) → ℕ → Branches → Bool
-  branches_below rank r no_branches = true
-  branches_below rank r (otherwise ns) = all_below rank r ns
-  branches_below rank r (branch ts ns bs) = all_below rank r ns && branches_below rank r bs
+abbrev pub all_below : (List ℕ → Option ℕ) → ℕ → Nodes → Bool
+all_below rank r ns = over_nodes true (name_below rank r) (λ a b. a && b) ns
 
-  pub substitutes_below : (List ℕ → Option ℕ) → ℕ → Substitutes → Bool
-  substitutes_below rank r no_substitutes = true
-  substitutes_below rank r (substitute ns ss) = all_below rank r ns && substitutes_below rank r ss
+abbrev pub branches_below : (List ℕ → Option ℕ) → ℕ → Branches → Bool
+branches_below rank r bs = over_branches true (name_below rank r) (λ a b. a && b) bs
+
+abbrev pub substitutes_below : (List ℕ → Option ℕ) → ℕ → Substitutes → Bool
+substitutes_below rank r ss = over_substitutes true (name_below rank r) (λ a b. a && b) ss
 
 abbrev pub body_below : (List ℕ → Option ℕ) → ℕ → Option Nodes → Bool
 body_below rank r None = true

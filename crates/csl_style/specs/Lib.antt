@@ -1,6 +1,8 @@
 -- The definitions that the contracts of `csl_style` cite: styles and expanded nodes as plain data,
 -- and the properties that depend on a style alone. Those of `csl_elements` are handed on.
+pub mod OverCalls
 pub mod Missing
+pub mod MissingTerm
 pub mod Expansion
 pub mod MacroCalls
 pub mod GraphReach

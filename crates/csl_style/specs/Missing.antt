@@ -5,10 +5,11 @@
 -- substitutes may call macros. The search does not follow calls.
 use Rattle.std.specs.Prelude.{ℕ, zero, suc, nat_eq, Bool, List, [], ◌∷◌, Option, Some, None, if◌then◌else◌}
 use Rattle.std.specs.Option.{option_or, option_eq}
-use Rattle.csl_elements.specs.Node.{Node, text, call, number, label, date, names, choose, group, Nodes, no_nodes, node, Branches, no_branches, otherwise, branch, Substitutes, no_substitutes, substitute}
+use Rattle.csl_elements.specs.Node.{Node, Nodes, Branches, Substitutes}
 use Rattle.csl_elements.specs.declared.element.Layout.{Layout}
 use Rattle.csl_elements.specs.View.{Definition, definitions, view_layout, NamesChildView, a_name, an_et_al, a_label, a_substitute}
 use Rattle.csl_style.specs.Expansion.{macro_index, macro_body}
+use Rattle.csl_style.specs.OverCalls.{over_node, over_nodes, over_branches, over_substitutes}
 use Rattle.csl_style.specs.Style.{StyleParts}
 
 abbrev unless_defined : Option Nodes → List ℕ → Option (List ℕ)
@@ -19,29 +20,18 @@ unless_defined (Some ns) name = None
 abbrev pub if_missing : List Definition → List ℕ → Option (List ℕ)
 if_missing ds name = unless_defined (macro_body name ds) name
 
-abbrev mutual
-  pub missing_in : List Definition → Node → Option (List ℕ)
-  missing_in ds (text t d) = None
-  missing_in ds (call name d) = if_missing ds name
-  missing_in ds (number n) = None
-  missing_in ds (label v l) = None
-  missing_in ds (date d) = None
-  missing_in ds (names n ss) = missing_in_substitutes ds ss
-  missing_in ds (choose bs) = missing_in_branches ds bs
-  missing_in ds (group delimiter d ns) = missing_in_all ds ns
+-- the first missing name in a node, and in what is beside it the first of all
+abbrev pub missing_in : List Definition → Node → Option (List ℕ)
+missing_in ds n = over_node None (if_missing ds) option_or n
 
-  pub missing_in_all : List Definition → Nodes → Option (List ℕ)
-  missing_in_all ds no_nodes = None
-  missing_in_all ds (node n ns) = option_or (missing_in ds n) (missing_in_all ds ns)
+abbrev pub missing_in_all : List Definition → Nodes → Option (List ℕ)
+missing_in_all ds ns = over_nodes None (if_missing ds) option_or ns
 
-  pub missing_in_branches : List Definition → Branches → Option (List ℕ)
-  missing_in_branches ds no_branches = None
-  missing_in_branches ds (otherwise ns) = missing_in_all ds ns
-  missing_in_branches ds (branch ts ns bs) = option_or (missing_in_all ds ns) (missing_in_branches ds bs)
+abbrev pub missing_in_branches : List Definition → Branches → Option (List ℕ)
+missing_in_branches ds bs = over_branches None (if_missing ds) option_or bs
 
-  pub missing_in_substitutes : List Definition → Substitutes → Option (List ℕ)
-  missing_in_substitutes ds no_substitutes = None
-  missing_in_substitutes ds (substitute ns ss) = option_or (missing_in_all ds ns) (missing_in_substitutes ds ss)
+abbrev pub missing_in_substitutes : List Definition → Substitutes → Option (List ℕ)
+missing_in_substitutes ds ss = over_substitutes None (if_missing ds) option_or ss
 
 -- in a child of names: only a substitute may have one
 abbrev pub missing_in_child : List Definition → NamesChildView → Option (List ℕ)

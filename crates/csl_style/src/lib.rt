@@ -6,6 +6,7 @@ mod call_graph;
 mod cycles;
 mod depth;
 mod missing;
+mod missing_term;
 mod named;
 mod places;
 mod scopes;

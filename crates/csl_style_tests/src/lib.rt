@@ -18,6 +18,8 @@ mod many_macros;
 #[cfg(test)]
 mod missing;
 #[cfg(test)]
+mod missing_term;
+#[cfg(test)]
 mod named;
 #[cfg(test)]
 mod names;
