@@ -1,2 +1,4 @@
 pub mod Affixes
 pub mod Contents
+pub mod StateEqual
+pub mod BodyAround

@@ -37,7 +37,7 @@ use Rattle.csl_entry.specs.Answers.{Answers}
 use Rattle.csl_entry.specs.Cite.{CiteState}
 use Rattle.csl_entry.specs.NameProperties.{NameProperties}
 use Rattle.csl_entry.specs.Instance.{Instance}
-use Rattle.csl_context.specs.State.{State, Inherited, state_after_resolve}
+use Rattle.csl_context.specs.State.{State, Inherited, state_after_resolve, with_node_formatting}
 use Rattle.csl_context.specs.Quotes.{quoted_content}
 use Rattle.csl_context.specs.Texts.{text_in, wanted_space}
 use Rattle.csl_context.specs.RenderInput.{RenderInput}
@@ -186,6 +186,10 @@ with_content c now = record now { inner = now.inner ++> c now.inherited }
 -- the context after a space, if one is wanted
 abbrev pub with_space : {T : Type 0} → ContextView T → ContextView T
 with_space now = with_content (λ inh. text_in inh (wanted_space now.inner)) now
+
+-- the context after a space, if one is wanted, in a formatting over the inherited one
+abbrev pub with_space_in : {T : Type 0} → partial.Formatting → ContextView T → ContextView T
+with_space_in f now = with_content (λ inh. text_in (with_node_formatting f inh) (wanted_space now.inner)) now
 
 -- the context with one more open part
 abbrev pub with_part : {T : Type 0} → ContextView T → ContextView T

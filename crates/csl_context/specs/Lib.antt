@@ -8,3 +8,4 @@ pub mod Texts
 pub mod Quotes
 pub mod ContextView
 pub mod LeftState
+pub mod Bodies

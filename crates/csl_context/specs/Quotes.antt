@@ -5,7 +5,7 @@
 -- The moved character is a `,` or `.` that the suffix of the same node begins with, before any
 -- stripping. It moves if the first locale asks for it, and the suffix is then written without it
 -- (`affixed_after`). No character moves if the content is empty.
-use Rattle.std.specs.Prelude.{ℕ, Bool, true, false, ◌||◌, ◌&&◌, ◌==◌, List, [], ◌∷◌, Option, Some, None, is_some, option_map, if◌then◌else◌}
+use Rattle.std.specs.Prelude.{ℕ, Bool, true, false, not, ◌||◌, ◌&&◌, ◌==◌, List, [], ◌∷◌, Option, Some, None, is_some, option_map, if◌then◌else◌}
 use Rattle.lit_model.specs.Characters.{comma_char, dot_char}
 use Rattle.csl_elements.specs.declared.term.OtherTerm.{OtherTerm}
 use Rattle.csl_elements.specs.declared.term.OtherTerm.TheVariants.{OpenQuote, CloseQuote, OpenInnerQuote, CloseInnerQuote}
@@ -67,3 +67,25 @@ affixes_after_move moved a = record { prefix = a.prefix; suffix = if moved then 
 
 abbrev pub affixed_after : Bool → Inherited → AffixTexts → List Token → List Token
 affixed_after moved inh a c = affixed_in inh (affixes_after_move moved a) c
+
+-- ---- the quotes of a node that may have none
+
+-- quotes within quotes are of the other kind
+abbrev pub toggled_if : Bool → Bool → Bool
+toggled_if true depth = not depth
+toggled_if false depth = depth
+
+-- a body in quotes, if the node has them
+abbrev pub in_quotes_if : Bool → StyleParts → Inherited → Option (List ℕ) → List Token → List Token
+in_quotes_if true style inh suffix c = quoted_content style inh suffix c
+in_quotes_if false style inh suffix c = c
+
+-- whether the front of the suffix moved into the quotes
+abbrev pub moved_if : Bool → StyleParts → Option (List ℕ) → List Token → Bool
+moved_if true style suffix c = moves_punctuation style suffix c
+moved_if false style suffix c = false
+
+-- a body in quotes and affixes
+abbrev pub quoted_between : Bool → StyleParts → AffixTexts → Inherited → List Token → List Token
+quoted_between quotes style a inh c =
+    affixed_after (moved_if quotes style a.suffix c) inh a (in_quotes_if quotes style inh a.suffix c)

@@ -88,7 +88,7 @@ impl<'s, T> Model for Context<'s, T> {
 }
 
 /// The state that a rendering leaves for the next one.
-#[derive(Drop)]
+#[derive(PartialEq, Eq, Drop)]
 pub struct LeftState {
     /// The suppressed variables. A lookup finds nothing for them.
     pub suppressed: BTreeSet<Variable>,
@@ -101,7 +101,7 @@ pub struct LeftState {
 }
 
 /// The content of a rendering, and the state that it leaves.
-#[derive(Drop)]
+#[derive(PartialEq, Eq, Drop)]
 pub struct Rendered {
     pub content: ElemChildren,
     pub state: LeftState,
@@ -153,6 +153,22 @@ impl LeftState {
             first_date_seen: self.first_date_seen,
             first_names,
         })
+    }
+}
+
+impl Rendered {
+    /// An equal value.
+    ///
+    /// # Errors
+    /// [`Memory`]: out of memory.
+    pub fn clone(&self, alloc: Global) -> Result<Rendered, Memory>
+        ensures content { IfOk result (λ copy. tokens copy.content ≡ tokens self.now.content) }
+        ensures state { IfOk result (λ copy.
+            left_state_view copy.state ≡ left_state_view self.now.state) }
+    {
+        let content = self.content.clone(alloc)?;
+        let state = self.state.clone(alloc)?;
+        Ok(Rendered { content, state })
     }
 }
 

@@ -5,6 +5,7 @@
 //! on it.
 #![tactic(auto)]
 
+mod bodies;
 mod context;
 mod error;
 mod inherited;
@@ -16,6 +17,7 @@ mod texts;
 mod variables;
 mod writing;
 
+pub use bodies::{BodyDressing, OpenBody};
 pub use context::{Context, LeftState, Rendered, WritingContext};
 pub use error::RenderError;
 pub use mark::Mark;

@@ -1,6 +1,6 @@
 //! Affixes and quotes around a content (CSL 1.0.2, Affixes, Quotes).
 
-ghost use Rattle.std.specs.Prelude.{◌≡◌, ◌+◌, length, false, option_map, IfOk};
+ghost use Rattle.std.specs.Prelude.{◌≡◌, ◌+◌, ◌<◌, length, false, option_map, IfOk};
 ghost use Rattle.csl_elements.specs.Dressing.{affix_texts};
 ghost use Rattle.csl_tree.specs.Content.{◌++>◌, affixed_content};
 ghost use Rattle.csl_tree.specs.Flat.{affix_content};
@@ -94,12 +94,8 @@ impl<'s, T> Context<'s, T> {
             (affix_texts affixes.now) c))
             result self.old self.new }
     {
-        let suffix = if moved {
-            affixes.suffix.as_deref().map(after_leading_punctuation)
-        } else {
-            affixes.suffix.as_deref()
-        };
-        self.splice_affixed(mark, affixes.prefix.as_deref(), suffix)
+        self.ensure_live()?;
+        self.close_affixed(affixes, moved)
     }
 
     /// Closes a part, and writes its content between two texts into the part around it, unless it
@@ -119,23 +115,59 @@ impl<'s, T> Context<'s, T> {
             (option_map (λ t. t.now) prefix.entry)
             (option_map (λ t. t.now) suffix.entry) c)) result self.old self.new }
     {
-        let (before, after) = self.attempt(self.text_writer().affixes(prefix, suffix))?;
-        self.splice_between(mark, before, after)
+        self.ensure_live()?;
+        self.close_between(prefix, suffix)
     }
 
-    /// Closes a part, and writes its content between two formatted texts, unless it is empty.
+    /// Closes the innermost part as [`Context::apply_suffix`] does.
+    pub(crate) fn close_affixed(
+        &mut self,
+        affixes: &Affixes,
+        moved: bool,
+    ) -> Result<(), RenderError>
+        requires live { self.old.failed ≡ false }
+        requires is_open { 0 < length self.old.outer }
+        ensures { Runs (close_part_by (λ inh c. affixed_after moved inh
+            (affix_texts affixes.now) c))
+            result self.old self.new }
+    {
+        let suffix = if moved {
+            affixes.suffix.as_deref().map(after_leading_punctuation)
+        } else {
+            affixes.suffix.as_deref()
+        };
+        self.close_between(affixes.prefix.as_deref(), suffix)
+    }
+
+    /// Closes the innermost part, and writes its content between two texts, unless it is empty.
+    fn close_between(
+        &mut self,
+        prefix: Option<&str>,
+        suffix: Option<&str>,
+    ) -> Result<(), RenderError>
+        requires live { self.old.failed ≡ false }
+        requires is_open { 0 < length self.old.outer }
+        ensures { Runs (close_part_by (λ inh c. between_in inh
+            (option_map (λ t. t.now) prefix.entry)
+            (option_map (λ t. t.now) suffix.entry) c)) result self.old self.new }
+    {
+        let (before, after) = self.or_fail(self.text_writer().affixes(prefix, suffix))?;
+        self.splice_between(before, after)
+    }
+
+    /// Closes the innermost part, and writes its content between two formatted texts, unless it is
+    /// empty.
     fn splice_between(
         &mut self,
-        mark: Mark,
         before: Option<Formatted>,
         after: Option<Formatted>,
     ) -> Result<(), RenderError>
-        requires innermost { IsInnermost mark self.old }
+        requires live { self.old.failed ≡ false }
+        requires is_open { 0 < length self.old.outer }
         ensures { Runs (close_part_by (λ _ c. affixed_content (affix_content before)
             (affix_content after) c))
             result self.old self.new }
     {
-        self.ensure_live()?;
         let written = self.writing.content.close_spliced(before, after);
         self.or_fail(written)?;
         Ok(())
@@ -222,7 +254,7 @@ impl<'s, T> Context<'s, T> {
 
     /// Whether a character moves from the suffix into the quotes. None moves if the innermost part
     /// is empty.
-    fn moves_punctuation(&self, suffix: Option<&str>) -> bool
+    pub(crate) fn moves_punctuation(&self, suffix: Option<&str>) -> bool
         ensures { result ≡ moves_punctuation self.now.style (option_map (λ t. t.now) suffix.entry)
             self.now.inner }
     {
@@ -232,13 +264,14 @@ impl<'s, T> Context<'s, T> {
     /// Closes the inside of quotes, and writes its content in quotes, unless it is empty. The
     /// current parity chooses the quotes, so `turn` comes first.
     #[tactic(auto, unfolding(crate::specs::ContextView::with_quotes))]
-    fn close_quotes(&mut self, mark: Mark, suffix: Option<&str>) -> Result<(), RenderError>
-        requires innermost { IsInnermost mark self.old }
+    pub(crate) fn close_quotes(&mut self, suffix: Option<&str>) -> Result<(), RenderError>
+        requires live { self.old.failed ≡ false }
+        requires is_open { 0 < length self.old.outer }
         ensures { Runs (with_quotes (option_map (λ t. t.now) suffix.entry))
             result self.old self.new }
     {
-        let (before, after) = self.attempt(self.quotes_around(suffix))?;
-        self.splice_between(mark, before, after)
+        let (before, after) = self.or_fail(self.quotes_around(suffix))?;
+        self.splice_between(before, after)
     }
 
     /// Opens a part for the inside of quotes. [`Context::pop_quotes`] closes it, and writes the
@@ -277,7 +310,7 @@ impl<'s, T> Context<'s, T> {
         self.ensure_live()?;
         let moved = self.moves_punctuation(suffix);
         self.turn();
-        self.close_quotes(mark, suffix)?;
+        self.close_quotes(suffix)?;
         Ok(moved)
     }
 }

@@ -5,14 +5,15 @@ ghost use Rattle.lit_model.specs.Text.{chunk_of, chunks};
 ghost use Rattle.csl_tree.specs.Content.{elem_content, text_content, markup_content};
 ghost use Rattle.csl_tree.specs.Flat.{close_part};
 ghost use Rattle.csl_tree.specs.Tokens.{optional_meta, has_text, has_children, is_empty};
+ghost use Rattle.csl_context.specs.State.{with_node_formatting};
 ghost use Rattle.csl_context.specs.Texts.{text_in, wanted_space, chunk_in, chunks_in, link_in, transparent_in};
-ghost use Rattle.csl_context.specs.ContextView.{Runs, IsSilent, IsInnermost, same_context, with_content, with_space, with_part, close_part_by, no_content};
+ghost use Rattle.csl_context.specs.ContextView.{Runs, IsSilent, IsInnermost, same_context, with_content, with_space, with_space_in, with_part, close_part_by, no_content};
 
 use crate::context::Context;
 use crate::error::RenderError;
 use crate::mark::Mark;
 use crate::texts::TextWriter;
-use csl_style::Display;
+use csl_style::{Display, formatting};
 use csl_tree::{ElemMeta, FlatTree};
 use lit_model::{ChunkKind, ChunkedString, Memory, StringChunk};
 
@@ -130,6 +131,38 @@ impl<'s, T> Context<'s, T> {
         self.or_fail(written)
     }
 
+    /// Writes a text in a formatting over the inherited one.
+    ///
+    /// # Errors
+    /// [`RenderError::Memory`]: out of memory. The context has failed.
+    /// [`RenderError::Failed`]: the context had failed already.
+    pub fn push_str_in(
+        &mut self,
+        text: &str,
+        format: formatting::Formatting,
+    ) -> Result<(), RenderError>
+        ensures { Runs (with_content (λ inh. text_in (with_node_formatting format inh) text.now))
+            result self.old self.new }
+    {
+        self.ensure_live()?;
+        let pen = self.text_writer_in(format);
+        let written = pen.write(&mut self.writing.content, text);
+        self.or_fail(written)
+    }
+
+    /// A writer of texts in a formatting over the inherited one.
+    fn text_writer_in(&self, format: formatting::Formatting) -> TextWriter
+        ensures formatting { result.formatting
+            ≡ (with_node_formatting format self.now.inherited).formatting }
+        ensures strip_periods { result.strip_periods ≡ self.now.inherited.strip_periods }
+    {
+        TextWriter {
+            alloc: self.writing.alloc,
+            formatting: self.writing.formatting.apply(format),
+            strip_periods: self.writing.strip_periods,
+        }
+    }
+
     /// Writes a text in the inherited formatting, and keeps its periods.
     fn push_verbatim(&mut self, text: &str) -> Result<(), RenderError>
         ensures { Runs (with_content (λ inh. text_content text.now inh.formatting))
@@ -224,6 +257,18 @@ impl<'s, T> Context<'s, T> {
         self.push_str(gap)
     }
 
+    /// Writes a space as [`Context::ensure_space`] does, in a formatting over the inherited one.
+    ///
+    /// # Errors
+    /// [`RenderError::Memory`]: out of memory. The context has failed.
+    /// [`RenderError::Failed`]: the context had failed already.
+    pub fn ensure_space_in(&mut self, format: formatting::Formatting) -> Result<(), RenderError>
+        ensures { Runs (with_space_in format) result self.old self.new }
+    {
+        let gap = self.wanted_space();
+        self.push_str_in(gap, format)
+    }
+
     /// The text that [`Context::ensure_space`] writes: a space or nothing.
     fn wanted_space(&self) -> &'static str
         ensures { result.now ≡ wanted_space self.now.inner }
@@ -260,9 +305,17 @@ impl<'s, T> Context<'s, T> {
     {
         self.ensure_live()?;
         let depth = self.writing.content.depth() - 1;
-        let opened = self.writing.content.open();
-        self.or_fail(opened)?;
+        self.open_part()?;
         Ok(Mark::new(depth))
+    }
+
+    /// Opens a part.
+    pub(crate) fn open_part(&mut self) -> Result<(), RenderError>
+        requires live { self.old.failed ≡ false }
+        ensures { Runs with_part result self.old self.new }
+    {
+        let opened = self.writing.content.open();
+        self.or_fail(opened)
     }
 
     /// Closes a part as an element of the part around it (CSL 1.0.2, Display). A part without

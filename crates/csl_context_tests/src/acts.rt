@@ -10,7 +10,8 @@ use crate::queries::{
 use crate::samples::{affixes, alone, style};
 use crate::words::say;
 use crate::writes::{
-    affix, discard, format, join, nest, quote, quote_twice, space, splice, strip, write_pieces,
+    affix, discard, dress, format, join, nest, quote, quote_twice, space, splice, strip, write_in,
+    write_pieces,
 };
 use csl_context::{Context, RenderError, Rendered};
 use csl_entry::{CiteProperties, DisambiguateState, InstanceContext, Sorting, SpecialForm};
@@ -21,7 +22,7 @@ use std::process::Abort;
 
 /// An act: the calls that a test makes in a context.
 #[derive(Clone, Copy, Debug)]
-enum Act {
+pub(crate) enum Act {
     Join,
     Nest(&'static str),
     Discard,
@@ -29,7 +30,9 @@ enum Act {
     Affix(&'static str),
     Quote(&'static str),
     QuoteTwice,
+    Dress(&'static str),
     Format,
+    WriteIn,
     Strip,
     WritePieces,
     Space,
@@ -57,7 +60,9 @@ fn perform(ctx: &mut Context<'_, Film>, affixes: &Affixes, act: Act) -> Result<(
         Act::Affix(text) => affix(ctx, affixes, text),
         Act::Quote(text) => quote(ctx, affixes, text),
         Act::QuoteTwice => quote_twice(ctx),
+        Act::Dress(text) => dress(ctx, affixes, text),
         Act::Format => format(ctx),
+        Act::WriteIn => write_in(ctx),
         Act::Strip => strip(ctx),
         Act::WritePieces => write_pieces(ctx),
         Act::Space => space(ctx),
@@ -77,7 +82,7 @@ fn perform(ctx: &mut Context<'_, Film>, affixes: &Affixes, act: Act) -> Result<(
 
 /// The parts of a context, and the affixes that are written in it.
 #[derive(Clone, Copy)]
-struct World<'s> {
+pub(crate) struct World<'s> {
     alloc: Global,
     style: &'s Style,
     film: &'s Film,
@@ -87,7 +92,7 @@ struct World<'s> {
 
 /// The values that a world borrows. All but the affixes are alone in a list.
 #[derive(Drop)]
-struct Things {
+pub(crate) struct Things {
     styles: Vec<Style>,
     films: Vec<Film>,
     cites: Vec<CiteProperties<'static>>,
@@ -95,7 +100,7 @@ struct Things {
 }
 
 /// The things of the tests.
-fn new_things(rt: &impl Abort, alloc: Global) -> Things {
+pub(crate) fn new_things(rt: &impl Abort, alloc: Global) -> Things {
     let styles = alone(rt, alloc, style(rt, alloc));
     let films = alone(rt, alloc, metropolis(rt, alloc));
     let cite = CiteProperties::first(DisambiguateState::Choose);
@@ -109,7 +114,7 @@ fn new_things(rt: &impl Abort, alloc: Global) -> Things {
 }
 
 /// The world of these things.
-fn world_of<'s>(rt: &impl Abort, alloc: Global, things: &'s Things) -> World<'s> {
+pub(crate) fn world_of<'s>(rt: &impl Abort, alloc: Global, things: &'s Things) -> World<'s> {
     World {
         alloc,
         style: things.styles.first().expect(rt, "a style"),
@@ -182,7 +187,7 @@ fn rendering_or_error<'s>(
 }
 
 /// The content and the state of an act. If memory runs out, the act runs again in a new context.
-fn rendering<'s>(
+pub(crate) fn rendering<'s>(
     rt: &impl Abort,
     world: World<'s>,
     before: Option<&Rendered>,
@@ -294,12 +299,12 @@ fn error_words(rt: &impl Abort, alloc: Global, error: RenderError) -> String {
     format!(in alloc; "{error}").expect(rt, "memory")
 }
 
-fn assert_said(rt: &impl Abort, said: &str, wanted: &str, act: Act) {
+fn assert_words(rt: &impl Abort, said: &str, wanted: &str, act: Act) {
     assert_eq!(rt; said, wanted, "{act:?}");
 }
 
 /// An act, and its rendering in the words of [`say`].
-static ACTS: [(Act, &str); 27] = [
+static ACTS: [(Act, &str); 30] = [
     (Act::Join, "ab"),
     // An element without content is dropped, whatever its display and its meta are.
     (Act::Nest("b"), "[ a [ b ]block:date ]"),
@@ -316,7 +321,11 @@ static ACTS: [(Act, &str); 27] = [
     // A colon does not move, a period moves before the closing quote. Quotes after both are outer
     // ones again.
     (Act::QuoteTwice, "“‘B’.”“C”"),
+    // A body restores the formatting, the quotes and the periods around it.
+    (Act::Dress("a.b."), "/(“ab,”~ c.d."),
+    (Act::Dress(""), "c.d."),
     (Act::Format, "/a /*b c"),
+    (Act::WriteIn, "/a *~ b"),
     (Act::Strip, "abcd.no|yes|"),
     // Verbatim texts, mathematics and links keep their periods. A link without text is not written.
     (Act::WritePieces, "ab. $c. @t.|u. #3"),
@@ -373,14 +382,14 @@ static TWO_ACTS: [(Act, Act, &str); 5] = [
 fn assert_acts(rt: &impl Abort, alloc: Global, rows: &[(Act, &'static str)]) {
     for (act, wanted) in rows {
         let said = words_of(rt, alloc, *act, None);
-        assert_said(rt, said.as_str(), *wanted, *act);
+        assert_words(rt, said.as_str(), *wanted, *act);
     }
 }
 
 fn assert_two_acts(rt: &impl Abort, alloc: Global, rows: &[(Act, Act, &'static str)]) {
     for (act, next, wanted) in rows {
         let said = words_of(rt, alloc, *act, Some(*next));
-        assert_said(rt, said.as_str(), *wanted, *next);
+        assert_words(rt, said.as_str(), *wanted, *next);
     }
 }
 

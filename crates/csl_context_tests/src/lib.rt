@@ -5,6 +5,8 @@
 #[cfg(test)]
 mod acts;
 #[cfg(test)]
+mod equal;
+#[cfg(test)]
 mod film;
 #[cfg(test)]
 mod lookups;

@@ -2,7 +2,7 @@
 
 use csl_style::{
     Affixes, Date, DateForm, Formatting, InheritableNameOptions, Layout, Locale, OrdinalSlot,
-    OrdinalTerm, OtherTerm, PageVariable, Style, StyleSettings, Term, TermEntry, TermForm,
+    OrdinalTerm, OtherTerm as Word, PageVariable, Style, StyleSettings, Term, TermEntry, TermForm,
 };
 use lit_model::{ChunkKind, ChunkedString, GrammarGender, StringChunk};
 use std::alloc::Global;
@@ -50,20 +50,10 @@ type TermRow = (Term, TermForm, &'static str, &'static str);
 
 /// The terms of the style.
 static TERMS: [TermRow; 6] = [
-    (Term::Other(OtherTerm::OpenQuote), TermForm::Long, "“", "“"),
-    (Term::Other(OtherTerm::CloseQuote), TermForm::Long, "”", "”"),
-    (
-        Term::Other(OtherTerm::OpenInnerQuote),
-        TermForm::Long,
-        "‘",
-        "‘",
-    ),
-    (
-        Term::Other(OtherTerm::CloseInnerQuote),
-        TermForm::Long,
-        "’",
-        "’",
-    ),
+    (Term::Other(Word::OpenQuote), TermForm::Long, "“", "“"),
+    (Term::Other(Word::CloseQuote), TermForm::Long, "”", "”"),
+    (Term::Other(Word::OpenInnerQuote), TermForm::Long, "‘", "‘"),
+    (Term::Other(Word::CloseInnerQuote), TermForm::Long, "’", "’"),
     (
         Term::Page(PageVariable::Page),
         TermForm::Long,

@@ -4,7 +4,7 @@ ghost use Rattle.std.specs.Prelude.{◌≡◌, OnOk};
 
 use crate::film::Film;
 use crate::queries::put;
-use csl_context::{Context, RenderError};
+use csl_context::{BodyDressing, Context, RenderError};
 use csl_style::{Affixes, Display, FontStyle, FontWeight, StandardVariable, formatting};
 use csl_tree::ElemMeta;
 use lit_model::LongShortForm;
@@ -132,6 +132,58 @@ pub(crate) fn format(ctx: &mut Context<'_, Film>) -> Result<(), RenderError>
     ctx.pop_format();
     ctx.pop_format();
     ctx.push_str("c")?;
+    Ok(())
+}
+
+/// Writes a text in italics, a space in bold, and a text in neither, without pushing a format.
+pub(crate) fn write_in(ctx: &mut Context<'_, Film>) -> Result<(), RenderError>
+    ensures { OnOk result (ctx.new.outer ≡ ctx.old.outer) }
+{
+    ctx.push_str_in("a", italic())?;
+    ctx.ensure_space_in(bold())?;
+    ctx.push_str_in("b", formatting::Formatting::default())?;
+    Ok(())
+}
+
+/// Writes the text as a body.
+fn body(
+    ctx: &mut Context<'_, Film>,
+    around: BodyDressing<'_>,
+    text: &str,
+) -> Result<(), RenderError>
+    ensures { OnOk result (ctx.new.outer ≡ ctx.old.outer) }
+{
+    let before = ctx.open_body(around)?;
+    ctx.push_str(text)?;
+    ctx.close_body(around, before)?;
+    Ok(())
+}
+
+/// Writes the text without its periods, in italics, in quotes and between affixes. Then writes a
+/// text, and one in a body without attributes.
+pub(crate) fn dress(
+    ctx: &mut Context<'_, Film>,
+    affixes: &Affixes,
+    text: &str,
+) -> Result<(), RenderError>
+    ensures { OnOk result (ctx.new.outer ≡ ctx.old.outer) }
+{
+    let quoted = BodyDressing {
+        formatting: italic(),
+        affixes,
+        quotes: true,
+        strip_periods: true,
+    };
+    body(ctx, quoted, text)?;
+    ctx.push_str("c.")?;
+    let bare = Affixes::default();
+    let plain = BodyDressing {
+        formatting: formatting::Formatting::default(),
+        affixes: &bare,
+        quotes: false,
+        strip_periods: false,
+    };
+    body(ctx, plain, "d.")?;
     Ok(())
 }
 

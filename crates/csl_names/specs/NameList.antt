@@ -91,14 +91,14 @@ delimiter_precedes Always order names shown = true
 delimiter_precedes Never order names shown = false
 
 abbrev pub delimiter_of : ListStyleView → Piece
-delimiter_of how = word how.delimiter no_formatting
+delimiter_of settings = word settings.delimiter no_formatting
 
 -- the pieces before the last name: a delimiter or a space, the word and a gap; the delimiter alone
 -- if there is no word
 abbrev pub last_name_separator : ListStyleView → ℕ → Option (List ℕ) → List Piece
-last_name_separator how place None = delimiter_of how ∷ []
-last_name_separator how place (Some and) =
-    word (if delimiter_precedes how.before_last how.order place place then how.delimiter else codes " ") no_formatting ∷ word and no_formatting ∷ gap no_formatting ∷ []
+last_name_separator settings place None = delimiter_of settings ∷ []
+last_name_separator settings place (Some and) =
+    word (if delimiter_precedes settings.before_last settings.order place place then settings.delimiter else codes " ") no_formatting ∷ word and no_formatting ∷ gap no_formatting ∷ []
 
 -- whether a place is the last one of a list that is shown whole
 abbrev pub is_last : Option ℕ → ℕ → Bool
@@ -107,26 +107,26 @@ is_last (Some count) place = place + 1 == count
 
 -- the pieces before the name at a place; `ends` is the number of names if all are shown
 abbrev pub name_separator : ListStyleView → Option ℕ → ℕ → List Piece
-name_separator how ends place =
-    if nat_lt 0 place then (if is_last ends place then last_name_separator how place how.and_word else delimiter_of how ∷ []) else []
+name_separator settings ends place =
+    if nat_lt 0 place then (if is_last ends place then last_name_separator settings place settings.and_word else delimiter_of settings ∷ []) else []
 
 -- ---- the names
 
 -- one name in an element of its own
 abbrev pub one_whole : Inherited → ListStyleView → DisambiguatedNameForm → Bool → ℕ → PersonView → Piece
-one_whole inh how form reversed place p = whole (elem_content None (Some (of_name how.variable place)) (name_content how.name form reversed p inh))
+one_whole inh settings form reversed place p = whole (elem_content None (Some (of_name settings.variable place)) (name_content settings.name form reversed p inh))
 
 -- a name that has a form, and the pieces after it; nothing if it has none
 abbrev pub from_form : Inherited → ListStyleView → Option ℕ → ℕ → PersonView → List Piece → Option DisambiguatedNameForm → List Piece
-from_form inh how ends place p behind None = []
-from_form inh how ends place p behind (Some form) =
-    name_separator how ends place ++ (one_whole inh how form (is_reversed how.order place) place p ∷ behind)
+from_form inh settings ends place p after None = []
+from_form inh settings ends place p after (Some form) =
+    name_separator settings ends place ++ (one_whole inh settings form (is_reversed settings.order place) place p ∷ after)
 
 -- the names from a place on, up to the first without a form
 abbrev pub names_from : Inherited → ListStyleView → Option ℕ → NameForms → ℕ → List PersonView → List Piece
-names_from inh how ends forms place [] = []
-names_from inh how ends forms place (p ∷ ps) =
-    from_form inh how ends place p (names_from inh how ends forms (place + 1) ps) (form_at forms place)
+names_from inh settings ends forms place [] = []
+names_from inh settings ends forms place (p ∷ ps) =
+    from_form inh settings ends place p (names_from inh settings ends forms (place + 1) ps) (form_at forms place)
 
 -- ---- after the names
 -- If the forms leave a name out, the list ends with more pieces (`list_end`). With et-al-use-last
@@ -139,10 +139,10 @@ names_from inh how ends forms place (p ∷ ps) =
 
 -- `et al.` after `names` names, if `shown` of them are shown
 abbrev pub et_al_pieces : ListStyleView → ℕ → ℕ → Option (List ℕ) → List Piece
-et_al_pieces how names shown None = []
-et_al_pieces how names shown (Some term) =
-    (if delimiter_precedes how.before_et_al how.order names shown then delimiter_of how ∷ [] else [])
-    ++ (gap how.et_al_formatting ∷ word term how.et_al_formatting ∷ [])
+et_al_pieces settings names shown None = []
+et_al_pieces settings names shown (Some term) =
+    (if delimiter_precedes settings.before_et_al settings.order names shown then delimiter_of settings ∷ [] else [])
+    ++ (gap settings.et_al_formatting ∷ word term settings.et_al_formatting ∷ [])
 
 -- the bytes of an ellipsis and a space
 abbrev pub ellipsis : List ℕ
@@ -150,35 +150,35 @@ ellipsis = 226 ∷ 128 ∷ 166 ∷ 32 ∷ []
 
 -- the last name, after the delimiter and an ellipsis
 abbrev pub kept_last : Inherited → ListStyleView → List PersonView → DisambiguatedNameForm → Option PersonView → List Piece
-kept_last inh how persons form None = []
-kept_last inh how persons form (Some p) =
-    delimiter_of how ∷ word ellipsis no_formatting ∷ one_whole inh how form (is_all how.order) (length persons - 1) p ∷ []
+kept_last inh settings persons form None = []
+kept_last inh settings persons form (Some p) =
+    delimiter_of settings ∷ word ellipsis no_formatting ∷ one_whole inh settings form (is_all settings.order) (length persons - 1) p ∷ []
 
 -- the last form, if the list keeps its last name
 abbrev pub last_form : ListStyleView → NameForms → Option DisambiguatedNameForm
-last_form how forms = if how.use_last then form_at forms (length forms - 1) else None
+last_form settings forms = if settings.use_last then form_at forms (length forms - 1) else None
 
 -- the pieces after the names, if the name at place `names` is the first without a form; a sort key
 -- has no `et al.`
 abbrev pub cut_end : Inherited → ListStyleView → ℕ → NameForms → List PersonView → Option DisambiguatedNameForm → List Piece
-cut_end inh how names forms persons (Some form) = kept_last inh how persons form (slice_get persons (length persons - 1))
-cut_end inh how names forms persons None = if how.name.sorting then [] else et_al_pieces how names (min names (length persons)) how.et_al
+cut_end inh settings names forms persons (Some form) = kept_last inh settings persons form (slice_get persons (length persons - 1))
+cut_end inh settings names forms persons None = if settings.name.sorting then [] else et_al_pieces settings names (min names (length persons)) settings.et_al
 
 abbrev pub list_end : Inherited → ListStyleView → NameForms → List PersonView → Option ℕ → List Piece
-list_end inh how forms persons None = []
-list_end inh how forms persons (Some names) = cut_end inh how names forms persons (last_form how forms)
+list_end inh settings forms persons None = []
+list_end inh settings forms persons (Some names) = cut_end inh settings names forms persons (last_form settings forms)
 
 -- ---- Name list
 
 abbrev pub name_list : Inherited → ListStyleView → List PersonView → NameForms → List Piece
-name_list inh how persons forms =
-    names_from inh how (whole_count (first_absent forms) (length persons)) forms 0 persons
-    ++ list_end inh how forms persons (first_absent forms)
+name_list inh settings persons forms =
+    names_from inh settings (whole_count (first_absent forms) (length persons)) forms 0 persons
+    ++ list_end inh settings forms persons (first_absent forms)
 
 -- the context after one name, and after the list; a gap of the list depends on the whole innermost
 -- open part
 abbrev pub with_whole : {T : Type 0} → ListStyleView → DisambiguatedNameForm → Bool → ℕ → PersonView → ContextView T → ContextView T
-with_whole how form reversed place p now = with_pieces (one_whole now.inherited how form reversed place p ∷ []) now
+with_whole settings form reversed place p now = with_pieces (one_whole now.inherited settings form reversed place p ∷ []) now
 
 abbrev pub with_names : {T : Type 0} → ListStyleView → List PersonView → NameForms → ContextView T → ContextView T
-with_names how persons forms now = with_pieces (name_list now.inherited how persons forms) now
+with_names settings persons forms now = with_pieces (name_list now.inherited settings persons forms) now

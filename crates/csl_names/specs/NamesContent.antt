@@ -80,8 +80,8 @@ list_term style l v count = term_in style (terms.Name v) l.form (not (count == 1
 
 -- the label, if it is on this side of the names, and not in a sort key
 abbrev pub label_on : Bool → Bool → Option NamesLabel → Option LabelNode
-label_on sorting behind None = None
-label_on true behind (Some l) = None
+label_on sorting after None = None
+label_on true after (Some l) = None
 label_on false true (Some l) = if l.is_after then Some l.label else None
 label_on false false (Some l) = if l.is_after then None else Some l.label
 
@@ -106,21 +106,21 @@ is_skipped persons None = true
 is_skipped [] (Some forms) = true
 is_skipped (p ∷ ps) (Some forms) = false
 
-module _ (style : StyleParts) (sorting : Bool) (how : NamesStyleView) (inh : Inherited) where
+module _ (style : StyleParts) (sorting : Bool) (settings : NamesStyleView) (inh : Inherited) where
   -- a content with the names of a list after it, in the formatting of the Name
   abbrev pub with_list : List PersonView → NameVariable → NameForms → List Token → List Token
   with_list persons v forms ts =
-      append_pieces (with_node_formatting how.name.formatting inh)
-      (name_list (with_node_formatting how.name.formatting inh) (list_style style sorting how.name how.options how.et_al v) persons forms) ts
+      append_pieces (with_node_formatting settings.name.formatting inh)
+      (name_list (with_node_formatting settings.name.formatting inh) (list_style style sorting settings.name settings.options settings.et_al v) persons forms) ts
 
   -- a content with a list after it: the delimiter, unless the list is the first; label, names,
   -- label
   unfoldable pub with_labelled_list : Bool → List PersonView → NameVariable → NameForms → List Token → List Token
   with_labelled_list first persons v forms ts =
-      with_label style (label_on sorting true how.label) v (length persons) inh
+      with_label style (label_on sorting true settings.label) v (length persons) inh
       (with_list persons v forms
-      (with_label style (label_on sorting false how.label) v (length persons) inh
-      (if first then ts else ts ++> text_in inh how.delimiter)))
+      (with_label style (label_on sorting false settings.label) v (length persons) inh
+      (if first then ts else ts ++> text_in inh settings.delimiter)))
 
   -- a content with a list after it, unless the list is left out
   abbrev pub with_list_if_any : Bool → List PersonView → NameVariable → Option NameForms → List Token → List Token
@@ -144,9 +144,9 @@ module _ (style : StyleParts) (sorting : Bool) (how : NamesStyleView) (inh : Inh
 
 -- the content between the affixes: the number of names, or the names
 abbrev pub names_body : NameForm → StyleParts → Bool → CiteState → List NameVariable → NamesStyleView → PersonLists → Inherited → List Token
-names_body Count style sorting cite vs how ls inh = text_in inh (decimal (saturated_count (count_of how.options (not cite.is_first) ls)))
-names_body Short style sorting cite vs how ls inh = with_lists style sorting how inh true 0 (forms_in cite vs how.options ls).lists ls []
-names_body Long style sorting cite vs how ls inh = with_lists style sorting how inh true 0 (forms_in cite vs how.options ls).lists ls []
+names_body Count style sorting cite vs settings ls inh = text_in inh (decimal (saturated_count (count_of settings.options (not cite.is_first) ls)))
+names_body Short style sorting cite vs settings ls inh = with_lists style sorting settings inh true 0 (forms_in cite vs settings.options ls).lists ls []
+names_body Long style sorting cite vs settings ls inh = with_lists style sorting settings inh true 0 (forms_in cite vs settings.options ls).lists ls []
 
 -- the meta of a names node's box
 abbrev pub lists_meta : PersonLists → Option Meta

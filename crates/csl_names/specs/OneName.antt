@@ -97,21 +97,21 @@ given_text (Some text) hyphen form given = initialized_given text hyphen form gi
 
 -- the given name in its part's formatting, if there is one
 abbrev pub given_word : NameStyleView → DisambiguatedNameForm → PersonView → List Piece
-given_word how form p =
-    optional_word (option_map (given_text how.initialize_with how.hyphen form) p.given_name) how.given.formatting
+given_word settings form p =
+    optional_word (option_map (given_text settings.initialize_with settings.hyphen form) p.given_name) settings.given.formatting
 
 -- the given part's prefix, the given name and the person's prefix, in the given part's formatting
 abbrev pub given_block : NameStyleView → DisambiguatedNameForm → PersonView → List Piece
-given_block how form p =
-    optional_word how.given.affixes.prefix how.given.formatting
-    ++ (given_word how form p ++ spaced_word p.prefix how.given.formatting)
+given_block settings form p =
+    optional_word settings.given.affixes.prefix settings.given.formatting
+    ++ (given_word settings form p ++ spaced_word p.prefix settings.given.formatting)
 
 -- the family name that comes first, and the demoted particle
 abbrev pub leading_name : NameStyleView → PersonView → List ℕ
-leading_name how p = if how.demotes then name_without_particle p.name else p.name
+leading_name settings p = if settings.demotes then name_without_particle p.name else p.name
 
 abbrev pub demoted_particle : NameStyleView → PersonView → Option (List ℕ)
-demoted_particle how p = if how.demotes then name_particle p.name else None
+demoted_particle settings p = if settings.demotes then name_particle p.name else None
 
 -- ---- shapes of a name
 -- The first case that fits counts.
@@ -131,56 +131,56 @@ demoted_particle how p = if how.demotes then name_particle p.name else None
 
 -- the pieces after a family name that comes first, if there is a given name
 abbrev pub given_after_family : NameStyleView → DisambiguatedNameForm → PersonView → Option (List ℕ) → List Piece
-given_after_family how form p None = []
-given_after_family how form p (Some given) =
-    word how.separator no_formatting
-    ∷ (given_block how form p ++ (spaced_word (demoted_particle how p) no_formatting ++ optional_word how.given.affixes.suffix no_formatting))
+given_after_family settings form p None = []
+given_after_family settings form p (Some given) =
+    word settings.separator no_formatting
+    ∷ (given_block settings form p ++ (spaced_word (demoted_particle settings p) no_formatting ++ optional_word settings.given.affixes.suffix no_formatting))
 
 -- `Gogh, Vincent van, Jr.`
 abbrev pub family_first : NameStyleView → DisambiguatedNameForm → PersonView → List Piece
-family_first how form p =
-    part_text how.family (leading_name how p)
-    ++ (given_after_family how form p p.given_name ++ separated_word how.separator p.suffix)
+family_first settings form p =
+    part_text settings.family (leading_name settings p)
+    ++ (given_after_family settings form p p.given_name ++ separated_word settings.separator p.suffix)
 
 -- the suffix of a person, after the separator if it wants a comma
 abbrev pub suffix_after_name : NameStyleView → Bool → Option (List ℕ) → List Piece
-suffix_after_name how comma None = []
-suffix_after_name how true (Some bs) = word how.separator no_formatting ∷ gap no_formatting ∷ word bs no_formatting ∷ []
-suffix_after_name how false (Some bs) = gap no_formatting ∷ word bs no_formatting ∷ []
+suffix_after_name settings comma None = []
+suffix_after_name settings true (Some bs) = word settings.separator no_formatting ∷ gap no_formatting ∷ word bs no_formatting ∷ []
+suffix_after_name settings false (Some bs) = gap no_formatting ∷ word bs no_formatting ∷ []
 
 -- `Vincent van Gogh Jr.`
 abbrev pub given_first : NameStyleView → DisambiguatedNameForm → PersonView → List Piece
-given_first how form p =
-    given_block how form p
-    ++ (optional_word how.given.affixes.suffix no_formatting
-    ++ (gap no_formatting ∷ (optional_word how.family.affixes.prefix how.family.formatting
-    ++ (word p.name how.family.formatting
-    ∷ (suffix_after_name how p.comma_suffix p.suffix ++ optional_word how.family.affixes.suffix no_formatting)))))
+given_first settings form p =
+    given_block settings form p
+    ++ (optional_word settings.given.affixes.suffix no_formatting
+    ++ (gap no_formatting ∷ (optional_word settings.family.affixes.prefix settings.family.formatting
+    ++ (word p.name settings.family.formatting
+    ∷ (suffix_after_name settings p.comma_suffix p.suffix ++ optional_word settings.family.affixes.suffix no_formatting)))))
 
 abbrev pub cjk_given : NameStyleView → Option (List ℕ) → List Piece
-cjk_given how None = []
-cjk_given how (Some given) = part_text how.given given
+cjk_given settings None = []
+cjk_given settings (Some given) = part_text settings.given given
 
 -- a name in a Chinese, Japanese or Korean script: no gap between its parts
 abbrev pub cjk_name : NameStyleView → PersonView → List Piece
-cjk_name how p = part_text how.family p.name ++ cjk_given how p.given_name
+cjk_name settings p = part_text settings.family p.name ++ cjk_given settings p.given_name
 
 -- an institution; in a sort key it has no article and no affixes
 abbrev pub institution : NameStyleView → PersonView → List Piece
-institution how p =
-    if how.sorting then word (name_without_article p.name) how.family.formatting ∷ [] else part_text how.family p.name
+institution settings p =
+    if settings.sorting then word (name_without_article p.name) settings.family.formatting ∷ [] else part_text settings.family p.name
 
 abbrev pub long_name : NameStyleView → DisambiguatedNameForm → Bool → PersonView → List Piece
-long_name how form reversed p =
-    if is_cjk p then cjk_name how p
-    else (if how.sorting || reversed then family_first how form p else given_first how form p)
+long_name settings form reversed p =
+    if is_cjk p then cjk_name settings p
+    else (if settings.sorting || reversed then family_first settings form p else given_first settings form p)
 
 -- One name. The first case that fits counts.
 abbrev pub one_name : NameStyleView → DisambiguatedNameForm → Bool → PersonView → List Piece
-one_name how form reversed p =
-    if is_institutional p then institution how p
-    else (if shows_given_name form then long_name how form reversed p else part_text how.family p.name)
+one_name settings form reversed p =
+    if is_institutional p then institution settings p
+    else (if shows_given_name form then long_name settings form reversed p else part_text settings.family p.name)
 
 -- the content of one name with these inherited values: the gaps depend on this name alone
 abbrev pub name_content : NameStyleView → DisambiguatedNameForm → Bool → PersonView → Inherited → List Token
-name_content how form reversed p inh = append_pieces inh (one_name how form reversed p) []
+name_content settings form reversed p inh = append_pieces inh (one_name settings form reversed p) []

@@ -64,6 +64,6 @@ pub fn write_name_list<T>(
         forms.now)
         result ctx.old ctx.new }
 {
-    let way = list_style(ctx, name, options, et_al, variable);
-    way.push_list(ctx, persons, forms)
+    let settings = list_style(ctx, name, options, et_al, variable);
+    settings.push_list(ctx, persons, forms)
 }

@@ -86,9 +86,9 @@ pub fn write_name<T>(
         (complete_options options.entry) form reversed (person_view person.now)) result ctx.old
         ctx.new }
 {
-    let way = name_style(ctx, name, options);
+    let settings = name_style(ctx, name, options);
     let part = ctx.push_elem()?;
-    way.push_name(ctx, person, form, reversed)?;
+    settings.push_name(ctx, person, form, reversed)?;
     ctx.splice(part)?;
     Ok(())
 }

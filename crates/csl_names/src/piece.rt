@@ -23,10 +23,7 @@ pub(crate) fn push_word<T>(
 ) -> Result<(), RenderError>
     ensures { Runs (with_pieces (word text.now format ∷ [])) result ctx.old ctx.new }
 {
-    ctx.push_format(format)?;
-    ctx.push_str(text)?;
-    ctx.pop_format();
-    Ok(())
+    ctx.push_str_in(text, format)
 }
 
 /// Writes a text as [`push_word`] does, if there is one.
@@ -48,10 +45,7 @@ pub(crate) fn push_optional<T>(
 pub(crate) fn push_gap<T>(ctx: &mut Context<'_, T>, format: Formatting) -> Result<(), RenderError>
     ensures { Runs (with_pieces (gap format ∷ [])) result ctx.old ctx.new }
 {
-    ctx.push_format(format)?;
-    ctx.ensure_space()?;
-    ctx.pop_format();
-    Ok(())
+    ctx.ensure_space_in(format)
 }
 
 /// Writes a gap and a text, if there is a text.

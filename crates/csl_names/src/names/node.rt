@@ -1,6 +1,6 @@
 //! The box of a names node that has persons (CSL 1.0.2, Names; Affixes; Display; Name: form).
 
-ghost use Rattle.std.specs.Prelude.{◌≡◌, [], Some, true, map, is_some, decimal, IfOk};
+ghost use Rattle.std.specs.Prelude.{◌≡◌, [], Some, true, map, option_map, is_some, decimal, IfOk};
 ghost use Rattle.std.specs.Bool.{OnFalse};
 ghost use Rattle.lit_model.specs.Person.{person_view};
 ghost use Rattle.csl_elements.specs.NameOptions.{inherited_options};
@@ -9,7 +9,7 @@ ghost use Rattle.csl_elements.specs.NamesParts.{parts_node, default_name, defaul
 ghost use Rattle.csl_tree.specs.Content.{◌++>◌, elem_content};
 ghost use Rattle.csl_tree.specs.Tokens.{meta_of};
 ghost use Rattle.csl_entry.specs.Answers.{cow_view};
-ghost use Rattle.csl_context.specs.Texts.{text_in};
+ghost use Rattle.csl_context.specs.Texts.{text_in, between_in};
 ghost use Rattle.csl_context.specs.ContextView.{Runs, IsInnermost, close_part_by, with_content};
 ghost use Rattle.csl_names.specs.CiteForms.{forms_in, with_first_forms, with_first_forms_by};
 ghost use Rattle.csl_names.specs.NamesContent.{names_style, with_lists, names_body, names_content, names_state, lists_meta, names_style_view};
@@ -136,6 +136,39 @@ fn push_body<T>(
     }
 }
 
+/// Writes the number of names, or the names, between the affixes of the node into an empty part. A
+/// part is opened only if there are affixes.
+#[tactic(auto, using(csl_context::proofs::Affixes::bare))]
+fn push_affixed_body<T>(
+    ctx: &mut Context<'_, T>,
+    style: NamesStyle<'_>,
+    parts: NamesParts<'_>,
+    lists: &[PersonList<'_>],
+) -> Result<(), RenderError>
+    requires { OnFalse ctx.old.failed (ctx.old.inner ≡ []) }
+    ensures { Runs (λ now. record now {
+      inner =
+          between_in now.inherited (option_map (λ t. t.now) parts.entry.prefix)
+          (option_map (λ t. t.now) parts.entry.suffix)
+          (names_body (names_style_view style.entry).options.form now.style
+          (is_some now.sorting) now.cite
+          parts.entry.variables.now (names_style_view style.entry) (map list_of lists.now)
+          now.inherited);
+      state =
+          with_first_forms_by (names_style_view style.entry).options.form
+          (forms_in now.cite parts.entry.variables.now
+          (names_style_view style.entry).options (map list_of lists.now)) now.state;
+    }) result ctx.old ctx.new }
+{
+    if parts.prefix.is_none() && parts.suffix.is_none() {
+        return push_body(ctx, style, parts.variables, lists);
+    }
+    let middle = ctx.push_elem()?;
+    push_body(ctx, style, parts.variables, lists)?;
+    ctx.splice_affixed(middle, parts.prefix, parts.suffix)?;
+    Ok(())
+}
+
 /// Closes a part as the box of a names node with these lists.
 ///
 /// # Errors
@@ -181,9 +214,7 @@ pub fn write_names<T>(
     let style = names_style(parts, ctx.name_options(), &missing_name, &missing_et_al);
     ctx.push_format(parts.formatting)?;
     let element = ctx.push_elem()?;
-    let middle = ctx.push_elem()?;
-    push_body(ctx, style, parts.variables, lists)?;
-    ctx.splice_affixed(middle, parts.prefix, parts.suffix)?;
+    push_affixed_body(ctx, style, parts, lists)?;
     commit_names(ctx, element, parts.display, lists)?;
     ctx.pop_format();
     Ok(())

@@ -12,7 +12,7 @@ ghost use Rattle.csl_names.specs.PersonLists.{list_of};
 
 use crate::list_styles::write_name_list;
 use crate::names::lists::PersonList;
-use csl_context::{Context, RenderError};
+use csl_context::{BodyDressing, Context, RenderError};
 use csl_entry::DisambiguatedNameForm;
 use csl_style::{EtAl, Name, NameOptions, NameVariable, PlacedLabel, Term, VariablelessLabel};
 use lit_model::Person;
@@ -29,19 +29,19 @@ pub(crate) struct NamesStyle<'n> {
     pub(crate) delimiter: &'n str,
 }
 
-/// The label, if it is on that side of the names (`behind`: after them), and not in a sort key.
+/// The label, if it is on that side of the names (`after`: after them), and not in a sort key.
 fn label_on(
     label: Option<PlacedLabel<'_>>,
     sorting: bool,
-    behind: bool,
+    after: bool,
 ) -> Option<&VariablelessLabel>
     ensures { option_map (λ l. view_label l.now) result
-        ≡ label_on sorting behind (option_map placed_label label.entry) }
+        ≡ label_on sorting after (option_map placed_label label.entry) }
 {
     match label {
         None => None,
         Some(placed) => {
-            if !sorting && placed.is_after == behind {
+            if !sorting && placed.is_after == after {
                 Some(placed.label)
             } else {
                 None
@@ -59,13 +59,15 @@ fn push_term<T>(
     ensures { Runs (with_content (label_content (view_label label.now) term.now))
         result ctx.old ctx.new }
 {
-    ctx.push_format(label.formatting)?;
-    let middle = ctx.apply_prefix()?;
-    let stripping = ctx.may_strip_periods(label.strip_periods);
+    let around = BodyDressing {
+        formatting: label.formatting,
+        affixes: &label.affixes,
+        quotes: false,
+        strip_periods: label.strip_periods,
+    };
+    let before = ctx.open_body(around)?;
     ctx.push_str(term)?;
-    ctx.stop_stripping_periods(stripping);
-    ctx.apply_suffix(&label.affixes, middle, false)?;
-    ctx.pop_format();
+    ctx.close_body(around, before)?;
     Ok(())
 }
 
@@ -74,19 +76,19 @@ impl NamesStyle<'_> {
     fn push_label<T>(
         self,
         ctx: &mut Context<'_, T>,
-        behind: bool,
+        after: bool,
         variable: NameVariable,
         count: usize,
     ) -> Result<(), RenderError>
         ensures { Runs (λ now. record now {
           inner = with_label now.style
-              (label_on (is_some now.sorting) behind (names_style_view self.entry).label) variable
+              (label_on (is_some now.sorting) after (names_style_view self.entry).label) variable
               count
               now.inherited now.inner;
         }) result ctx.old ctx.new }
     {
         let sorting = ctx.sorting().is_some();
-        match label_on(self.label, sorting, behind) {
+        match label_on(self.label, sorting, after) {
             None => ctx.ensure_live(),
             Some(label) => match ctx.term(Term::Name(variable), label.form, count != 1) {
                 None => ctx.ensure_live(),
