@@ -1,7 +1,9 @@
 //! Tests of the command `cite`, with the built-in entries and styles. The expected texts are
 //! written by hand.
 
-use crate::words::{Row, assert_all};
+use crate::words::{Refusal, assert_refusals, assert_run};
+use std::alloc::Global;
+use std::process::Abort;
 
 pub(crate) const VORTEX: &str = "Gross, E. P., “Structure of a Quantized Vortex in Boson Systems”, \
     Il Nuovo Cimento, vol. 20, pp. 454–477, May 1961. https://doi.org/10.1007/BF02731494\n";
@@ -32,155 +34,79 @@ pub(crate) const ESSAY_HTML: &str = "Ungard-Sargon, Batya, “She swoons to conq
 
 pub(crate) const THREE: &str = "(Ferrante, Ottenstein, and Warren, 1987)\n";
 
-static AUTHORS_AND_DATES: [Row; 8] = [
+pub(crate) const BOOK_BRIEF: &str = "(Kwan, 2014)\n";
+
+pub(crate) const ESSAY_BRIEF: &str = "(Ungard-Sargon, 2015)\n";
+
+pub(crate) const VORTEX_BRIEF: &str = "(Gross, 1961)\n";
+
+/// An entry, a style, and the cite as plain text and as HTML.
+type CiteRow = (&'static str, &'static str, &'static str, &'static str);
+
+static CITES: [CiteRow; 8] = [
+    ("crazy-rich", "author-date", BOOK_BRIEF, BOOK_BRIEF),
     (
-        &["cite", "crazy-rich", "author-date", "plain"],
-        0,
-        "(Kwan, 2014)\n",
-        "",
+        "quantized-vortex",
+        "author-date",
+        VORTEX_BRIEF,
+        VORTEX_BRIEF,
     ),
-    (
-        &["cite", "crazy-rich", "author-date", "html"],
-        0,
-        "(Kwan, 2014)\n",
-        "",
-    ),
-    (
-        &["cite", "quantized-vortex", "author-date", "plain"],
-        0,
-        "(Gross, 1961)\n",
-        "",
-    ),
-    (
-        &["cite", "quantized-vortex", "author-date", "html"],
-        0,
-        "(Gross, 1961)\n",
-        "",
-    ),
-    (
-        &["cite", "dependence", "author-date", "plain"],
-        0,
-        THREE,
-        "",
-    ),
-    (&["cite", "dependence", "author-date", "html"], 0, THREE, ""),
-    (
-        &["cite", "feminism", "author-date", "plain"],
-        0,
-        "(Ungard-Sargon, 2015)\n",
-        "",
-    ),
-    (
-        &["cite", "feminism", "author-date", "html"],
-        0,
-        "(Ungard-Sargon, 2015)\n",
-        "",
-    ),
+    ("dependence", "author-date", THREE, THREE),
+    ("feminism", "author-date", ESSAY_BRIEF, ESSAY_BRIEF),
+    ("crazy-rich", "reference", BOOK, BOOK),
+    ("quantized-vortex", "reference", VORTEX, VORTEX_HTML),
+    ("dependence", "reference", DEPENDENCE, DEPENDENCE_HTML),
+    ("feminism", "reference", ESSAY, ESSAY_HTML),
 ];
 
-static REFERENCES: [Row; 8] = [
-    (&["cite", "crazy-rich", "reference", "plain"], 0, BOOK, ""),
-    (&["cite", "crazy-rich", "reference", "html"], 0, BOOK, ""),
-    (
-        &["cite", "quantized-vortex", "reference", "plain"],
-        0,
-        VORTEX,
-        "",
-    ),
-    (
-        &["cite", "quantized-vortex", "reference", "html"],
-        0,
-        VORTEX_HTML,
-        "",
-    ),
-    (
-        &["cite", "dependence", "reference", "plain"],
-        0,
-        DEPENDENCE,
-        "",
-    ),
-    (
-        &["cite", "dependence", "reference", "html"],
-        0,
-        DEPENDENCE_HTML,
-        "",
-    ),
-    (&["cite", "feminism", "reference", "plain"], 0, ESSAY, ""),
-    (
-        &["cite", "feminism", "reference", "html"],
-        0,
-        ESSAY_HTML,
-        "",
-    ),
-];
-
-static REFUSED: [Row; 11] = [
+static REFUSALS: [Refusal; 11] = [
     // A word is missing.
-    (&["cite"], 2, "", "missing word\n"),
-    (&["cite", "crazy-rich"], 2, "", "missing word\n"),
-    (
-        &["cite", "crazy-rich", "reference"],
-        2,
-        "",
-        "missing word\n",
-    ),
+    (&["cite"], "missing word\n"),
+    (&["cite", "crazy-rich"], "missing word\n"),
+    (&["cite", "crazy-rich", "reference"], "missing word\n"),
     // A word is unknown, or one too many. Words are parsed from the left.
-    (&["cite", "nobody"], 2, "", "unknown: nobody\n"),
+    (&["cite", "nobody"], "unknown: nobody\n"),
     (
         &["cite", "nobody", "author-date", "plain"],
-        2,
-        "",
         "unknown: nobody\n",
     ),
-    (
-        &["cite", "nobody", "nostyle", "pdf"],
-        2,
-        "",
-        "unknown: nobody\n",
-    ),
-    (
-        &["cite", "crazy-rich", "nostyle"],
-        2,
-        "",
-        "unknown: nostyle\n",
-    ),
+    (&["cite", "nobody", "nostyle", "pdf"], "unknown: nobody\n"),
+    (&["cite", "crazy-rich", "nostyle"], "unknown: nostyle\n"),
     (
         &["cite", "crazy-rich", "nostyle", "plain"],
-        2,
-        "",
         "unknown: nostyle\n",
     ),
     (
         &["cite", "crazy-rich", "author-date", "pdf"],
-        2,
-        "",
         "unknown: pdf\n",
     ),
     (
         &["cite", "crazy-rich", "reference", "pdf", "now"],
-        2,
-        "",
         "unknown: pdf\n",
     ),
     (
         &["cite", "crazy-rich", "reference", "html", "now"],
-        2,
-        "",
         "unknown: now\n",
     ),
 ];
 
-#[test]
-fn cites_by_author_and_date(rt: HostRuntime) {
-    assert_all(&rt, rt.alloc(), &AUTHORS_AND_DATES);
+/// Asserts both texts of a cite, and that the leaf text of its HTML is its plain text.
+fn assert_cite(rt: &impl Abort, alloc: Global, &(key, style, plain, html): &CiteRow) {
+    assert_run(rt, alloc, &["cite", key, style, "plain"], 0, plain, "");
+    assert_run(rt, alloc, &["cite", key, style, "html"], 0, html, "");
+    let line = html.strip_suffix('\n').unwrap_or(html);
+    assert_run(rt, alloc, &["leaf", line], 0, plain, "");
 }
 
 #[test]
-fn references_in_full(rt: HostRuntime) {
-    assert_all(&rt, rt.alloc(), &REFERENCES);
+fn cites_and_their_leaf_texts(rt: HostRuntime) {
+    let cites: &[CiteRow] = &CITES;
+    for row in cites {
+        assert_cite(&rt, rt.alloc(), row);
+    }
 }
 
 #[test]
 fn words_of_cite_that_are_refused(rt: HostRuntime) {
-    assert_all(&rt, rt.alloc(), &REFUSED);
+    assert_refusals(&rt, rt.alloc(), &REFUSALS);
 }

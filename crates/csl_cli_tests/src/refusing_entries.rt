@@ -1,7 +1,7 @@
 //! Tests of cites of entries that run out of memory in one lookup, for each lookup in turn. The
 //! expected texts are written by hand.
 
-use crate::cites::{BOOK, DEPENDENCE, ESSAY, THREE, VORTEX};
+use crate::cites::{BOOK, BOOK_BRIEF, DEPENDENCE, ESSAY, ESSAY_BRIEF, THREE, VORTEX, VORTEX_BRIEF};
 use crate::shared::{assert_plain, entries, instance};
 use crate::without_memory::WithoutMemory;
 use csl_context::{Context, RenderError, Rendered};
@@ -118,10 +118,10 @@ fn assert_refusals(rt: &impl Abort, alloc: Global, style: &Style, entry: &Entry,
 type Row = (BuiltIn, &'static str);
 
 static AUTHORS_AND_DATES: [Row; 4] = [
-    (BuiltIn::CrazyRich, "(Kwan, 2014)\n"),
+    (BuiltIn::CrazyRich, BOOK_BRIEF),
     (BuiltIn::Dependence, THREE),
-    (BuiltIn::Feminism, "(Ungard-Sargon, 2015)\n"),
-    (BuiltIn::QuantizedVortex, "(Gross, 1961)\n"),
+    (BuiltIn::Feminism, ESSAY_BRIEF),
+    (BuiltIn::QuantizedVortex, VORTEX_BRIEF),
 ];
 
 static REFERENCES: [Row; 4] = [

@@ -17,7 +17,7 @@ const ESCAPED: &str =
 
 const AND: &str = "(Title: <span style=\"font-style: italic;\">R&amp;D</span>)\n";
 
-static ROWS: [Row; 36] = [
+static ROWS: [Row; 19] = [
     // A title in a format.
     (&["title", "Nature", "html"], 0, NATURE, ""),
     (&["title", "Nature", "plain"], 0, "(Title: Nature)\n", ""),
@@ -50,30 +50,31 @@ static ROWS: [Row; 36] = [
     (&["kind", "feminism", "post-weblog"], 0, "true\n", ""),
     (&["kind", "feminism", "webpage"], 0, "false\n", ""),
     (&["kind", "feminism", "article"], 0, "false\n", ""),
+];
+
+/// Refused words, and the fault.
+pub(crate) type Refusal = (&'static [&'static str], &'static str);
+
+static REFUSALS: [Refusal; 17] = [
     // A word is missing.
-    (&["title"], 2, "", "missing word\n"),
-    (&["title", "Nature"], 2, "", "missing word\n"),
-    (&["label"], 2, "", "missing word\n"),
-    (&["kind"], 2, "", "missing word\n"),
-    (&["kind", "feminism"], 2, "", "missing word\n"),
-    (&["leaf"], 2, "", "missing word\n"),
+    (&["title"], "missing word\n"),
+    (&["title", "Nature"], "missing word\n"),
+    (&["label"], "missing word\n"),
+    (&["kind"], "missing word\n"),
+    (&["kind", "feminism"], "missing word\n"),
+    (&["leaf"], "missing word\n"),
     // A word is unknown, or one too many.
-    (&["title", "Nature", "pdf"], 2, "", "unknown: pdf\n"),
-    (&["title", "Nature", "html", "now"], 2, "", "unknown: now\n"),
-    (&["title", "Nature", "pdf", "now"], 2, "", "unknown: pdf\n"),
-    (&["labels", "x"], 2, "", "unknown: labels\n"),
-    (&["label", "nobody"], 2, "", "unknown: nobody\n"),
-    (&["label", "crazy-rich", "now"], 2, "", "unknown: now\n"),
-    (&["kind", "nobody"], 2, "", "unknown: nobody\n"),
-    (&["kind", "crazy-rich", "comic"], 2, "", "unknown: comic\n"),
-    (
-        &["kind", "crazy-rich", "book", "now"],
-        2,
-        "",
-        "unknown: now\n",
-    ),
-    (&["leaf", "x", "now"], 2, "", "unknown: now\n"),
-    (&["leaf", "a&b", "x"], 2, "", "unknown: x\n"),
+    (&["title", "Nature", "pdf"], "unknown: pdf\n"),
+    (&["title", "Nature", "html", "now"], "unknown: now\n"),
+    (&["title", "Nature", "pdf", "now"], "unknown: pdf\n"),
+    (&["labels", "x"], "unknown: labels\n"),
+    (&["label", "nobody"], "unknown: nobody\n"),
+    (&["label", "crazy-rich", "now"], "unknown: now\n"),
+    (&["kind", "nobody"], "unknown: nobody\n"),
+    (&["kind", "crazy-rich", "comic"], "unknown: comic\n"),
+    (&["kind", "crazy-rich", "book", "now"], "unknown: now\n"),
+    (&["leaf", "x", "now"], "unknown: now\n"),
+    (&["leaf", "a&b", "x"], "unknown: x\n"),
 ];
 
 /// The words as the program takes them.
@@ -86,25 +87,36 @@ pub(crate) fn strings(rt: &impl Abort, alloc: Global, words: &[&str]) -> Vec<Str
     strings
 }
 
-/// Asserts the status and the texts of a row.
-fn assert_row(rt: &impl Abort, alloc: Global, (of, status, out, fault): &Row) {
-    let words = strings(rt, alloc, *of);
+/// Asserts the status and the texts of a run with these words.
+pub(crate) fn assert_run(
+    rt: &impl Abort,
+    alloc: Global,
+    of: &[&str],
+    status: u8,
+    out: &str,
+    fault: &str,
+) {
+    let words = strings(rt, alloc, of);
     let mut wrote = String::new(alloc);
     let mut said = String::new(alloc);
     let answered = run(alloc, words.as_slice(), &mut wrote, &mut said);
-    assert_status(rt, answered, *status, *of);
-    assert_text(rt, wrote.as_str(), *out, *of);
-    assert_text(rt, said.as_str(), *fault, *of);
+    assert_status(rt, answered, status, of);
+    assert_text(rt, wrote.as_str(), out, of);
+    assert_text(rt, said.as_str(), fault, of);
 }
 
-/// Asserts the status and the texts of each row.
-pub(crate) fn assert_all(rt: &impl Abort, alloc: Global, rows: &[Row]) {
-    for row in rows {
-        assert_row(rt, alloc, row);
+/// Asserts that the program refuses the words of each row with its fault.
+pub(crate) fn assert_refusals(rt: &impl Abort, alloc: Global, rows: &[Refusal]) {
+    for (of, fault) in rows {
+        assert_run(rt, alloc, *of, 2, "", *fault);
     }
 }
 
 #[test]
 fn words_and_what_they_give(rt: HostRuntime) {
-    assert_all(&rt, rt.alloc(), &ROWS);
+    let rows: &[Row] = &ROWS;
+    for (of, status, out, fault) in rows {
+        assert_run(&rt, rt.alloc(), *of, *status, *out, *fault);
+    }
+    assert_refusals(&rt, rt.alloc(), &REFUSALS);
 }

@@ -1,13 +1,15 @@
-//! Entries that answer the named variables and kinds alike, of one type and of two.
+//! Entries that answer the named variables and kinds alike, of one type and of two, and their
+//! snapshots.
 
-use crate::asked::{assert_answer, only};
-use crate::described::described;
+use crate::answers::only;
+use crate::assertions::assert_of;
+use crate::descriptions::entries;
 use crate::instance::samples;
 use csl_elements::{
     DateVariable, Kind, NameVariable, Named, NumberVariable, PageVariable, StandardVariable,
     Variable,
 };
-use csl_entry::{EntryLike, same_answers};
+use csl_entry::{EntryLike, Snapshot, same_answers};
 use lit_model::Memory;
 use std::alloc::Global;
 use std::collections::BTreeSet;
@@ -21,7 +23,7 @@ const VOLUME: &[Variable] = &[Variable::Number(NumberVariable::Volume)];
 
 const PAGE: &[Variable] = &[Variable::Page(PageVariable::Page)];
 
-const AUTHOR_AND_DATE: &[Variable] = &[
+const CITE: &[Variable] = &[
     Variable::Name(NameVariable::Author),
     Variable::Date(DateVariable::Issued),
 ];
@@ -38,75 +40,51 @@ const REFERENCE: &[Variable] = &[
     Variable::Date(DateVariable::Issued),
 ];
 
-pub(crate) const ALIKE: &str = "alike";
-
-const NOT_ALIKE: &str = "not alike";
+/// A book of one author and one year.
+const ANN: &str = "book; authors Ann; date 2014";
 
 /// Two entries, the named variables, and whether the entries answer them alike.
-pub(crate) static ROWS: [(&str, &str, &[Variable], &str); 22] = [
-    ("book; title T|S", "web; title T|S", TITLE, ALIKE),
+type Row = (&'static str, &'static str, &'static [Variable], bool);
+
+static ROWS: [Row; 22] = [
+    ("book; title T|S", "web; title T|S", TITLE, true),
     // Both forms count.
-    ("book; title T|S", "book; title T|U", TITLE, NOT_ALIKE),
-    ("book; title T|S", "book; title U|S", TITLE, NOT_ALIKE),
-    ("book; title T", "book; title T|T", TITLE, ALIKE),
-    ("book; title T", "book; title T|S", TITLE, NOT_ALIKE),
-    ("book; title T", "book; title `T", TITLE, NOT_ALIKE),
-    ("book; title T", "book", TITLE, NOT_ALIKE),
+    ("book; title T|S", "book; title T|U", TITLE, false),
+    ("book; title T|S", "book; title U|S", TITLE, false),
+    ("book; title T", "book; title T|T", TITLE, true),
+    ("book; title T", "book; title T|S", TITLE, false),
+    ("book; title T", "book; title `T", TITLE, false),
+    ("book; title T", "book", TITLE, false),
     // Other variables do not count.
-    ("book; title T", "book; title U", &[], ALIKE),
-    ("book; title T", "book; title U", VOLUME, ALIKE),
-    ("book; volume 9", "book; volume 9", VOLUME, ALIKE),
-    ("book; volume 9", "book; volume 10", VOLUME, NOT_ALIKE),
-    ("book; volume 9", "book; volume 'nine", VOLUME, NOT_ALIKE),
-    ("article; pages 3-5", "article; pages 3-5", PAGE, ALIKE),
-    ("article; pages 3-5", "article; pages 3", PAGE, NOT_ALIKE),
-    (
-        "article; pages 3-5",
-        "article; pages 'three",
-        PAGE,
-        NOT_ALIKE,
-    ),
+    ("book; title T", "book; title U", &[], true),
+    ("book; title T", "book; title U", VOLUME, true),
+    ("book; volume 9", "book; volume 9", VOLUME, true),
+    ("book; volume 9", "book; volume 10", VOLUME, false),
+    ("book; volume 9", "book; volume 'nine", VOLUME, false),
+    ("article; pages 3-5", "article; pages 3-5", PAGE, true),
+    ("article; pages 3-5", "article; pages 3", PAGE, false),
+    ("article; pages 3-5", "article; pages 'three", PAGE, false),
     (
         "book; authors Ann, Ben/B",
         "web; authors Ann, Ben/B",
         AUTHOR,
-        ALIKE,
+        true,
     ),
     (
         "book; authors Ann, Ben",
         "book; authors Ben, Ann",
         AUTHOR,
-        NOT_ALIKE,
+        false,
     ),
-    (
-        "book; authors Ann",
-        "book; authors Ann/A",
-        AUTHOR,
-        NOT_ALIKE,
-    ),
-    (
-        "book; authors Ann; date 2014",
-        "book; authors Ann; date 2014; title T",
-        AUTHOR_AND_DATE,
-        ALIKE,
-    ),
-    (
-        "book; authors Ann; date 2014",
-        "book; authors Ann; date 2015",
-        AUTHOR_AND_DATE,
-        NOT_ALIKE,
-    ),
-    (
-        "book; authors Ann; date 2014",
-        "book; authors Ben; date 2014",
-        AUTHOR_AND_DATE,
-        NOT_ALIKE,
-    ),
+    ("book; authors Ann", "book; authors Ann/A", AUTHOR, false),
+    (ANN, "book; authors Ann; date 2014; title T", CITE, true),
+    (ANN, "book; authors Ann; date 2015", CITE, false),
+    (ANN, "book; authors Ben; date 2014", CITE, false),
     (
         "book; key a; language en-US",
         "book; key b",
         REFERENCE,
-        ALIKE,
+        true,
     ),
 ];
 
@@ -125,41 +103,41 @@ static WORKS: [&str; 4] = [
 ];
 
 /// A named kind, and whether a book and a web site are alike in it.
-static KINDS: [(Kind, &str); 3] = [
-    (Kind::Book, NOT_ALIKE),
-    (Kind::Webpage, NOT_ALIKE),
-    (Kind::Song, ALIKE),
+static KINDS: [(Kind, bool); 3] = [
+    (Kind::Book, false),
+    (Kind::Webpage, false),
+    (Kind::Song, true),
 ];
 
-/// Adds a variable to the named ones.
-fn name(named: &mut Named, variable: Variable) -> Result<(), Memory> {
+/// Adds a variable to the sets.
+fn insert(sets: &mut Named, variable: Variable) -> Result<(), Memory> {
     match variable {
         Variable::Number(v) => {
-            named.numbers.insert(v)?;
+            sets.numbers.insert(v)?;
         }
         Variable::Page(v) => {
-            named.pages.insert(v)?;
+            sets.pages.insert(v)?;
         }
         Variable::Standard(v) => {
-            named.standards.insert(v)?;
+            sets.standards.insert(v)?;
         }
         Variable::Name(v) => {
-            named.names.insert(v)?;
+            sets.names.insert(v)?;
         }
         Variable::Date(v) => {
-            named.dates.insert(v)?;
+            sets.dates.insert(v)?;
         }
     }
     Ok(())
 }
 
 /// The sets of these variables, with a kind if there is one.
-pub(crate) fn named(
+pub(crate) fn sets(
     alloc: Global,
     variables: &[Variable],
     kind: Option<Kind>,
 ) -> Result<Named, Memory> {
-    let mut named = Named {
+    let mut sets = Named {
         numbers: BTreeSet::new(alloc),
         pages: BTreeSet::new(alloc),
         standards: BTreeSet::new(alloc),
@@ -168,68 +146,63 @@ pub(crate) fn named(
         kinds: BTreeSet::new(alloc),
     };
     for variable in variables {
-        name(&mut named, *variable)?;
+        insert(&mut sets, *variable)?;
     }
     if let Some(kind) = kind {
-        named.kinds.insert(kind)?;
+        sets.kinds.insert(kind)?;
     }
-    Ok(named)
+    Ok(sets)
 }
 
-/// Whether the two entries answer alike.
-fn compared<T: EntryLike, U: EntryLike>(
+/// Whether the two entries answer alike, and whether their snapshots are equal.
+fn likeness<T: EntryLike, U: EntryLike>(
     rt: &impl Abort,
     alloc: Global,
     left: &T,
     right: &U,
-    variables: &[Variable],
-    kind: Option<Kind>,
-) -> &'static str {
-    let named = named(alloc, variables, kind).expect(rt, "memory");
-    let alike = same_answers(alloc, left, right, &named).expect(rt, "memory");
-    if alike { ALIKE } else { NOT_ALIKE }
+    named: &Named,
+) -> (bool, bool) {
+    let alike = same_answers(alloc, left, right, named).expect(rt, "memory");
+    let a = Snapshot::new(alloc, left, named).expect(rt, "memory");
+    let b = Snapshot::new(alloc, right, named).expect(rt, "memory");
+    (alike, a == b)
 }
 
-/// Whether an entry and a described entry answer alike.
-fn compared_with<T: EntryLike>(
+/// Asserts whether the entries answer alike. Their snapshots are equal exactly if they do.
+fn assert_likeness<T: EntryLike, U: EntryLike>(
     rt: &impl Abort,
     alloc: Global,
-    left: &T,
-    right: &str,
+    (left, right): (&T, &U),
     variables: &[Variable],
     kind: Option<Kind>,
-) -> &'static str {
-    let rights = described(rt, alloc, right);
-    compared(rt, alloc, left, only(rt, &rights), variables, kind)
-}
-
-fn assert_alike(
-    rt: &impl Abort,
-    alloc: Global,
-    (left, right): (&'static str, &'static str),
-    variables: &'static [Variable],
-    kind: Option<Kind>,
-    wanted: &'static str,
+    wanted: bool,
 ) {
-    let lefts = described(rt, alloc, left);
-    let answer = compared_with(rt, alloc, only(rt, &lefts), right, variables, kind);
-    assert_answer(rt, answer, wanted, right);
+    let named = sets(alloc, variables, kind).expect(rt, "memory");
+    let likeness = likeness(rt, alloc, left, right, &named);
+    assert_of(rt, &likeness, &(wanted, wanted), &(variables, kind));
+}
+
+fn assert_row(
+    rt: &impl Abort,
+    alloc: Global,
+    &(left, right, variables, wanted): &Row,
+    kind: Option<Kind>,
+) {
+    let lefts = entries(rt, alloc, left);
+    let rights = entries(rt, alloc, right);
+    let pair = (only(rt, &lefts), only(rt, &rights));
+    assert_likeness(rt, alloc, pair, variables, kind, wanted);
 }
 
 #[test]
 fn entries_are_alike_if_all_named_answers_are(rt: HostRuntime) {
-    let rows: &[(
-        &'static str,
-        &'static str,
-        &'static [Variable],
-        &'static str,
-    )] = &ROWS;
-    for (left, right, variables, wanted) in rows {
-        assert_alike(&rt, rt.alloc(), (*left, *right), *variables, None, *wanted);
+    let rows: &[Row] = &ROWS;
+    for row in rows {
+        assert_row(&rt, rt.alloc(), row, None);
     }
-    let kinds: &[(Kind, &'static str)] = &KINDS;
+    let kinds: &[(Kind, bool)] = &KINDS;
     for (kind, wanted) in kinds {
-        assert_alike(&rt, rt.alloc(), ("book", "web"), &[], Some(*kind), *wanted);
+        assert_row(&rt, rt.alloc(), &("book", "web", &[], *wanted), Some(*kind));
     }
 }
 
@@ -238,10 +211,8 @@ fn four_works_are_alike_each_with_itself(rt: HostRuntime) {
     let works: &[&'static str] = &WORKS;
     for (i, left) in works.iter().enumerate() {
         for (j, right) in works.iter().enumerate() {
-            let wanted = if i == j { ALIKE } else { NOT_ALIKE };
-            let pair = (*left, *right);
-            assert_alike(&rt, rt.alloc(), pair, AUTHOR_AND_DATE, None, wanted);
-            assert_alike(&rt, rt.alloc(), pair, REFERENCE, None, wanted);
+            assert_row(&rt, rt.alloc(), &(*left, *right, CITE, i == j), None);
+            assert_row(&rt, rt.alloc(), &(*left, *right, REFERENCE, i == j), None);
         }
     }
 }
@@ -253,14 +224,10 @@ fn entries_of_two_types(rt: HostRuntime) {
     let alloc = rt.alloc();
     let samples = samples(&rt, alloc, "Crazy Rich Asians");
     let sample = only(&rt, &samples);
-    let works = described(&rt, alloc, WORKS[0]);
+    let works = entries(&rt, alloc, WORKS[0]);
     let work = only(&rt, &works);
-    let titles = compared(&rt, alloc, work, sample, TITLE, None);
-    assert_answer(&rt, titles, ALIKE, "the title");
-    let titles = compared(&rt, alloc, sample, work, TITLE, None);
-    assert_answer(&rt, titles, ALIKE, "the title of the other");
-    let authors = compared(&rt, alloc, work, sample, AUTHOR, None);
-    assert_answer(&rt, authors, NOT_ALIKE, "the authors");
-    let book = compared(&rt, alloc, work, sample, TITLE, Some(Kind::Book));
-    assert_answer(&rt, book, NOT_ALIKE, "a book");
+    assert_likeness(&rt, alloc, (work, sample), TITLE, None, true);
+    assert_likeness(&rt, alloc, (sample, work), TITLE, None, true);
+    assert_likeness(&rt, alloc, (work, sample), AUTHOR, None, false);
+    assert_likeness(&rt, alloc, (work, sample), TITLE, Some(Kind::Book), false);
 }

@@ -2,9 +2,9 @@
 
 ghost use Rattle.std.specs.Prelude.{◌≡◌, ◌↔◌, IsTrue};
 
-use crate::asked::{assert_answer, only};
-use crate::asserted::assert_same;
-use crate::described::described;
+use crate::answers::{assert_answer, only};
+use crate::assertions::assert_same;
+use crate::descriptions::entries;
 use csl_entry::Alphanumerical;
 use std::alloc::Global;
 use std::process::Abort;
@@ -24,7 +24,7 @@ fn ways_are_equal_by_their_letters(rt: HostRuntime) {
 }
 
 fn label(rt: &impl Abort, alloc: Global, letters: usize, description: &str) -> String {
-    let works = described(rt, alloc, description);
+    let works = entries(rt, alloc, description);
     let entry = only(rt, &works);
     Alphanumerical { letters }
         .citation(alloc, entry)

@@ -1,6 +1,6 @@
 //! The properties of a cite: equality, copies, and those of a first cite.
 
-use crate::asserted::{assert_of, assert_same};
+use crate::assertions::{assert_of, assert_same};
 use csl_elements::{Locator, NameVariable, StandardVariable, Variable};
 use csl_entry::{
     CertainCiteProperties, CitationNumber, CiteProperties, DisambiguateState,
@@ -22,7 +22,7 @@ static LOCATORS: [LocatorRow; 4] = [
     (Locator::Page, LocatorPayload::Transparent, false),
 ];
 
-fn assert_told_apart(rt: &impl Abort, &(kind, payload, wanted): &LocatorRow) {
+fn assert_locator(rt: &impl Abort, &(kind, payload, wanted): &LocatorRow) {
     let page = SpecificLocator(Locator::Page, FIVE);
     let other = SpecificLocator(kind, payload);
     assert_of(rt, &(page == other), &wanted, &other);
@@ -32,7 +32,7 @@ fn assert_told_apart(rt: &impl Abort, &(kind, payload, wanted): &LocatorRow) {
 fn locators_are_distinguished(rt: HostRuntime) {
     let locators: &[LocatorRow] = &LOCATORS;
     for row in locators {
-        assert_told_apart(&rt, row);
+        assert_locator(&rt, row);
     }
 }
 
@@ -66,7 +66,7 @@ fn parts_of_a_cite_are_distinguished(rt: HostRuntime) {
 
 /// A kind of disambiguation.
 #[derive(Clone, Copy, Debug)]
-pub enum Told {
+pub enum Way {
     ByNothing,
     ByNames,
     ByChoice,
@@ -75,22 +75,22 @@ pub enum Told {
 
 /// The state of a cite that is disambiguated in this way. For names, the names are those of the
 /// author.
-pub fn state(rt: &impl Abort, alloc: Global, told: Told) -> DisambiguateState {
-    match told {
-        Told::ByNothing => DisambiguateState::None,
-        Told::ByNames => {
+pub fn state(rt: &impl Abort, alloc: Global, way: Way) -> DisambiguateState {
+    match way {
+        Way::ByNothing => DisambiguateState::None,
+        Way::ByNames => {
             let form = DisambiguatedNameForm::ShortFull;
             let variables = Vec::from_array(alloc, [NameVariable::Author]).expect(rt, "memory");
             let names = NameDisambiguationProperties::new(form, variables, Vec::new(alloc));
             DisambiguateState::NameDisambiguation(names)
         }
-        Told::ByChoice => DisambiguateState::Choose,
-        Told::BySuffix(number) => DisambiguateState::YearSuffix(number),
+        Way::ByChoice => DisambiguateState::Choose,
+        Way::BySuffix(number) => DisambiguateState::YearSuffix(number),
     }
 }
 
 /// The name of a state, and a number: how many variables it has, or its year suffix, else 0.
-fn said(state: &DisambiguateState) -> (&'static str, usize) {
+fn state_words(state: &DisambiguateState) -> (&'static str, usize) {
     match state {
         DisambiguateState::None => ("none", 0),
         DisambiguateState::NameDisambiguation(properties) => {
@@ -101,34 +101,34 @@ fn said(state: &DisambiguateState) -> (&'static str, usize) {
     }
 }
 
-fn copy_said(rt: &impl Abort, alloc: Global, told: Told) -> (&'static str, usize) {
-    let state = state(rt, alloc, told);
+fn copy_words(rt: &impl Abort, alloc: Global, way: Way) -> (&'static str, usize) {
+    let state = state(rt, alloc, way);
     let copy = state.clone(alloc).expect(rt, "memory");
     drop(state);
-    let said = said(&copy);
+    let words = state_words(&copy);
     drop(copy);
-    said
+    words
 }
 
 /// A kind of disambiguation, and the name and the number of its state.
-static STATES: [(Told, (&str, usize)); 5] = [
-    (Told::ByNothing, ("none", 0)),
-    (Told::ByChoice, ("choose", 0)),
-    (Told::BySuffix(3), ("year suffix", 3)),
-    (Told::BySuffix(256), ("year suffix", 256)),
-    (Told::ByNames, ("names", 1)),
+static STATES: [(Way, (&str, usize)); 5] = [
+    (Way::ByNothing, ("none", 0)),
+    (Way::ByChoice, ("choose", 0)),
+    (Way::BySuffix(3), ("year suffix", 3)),
+    (Way::BySuffix(256), ("year suffix", 256)),
+    (Way::ByNames, ("names", 1)),
 ];
 
-fn assert_copied(rt: &impl Abort, alloc: Global, &(told, wanted): &(Told, (&'static str, usize))) {
-    let copy = copy_said(rt, alloc, told);
-    assert_of(rt, &copy, &wanted, &told);
+fn assert_copy(rt: &impl Abort, alloc: Global, &(way, wanted): &(Way, (&'static str, usize))) {
+    let copy = copy_words(rt, alloc, way);
+    assert_of(rt, &copy, &wanted, &way);
 }
 
 #[test]
 fn a_copy_of_each_state(rt: HostRuntime) {
-    let states: &[(Told, (&'static str, usize))] = &STATES;
+    let states: &[(Way, (&'static str, usize))] = &STATES;
     for row in states {
-        assert_copied(&rt, rt.alloc(), row);
+        assert_copy(&rt, rt.alloc(), row);
     }
 }
 
@@ -159,9 +159,9 @@ type Certain = (Option<NoteNumber>, bool, bool, usize);
 type Speculative<'s> = (&'static str, Option<SpecificLocator<'s>>, u32, IbidState);
 
 /// All properties of a cite.
-fn all_said<'s>(cite: &CiteProperties<'s>) -> (Certain, Speculative<'s>) {
+fn all_properties<'s>(cite: &CiteProperties<'s>) -> (Certain, Speculative<'s>) {
     let (certain, speculative) = (cite.certain, &cite.speculative);
-    let (state, _) = said(&speculative.disambiguation);
+    let (state, _) = state_words(&speculative.disambiguation);
     (
         (
             certain.first_note_number,
@@ -179,16 +179,16 @@ fn all_said<'s>(cite: &CiteProperties<'s>) -> (Certain, Speculative<'s>) {
 }
 
 /// The properties of a first cite that branches of the style disambiguate.
-fn said_of_the_first() -> (Certain, Speculative<'static>) {
+fn first_properties() -> (Certain, Speculative<'static>) {
     let cite = CiteProperties::first(DisambiguateState::Choose);
-    let said = all_said(&cite);
+    let properties = all_properties(&cite);
     drop(cite);
-    said
+    properties
 }
 
 #[test]
 fn properties_of_a_first_cite(rt: HostRuntime) {
-    let (certain, speculative) = said_of_the_first();
+    let (certain, speculative) = first_properties();
     assert_same(&rt, &certain, &(None, true, false, 0));
     assert_same(
         &rt,
@@ -198,18 +198,18 @@ fn properties_of_a_first_cite(rt: HostRuntime) {
 }
 
 /// The properties of a copy of a cite.
-fn copied(rt: &impl Abort, alloc: Global) -> (Certain, Speculative<'static>) {
+fn copy_properties(rt: &impl Abort, alloc: Global) -> (Certain, Speculative<'static>) {
     let cite = on_page_five(rt);
     let copy = cite.clone(alloc).expect(rt, "memory");
     drop(cite);
-    let said = all_said(&copy);
+    let properties = all_properties(&copy);
     drop(copy);
-    said
+    properties
 }
 
 #[test]
 fn a_copy_of_the_properties_of_a_cite(rt: HostRuntime) {
-    let (certain, speculative) = copied(&rt, rt.alloc());
+    let (certain, speculative) = copy_properties(&rt, rt.alloc());
     assert_same(&rt, &certain, &(NoteNumber::new(6), true, false, 2));
     let page = SpecificLocator(Locator::Page, LocatorPayload::Str("5"));
     assert_same(

@@ -1,9 +1,9 @@
 //! The answers of a cite: those of the citation, and those of the entry.
 
-use crate::asked::{assert_answer, borrowed, only, result_said, text_said};
-use crate::asserted::assert_same;
-use crate::cite::{Told, state};
-use crate::described::{alone, pieces};
+use crate::answers::{assert_answer, chunks_text, only, result_text, value};
+use crate::assertions::assert_same;
+use crate::cite::{Way, state};
+use crate::descriptions::{alone, chunks};
 use csl_elements::{
     DateVariable, Kind, Locator, NameVariable, NumberVariable, PageVariable, StandardVariable,
 };
@@ -107,7 +107,7 @@ impl EntryLike for Sample {
 /// A sample with number 20, page 7 and a text of these chunks, alone in a list.
 pub fn samples(rt: &impl Abort, alloc: Global, text: &str) -> Vec<Sample> {
     let pages = PageRanges::parse(alloc, "7").expect(rt, "pages");
-    let text = pieces(rt, alloc, text);
+    let text = chunks(rt, alloc, text);
     let sample = Sample {
         number: Numeric::new(20),
         pages,
@@ -118,7 +118,7 @@ pub fn samples(rt: &impl Abort, alloc: Global, text: &str) -> Vec<Sample> {
 
 /// The third cite that the caller handed in, with citation number 4. Its locator, if it has one, is
 /// a page.
-pub fn cited<'s>(
+pub fn properties<'s>(
     rt: &impl Abort,
     first_note_number: Option<NoteNumber>,
     page: Option<LocatorPayload<'s>>,
@@ -166,7 +166,7 @@ fn number(
     variable: NumberVariable,
 ) -> String {
     let samples = samples(rt, alloc, "`Nature");
-    let props = cited(rt, first_note_number, page, DisambiguateState::None);
+    let props = properties(rt, first_note_number, page, DisambiguateState::None);
     let number = number_in(rt, alloc, &samples, &props, variable);
     drop(props);
     number
@@ -184,7 +184,7 @@ fn number_in<'s>(
     let found = cite
         .resolve_number_variable(alloc, variable)
         .expect(rt, "memory");
-    let number = result_said(rt, alloc, found.as_ref());
+    let number = result_text(rt, alloc, found.as_ref());
     drop(found);
     number
 }
@@ -218,7 +218,7 @@ type Separated = (i32, Option<NumericDelimiter>);
 /// The two numbers of a locator, if it is a list of two.
 fn two_numbers(rt: &impl Abort, alloc: Global, page: &str) -> Option<(Separated, Separated)> {
     let samples = samples(rt, alloc, "`Nature");
-    let props = cited(
+    let props = properties(
         rt,
         None,
         Some(LocatorPayload::Str(page)),
@@ -284,7 +284,7 @@ fn text_in<'s>(
     let found = cite
         .resolve_standard_variable(alloc, form, variable)
         .expect(rt, "memory");
-    let text = text_said(rt, alloc, borrowed(&found));
+    let text = chunks_text(rt, alloc, value(&found));
     drop(found);
     text
 }
@@ -293,12 +293,12 @@ fn text_in<'s>(
 fn text(
     rt: &impl Abort,
     alloc: Global,
-    told: Told,
+    way: Way,
     form: LongShortForm,
     variable: StandardVariable,
 ) -> String {
     let samples = samples(rt, alloc, "`Nature");
-    let props = cited(rt, None, None, state(rt, alloc, told));
+    let props = properties(rt, None, None, state(rt, alloc, way));
     let text = text_in(rt, alloc, &samples, &props, form, variable);
     drop(props);
     text
@@ -323,7 +323,7 @@ fn pages_in<'s>(
 
 fn pages(rt: &impl Abort, alloc: Global) -> String {
     let samples = samples(rt, alloc, "`Nature");
-    let props = cited(rt, None, None, DisambiguateState::YearSuffix(0));
+    let props = properties(rt, None, None, DisambiguateState::YearSuffix(0));
     let pages = pages_in(rt, alloc, &samples, &props);
     drop(props);
     pages
@@ -336,20 +336,20 @@ const SHORT: LongShortForm = LongShortForm::Short;
 const SUFFIX: StandardVariable = StandardVariable::YearSuffix;
 
 /// A kind of disambiguation, the form, the variable, and the text.
-type TextRow = (Told, LongShortForm, StandardVariable, &'static str);
+type TextRow = (Way, LongShortForm, StandardVariable, &'static str);
 
 static TEXTS: [TextRow; 6] = [
-    (Told::BySuffix(0), LONG, SUFFIX, "a"),
-    (Told::BySuffix(0), SHORT, SUFFIX, "a"),
-    (Told::ByNames, LONG, SUFFIX, "none"),
-    (Told::ByChoice, LONG, SUFFIX, "none"),
-    (Told::ByNothing, LONG, SUFFIX, "none"),
+    (Way::BySuffix(0), LONG, SUFFIX, "a"),
+    (Way::BySuffix(0), SHORT, SUFFIX, "a"),
+    (Way::ByNames, LONG, SUFFIX, "none"),
+    (Way::ByChoice, LONG, SUFFIX, "none"),
+    (Way::ByNothing, LONG, SUFFIX, "none"),
     // The entry answers all other variables.
-    (Told::BySuffix(0), LONG, StandardVariable::Title, "`Nature"),
+    (Way::BySuffix(0), LONG, StandardVariable::Title, "`Nature"),
 ];
 
-fn assert_text(rt: &impl Abort, alloc: Global, &(told, form, variable, wanted): &TextRow) {
-    let text = text(rt, alloc, told, form, variable);
+fn assert_text(rt: &impl Abort, alloc: Global, &(way, form, variable, wanted): &TextRow) {
+    let text = text(rt, alloc, way, form, variable);
     assert_answer(rt, text.as_str(), wanted, "a text variable");
 }
 

@@ -1,8 +1,8 @@
 //! Languages and regions, and whether an entry is English.
 
-use crate::asked::{assert_answer, only};
-use crate::asserted::assert_of;
-use crate::described::described;
+use crate::answers::{assert_answer, only};
+use crate::assertions::assert_of;
+use crate::descriptions::entries;
 use csl_entry::{EntryLike, csl_language};
 use lit_model::LanguageIdentifier;
 use std::alloc::Global;
@@ -23,13 +23,13 @@ fn language(
 }
 
 /// The language in the form that a style prints.
-fn printed(rt: &impl Abort, alloc: Global, name: &str, region: Option<&str>) -> String {
+fn language_code(rt: &impl Abort, alloc: Global, name: &str, region: Option<&str>) -> String {
     let language = language(rt, alloc, name, region);
     csl_language(alloc, &language).expect(rt, "memory")
 }
 
 fn is_english(rt: &impl Abort, alloc: Global, description: &str) -> Option<bool> {
-    let works = described(rt, alloc, description);
+    let works = entries(rt, alloc, description);
     let entry = only(rt, &works);
     entry.is_english()
 }
@@ -37,8 +37,8 @@ fn is_english(rt: &impl Abort, alloc: Global, description: &str) -> Option<bool>
 #[test]
 fn a_region_follows_its_language(rt: HostRuntime) {
     for (name, region, wanted) in [("en", Some("US"), "en-US"), ("de", None, "de")] {
-        let printed = printed(&rt, rt.alloc(), name, region);
-        assert_answer(&rt, printed.as_str(), wanted, name);
+        let code = language_code(&rt, rt.alloc(), name, region);
+        assert_answer(&rt, code.as_str(), wanted, name);
     }
 }
 

@@ -1,6 +1,6 @@
 //! The letters of year suffixes.
 
-use crate::asked::assert_answer;
+use crate::answers::assert_answer;
 use csl_entry::letter;
 use std::alloc::Global;
 use std::process::Abort;

@@ -4,15 +4,15 @@
 #[cfg(test)]
 mod alike;
 #[cfg(test)]
-mod asked;
+mod answers;
 #[cfg(test)]
-mod asserted;
+mod assertions;
 #[cfg(test)]
 mod citation_label;
 #[cfg(test)]
 mod cite;
 #[cfg(test)]
-mod described;
+mod descriptions;
 #[cfg(test)]
 mod entry;
 #[cfg(test)]

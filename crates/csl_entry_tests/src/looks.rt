@@ -1,9 +1,10 @@
 //! The answers of a cite to a lookup, and whether two entries answer the same.
 
-use crate::asked::{assert_answer, borrowed, only, result_said};
-use crate::asserted::assert_of;
-use crate::described::described;
-use crate::instance::cited;
+use crate::answers::{assert_answer, names_text, only, result_text, value};
+use crate::assertions::assert_of;
+use crate::descriptions::entries;
+use crate::instance::properties;
+use crate::looks::Answer::{Authors, Issued, Pages, Title, Volume};
 use csl_elements::{
     DateVariable, NameVariable, NumberOrPageVariable, NumberVariable, PageVariable,
     StandardVariable,
@@ -18,7 +19,7 @@ use std::process::Abort;
 
 /// A lookup in a cite.
 #[derive(Clone, Copy)]
-enum Sought {
+enum Lookup {
     /// A number, or pages.
     Number(NumberOrPageVariable),
     /// The names, with a space after each.
@@ -29,20 +30,20 @@ enum Sought {
 
 /// The answer as text: a number, `p` and pages, `'` and a text that is neither, `@` and the index
 /// of a text that the caller writes, or `none`.
-fn number_or_page_said(
+fn number_or_page_text(
     rt: &impl Abort,
     alloc: Global,
     found: &Option<NumberOrPageVariableResult<'_>>,
 ) -> String {
     match found {
-        Some(NumberOrPageVariableResult::Number(number)) => result_said(rt, alloc, Some(number)),
+        Some(NumberOrPageVariableResult::Number(number)) => result_text(rt, alloc, Some(number)),
         Some(NumberOrPageVariableResult::Page(MaybeTyped::Typed(pages))) => {
             format!(in alloc; "p{pages}").expect(rt, "memory")
         }
         Some(NumberOrPageVariableResult::Page(MaybeTyped::String(text))) => {
             format!(in alloc; "'{}", text.as_str()).expect(rt, "memory")
         }
-        None => result_said(rt, alloc, None),
+        None => result_text(rt, alloc, None),
     }
 }
 
@@ -55,9 +56,9 @@ fn number_or_page(
     let found = cite
         .resolve_number_or_page_variable(alloc, variable)
         .expect(rt, "memory");
-    let said = number_or_page_said(rt, alloc, &found);
+    let text = number_or_page_text(rt, alloc, &found);
     drop(found);
-    said
+    text
 }
 
 fn names(
@@ -69,13 +70,7 @@ fn names(
     let persons = cite
         .resolve_name_variable(alloc, variable)
         .expect(rt, "memory");
-    let mut names = String::new(alloc);
-    for person in &persons {
-        let name = person.as_ref().name.as_str();
-        names.push_str(name).expect(rt, "memory");
-        names.push(' ').expect(rt, "memory");
-    }
-    names
+    names_text(rt, alloc, &persons)
 }
 
 fn year(
@@ -87,19 +82,19 @@ fn year(
     let date = cite
         .resolve_date_variable(alloc, variable)
         .expect(rt, "memory");
-    match borrowed(&date) {
+    match value(&date) {
         Some(date) => format!(in alloc; "{}", date.year()).expect(rt, "memory"),
         None => String::from_str(alloc, "none").expect(rt, "memory"),
     }
 }
 
 /// The answer of a cite of the entry.
-fn found_in<'s>(
+fn answer_in<'s>(
     rt: &impl Abort,
     alloc: Global,
     entries: &'s [Entry],
     cite_props: &'s CiteProperties<'s>,
-    sought: Sought,
+    lookup: Lookup,
 ) -> String {
     let cite = InstanceContext {
         entry: only(rt, entries),
@@ -107,23 +102,23 @@ fn found_in<'s>(
         sorting: None,
         kind: None,
     };
-    match sought {
-        Sought::Number(variable) => number_or_page(rt, alloc, cite, variable),
-        Sought::Names(variable) => names(rt, alloc, cite, variable),
-        Sought::Year(variable) => year(rt, alloc, cite, variable),
+    match lookup {
+        Lookup::Number(variable) => number_or_page(rt, alloc, cite, variable),
+        Lookup::Names(variable) => names(rt, alloc, cite, variable),
+        Lookup::Year(variable) => year(rt, alloc, cite, variable),
     }
 }
 
 /// The answer of a cite whose locator the caller writes.
-fn found(rt: &impl Abort, alloc: Global, description: &str, sought: Sought) -> String {
-    let entries = described(rt, alloc, description);
-    let props = cited(
+fn cite_answer(rt: &impl Abort, alloc: Global, description: &str, lookup: Lookup) -> String {
+    let entries = entries(rt, alloc, description);
+    let props = properties(
         rt,
         None,
         Some(LocatorPayload::Transparent),
         DisambiguateState::None,
     );
-    let found = found_in(rt, alloc, &entries, &props, sought);
+    let found = answer_in(rt, alloc, &entries, &props, lookup);
     drop(props);
     found
 }
@@ -132,50 +127,52 @@ const BOOK: &str = "book; authors Ann, Ben; date 2014; volume 3; pages 7-9; titl
 
 const PAMPHLET: &str = "book; volume 'third; pages 'passim";
 
-const VOLUME: Sought = Sought::Number(NumberOrPageVariable::Number(NumberVariable::Volume));
+const VOLUME: Lookup = Lookup::Number(NumberOrPageVariable::Number(NumberVariable::Volume));
 
-const LOCATOR: Sought = Sought::Number(NumberOrPageVariable::Number(NumberVariable::Locator));
+const LOCATOR: Lookup = Lookup::Number(NumberOrPageVariable::Number(NumberVariable::Locator));
 
-const PAGE: Sought = Sought::Number(NumberOrPageVariable::Page(PageVariable::Page));
+const PAGE: Lookup = Lookup::Number(NumberOrPageVariable::Page(PageVariable::Page));
 
-const CITED: Sought = Sought::Number(NumberOrPageVariable::Number(NumberVariable::CitationNumber));
+const CITATION: Lookup = Lookup::Number(NumberOrPageVariable::Number(
+    NumberVariable::CitationNumber,
+));
 
 /// An entry, a lookup in its cite, and the answer of the cite.
-static ANSWERS: [(&str, Sought, &str); 12] = [
+static ANSWERS: [(&str, Lookup, &str); 12] = [
     (BOOK, VOLUME, "3"),
     (PAMPHLET, VOLUME, "'third"),
     ("book", VOLUME, "none"),
     (BOOK, LOCATOR, "@2"),
-    (BOOK, CITED, "5"),
+    (BOOK, CITATION, "5"),
     (BOOK, PAGE, "p7-9"),
     (PAMPHLET, PAGE, "'passim"),
     ("book", PAGE, "none"),
-    (BOOK, Sought::Names(NameVariable::Author), "Ann Ben "),
-    (BOOK, Sought::Names(NameVariable::Editor), ""),
-    (BOOK, Sought::Year(DateVariable::Issued), "2014"),
-    (BOOK, Sought::Year(DateVariable::Accessed), "none"),
+    (BOOK, Lookup::Names(NameVariable::Author), "Ann Ben "),
+    (BOOK, Lookup::Names(NameVariable::Editor), ""),
+    (BOOK, Lookup::Year(DateVariable::Issued), "2014"),
+    (BOOK, Lookup::Year(DateVariable::Accessed), "none"),
 ];
 
-fn assert_found(
+fn assert_lookup(
     rt: &impl Abort,
     alloc: Global,
-    &(description, sought, wanted): &(&'static str, Sought, &'static str),
+    &(description, lookup, wanted): &(&'static str, Lookup, &'static str),
 ) {
-    let found = found(rt, alloc, description, sought);
+    let found = cite_answer(rt, alloc, description, lookup);
     assert_answer(rt, found.as_str(), wanted, description);
 }
 
 #[test]
 fn answers_of_a_cite(rt: HostRuntime) {
-    let answers: &[(&'static str, Sought, &'static str)] = &ANSWERS;
+    let answers: &[(&'static str, Lookup, &'static str)] = &ANSWERS;
     for row in answers {
-        assert_found(&rt, rt.alloc(), row);
+        assert_lookup(&rt, rt.alloc(), row);
     }
 }
 
 /// The answer that is compared for two entries.
 #[derive(Clone, Copy)]
-enum Compared {
+enum Answer {
     Authors,
     Title,
     Volume,
@@ -242,98 +239,78 @@ fn same_in(
     alloc: Global,
     left: &[Entry],
     right: &[Entry],
-    compared: Compared,
+    answer: Answer,
 ) -> bool {
     let (left, right) = (only(rt, left), only(rt, right));
-    match compared {
-        Compared::Authors => same_authors(rt, alloc, left, right),
-        Compared::Title => same_title(rt, alloc, left, right),
-        Compared::Volume => same_volume(rt, alloc, left, right),
-        Compared::Pages => same_page_range(rt, alloc, left, right),
-        Compared::Issued => same_issued(rt, alloc, left, right),
+    match answer {
+        Answer::Authors => same_authors(rt, alloc, left, right),
+        Answer::Title => same_title(rt, alloc, left, right),
+        Answer::Volume => same_volume(rt, alloc, left, right),
+        Answer::Pages => same_page_range(rt, alloc, left, right),
+        Answer::Issued => same_issued(rt, alloc, left, right),
     }
 }
 
-fn same(rt: &impl Abort, alloc: Global, left: &str, right: &str, compared: Compared) -> bool {
-    let left = described(rt, alloc, left);
-    let right = described(rt, alloc, right);
-    same_in(rt, alloc, &left, &right, compared)
+fn same(rt: &impl Abort, alloc: Global, left: &str, right: &str, answer: Answer) -> bool {
+    let left = entries(rt, alloc, left);
+    let right = entries(rt, alloc, right);
+    same_in(rt, alloc, &left, &right, answer)
 }
 
 /// Two entries, the compared answer, and whether it is the same.
-type ComparedRow = (&'static str, &'static str, Compared, bool);
+type PairRow = (&'static str, &'static str, Answer, bool);
 
-static PAIRS: [ComparedRow; 19] = [
+static PAIRS: [PairRow; 19] = [
     (
         "book; authors Ann, Ben/B",
         "web; authors Ann, Ben/B",
-        Compared::Authors,
+        Authors,
         true,
     ),
     (
         "book; authors Ann, Ben",
         "book; authors Ben, Ann",
-        Compared::Authors,
+        Authors,
         false,
     ),
     (
         "book; authors Ann, Ben/B",
         "book; authors Ann, Ben",
-        Compared::Authors,
+        Authors,
         false,
     ),
     (
         "book; authors Ann",
         "book; authors Ann, Ben",
-        Compared::Authors,
+        Authors,
         false,
     ),
-    ("book", "book; authors", Compared::Authors, true),
-    (
-        "book; title A+$b",
-        "book; title A+$b|A",
-        Compared::Title,
-        true,
-    ),
-    (
-        "book; title A+$b",
-        "book; title A+b",
-        Compared::Title,
-        false,
-    ),
-    ("book; title A", "book", Compared::Title, false),
-    ("book", "book", Compared::Title, true),
-    ("book; volume 3", "book; volume 3", Compared::Volume, true),
-    ("book; volume 3", "book; volume '3", Compared::Volume, false),
-    ("book; volume 3", "book", Compared::Volume, false),
-    ("book; pages 7-9", "book; pages 7-9", Compared::Pages, true),
-    ("book; pages 7-9", "book; pages 7,9", Compared::Pages, false),
-    ("book; pages 7", "book; pages '7", Compared::Pages, false),
-    (
-        "book; date 2014",
-        "book; date 2014; title A",
-        Compared::Issued,
-        true,
-    ),
-    (
-        "book; date 2014",
-        "book; date 2015",
-        Compared::Issued,
-        false,
-    ),
-    ("book; date 2014", "book", Compared::Issued, false),
-    ("book", "book", Compared::Issued, true),
+    ("book", "book; authors", Authors, true),
+    ("book; title A+$b", "book; title A+$b|A", Title, true),
+    ("book; title A+$b", "book; title A+b", Title, false),
+    ("book; title A", "book", Title, false),
+    ("book", "book", Title, true),
+    ("book; volume 3", "book; volume 3", Volume, true),
+    ("book; volume 3", "book; volume '3", Volume, false),
+    ("book; volume 3", "book", Volume, false),
+    ("book; pages 7-9", "book; pages 7-9", Pages, true),
+    ("book; pages 7-9", "book; pages 7,9", Pages, false),
+    ("book; pages 7", "book; pages '7", Pages, false),
+    ("book; date 2014", "book; date 2014; title A", Issued, true),
+    ("book; date 2014", "book; date 2015", Issued, false),
+    ("book; date 2014", "book", Issued, false),
+    ("book", "book", Issued, true),
 ];
 
-fn assert_compared(rt: &impl Abort, alloc: Global, &(left, right, compared, wanted): &ComparedRow) {
-    let same = same(rt, alloc, left, right, compared);
+fn assert_same(rt: &impl Abort, alloc: Global, &(left, right, answer, wanted): &PairRow) {
+    let same = same(rt, alloc, left, right, answer);
     assert_of(rt, &same, &wanted, &(left, right));
 }
 
 #[test]
 fn answers_of_two_entries_compared(rt: HostRuntime) {
-    let pairs: &[ComparedRow] = &PAIRS;
+    let pairs: &[PairRow] = &PAIRS;
     for row in pairs {
-        assert_compared(&rt, rt.alloc(), row);
+        assert_same(&rt, rt.alloc(), row);
     }
 }

@@ -3,7 +3,7 @@
 ghost use Rattle.std.specs.Prelude.{◌≡◌, ◌↔◌, ◌<◌, IsTrue};
 ghost use Rattle.csl_entry.specs.NameForm.{form_place, form_cmp};
 
-use crate::asserted::assert_of;
+use crate::assertions::assert_of;
 use csl_entry::DisambiguatedNameForm;
 use std::cmp::Ordering;
 use std::process::Abort;

@@ -5,10 +5,10 @@ ghost use Rattle.csl_entry.specs.NameProperties.{name_properties, with_form};
 ghost use Rattle.csl_entry.specs.declared.forms.name_form.DisambiguatedNameForm.TheVariants.{Count};
 ghost use Rattle.csl_entry.specs.contracts.forms.name_properties.NameDisambiguationPropertiesHash.TheImpl.{hash_input-value as hash_properties};
 
-use crate::asked::assert_answer;
-use crate::asserted::{assert_of, assert_same};
+use crate::answers::assert_answer;
+use crate::assertions::{assert_of, assert_same};
 use csl_elements::NameVariable;
-use csl_entry::{DisambiguatedNameForm, NameDisambiguationProperties};
+use csl_entry::{DisambiguatedNameForm as Form, NameDisambiguationProperties};
 use std::alloc::Global;
 use std::process::Abort;
 
@@ -20,7 +20,7 @@ fn same(a: &NameDisambiguationProperties, b: &NameDisambiguationProperties) -> b
 }
 
 /// Equal properties have the same hash.
-fn hashed_alike(a: &NameDisambiguationProperties, b: &NameDisambiguationProperties)
+fn same_hash(a: &NameDisambiguationProperties, b: &NameDisambiguationProperties)
     ensures { name_properties a.now ≡ name_properties b.now
         → hash_properties.it a.now ≡ hash_properties.it b.now }
 {
@@ -32,9 +32,9 @@ fn properties(
     rt: &impl Abort,
     alloc: Global,
     variable: NameVariable,
-    last: Option<DisambiguatedNameForm>,
+    last: Option<Form>,
 ) -> NameDisambiguationProperties {
-    let short = DisambiguatedNameForm::ShortFull;
+    let short = Form::ShortFull;
     let variables = Vec::from_array(alloc, [variable, NameVariable::Editor]).expect(rt, "memory");
     let first = Vec::from_array(alloc, [Some(short), None]).expect(rt, "memory");
     let second = Vec::from_array(alloc, [last]).expect(rt, "memory");
@@ -43,7 +43,7 @@ fn properties(
 }
 
 /// The results of the readers for properties of the author with this last form.
-fn parts(rt: &impl Abort, alloc: Global, last: DisambiguatedNameForm) -> String {
+fn parts(rt: &impl Abort, alloc: Global, last: Form) -> String {
     let properties = properties(rt, alloc, NameVariable::Author, Some(last));
     let form = properties.default_name_form();
     let variables = properties.variables();
@@ -56,34 +56,25 @@ fn parts(rt: &impl Abort, alloc: Global, last: DisambiguatedNameForm) -> String 
 }
 
 /// Whether a copy of the author's properties equals those of this variable with this last form.
-fn copy_equals(
-    rt: &impl Abort,
-    alloc: Global,
-    variable: NameVariable,
-    last: Option<DisambiguatedNameForm>,
-) -> bool {
+fn copy_equals(rt: &impl Abort, alloc: Global, variable: NameVariable, last: Option<Form>) -> bool {
     let author = properties(rt, alloc, NameVariable::Author, None);
     let others = [
         author.clone(alloc).expect(rt, "memory"),
         properties(rt, alloc, variable, last),
     ];
-    hashed_alike(&others[0], &author);
+    same_hash(&others[0], &author);
     same(&others[0], &others[1])
 }
 
 #[test]
 fn parts_are_returned_and_equal_by_value(rt: HostRuntime) {
-    let parts = parts(&rt, rt.alloc(), DisambiguatedNameForm::LongFull);
+    let parts = parts(&rt, rt.alloc(), Form::LongFull);
     let wanted = "ShortFull [Author, Editor] [Some(ShortFull), None] [Some(LongFull)]";
     assert_answer(&rt, parts.as_str(), wanted, "the parts");
     for (variable, last, wanted) in [
         (NameVariable::Author, None, true),
         (NameVariable::Chair, None, false),
-        (
-            NameVariable::Author,
-            Some(DisambiguatedNameForm::Count),
-            false,
-        ),
+        (NameVariable::Author, Some(Form::Count), false),
     ] {
         let equal = copy_equals(&rt, rt.alloc(), variable, last);
         assert_of(&rt, &equal, &wanted, &(variable, last));
@@ -91,34 +82,34 @@ fn parts_are_returned_and_equal_by_value(rt: HostRuntime) {
 }
 
 /// The form of a name, by its letter. Any other letter is for a name that is not shown.
-fn form_of(letter: char) -> Option<DisambiguatedNameForm> {
+fn form_of(letter: char) -> Option<Form> {
     match letter {
-        'c' => Some(DisambiguatedNameForm::Count),
-        's' => Some(DisambiguatedNameForm::ShortInitialized),
-        'S' => Some(DisambiguatedNameForm::ShortFull),
-        'l' => Some(DisambiguatedNameForm::LongInitialized),
-        'L' => Some(DisambiguatedNameForm::LongFull),
+        'c' => Some(Form::Count),
+        's' => Some(Form::ShortInitialized),
+        'S' => Some(Form::ShortFull),
+        'l' => Some(Form::LongInitialized),
+        'L' => Some(Form::LongFull),
         _ => None,
     }
 }
 
-fn letter_of(form: Option<DisambiguatedNameForm>) -> char {
+fn letter_of(form: Option<Form>) -> char {
     match form {
         None => '-',
-        Some(DisambiguatedNameForm::Count) => 'c',
-        Some(DisambiguatedNameForm::ShortInitialized) => 's',
-        Some(DisambiguatedNameForm::ShortFull) => 'S',
-        Some(DisambiguatedNameForm::LongInitialized) => 'l',
-        Some(DisambiguatedNameForm::LongFull) => 'L',
+        Some(Form::Count) => 'c',
+        Some(Form::ShortInitialized) => 's',
+        Some(Form::ShortFull) => 'S',
+        Some(Form::LongInitialized) => 'l',
+        Some(Form::LongFull) => 'L',
     }
 }
 
 /// The properties of these variables and lists. Each word is a list, with a letter for each name,
 /// and `.` is a list without names. The default form is `default`.
-fn made(
+fn properties_of(
     rt: &impl Abort,
     alloc: Global,
-    default: DisambiguatedNameForm,
+    default: Form,
     variables: &[NameVariable],
     lists: &str,
 ) -> NameDisambiguationProperties {
@@ -137,25 +128,27 @@ fn made(
 }
 
 /// The default form and each list, as letters.
-fn said(rt: &impl Abort, alloc: Global, properties: &NameDisambiguationProperties) -> String {
-    let mut said = String::new(alloc);
-    said.push(letter_of(Some(properties.default_name_form())))
+fn letters(rt: &impl Abort, alloc: Global, properties: &NameDisambiguationProperties) -> String {
+    let mut letters = String::new(alloc);
+    letters
+        .push(letter_of(Some(properties.default_name_form())))
         .expect(rt, "memory");
     for forms in properties.name_forms() {
-        said.push_str(if forms.is_empty() { " ." } else { " " })
+        letters
+            .push_str(if forms.is_empty() { " ." } else { " " })
             .expect(rt, "memory");
         for form in forms {
-            said.push(letter_of(*form)).expect(rt, "memory");
+            letters.push(letter_of(*form)).expect(rt, "memory");
         }
     }
-    said
+    letters
 }
 
 /// Lists, the numbers of names that successive calls show, and the lists after the calls with the
 /// results.
-type AddedRow = (&'static str, &'static [usize], &'static str);
+type AdditionRow = (&'static str, &'static [usize], &'static str);
 
-static ADDED: [AddedRow; 10] = [
+static ADDITIONS: [AdditionRow; 10] = [
     ("-- ---", &[3], "L -- LLL true"),
     ("-- ---", &[3, 4], "L -- LLL true false"),
     ("-- ---", &[2, 1], "L LL --- true true"),
@@ -171,33 +164,30 @@ static ADDED: [AddedRow; 10] = [
 fn after_adding(rt: &impl Abort, alloc: Global, lists: &str, nums: &[usize]) -> String {
     let mut answers = String::new(alloc);
     let author = [NameVariable::Author];
-    let mut properties = made(rt, alloc, DisambiguatedNameForm::LongFull, &author, lists);
+    let mut properties = properties_of(rt, alloc, Form::LongFull, &author, lists);
     for num in nums {
         let is_there = properties.add_name(*num);
         write!(answers, " {is_there}").expect(rt, "memory");
     }
-    let mut said = said(rt, alloc, &properties);
-    said.push_str(answers.as_str()).expect(rt, "memory");
-    said
-}
-
-fn assert_added(rt: &impl Abort, alloc: Global, rows: &[AddedRow]) {
-    for (lists, nums, wanted) in rows {
-        let said = after_adding(rt, alloc, lists, nums);
-        assert_answer(rt, said.as_str(), wanted, lists);
-    }
+    let mut letters = letters(rt, alloc, &properties);
+    letters.push_str(answers.as_str()).expect(rt, "memory");
+    letters
 }
 
 #[test]
 fn names_are_added_in_the_first_list_of_so_many(rt: HostRuntime) {
-    assert_added(&rt, rt.alloc(), &ADDED);
+    let rows: &[AdditionRow] = &ADDITIONS;
+    for (lists, nums, wanted) in rows {
+        let letters = after_adding(&rt, rt.alloc(), lists, nums);
+        assert_answer(&rt, letters.as_str(), wanted, lists);
+    }
 }
 
 /// Lists, a variable, places, and the lists after the call with its result, or `refused` if the
 /// call is not allowed. The variables are the author, the editor, and the author once more.
-type ToldRow = (&'static str, NameVariable, &'static [usize], &'static str);
+type ListRow = (&'static str, NameVariable, &'static [usize], &'static str);
 
-static TOLD: [ToldRow; 17] = [
+static LISTS: [ListRow; 17] = [
     ("-s S", NameVariable::Author, &[0], "S Ss S true"),
     ("-s S", NameVariable::Author, &[1], "S -l S true"),
     ("-s S", NameVariable::Author, &[1, 1], "S -L S true"),
@@ -217,7 +207,7 @@ static TOLD: [ToldRow; 17] = [
     (". S -", NameVariable::Editor, &[0], "S . L - true"),
 ];
 
-fn after_telling(
+fn after_disambiguating(
     rt: &impl Abort,
     alloc: Global,
     lists: &str,
@@ -229,44 +219,29 @@ fn after_telling(
         NameVariable::Editor,
         NameVariable::Author,
     ];
-    let mut properties = made(
-        rt,
-        alloc,
-        DisambiguatedNameForm::ShortFull,
-        &variables,
-        lists,
-    );
+    let mut properties = properties_of(rt, alloc, Form::ShortFull, &variables, lists);
     if !properties.can_disambiguate(variable, places) {
         return String::from_str(alloc, "refused").expect(rt, "memory");
     }
     let changed = properties.disambiguate_list(variable, places);
-    let mut said = said(rt, alloc, &properties);
-    write!(said, " {changed}").expect(rt, "memory");
-    said
-}
-
-fn assert_told(rt: &impl Abort, alloc: Global, rows: &[ToldRow]) {
-    for (lists, variable, places, wanted) in rows {
-        let said = after_telling(rt, alloc, lists, *variable, places);
-        assert_answer(rt, said.as_str(), wanted, lists);
-    }
+    let mut letters = letters(rt, alloc, &properties);
+    write!(letters, " {changed}").expect(rt, "memory");
+    letters
 }
 
 #[test]
 fn names_of_the_variable_are_disambiguated(rt: HostRuntime) {
-    assert_told(&rt, rt.alloc(), &TOLD);
+    let rows: &[ListRow] = &LISTS;
+    for (lists, variable, places, wanted) in rows {
+        let letters = after_disambiguating(&rt, rt.alloc(), lists, *variable, places);
+        assert_answer(&rt, letters.as_str(), wanted, lists);
+    }
 }
 
 #[test]
 fn one_form_on_the_author_holds_one_place(rt: HostRuntime) {
     let author = [NameVariable::Author];
-    let one = made(
-        &rt,
-        rt.alloc(),
-        DisambiguatedNameForm::LongFull,
-        &author,
-        "L",
-    );
+    let one = properties_of(&rt, rt.alloc(), Form::LongFull, &author, "L");
     assert_same(
         &rt,
         &one.can_disambiguate(NameVariable::Author, &[0]),
@@ -304,28 +279,25 @@ static MAX: [MaxRow; 11] = [
 
 fn max_of(rt: &impl Abort, alloc: Global, first: &str, second: &str) -> String {
     let author = [NameVariable::Author];
-    let other = made(rt, alloc, DisambiguatedNameForm::LongFull, &author, second);
-    let one = made(rt, alloc, DisambiguatedNameForm::Count, &author, first);
-    said(rt, alloc, &one.max(other))
-}
-
-fn assert_max(rt: &impl Abort, alloc: Global, rows: &[MaxRow]) {
-    for (first, second, wanted) in rows {
-        let said = max_of(rt, alloc, first, second);
-        assert_answer(rt, said.as_str(), wanted, first);
-    }
+    let other = properties_of(rt, alloc, Form::LongFull, &author, second);
+    let one = properties_of(rt, alloc, Form::Count, &author, first);
+    letters(rt, alloc, &one.max(other))
 }
 
 #[test]
 fn the_greater_shows_more_names_or_later_forms(rt: HostRuntime) {
-    assert_max(&rt, rt.alloc(), &MAX);
+    let rows: &[MaxRow] = &MAX;
+    for (first, second, wanted) in rows {
+        let letters = max_of(&rt, rt.alloc(), first, second);
+        assert_answer(&rt, letters.as_str(), wanted, first);
+    }
 }
 
 /// Lists, an index among all forms, and the form at this index with the lists after a count
 /// replaced it.
-type LentRow = (&'static str, usize, &'static str);
+type FormRow = (&'static str, usize, &'static str);
 
-static LENT: [LentRow; 9] = [
+static FORMS: [FormRow; 9] = [
     ("S- l", 0, "S: L c- l"),
     ("S- l", 1, "L: c S- l"),
     ("S- l", 2, "l: L S- c"),
@@ -338,37 +310,31 @@ static LENT: [LentRow; 9] = [
 ];
 
 /// Replaces the form at this index by a count, and returns the replaced form.
-fn count_form(
-    properties: &mut NameDisambiguationProperties,
-    idx: usize,
-) -> Option<DisambiguatedNameForm>
+fn count_form(properties: &mut NameDisambiguationProperties, idx: usize) -> Option<Form>
     ensures { name_properties properties.new
         ≡ with_form idx (name_properties properties.old) Count }
 {
     let form = properties.get_form_mut(idx)?;
     let was = *form;
-    *form = DisambiguatedNameForm::Count;
+    *form = Form::Count;
     Some(was)
 }
 
 fn after_counting(rt: &impl Abort, alloc: Global, lists: &str, idx: usize) -> String {
     let author = [NameVariable::Author];
-    let mut properties = made(rt, alloc, DisambiguatedNameForm::LongFull, &author, lists);
+    let mut properties = properties_of(rt, alloc, Form::LongFull, &author, lists);
     let was = count_form(&mut properties, idx);
-    let said = said(rt, alloc, &properties);
-    let said = said.as_str();
+    let letters = letters(rt, alloc, &properties);
+    let letters = letters.as_str();
     let was = letter_of(was);
-    format!(in alloc; "{was}: {said}").expect(rt, "memory")
-}
-
-fn assert_lent(rt: &impl Abort, alloc: Global, rows: &[LentRow]) {
-    for (lists, idx, wanted) in rows {
-        let said = after_counting(rt, alloc, lists, *idx);
-        assert_answer(rt, said.as_str(), wanted, lists);
-    }
+    format!(in alloc; "{was}: {letters}").expect(rt, "memory")
 }
 
 #[test]
 fn a_form_is_lent_at_its_place_or_the_default_one(rt: HostRuntime) {
-    assert_lent(&rt, rt.alloc(), &LENT);
+    let rows: &[FormRow] = &FORMS;
+    for (lists, idx, wanted) in rows {
+        let letters = after_counting(&rt, rt.alloc(), lists, *idx);
+        assert_answer(&rt, letters.as_str(), wanted, lists);
+    }
 }

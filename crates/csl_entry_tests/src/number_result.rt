@@ -3,7 +3,7 @@
 ghost use Rattle.std.specs.Prelude.{◌≡◌, ◌↔◌, IsTrue};
 ghost use Rattle.csl_entry.specs.NumberResult.{result_view, number_or_page_view};
 
-use crate::asserted::{assert_of, assert_same};
+use crate::assertions::{assert_of, assert_same};
 use csl_entry::{NumberOrPageVariableResult, NumberVariableResult};
 use lit_model::{MaybeTyped, Numeric, PageRanges};
 use std::alloc::Global;
@@ -39,7 +39,7 @@ enum Answer {
     Index(usize),
 }
 
-fn made(rt: &impl Abort, alloc: Global, answer: Answer) -> NumberVariableResult<'static> {
+fn result_of(rt: &impl Abort, alloc: Global, answer: Answer) -> NumberVariableResult<'static> {
     let number = match answer {
         Answer::Spelled(text) => Numeric::parse(alloc, text).expect(rt, "a number"),
         Answer::One(value) => Numeric::new(value),
@@ -60,14 +60,14 @@ fn both(
     b: Answer,
 ) -> Vec<NumberVariableResult<'static>> {
     let mut both = Vec::new(alloc);
-    both.push(made(rt, alloc, a)).expect(rt, "memory");
-    both.push(made(rt, alloc, b)).expect(rt, "memory");
+    both.push(result_of(rt, alloc, a)).expect(rt, "memory");
+    both.push(result_of(rt, alloc, b)).expect(rt, "memory");
     both
 }
 
 /// The order of the first to the second, that of the second to the first, and whether they are
 /// equal.
-fn compared(rt: &impl Abort, alloc: Global, a: Answer, b: Answer) -> (Ordering, Ordering, bool) {
+fn comparison(rt: &impl Abort, alloc: Global, a: Answer, b: Answer) -> (Ordering, Ordering, bool) {
     let both = both(rt, alloc, a, b);
     match both.as_slice() {
         [a, b] => (a.csl_cmp(b), b.csl_cmp(a), same(a, b)),
@@ -105,9 +105,9 @@ static IN_ORDER: [(Answer, Answer); 19] = [
 
 fn assert_in_order(rt: &impl Abort, alloc: Global, rows: &[(Answer, Answer)]) {
     for (first, second) in rows {
-        let compared = compared(rt, alloc, *first, *second);
+        let comparison = comparison(rt, alloc, *first, *second);
         let wanted = (Ordering::Less, Ordering::Greater, false);
-        assert_of(rt, &compared, &wanted, &(first, second));
+        assert_of(rt, &comparison, &wanted, &(first, second));
     }
 }
 
@@ -120,9 +120,9 @@ fn answers_in_order_and_at_one_place(rt: HostRuntime) {
         // Separators do not count for the order.
         (Answer::Spelled("1-2"), Answer::Spelled("1, 2"), false),
     ] {
-        let compared = compared(&rt, rt.alloc(), first, second);
+        let comparison = comparison(&rt, rt.alloc(), first, second);
         let wanted = (Ordering::Equal, Ordering::Equal, are_equal);
-        assert_of(&rt, &compared, &wanted, &(first, second));
+        assert_of(&rt, &comparison, &wanted, &(first, second));
     }
 }
 
@@ -130,7 +130,7 @@ fn answers_in_order_and_at_one_place(rt: HostRuntime) {
 fn equals_borrowed(rt: &impl Abort, alloc: Global, number: i32, answer: Answer) -> bool {
     let number = Numeric::new(number);
     let borrowed = NumberVariableResult::from_regular(MaybeTyped::Typed(Cow::Borrowed(&number)));
-    let answer = made(rt, alloc, answer);
+    let answer = result_of(rt, alloc, answer);
     same(&borrowed, &answer)
 }
 
@@ -148,7 +148,7 @@ fn copy_of_borrowed(rt: &impl Abort, alloc: Global, number: i32) -> (bool, bool)
 
 /// Whether a copy equals the answer that is described.
 fn equals_copy(rt: &impl Abort, alloc: Global, answer: Answer) -> bool {
-    let answer = made(rt, alloc, answer);
+    let answer = result_of(rt, alloc, answer);
     let copy = answer.clone(alloc).expect(rt, "memory");
     same(&copy, &answer)
 }
@@ -156,7 +156,7 @@ fn equals_copy(rt: &impl Abort, alloc: Global, answer: Answer) -> bool {
 /// The number 7, and page 7.
 fn number_and_page(rt: &impl Abort, alloc: Global) -> Vec<NumberOrPageVariableResult<'static>> {
     let mut both = Vec::new(alloc);
-    let number = made(rt, alloc, Answer::One(7));
+    let number = result_of(rt, alloc, Answer::One(7));
     both.push(NumberOrPageVariableResult::Number(number))
         .expect(rt, "memory");
     let pages = PageRanges::parse(alloc, "7").expect(rt, "pages");
@@ -176,7 +176,7 @@ fn equals_own_copy(
 }
 
 /// Whether the pages equal the number, and whether each equals its own copy.
-fn kinds_compared(rt: &impl Abort, alloc: Global) -> (bool, bool, bool) {
+fn kind_comparison(rt: &impl Abort, alloc: Global) -> (bool, bool, bool) {
     let both = number_and_page(rt, alloc);
     match both.as_slice() {
         [number, pages] => (
@@ -207,5 +207,5 @@ fn equal_answers_are_of_one_kind_and_copies_are_equal(rt: HostRuntime) {
         assert_of(&rt, &equals_copy(&rt, rt.alloc(), answer), &true, &answer);
     }
     // Pages are not a number.
-    assert_same(&rt, &kinds_compared(&rt, rt.alloc()), &(false, true, true));
+    assert_same(&rt, &kind_comparison(&rt, rt.alloc()), &(false, true, true));
 }

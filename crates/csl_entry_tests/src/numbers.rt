@@ -1,6 +1,6 @@
 //! The limits of citation and note numbers.
 
-use crate::asserted::assert_same;
+use crate::assertions::assert_same;
 use csl_entry::{CitationNumber, NoteNumber};
 use std::process::Abort;
 

@@ -1,14 +1,14 @@
-//! Snapshots: what they answer, and which are equal.
+//! What snapshots answer.
 
-use crate::alike::{ALIKE, ROWS as PAIRS, named};
-use crate::asked::{assert_answer, borrowed, number_said, only, text_said};
-use crate::asserted::{assert_of, assert_same};
-use crate::described::described;
+use crate::alike::sets;
+use crate::answers::{assert_answer, names, number, only, pages, text, year};
+use crate::assertions::assert_same;
+use crate::descriptions::entries;
 use csl_elements::{
     DateVariable, Kind, NameVariable, NumberVariable, PageVariable, StandardVariable, Variable,
 };
 use csl_entry::{EntryLike, Snapshot};
-use lit_model::{LongShortForm, MaybeTyped};
+use lit_model::LongShortForm;
 use std::alloc::Global;
 use std::process::Abort;
 
@@ -54,71 +54,21 @@ static ROWS: [(&[Variable], Option<Kind>, &str); 9] = [
     ),
 ];
 
-fn title<T: EntryLike>(rt: &impl Abort, alloc: Global, entry: &T, form: LongShortForm) -> String {
-    let found = entry
-        .resolve_standard_variable(alloc, form, StandardVariable::Title)
-        .expect(rt, "memory");
-    let title = text_said(rt, alloc, borrowed(&found));
-    drop(found);
-    title
-}
-
-fn volume<T: EntryLike>(rt: &impl Abort, alloc: Global, entry: &T) -> String {
-    let found = entry
-        .resolve_number_variable(alloc, NumberVariable::Volume)
-        .expect(rt, "memory");
-    let volume = number_said(rt, alloc, found.as_ref());
-    drop(found);
-    volume
-}
-
-fn pages<T: EntryLike>(rt: &impl Abort, alloc: Global, entry: &T) -> String {
-    match entry
-        .resolve_page_variable(alloc, PageVariable::Page)
-        .expect(rt, "memory")
-    {
-        None => String::from_str(alloc, "none").expect(rt, "memory"),
-        Some(MaybeTyped::Typed(pages)) => pages.to_string(alloc).expect(rt, "memory"),
-        Some(MaybeTyped::String(text)) => format!(in alloc; "'{text}").expect(rt, "memory"),
-    }
-}
-
-/// The names of the authors and editors, each with a space after it.
-fn people<T: EntryLike>(rt: &impl Abort, alloc: Global, entry: &T) -> String {
-    let mut names = String::new(alloc);
-    for variable in [NameVariable::Author, NameVariable::Editor] {
-        let persons = entry
-            .resolve_name_variable(alloc, variable)
-            .expect(rt, "memory");
-        for person in &persons {
-            let name = person.as_ref().name.as_str();
-            names.push_str(name).expect(rt, "memory");
-            names.push(' ').expect(rt, "memory");
-        }
-    }
-    names
-}
-
-fn year<T: EntryLike>(rt: &impl Abort, alloc: Global, entry: &T) -> Option<i32> {
-    let date = entry
-        .resolve_date_variable(alloc, DateVariable::Issued)
-        .expect(rt, "memory");
-    borrowed(&date).map(|date| date.year())
-}
-
 /// The long title, the short one, the volume, the pages, the persons, the year, and whether it is
 /// an article in a journal.
 fn answers<T: EntryLike>(rt: &impl Abort, alloc: Global, entry: &T) -> String {
-    let long = title(rt, alloc, entry, LongShortForm::Long);
-    let short = title(rt, alloc, entry, LongShortForm::Short);
-    let volume = volume(rt, alloc, entry);
+    let title = StandardVariable::Title;
+    let long = text(rt, alloc, entry, LongShortForm::Long, title);
+    let short = text(rt, alloc, entry, LongShortForm::Short, title);
+    let volume = number(rt, alloc, entry, NumberVariable::Volume);
     let pages = pages(rt, alloc, entry);
-    let people = people(rt, alloc, entry);
-    let year = year(rt, alloc, entry).unwrap_or(0);
+    let authors = names(rt, alloc, entry, NameVariable::Author);
+    let editors = names(rt, alloc, entry, NameVariable::Editor);
+    let year = year(rt, alloc, entry, DateVariable::Issued).unwrap_or(0);
     let article = entry.matches_entry_type(Kind::ArticleJournal);
-    format!(in alloc; "{long} {short} {volume} {pages} {people}{year} {article}").expect(
-        rt, "memory",
-    )
+    let people = format!(in alloc; "{authors}{editors}").expect(rt, "memory");
+    let answers = format!(in alloc; "{long} {short} {volume} {pages} {people}{year} {article}");
+    answers.expect(rt, "memory")
 }
 
 /// The snapshot of a described entry.
@@ -129,9 +79,9 @@ fn snapshot_of(
     variables: &[Variable],
     kind: Option<Kind>,
 ) -> Snapshot {
-    let works = described(rt, alloc, description);
-    let named = named(alloc, variables, kind).expect(rt, "memory");
-    Snapshot::new(alloc, only(rt, &works), &named).expect(rt, "memory")
+    let works = entries(rt, alloc, description);
+    let sets = sets(alloc, variables, kind).expect(rt, "memory");
+    Snapshot::new(alloc, only(rt, &works), &sets).expect(rt, "memory")
 }
 
 fn assert_answers(
@@ -163,20 +113,4 @@ fn a_snapshot_has_no_key_and_no_language(rt: HostRuntime) {
     let snapshot = snapshot_of(&rt, rt.alloc(), WORK, &[TITLE, AUTHOR], None);
     assert_answer(&rt, snapshot.key().as_str(), "", "the key");
     assert_same(&rt, &snapshot.is_english(), &None);
-}
-
-/// The snapshots of two entries are equal exactly if these answer alike.
-#[test]
-fn snapshots_are_equal_if_their_entries_are_alike(rt: HostRuntime) {
-    let rows: &[(
-        &'static str,
-        &'static str,
-        &'static [Variable],
-        &'static str,
-    )] = &PAIRS;
-    for (left, right, variables, wanted) in rows {
-        let a = snapshot_of(&rt, rt.alloc(), *left, *variables, None);
-        let b = snapshot_of(&rt, rt.alloc(), *right, *variables, None);
-        assert_of(&rt, &(a == b), &(*wanted == ALIKE), right);
-    }
 }

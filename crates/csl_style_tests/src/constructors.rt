@@ -275,7 +275,7 @@ fn numbers_and_labels_have_their_forms(rt: HostRuntime) {
 }
 
 /// A date node with the year of publication.
-fn issued(rt: &impl Abort, alloc: Global) -> LayoutRenderingElement {
+fn year_of_issue(rt: &impl Abort, alloc: Global) -> LayoutRenderingElement {
     let parts = alone(rt, alloc, DatePart::new(DatePartName::Year));
     spaced_date(alloc, DateVariable::Issued, parts).expect(rt, "memory")
 }
@@ -318,8 +318,8 @@ fn assert_group(rt: &impl Abort, element: LayoutRenderingElement) {
 #[test]
 fn a_group_may_hold_a_date(rt: HostRuntime) {
     let alloc = rt.alloc();
-    assert_date(&rt, issued(&rt, alloc));
-    let children = alone(&rt, alloc, issued(&rt, alloc));
+    assert_date(&rt, year_of_issue(&rt, alloc));
+    let children = alone(&rt, alloc, year_of_issue(&rt, alloc));
     assert_group(&rt, in_parentheses(alloc, children).expect(&rt, "memory"));
 }
 
@@ -407,7 +407,7 @@ fn a_macro_may_hold_a_choice(rt: HostRuntime) {
 #[test]
 fn a_layout_holds_its_elements(rt: HostRuntime) {
     let alloc = rt.alloc();
-    let layout = Layout::new(alone(&rt, alloc, issued(&rt, alloc)));
+    let layout = Layout::new(alone(&rt, alloc, year_of_issue(&rt, alloc)));
     assert_same(&rt, &layout.elements.len(), &1);
     assert_text(&rt, layout.delimiter.as_deref(), None);
     drop(layout);

@@ -257,7 +257,7 @@ fn assert_texts(rt: &impl Abort, alloc: Global) {
 }
 
 /// Terms with genders and localized dates, in two locales.
-const GENDERS_AND_DATES: StyleRows<'static> = StyleRows {
+const LOCALES: StyleRows<'static> = StyleRows {
     locales: &[
         LocaleRows {
             terms: &[
@@ -296,33 +296,21 @@ type GenderRow = (
 
 static GENDERS: [GenderRow; 5] = [
     (
-        &GENDERS_AND_DATES,
+        &LOCALES,
         VOLUME,
         DateForm::Numeric,
         MASCULINE,
         Some(DateParts::YearMonth),
     ),
+    (&LOCALES, AND, DateForm::Text, None, Some(DateParts::Year)),
     (
-        &GENDERS_AND_DATES,
-        AND,
-        DateForm::Text,
-        None,
-        Some(DateParts::Year),
-    ),
-    (
-        &GENDERS_AND_DATES,
+        &LOCALES,
         ISSUE,
         DateForm::Text,
         FEMININE,
         Some(DateParts::Year),
     ),
-    (
-        &GENDERS_AND_DATES,
-        PAGE,
-        DateForm::Text,
-        None,
-        Some(DateParts::Year),
-    ),
+    (&LOCALES, PAGE, DateForm::Text, None, Some(DateParts::Year)),
     (&EMPTY, AND, DateForm::Text, None, None),
 ];
 

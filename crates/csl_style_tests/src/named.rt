@@ -21,23 +21,25 @@ fn words_of(rt: &impl Abort, alloc: Global, named: &Named) -> String {
     .expect(rt, "memory")
 }
 
-/// The variables and kinds that a layout of a style names, as text.
-fn variables_in(rt: &impl Abort, alloc: Global, style: &Style, layout: &Layout) -> String {
-    let named = named_by(alloc, style, layout).expect(rt, "memory");
-    let said = words_of(rt, alloc, &named);
-    drop(named);
-    said
+fn assert_sets(rt: &impl Abort, alloc: Global, named: &Named, wanted: &'static str) {
+    let said = words_of(rt, alloc, named);
+    assert_text(rt, Some(said.as_str()), Some(wanted));
 }
 
-fn assert_said(
+/// Asserts what a layout of a style names, and the same of a copy.
+fn assert_words(
     rt: &impl Abort,
     alloc: Global,
     style: &Style,
     layout: &Layout,
     wanted: &'static str,
 ) {
-    let said = variables_in(rt, alloc, style, layout);
-    assert_text(rt, Some(said.as_str()), Some(wanted));
+    let named = named_by(alloc, style, layout).expect(rt, "memory");
+    assert_sets(rt, alloc, &named, wanted);
+    let copy = named.clone(alloc).expect(rt, "memory");
+    drop(named);
+    assert_sets(rt, alloc, &copy, wanted);
+    drop(copy);
 }
 
 /// Two macros. The first calls the second twice, and a macro that the style does not have.
@@ -76,7 +78,7 @@ fn assert_line(rt: &impl Abort, alloc: Global, line: &'static str, wanted: &'sta
         ..EMPTY
     };
     let style = style(rt, alloc, &rows);
-    assert_said(rt, alloc, &style, style.citation(), wanted);
+    assert_words(rt, alloc, &style, style.citation(), wanted);
     drop(style);
 }
 
@@ -197,7 +199,7 @@ pub(crate) fn numeric_book(rt: &impl Abort, alloc: Global) -> ChooseBranch {
 }
 
 /// A branch for an uncertain date of issue, or for pages or a locator.
-pub(crate) fn uncertain_or_placed(rt: &impl Abort, alloc: Global) -> ChooseBranch {
+pub(crate) fn date_or_place_branch(rt: &impl Abort, alloc: Global) -> ChooseBranch {
     let dates = vec![in alloc; DateVariable::Issued].expect(rt, "memory");
     let variables = vec![in alloc;
         Variable::Page(PageVariable::Page),
@@ -227,7 +229,7 @@ static NUMBERS: [Leaf; 5] = [
 
 fn assert_in_empty_style(rt: &impl Abort, alloc: Global, layout: &Layout, wanted: &'static str) {
     let style = style(rt, alloc, &EMPTY);
-    assert_said(rt, alloc, &style, layout, wanted);
+    assert_words(rt, alloc, &style, layout, wanted);
     drop(style);
 }
 
@@ -272,7 +274,7 @@ fn tests_of_branches_are_named(rt: HostRuntime) {
     assert_choice(
         &rt,
         rt.alloc(),
-        uncertain_or_placed(&rt, rt.alloc()),
+        date_or_place_branch(&rt, rt.alloc()),
         "numbers {} pages {Page} standards {} names {} dates {Issued} kinds {}",
     );
 }

@@ -209,7 +209,7 @@ fn of_each_sort_the_first_child_counts(rt: HostRuntime) {
 }
 
 /// The settings in the parts of editors: forms, texts, formatting and display.
-struct Told {
+struct Settings {
     form: Option<NameForm>,
     form_of_name: Option<NameForm>,
     delimiter: Option<&'static str>,
@@ -219,7 +219,7 @@ struct Told {
     display: Option<Display>,
 }
 
-fn assert_told(rt: &impl Abort, parts: &NamesParts<'_>, wanted: &Told) {
+fn assert_settings(rt: &impl Abort, parts: &NamesParts<'_>, wanted: &Settings) {
     assert_same(rt, &parts.variables.first(), &Some(&NameVariable::Editor));
     assert_same(rt, &parts.options.form, &wanted.form);
     assert_same(rt, &form_of_name(parts), &wanted.form_of_name);
@@ -231,9 +231,14 @@ fn assert_told(rt: &impl Abort, parts: &NamesParts<'_>, wanted: &Told) {
 }
 
 /// Asserts the parts of editors in the place of other names.
-fn assert_in_place(rt: &impl Abort, alloc: Global, original: &Names, (own, wanted): &(Own, Told)) {
+fn assert_in_place(
+    rt: &impl Abort,
+    alloc: Global,
+    original: &Names,
+    (own, wanted): &(Own, Settings),
+) {
     let own = names(rt, alloc, own, &[]);
-    assert_told(rt, &own.parts_in_place_of(original.parts()), wanted);
+    assert_settings(rt, &own.parts_in_place_of(original.parts()), wanted);
     drop(own);
 }
 
@@ -264,10 +269,10 @@ const EDITORS: Own = Own {
 
 /// The settings of editors, and their parts in the place of authors with a name of the form
 /// `count`.
-static SHORTHANDS: [(Own, Told); 2] = [
+static SHORTHANDS: [(Own, Settings); 2] = [
     (
         SILENT_EDITORS,
-        Told {
+        Settings {
             form: Some(NameForm::Short),
             form_of_name: Some(NameForm::Count),
             delimiter: Some("; "),
@@ -279,7 +284,7 @@ static SHORTHANDS: [(Own, Told); 2] = [
     ),
     (
         EDITORS,
-        Told {
+        Settings {
             form: Some(NameForm::Long),
             form_of_name: Some(NameForm::Count),
             delimiter: Some(", "),
@@ -292,7 +297,7 @@ static SHORTHANDS: [(Own, Told); 2] = [
 ];
 
 fn assert_all_in_place(rt: &impl Abort, alloc: Global, original: &Names) {
-    let rows: &[(Own, Told)] = &SHORTHANDS;
+    let rows: &[(Own, Settings)] = &SHORTHANDS;
     for row in rows {
         assert_in_place(rt, alloc, original, row);
     }

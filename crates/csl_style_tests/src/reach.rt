@@ -2,7 +2,7 @@
 
 use crate::assertions::assert_of;
 use crate::notation::{EMPTY, StyleRows, style};
-use csl_style::Scope;
+use csl_style::Scope::{self, Bibliography, Citation};
 use std::alloc::Global;
 use std::process::Abort;
 
@@ -23,51 +23,36 @@ const SUFFIX: &str = "@title; @year-suffix";
 type Row = (Scope, &'static str, Option<&'static str>, bool);
 
 static ROWS: [Row; 19] = [
-    (Scope::Citation, TITLE, None, true),
-    (Scope::Citation, SUFFIX, None, false),
-    (Scope::Citation, "@title; group @year-suffix", None, false),
-    (Scope::Citation, "@title; suffix", None, false),
-    (Scope::Citation, "@title; outer", None, false),
-    (Scope::Citation, "@title; title", None, true),
-    (Scope::Citation, "@title; lacking", None, true),
+    (Citation, TITLE, None, true),
+    (Citation, SUFFIX, None, false),
+    (Citation, "@title; group @year-suffix", None, false),
+    (Citation, "@title; suffix", None, false),
+    (Citation, "@title; outer", None, false),
+    (Citation, "@title; title", None, true),
+    (Citation, "@title; lacking", None, true),
+    (Citation, "@title; substitute @year-suffix", None, false),
+    (Citation, "@title; substitute @title", None, true),
+    (Citation, "@title; told-if @year-suffix", None, false),
+    (Citation, "@title; told-else-if @year-suffix", None, false),
+    (Citation, "@title; told-else @year-suffix", None, false),
     (
-        Scope::Citation,
-        "@title; substitute @year-suffix",
-        None,
-        false,
-    ),
-    (Scope::Citation, "@title; substitute @title", None, true),
-    (Scope::Citation, "@title; told-if @year-suffix", None, false),
-    (
-        Scope::Citation,
-        "@title; told-else-if @year-suffix",
-        None,
-        false,
-    ),
-    (
-        Scope::Citation,
-        "@title; told-else @year-suffix",
-        None,
-        false,
-    ),
-    (
-        Scope::Citation,
+        Citation,
         "@title; told-else-if told-else @title",
         None,
         true,
     ),
     (
-        Scope::Citation,
+        Citation,
         "@title; group told-if substitute outer",
         None,
         false,
     ),
     // Each scope has a layout of its own.
-    (Scope::Citation, TITLE, Some(SUFFIX), true),
-    (Scope::Citation, SUFFIX, Some(TITLE), false),
-    (Scope::Bibliography, TITLE, Some(SUFFIX), false),
-    (Scope::Bibliography, SUFFIX, Some(TITLE), true),
-    (Scope::Bibliography, SUFFIX, None, true),
+    (Citation, TITLE, Some(SUFFIX), true),
+    (Citation, SUFFIX, Some(TITLE), false),
+    (Bibliography, TITLE, Some(SUFFIX), false),
+    (Bibliography, SUFFIX, Some(TITLE), true),
+    (Bibliography, SUFFIX, None, true),
 ];
 
 /// Whether the year suffix is rendered implicitly in a scope of a style with these layouts.

@@ -1,7 +1,7 @@
 //! The size and the depth of layouts with their macros expanded.
 
 use crate::assertions::assert_of;
-use crate::named::{author_date, choice, numeric_book, reference, uncertain_or_placed};
+use crate::named::{author_date, choice, date_or_place_branch, numeric_book, reference};
 use crate::notation::{EMPTY, StyleRows, alone, layout_of, names, put, style};
 use csl_style::{
     Affixes, Date, DatePart, DatePartName, DateVariable, Formatting, Layout, Name, NamePart,
@@ -175,7 +175,7 @@ fn items_of_lists_count(rt: HostRuntime) {
     // The layout; the choose, which counts two; its branch; and the items of its two tests.
     let book = choice(&rt, alloc, numeric_book(&rt, alloc));
     assert_layout(&rt, alloc, book, 6, "numeric edition of a book");
-    let placed = choice(&rt, alloc, uncertain_or_placed(&rt, alloc));
+    let placed = choice(&rt, alloc, date_or_place_branch(&rt, alloc));
     assert_layout(&rt, alloc, placed, 7, "uncertain date, pages or locator");
     // The layout; the names, which count two; two variables; the name and its two parts.
     let names = authors_and_editors(&rt, alloc);

@@ -1,7 +1,10 @@
 //! The names of locators and terms, as CSL 1.0.2 has them in Locators and in Appendix II.
 
 use crate::assertions::{assert_of, assert_same};
-use csl_style::{Locator, NameVariable, NumberVariable, OtherTerm, PageVariable, Season, Term};
+use csl_style::{
+    Locator, NameVariable as Role, NumberVariable as Quantity, OtherTerm as Word, PageVariable,
+    Season, Term,
+};
 
 /// The kinds of locators by their names.
 static LOCATORS: [(&str, Locator); 28] = [
@@ -36,55 +39,55 @@ static LOCATORS: [(&str, Locator); 28] = [
 ];
 
 /// The terms of no variable and no locator, by their names.
-static OTHERS: [(&str, OtherTerm); 48] = [
-    ("and", OtherTerm::And),
-    ("et-al", OtherTerm::EtAl),
-    ("ad", OtherTerm::Ad),
-    ("bc", OtherTerm::Bc),
-    ("page-range-delimiter", OtherTerm::PageRangeDelimiter),
-    ("open-quote", OtherTerm::OpenQuote),
-    ("close-quote", OtherTerm::CloseQuote),
-    ("open-inner-quote", OtherTerm::OpenInnerQuote),
-    ("close-inner-quote", OtherTerm::CloseInnerQuote),
-    ("accessed", OtherTerm::Accessed),
-    ("and others", OtherTerm::AndOthers),
-    ("anonymous", OtherTerm::Anonymous),
-    ("at", OtherTerm::At),
-    ("available at", OtherTerm::AvailableAt),
-    ("by", OtherTerm::By),
-    ("circa", OtherTerm::Circa),
-    ("cited", OtherTerm::Cited),
-    ("forthcoming", OtherTerm::Forthcoming),
-    ("from", OtherTerm::From),
-    ("ibid", OtherTerm::Ibid),
-    ("in", OtherTerm::In),
-    ("in press", OtherTerm::InPress),
-    ("internet", OtherTerm::Internet),
-    ("interview", OtherTerm::Interview),
-    ("letter", OtherTerm::Letter),
-    ("no date", OtherTerm::NoDate),
-    ("online", OtherTerm::Online),
-    ("presented at", OtherTerm::PresentedAt),
-    ("reference", OtherTerm::Reference),
-    ("retrieved", OtherTerm::Retrieved),
-    ("scale", OtherTerm::Scale),
-    ("version", OtherTerm::Version),
-    ("month-01", OtherTerm::Month(0)),
-    ("month-02", OtherTerm::Month(1)),
-    ("month-03", OtherTerm::Month(2)),
-    ("month-04", OtherTerm::Month(3)),
-    ("month-05", OtherTerm::Month(4)),
-    ("month-06", OtherTerm::Month(5)),
-    ("month-07", OtherTerm::Month(6)),
-    ("month-08", OtherTerm::Month(7)),
-    ("month-09", OtherTerm::Month(8)),
-    ("month-10", OtherTerm::Month(9)),
-    ("month-11", OtherTerm::Month(10)),
-    ("month-12", OtherTerm::Month(11)),
-    ("season-01", OtherTerm::Season(Season::Spring)),
-    ("season-02", OtherTerm::Season(Season::Summer)),
-    ("season-03", OtherTerm::Season(Season::Autumn)),
-    ("season-04", OtherTerm::Season(Season::Winter)),
+static OTHERS: [(&str, Word); 48] = [
+    ("and", Word::And),
+    ("et-al", Word::EtAl),
+    ("ad", Word::Ad),
+    ("bc", Word::Bc),
+    ("page-range-delimiter", Word::PageRangeDelimiter),
+    ("open-quote", Word::OpenQuote),
+    ("close-quote", Word::CloseQuote),
+    ("open-inner-quote", Word::OpenInnerQuote),
+    ("close-inner-quote", Word::CloseInnerQuote),
+    ("accessed", Word::Accessed),
+    ("and others", Word::AndOthers),
+    ("anonymous", Word::Anonymous),
+    ("at", Word::At),
+    ("available at", Word::AvailableAt),
+    ("by", Word::By),
+    ("circa", Word::Circa),
+    ("cited", Word::Cited),
+    ("forthcoming", Word::Forthcoming),
+    ("from", Word::From),
+    ("ibid", Word::Ibid),
+    ("in", Word::In),
+    ("in press", Word::InPress),
+    ("internet", Word::Internet),
+    ("interview", Word::Interview),
+    ("letter", Word::Letter),
+    ("no date", Word::NoDate),
+    ("online", Word::Online),
+    ("presented at", Word::PresentedAt),
+    ("reference", Word::Reference),
+    ("retrieved", Word::Retrieved),
+    ("scale", Word::Scale),
+    ("version", Word::Version),
+    ("month-01", Word::Month(0)),
+    ("month-02", Word::Month(1)),
+    ("month-03", Word::Month(2)),
+    ("month-04", Word::Month(3)),
+    ("month-05", Word::Month(4)),
+    ("month-06", Word::Month(5)),
+    ("month-07", Word::Month(6)),
+    ("month-08", Word::Month(7)),
+    ("month-09", Word::Month(8)),
+    ("month-10", Word::Month(9)),
+    ("month-11", Word::Month(10)),
+    ("month-12", Word::Month(11)),
+    ("season-01", Word::Season(Season::Spring)),
+    ("season-02", Word::Season(Season::Summer)),
+    ("season-03", Word::Season(Season::Autumn)),
+    ("season-04", Word::Season(Season::Winter)),
 ];
 
 #[test]
@@ -102,56 +105,50 @@ fn locators_by_their_names(rt: HostRuntime) {
 
 #[test]
 fn other_terms_by_their_names(rt: HostRuntime) {
-    let rows: &[(&'static str, OtherTerm)] = &OTHERS;
+    let rows: &[(&'static str, Word)] = &OTHERS;
     for (name, term) in rows {
-        assert_of(&rt, &OtherTerm::from_name(*name), &Some(*term), *name);
+        assert_of(&rt, &Word::from_name(*name), &Some(*term), *name);
         assert_same(&rt, &term.name(), &Some(*name));
         assert_same(&rt, &Term::Other(*term).name(), &Some(*name));
     }
-    assert_same(&rt, &OtherTerm::from_name("no-date"), &None);
-    assert_same(&rt, &OtherTerm::from_name("month-00"), &None);
-    assert_same(&rt, &OtherTerm::from_name("month-13"), &None);
-    assert_same(&rt, &OtherTerm::from_name("season-05"), &None);
-    assert_same(&rt, &OtherTerm::Month(12).name(), &None);
-    assert_same(&rt, &Term::Other(OtherTerm::Month(255)).name(), &None);
+    assert_same(&rt, &Word::from_name("no-date"), &None);
+    assert_same(&rt, &Word::from_name("month-00"), &None);
+    assert_same(&rt, &Word::from_name("month-13"), &None);
+    assert_same(&rt, &Word::from_name("season-05"), &None);
+    assert_same(&rt, &Word::Month(12).name(), &None);
+    assert_same(&rt, &Term::Other(Word::Month(255)).name(), &None);
 }
 
 /// A name, and the first term of this name.
 static TERMS: [(&str, Option<Term>); 21] = [
-    ("editor", Some(Term::Name(NameVariable::Editor))),
-    (
-        "editortranslator",
-        Some(Term::Name(NameVariable::EditorTranslator)),
-    ),
+    ("editor", Some(Term::Name(Role::Editor))),
+    ("editortranslator", Some(Term::Name(Role::EditorTranslator))),
     (
         "editor-translator",
-        Some(Term::Name(NameVariable::EditorTranslator)),
+        Some(Term::Name(Role::EditorTranslator)),
     ),
     (
         "number-of-pages",
-        Some(Term::Number(NumberVariable::NumberOfPages)),
+        Some(Term::Number(Quantity::NumberOfPages)),
     ),
     // Terms of a variable and of a locator: that of the variable.
-    ("issue", Some(Term::Number(NumberVariable::Issue))),
-    ("number", Some(Term::Number(NumberVariable::Number))),
+    ("issue", Some(Term::Number(Quantity::Issue))),
+    ("number", Some(Term::Number(Quantity::Number))),
     ("page", Some(Term::Page(PageVariable::Page))),
-    ("section", Some(Term::Number(NumberVariable::Section))),
-    ("volume", Some(Term::Number(NumberVariable::Volume))),
+    ("section", Some(Term::Number(Quantity::Section))),
+    ("volume", Some(Term::Number(Quantity::Volume))),
     // A term of its own besides these two.
-    ("version", Some(Term::Number(NumberVariable::Version))),
+    ("version", Some(Term::Number(Quantity::Version))),
     // The term of a locator alone.
     ("chapter", Some(Term::Locator(Locator::Chapter))),
     ("sub-verbo", Some(Term::Locator(Locator::SubVerbo))),
     // Other terms. Some have the name of a variable that has no term of its own.
-    ("accessed", Some(Term::Other(OtherTerm::Accessed))),
-    ("scale", Some(Term::Other(OtherTerm::Scale))),
-    ("et-al", Some(Term::Other(OtherTerm::EtAl))),
-    ("no date", Some(Term::Other(OtherTerm::NoDate))),
-    ("month-12", Some(Term::Other(OtherTerm::Month(11)))),
-    (
-        "season-01",
-        Some(Term::Other(OtherTerm::Season(Season::Spring))),
-    ),
+    ("accessed", Some(Term::Other(Word::Accessed))),
+    ("scale", Some(Term::Other(Word::Scale))),
+    ("et-al", Some(Term::Other(Word::EtAl))),
+    ("no date", Some(Term::Other(Word::NoDate))),
+    ("month-12", Some(Term::Other(Word::Month(11)))),
+    ("season-01", Some(Term::Other(Word::Season(Season::Spring)))),
     // No terms. Ordinals are not terms here.
     ("title", None),
     ("ordinal-01", None),
@@ -164,11 +161,11 @@ fn terms_by_their_names(rt: HostRuntime) {
     for (name, wanted) in rows {
         assert_of(&rt, &Term::from_name(*name), wanted, *name);
     }
-    let editor = Term::Name(NameVariable::Editor);
+    let editor = Term::Name(Role::Editor);
     assert_same(&rt, &editor.name(), &Some("editor"));
-    let both = Term::Name(NameVariable::EditorTranslator);
+    let both = Term::Name(Role::EditorTranslator);
     assert_same(&rt, &both.name(), &Some("editortranslator"));
-    let volume = Term::Number(NumberVariable::Volume);
+    let volume = Term::Number(Quantity::Volume);
     assert_same(&rt, &volume.name(), &Some("volume"));
     let page = Term::Page(PageVariable::Page);
     assert_same(&rt, &page.name(), &Some("page"));

@@ -2,88 +2,83 @@
 
 use crate::assertions::{assert_of, assert_same};
 use csl_style::{
-    DateVariable, NameVariable, NumberVariable, PageVariable, StandardVariable, Variable,
+    DateVariable, NameVariable as Role, NumberVariable as Quantity, PageVariable,
+    StandardVariable as Text, Variable,
 };
 
 /// The standard variables by their names.
-static STANDARD: [(&str, StandardVariable); 47] = [
-    ("abstract", StandardVariable::Abstract),
-    ("annote", StandardVariable::Annote),
-    ("archive", StandardVariable::Archive),
-    ("archive_collection", StandardVariable::ArchiveCollection),
-    ("archive_location", StandardVariable::ArchiveLocation),
-    ("archive-place", StandardVariable::ArchivePlace),
-    ("authority", StandardVariable::Authority),
-    ("call-number", StandardVariable::CallNumber),
-    ("citation-key", StandardVariable::CitationKey),
-    ("citation-label", StandardVariable::CitationLabel),
-    ("collection-title", StandardVariable::CollectionTitle),
-    ("container-title", StandardVariable::ContainerTitle),
-    (
-        "container-title-short",
-        StandardVariable::ContainerTitleShort,
-    ),
-    ("dimensions", StandardVariable::Dimensions),
-    ("division", StandardVariable::Division),
-    ("DOI", StandardVariable::DOI),
-    ("event", StandardVariable::Event),
-    ("event-title", StandardVariable::EventTitle),
-    ("event-place", StandardVariable::EventPlace),
-    ("genre", StandardVariable::Genre),
-    ("ISBN", StandardVariable::ISBN),
-    ("ISSN", StandardVariable::ISSN),
-    ("jurisdiction", StandardVariable::Jurisdiction),
-    ("keyword", StandardVariable::Keyword),
-    ("language", StandardVariable::Language),
-    ("license", StandardVariable::License),
-    ("medium", StandardVariable::Medium),
-    ("note", StandardVariable::Note),
-    ("original-publisher", StandardVariable::OriginalPublisher),
-    (
-        "original-publisher-place",
-        StandardVariable::OriginalPublisherPlace,
-    ),
-    ("original-title", StandardVariable::OriginalTitle),
-    ("part-title", StandardVariable::PartTitle),
-    ("PMCID", StandardVariable::PMCID),
-    ("PMID", StandardVariable::PMID),
-    ("publisher", StandardVariable::Publisher),
-    ("publisher-place", StandardVariable::PublisherPlace),
-    ("references", StandardVariable::References),
-    ("reviewed-genre", StandardVariable::ReviewedGenre),
-    ("reviewed-title", StandardVariable::ReviewedTitle),
-    ("scale", StandardVariable::Scale),
-    ("source", StandardVariable::Source),
-    ("status", StandardVariable::Status),
-    ("title", StandardVariable::Title),
-    ("title-short", StandardVariable::TitleShort),
-    ("URL", StandardVariable::URL),
-    ("volume-title", StandardVariable::VolumeTitle),
-    ("year-suffix", StandardVariable::YearSuffix),
+static STANDARD: [(&str, Text); 47] = [
+    ("abstract", Text::Abstract),
+    ("annote", Text::Annote),
+    ("archive", Text::Archive),
+    ("archive_collection", Text::ArchiveCollection),
+    ("archive_location", Text::ArchiveLocation),
+    ("archive-place", Text::ArchivePlace),
+    ("authority", Text::Authority),
+    ("call-number", Text::CallNumber),
+    ("citation-key", Text::CitationKey),
+    ("citation-label", Text::CitationLabel),
+    ("collection-title", Text::CollectionTitle),
+    ("container-title", Text::ContainerTitle),
+    ("container-title-short", Text::ContainerTitleShort),
+    ("dimensions", Text::Dimensions),
+    ("division", Text::Division),
+    ("DOI", Text::DOI),
+    ("event", Text::Event),
+    ("event-title", Text::EventTitle),
+    ("event-place", Text::EventPlace),
+    ("genre", Text::Genre),
+    ("ISBN", Text::ISBN),
+    ("ISSN", Text::ISSN),
+    ("jurisdiction", Text::Jurisdiction),
+    ("keyword", Text::Keyword),
+    ("language", Text::Language),
+    ("license", Text::License),
+    ("medium", Text::Medium),
+    ("note", Text::Note),
+    ("original-publisher", Text::OriginalPublisher),
+    ("original-publisher-place", Text::OriginalPublisherPlace),
+    ("original-title", Text::OriginalTitle),
+    ("part-title", Text::PartTitle),
+    ("PMCID", Text::PMCID),
+    ("PMID", Text::PMID),
+    ("publisher", Text::Publisher),
+    ("publisher-place", Text::PublisherPlace),
+    ("references", Text::References),
+    ("reviewed-genre", Text::ReviewedGenre),
+    ("reviewed-title", Text::ReviewedTitle),
+    ("scale", Text::Scale),
+    ("source", Text::Source),
+    ("status", Text::Status),
+    ("title", Text::Title),
+    ("title-short", Text::TitleShort),
+    ("URL", Text::URL),
+    ("volume-title", Text::VolumeTitle),
+    ("year-suffix", Text::YearSuffix),
 ];
 
 /// The number variables by their names.
-static NUMBER: [(&str, NumberVariable); 17] = [
-    ("chapter-number", NumberVariable::ChapterNumber),
-    ("citation-number", NumberVariable::CitationNumber),
-    ("collection-number", NumberVariable::CollectionNumber),
-    ("edition", NumberVariable::Edition),
+static NUMBER: [(&str, Quantity); 17] = [
+    ("chapter-number", Quantity::ChapterNumber),
+    ("citation-number", Quantity::CitationNumber),
+    ("collection-number", Quantity::CollectionNumber),
+    ("edition", Quantity::Edition),
     (
         "first-reference-note-number",
-        NumberVariable::FirstReferenceNoteNumber,
+        Quantity::FirstReferenceNoteNumber,
     ),
-    ("issue", NumberVariable::Issue),
-    ("locator", NumberVariable::Locator),
-    ("number", NumberVariable::Number),
-    ("number-of-pages", NumberVariable::NumberOfPages),
-    ("number-of-volumes", NumberVariable::NumberOfVolumes),
-    ("page-first", NumberVariable::PageFirst),
-    ("part-number", NumberVariable::PartNumber),
-    ("printing-number", NumberVariable::PrintingNumber),
-    ("section", NumberVariable::Section),
-    ("supplement-number", NumberVariable::SupplementNumber),
-    ("version", NumberVariable::Version),
-    ("volume", NumberVariable::Volume),
+    ("issue", Quantity::Issue),
+    ("locator", Quantity::Locator),
+    ("number", Quantity::Number),
+    ("number-of-pages", Quantity::NumberOfPages),
+    ("number-of-volumes", Quantity::NumberOfVolumes),
+    ("page-first", Quantity::PageFirst),
+    ("part-number", Quantity::PartNumber),
+    ("printing-number", Quantity::PrintingNumber),
+    ("section", Quantity::Section),
+    ("supplement-number", Quantity::SupplementNumber),
+    ("version", Quantity::Version),
+    ("volume", Quantity::Volume),
 ];
 
 /// The page variable by their names.
@@ -100,46 +95,41 @@ static DATE: [(&str, DateVariable); 6] = [
 ];
 
 /// The name variables by their names.
-static NAME: [(&str, NameVariable); 27] = [
-    ("author", NameVariable::Author),
-    ("chair", NameVariable::Chair),
-    ("collection-editor", NameVariable::CollectionEditor),
-    ("compiler", NameVariable::Compiler),
-    ("composer", NameVariable::Composer),
-    ("container-author", NameVariable::ContainerAuthor),
-    ("contributor", NameVariable::Contributor),
-    ("curator", NameVariable::Curator),
-    ("director", NameVariable::Director),
-    ("editor", NameVariable::Editor),
-    ("editorial-director", NameVariable::EditorialDirector),
-    ("editortranslator", NameVariable::EditorTranslator),
-    ("executive-producer", NameVariable::ExecutiveProducer),
-    ("guest", NameVariable::Guest),
-    ("host", NameVariable::Host),
-    ("illustrator", NameVariable::Illustrator),
-    ("interviewer", NameVariable::Interviewer),
-    ("narrator", NameVariable::Narrator),
-    ("organizer", NameVariable::Organizer),
-    ("original-author", NameVariable::OriginalAuthor),
-    ("performer", NameVariable::Performer),
-    ("producer", NameVariable::Producer),
-    ("recipient", NameVariable::Recipient),
-    ("reviewed-author", NameVariable::ReviewedAuthor),
-    ("script-writer", NameVariable::ScriptWriter),
-    ("series-creator", NameVariable::SeriesCreator),
-    ("translator", NameVariable::Translator),
+static NAME: [(&str, Role); 27] = [
+    ("author", Role::Author),
+    ("chair", Role::Chair),
+    ("collection-editor", Role::CollectionEditor),
+    ("compiler", Role::Compiler),
+    ("composer", Role::Composer),
+    ("container-author", Role::ContainerAuthor),
+    ("contributor", Role::Contributor),
+    ("curator", Role::Curator),
+    ("director", Role::Director),
+    ("editor", Role::Editor),
+    ("editorial-director", Role::EditorialDirector),
+    ("editortranslator", Role::EditorTranslator),
+    ("executive-producer", Role::ExecutiveProducer),
+    ("guest", Role::Guest),
+    ("host", Role::Host),
+    ("illustrator", Role::Illustrator),
+    ("interviewer", Role::Interviewer),
+    ("narrator", Role::Narrator),
+    ("organizer", Role::Organizer),
+    ("original-author", Role::OriginalAuthor),
+    ("performer", Role::Performer),
+    ("producer", Role::Producer),
+    ("recipient", Role::Recipient),
+    ("reviewed-author", Role::ReviewedAuthor),
+    ("script-writer", Role::ScriptWriter),
+    ("series-creator", Role::SeriesCreator),
+    ("translator", Role::Translator),
 ];
 
 #[test]
 fn standard_variables_by_their_names(rt: HostRuntime) {
-    let rows: &[(&'static str, StandardVariable)] = &STANDARD;
+    let rows: &[(&'static str, Text)] = &STANDARD;
     for (name, variable) in rows {
-        assert_of(
-            &rt,
-            &StandardVariable::from_name(*name),
-            &Some(*variable),
-            *name,
-        );
+        assert_of(&rt, &Text::from_name(*name), &Some(*variable), *name);
         assert_same(&rt, &variable.name(), name);
         let variable = Variable::Standard(*variable);
         assert_of(&rt, &Variable::from_name(*name), &Some(variable), *name);
@@ -149,14 +139,9 @@ fn standard_variables_by_their_names(rt: HostRuntime) {
 
 #[test]
 fn number_variables_by_their_names(rt: HostRuntime) {
-    let rows: &[(&'static str, NumberVariable)] = &NUMBER;
+    let rows: &[(&'static str, Quantity)] = &NUMBER;
     for (name, variable) in rows {
-        assert_of(
-            &rt,
-            &NumberVariable::from_name(*name),
-            &Some(*variable),
-            *name,
-        );
+        assert_of(&rt, &Quantity::from_name(*name), &Some(*variable), *name);
         assert_same(&rt, &variable.name(), name);
         let variable = Variable::Number(*variable);
         assert_of(&rt, &Variable::from_name(*name), &Some(variable), *name);
@@ -200,14 +185,9 @@ fn date_variables_by_their_names(rt: HostRuntime) {
 
 #[test]
 fn name_variables_by_their_names(rt: HostRuntime) {
-    let rows: &[(&'static str, NameVariable)] = &NAME;
+    let rows: &[(&'static str, Role)] = &NAME;
     for (name, variable) in rows {
-        assert_of(
-            &rt,
-            &NameVariable::from_name(*name),
-            &Some(*variable),
-            *name,
-        );
+        assert_of(&rt, &Role::from_name(*name), &Some(*variable), *name);
         assert_same(&rt, &variable.name(), name);
         let variable = Variable::Name(*variable);
         assert_of(&rt, &Variable::from_name(*name), &Some(variable), *name);
@@ -220,7 +200,7 @@ static OTHERS: [(&str, Option<Variable>); 7] = [
     // Appendix IV has a hyphen that CSL's locales and published styles do not have.
     (
         "editor-translator",
-        Some(Variable::Name(NameVariable::EditorTranslator)),
+        Some(Variable::Name(Role::EditorTranslator)),
     ),
     // Capitals, hyphens and underscores count.
     ("doi", None),
@@ -238,11 +218,11 @@ fn other_names_of_variables(rt: HostRuntime) {
     for (name, wanted) in rows {
         assert_of(&rt, &Variable::from_name(*name), wanted, *name);
     }
-    let both = NameVariable::from_name("editor-translator");
-    assert_same(&rt, &both, &Some(NameVariable::EditorTranslator));
-    assert_same(&rt, &StandardVariable::from_name("volume"), &None);
-    assert_same(&rt, &NumberVariable::from_name("page"), &None);
+    let both = Role::from_name("editor-translator");
+    assert_same(&rt, &both, &Some(Role::EditorTranslator));
+    assert_same(&rt, &Text::from_name("volume"), &None);
+    assert_same(&rt, &Quantity::from_name("page"), &None);
     assert_same(&rt, &PageVariable::from_name("page-first"), &None);
     assert_same(&rt, &DateVariable::from_name("event"), &None);
-    assert_same(&rt, &NameVariable::from_name("title"), &None);
+    assert_same(&rt, &Role::from_name("title"), &None);
 }

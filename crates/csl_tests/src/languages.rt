@@ -5,9 +5,11 @@
 use crate::assertions::{assert_same, assert_text};
 use crate::terms::{Row, assert_term};
 use csl::literature::Season;
+use csl::style::Term::{Locator, Name, Number, Other, Page};
+use csl::style::TermForm::{Long, Short, Symbol, Verb, VerbShort};
 use csl::style::{
-    DateForm, GrammarGender, Layout, Locator, NameVariable, NumberVariable, OtherTerm,
-    PageVariable, StyleSettings, Term, TermForm,
+    DateForm, GrammarGender, Layout, Locator as Place, NameVariable as Role,
+    NumberVariable as Quantity, OtherTerm as Word, PageVariable, StyleSettings,
 };
 use csl::{Error, Locale, Style, french, german};
 use std::alloc::Global;
@@ -15,123 +17,53 @@ use std::process::Abort;
 use std::test::Fail;
 
 static GERMAN: [Row; 12] = [
-    (Term::Other(OtherTerm::And), TermForm::Long, "und", "und"),
-    (Term::Other(OtherTerm::OpenQuote), TermForm::Long, "„", "„"),
+    (Other(Word::And), Long, "und", "und"),
+    (Other(Word::OpenQuote), Long, "„", "„"),
+    (Other(Word::CloseInnerQuote), Long, "‘", "‘"),
+    (Other(Word::Month(2)), Long, "März", "März"),
+    (Other(Word::Month(11)), Short, "Dez.", "Dez."),
     (
-        Term::Other(OtherTerm::CloseInnerQuote),
-        TermForm::Long,
-        "‘",
-        "‘",
-    ),
-    (
-        Term::Other(OtherTerm::Month(2)),
-        TermForm::Long,
-        "März",
-        "März",
-    ),
-    (
-        Term::Other(OtherTerm::Month(11)),
-        TermForm::Short,
-        "Dez.",
-        "Dez.",
-    ),
-    (
-        Term::Other(OtherTerm::Season(Season::Spring)),
-        TermForm::Long,
+        Other(Word::Season(Season::Spring)),
+        Long,
         "Frühjahr",
         "Frühjahr",
     ),
     (
-        Term::Name(NameVariable::Illustrator),
-        TermForm::Long,
+        Name(Role::Illustrator),
+        Long,
         "Illustrator",
         "Illustratoren",
     ),
     (
-        Term::Name(NameVariable::Translator),
-        TermForm::VerbShort,
+        Name(Role::Translator),
+        VerbShort,
         "übers. von",
         "übers. von",
     ),
-    (
-        Term::Number(NumberVariable::Volume),
-        TermForm::Short,
-        "Bd.",
-        "Bde.",
-    ),
-    (
-        Term::Page(PageVariable::Page),
-        TermForm::Long,
-        "Seite",
-        "Seiten",
-    ),
-    (
-        Term::Locator(Locator::Chapter),
-        TermForm::Short,
-        "Kap.",
-        "Kap.",
-    ),
-    (Term::Locator(Locator::Section), TermForm::Symbol, "§", "§§"),
+    (Number(Quantity::Volume), Short, "Bd.", "Bde."),
+    (Page(PageVariable::Page), Long, "Seite", "Seiten"),
+    (Locator(Place::Chapter), Short, "Kap.", "Kap."),
+    (Locator(Place::Section), Symbol, "§", "§§"),
 ];
 
 static FRENCH: [Row; 12] = [
-    (Term::Other(OtherTerm::And), TermForm::Long, "et", "et"),
+    (Other(Word::And), Long, "et", "et"),
+    (Other(Word::OpenQuote), Long, "«\u{a0}", "«\u{a0}"),
+    (Other(Word::CloseInnerQuote), Long, "”", "”"),
+    (Other(Word::Month(7)), Long, "août", "août"),
+    (Other(Word::Month(6)), Short, "juill.", "juill."),
+    (Other(Word::Season(Season::Winter)), Long, "hiver", "hiver"),
+    (Name(Role::Editor), Long, "éditeur", "éditeurs"),
     (
-        Term::Other(OtherTerm::OpenQuote),
-        TermForm::Long,
-        "«\u{a0}",
-        "«\u{a0}",
-    ),
-    (
-        Term::Other(OtherTerm::CloseInnerQuote),
-        TermForm::Long,
-        "”",
-        "”",
-    ),
-    (
-        Term::Other(OtherTerm::Month(7)),
-        TermForm::Long,
-        "août",
-        "août",
-    ),
-    (
-        Term::Other(OtherTerm::Month(6)),
-        TermForm::Short,
-        "juill.",
-        "juill.",
-    ),
-    (
-        Term::Other(OtherTerm::Season(Season::Winter)),
-        TermForm::Long,
-        "hiver",
-        "hiver",
-    ),
-    (
-        Term::Name(NameVariable::Editor),
-        TermForm::Long,
-        "éditeur",
-        "éditeurs",
-    ),
-    (
-        Term::Name(NameVariable::EditorialDirector),
-        TermForm::Verb,
+        Name(Role::EditorialDirector),
+        Verb,
         "sous la direction de",
         "sous la direction de",
     ),
-    (
-        Term::Number(NumberVariable::Edition),
-        TermForm::Long,
-        "édition",
-        "éditions",
-    ),
-    (Term::Page(PageVariable::Page), TermForm::Short, "p.", "p."),
-    (Term::Locator(Locator::Folio), TermForm::Short, "fᵒ", "fᵒˢ"),
-    (
-        Term::Locator(Locator::Table),
-        TermForm::Long,
-        "tableau",
-        "tableaux",
-    ),
+    (Number(Quantity::Edition), Long, "édition", "éditions"),
+    (Page(PageVariable::Page), Short, "p.", "p."),
+    (Locator(Place::Folio), Short, "fᵒ", "fᵒˢ"),
+    (Locator(Place::Table), Long, "tableau", "tableaux"),
 ];
 
 /// A number, a gender, and the ordinal suffix in French.
@@ -177,7 +109,7 @@ fn german_terms_ordinals_and_settings(rt: HostRuntime) -> Result<(), Fail> {
     assert_terms(&rt, &style, &GERMAN);
     assert_text(&rt, style.ordinals().suffix(21, None), Some("."));
     assert_text(&rt, style.ordinals().word(7, None), Some("siebter"));
-    assert_same(&rt, &style.gender(Term::Other(OtherTerm::Month(0))), &None);
+    assert_same(&rt, &style.gender(Other(Word::Month(0))), &None);
     assert_settings(&rt, &style, false);
     drop(style);
     Ok(())
@@ -190,10 +122,10 @@ fn assert_ordinal(rt: &impl Abort, style: &Style, &(number, gender, suffix): &Or
 
 /// Asserts the genders of an edition, a volume and a month, and that a page has none.
 fn assert_genders(rt: &impl Abort, style: &Style) {
-    let edition = style.gender(Term::Number(NumberVariable::Edition));
-    let volume = style.gender(Term::Locator(Locator::Volume));
-    let month = style.gender(Term::Other(OtherTerm::Month(11)));
-    let page = style.gender(Term::Page(PageVariable::Page));
+    let edition = style.gender(Number(Quantity::Edition));
+    let volume = style.gender(Locator(Place::Volume));
+    let month = style.gender(Other(Word::Month(11)));
+    let page = style.gender(Page(PageVariable::Page));
     let masculine = Some(GrammarGender::Masculine);
     assert_same(rt, &edition, &Some(GrammarGender::Feminine));
     assert_same(rt, &(volume, month, page), &(masculine, masculine, None));

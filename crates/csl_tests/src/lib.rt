@@ -8,13 +8,9 @@ mod cites;
 #[cfg(test)]
 mod contexts;
 #[cfg(test)]
-mod dates;
-#[cfg(test)]
 mod english;
 #[cfg(test)]
 mod errors;
-#[cfg(test)]
-mod labels;
 #[cfg(test)]
 mod languages;
 #[cfg(test)]

@@ -195,13 +195,13 @@ fn trees_are_read_back(rt: HostRuntime) {
     }
 }
 
-fn assert_said(rt: &impl Abort, alloc: Global, error: HtmlError, wanted: &str) {
+fn assert_error(rt: &impl Abort, alloc: Global, error: HtmlError, wanted: &str) {
     let said = error.to_string(alloc).expect(rt, "memory");
     assert_text(rt, said.as_str(), wanted, "error");
 }
 
 #[test]
 fn errors_in_words(rt: HostRuntime) {
-    assert_said(&rt, rt.alloc(), HtmlError::Memory, "out of memory");
-    assert_said(&rt, rt.alloc(), HtmlError::NotHtml, "not html");
+    assert_error(&rt, rt.alloc(), HtmlError::Memory, "out of memory");
+    assert_error(&rt, rt.alloc(), HtmlError::NotHtml, "not html");
 }

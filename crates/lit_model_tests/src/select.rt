@@ -5,13 +5,13 @@ ghost use Rattle.std.specs.Prelude.{◌≡◌, ◌↔◌, IsTrue, option_copied}
 use crate::assertions::{assert_of, assert_same};
 use crate::samples::{Shown, Work, alone, assert_text, entries, person, put};
 use lit_model::select::{audio_video, chapter, event, part, volume_title};
-use lit_model::{Bind, Clause, Entry, EntryType, Field, PersonRole, PersonsWithRoles};
+use lit_model::{Bind, Clause, Entry, EntryType as Type, Field, PersonRole, PersonsWithRoles};
 use std::alloc::Global;
 use std::process::Abort;
 
 /// The selection of a row.
 #[derive(Clone, Copy, Debug)]
-enum Asked {
+enum Query {
     Container,
     Collection,
     Original,
@@ -28,48 +28,48 @@ enum Asked {
 /// An article in a journal and in a blog. The journal is in a series, and the series is in a
 /// reference work.
 const ARTICLE: &[Work] = &[
-    ("reference", EntryType::Reference, Shown::Year(2001), 0),
-    ("series", EntryType::Book, Shown::Nothing, 1),
-    ("journal", EntryType::Periodical, Shown::Nothing, 1),
-    ("blog", EntryType::Blog, Shown::Year(2002), 0),
-    ("article", EntryType::Article, Shown::Nothing, 2),
+    ("reference", Type::Reference, Shown::Year(2001), 0),
+    ("series", Type::Book, Shown::Nothing, 1),
+    ("journal", Type::Periodical, Shown::Nothing, 1),
+    ("blog", Type::Blog, Shown::Year(2002), 0),
+    ("article", Type::Article, Shown::Nothing, 2),
 ];
 
 /// A chapter without a title, in a scene without a title, in a video.
 const CHAPTER: &[Work] = &[
-    ("video", EntryType::Video, Shown::Nothing, 0),
-    ("scene", EntryType::Scene, Shown::Nothing, 1),
-    ("chapter", EntryType::Chapter, Shown::Nothing, 1),
+    ("video", Type::Video, Shown::Nothing, 0),
+    ("scene", Type::Scene, Shown::Nothing, 1),
+    ("chapter", Type::Chapter, Shown::Nothing, 1),
 ];
 
 /// A chapter with an empty title, in a scene, in a video.
 const TITLED_CHAPTER: &[Work] = &[
-    ("video", EntryType::Video, Shown::Nothing, 0),
-    ("scene", EntryType::Scene, Shown::Nothing, 1),
-    ("chapter", EntryType::Chapter, Shown::Title(""), 1),
+    ("video", Type::Video, Shown::Nothing, 0),
+    ("scene", Type::Scene, Shown::Nothing, 1),
+    ("chapter", Type::Chapter, Shown::Title(""), 1),
 ];
 
 /// A chapter with no parent.
-const ALONE: &[Work] = &[("alone", EntryType::Chapter, Shown::Nothing, 0)];
+const ALONE: &[Work] = &[("alone", Type::Chapter, Shown::Nothing, 0)];
 
 /// A book whose parents are a book and two originals.
 const TRANSLATION: &[Work] = &[
-    ("book", EntryType::Book, Shown::Nothing, 0),
-    ("original", EntryType::Original, Shown::Nothing, 0),
-    ("another", EntryType::Original, Shown::Nothing, 0),
-    ("work", EntryType::Book, Shown::Nothing, 3),
+    ("book", Type::Book, Shown::Nothing, 0),
+    ("original", Type::Original, Shown::Nothing, 0),
+    ("another", Type::Original, Shown::Nothing, 0),
+    ("work", Type::Book, Shown::Nothing, 3),
 ];
 
 /// A book with a date, whose parents are a book and two originals.
 const DATED_TRANSLATION: &[Work] = &[
-    ("book", EntryType::Book, Shown::Nothing, 0),
-    ("original", EntryType::Original, Shown::Nothing, 0),
-    ("another", EntryType::Original, Shown::Nothing, 0),
-    ("work", EntryType::Book, Shown::Year(2014), 3),
+    ("book", Type::Book, Shown::Nothing, 0),
+    ("original", Type::Original, Shown::Nothing, 0),
+    ("another", Type::Original, Shown::Nothing, 0),
+    ("work", Type::Book, Shown::Year(2014), 3),
 ];
 
 static DATED: [Clause<'static>; 1] = [Clause {
-    own: &[EntryType::Book],
+    own: &[Type::Book],
     fields: &[Field::Date],
     parent: Some(&[]),
     bind: Bind::Parent,
@@ -89,25 +89,25 @@ fn same_clause(a: &Clause<'_>, b: &Clause<'_>) -> bool
 /// Clauses. Each differs in one part from the one before it.
 static CLAUSES: [Clause<'static>; 5] = [
     Clause {
-        own: &[EntryType::Book],
+        own: &[Type::Book],
         fields: &[Field::Date],
         parent: Some(&[]),
         bind: Bind::Parent,
     },
     Clause {
-        own: &[EntryType::Book],
+        own: &[Type::Book],
         fields: &[Field::Date],
         parent: Some(&[]),
         bind: Bind::Child,
     },
     Clause {
-        own: &[EntryType::Book],
+        own: &[Type::Book],
         fields: &[Field::Date],
         parent: None,
         bind: Bind::Child,
     },
     Clause {
-        own: &[EntryType::Book],
+        own: &[Type::Book],
         fields: &[Field::Url],
         parent: None,
         bind: Bind::Child,
@@ -130,28 +130,28 @@ fn clauses_are_equal_by_value(rt: HostRuntime) {
 }
 
 /// The clauses of a selection, if it is made by clauses.
-fn clauses_of(asked: Asked) -> Option<&'static [Clause<'static>]> {
+fn clauses_of(asked: Query) -> Option<&'static [Clause<'static>]> {
     match asked {
-        Asked::Container | Asked::Collection | Asked::Original | Asked::Full => None,
-        Asked::Event => Some(event()),
-        Asked::Chapter => Some(chapter()),
-        Asked::Part => Some(part()),
-        Asked::VolumeTitle => Some(volume_title()),
-        Asked::AudioVideo => Some(audio_video()),
-        Asked::Dated => Some(&DATED),
+        Query::Container | Query::Collection | Query::Original | Query::Full => None,
+        Query::Event => Some(event()),
+        Query::Chapter => Some(chapter()),
+        Query::Part => Some(part()),
+        Query::VolumeTitle => Some(volume_title()),
+        Query::AudioVideo => Some(audio_video()),
+        Query::Dated => Some(&DATED),
     }
 }
 
 /// The selected work, and whether there is one. For clauses, the boolean is whether they match the
 /// work.
-fn answer(work: &Entry, asked: Asked) -> (Option<&Entry>, bool) {
+fn answer(work: &Entry, asked: Query) -> (Option<&Entry>, bool) {
     if let Some(clauses) = clauses_of(asked) {
         return (work.bound_select(clauses), work.matches(clauses));
     }
     let found = match asked {
-        Asked::Container => work.get_container(),
-        Asked::Collection => work.get_collection(),
-        Asked::Original => work.get_original(),
+        Query::Container => work.get_container(),
+        Query::Collection => work.get_collection(),
+        Query::Original => work.get_original(),
         _ => Some(work.get_full()),
     };
     (found, found.is_some())
@@ -165,25 +165,25 @@ fn key_of(entry: Option<&Entry>) -> &str {
 }
 
 /// Works, the selection from the first top-level work, and the key of the selected work.
-type Row = (&'static [Work], Asked, &'static str);
+type Row = (&'static [Work], Query, &'static str);
 
 static FAMILIES: [Row; 12] = [
-    (ARTICLE, Asked::Container, "journal"),
-    (ARTICLE, Asked::Collection, "series"),
-    (ARTICLE, Asked::Full, "article"),
-    (ARTICLE, Asked::Original, "none"),
-    (ARTICLE, Asked::Part, "article"),
-    (ARTICLE, Asked::Chapter, "none"),
-    (CHAPTER, Asked::Full, "video"),
-    (TITLED_CHAPTER, Asked::Full, "chapter"),
-    (ALONE, Asked::Full, "alone"),
-    (TRANSLATION, Asked::Original, "original"),
-    (TRANSLATION, Asked::Dated, "none"),
-    (DATED_TRANSLATION, Asked::Dated, "book"),
+    (ARTICLE, Query::Container, "journal"),
+    (ARTICLE, Query::Collection, "series"),
+    (ARTICLE, Query::Full, "article"),
+    (ARTICLE, Query::Original, "none"),
+    (ARTICLE, Query::Part, "article"),
+    (ARTICLE, Query::Chapter, "none"),
+    (CHAPTER, Query::Full, "video"),
+    (TITLED_CHAPTER, Query::Full, "chapter"),
+    (ALONE, Query::Full, "alone"),
+    (TRANSLATION, Query::Original, "original"),
+    (TRANSLATION, Query::Dated, "none"),
+    (DATED_TRANSLATION, Query::Dated, "book"),
 ];
 
 /// Asserts the key of the selected work. The key `none` means that nothing is selected.
-fn assert_found(rt: &impl Abort, alloc: Global, &(works, asked, wanted): &(&[Work], Asked, &str)) {
+fn assert_found(rt: &impl Abort, alloc: Global, &(works, asked, wanted): &(&[Work], Query, &str)) {
     let entries = entries(rt, alloc, works);
     let Some(entry) = entries.as_slice().first() else {
         return;
@@ -202,7 +202,7 @@ fn selections_of_families(rt: HostRuntime) {
 }
 
 /// The selection, the types of a work and of its parent, and the key of the selected work.
-type Bound = (Asked, EntryType, EntryType, &'static str);
+type Bound = (Query, Type, Type, &'static str);
 
 /// Asserts the selection from a work of the first type with a parent of the second type.
 fn assert_bound(rt: &impl Abort, alloc: Global, &(asked, child, parent, wanted): &Bound) {
@@ -214,18 +214,18 @@ fn assert_bound(rt: &impl Abort, alloc: Global, &(asked, child, parent, wanted):
 }
 
 /// The types of a work and of its parent, and the keys of its container and its collection.
-type Contained = (EntryType, EntryType, &'static str, &'static str);
+type Contained = (Type, Type, &'static str, &'static str);
 
 static CONTAINERS: [Contained; 9] = [
-    (EntryType::Chapter, EntryType::Book, "parent", "none"),
-    (EntryType::Chapter, EntryType::Blog, "parent", "none"),
-    (EntryType::Chapter, EntryType::Periodical, "none", "none"),
-    (EntryType::Anthos, EntryType::Anthology, "parent", "none"),
-    (EntryType::Entry, EntryType::Misc, "parent", "none"),
-    (EntryType::Article, EntryType::Newspaper, "parent", "none"),
-    (EntryType::Book, EntryType::Reference, "parent", "none"),
-    (EntryType::Book, EntryType::Anthology, "none", "parent"),
-    (EntryType::Report, EntryType::Report, "none", "none"),
+    (Type::Chapter, Type::Book, "parent", "none"),
+    (Type::Chapter, Type::Blog, "parent", "none"),
+    (Type::Chapter, Type::Periodical, "none", "none"),
+    (Type::Anthos, Type::Anthology, "parent", "none"),
+    (Type::Entry, Type::Misc, "parent", "none"),
+    (Type::Article, Type::Newspaper, "parent", "none"),
+    (Type::Book, Type::Reference, "parent", "none"),
+    (Type::Book, Type::Anthology, "none", "parent"),
+    (Type::Report, Type::Report, "none", "none"),
 ];
 
 fn assert_containers(
@@ -233,8 +233,8 @@ fn assert_containers(
     alloc: Global,
     &(child, parent, container, collection): &Contained,
 ) {
-    assert_bound(rt, alloc, &(Asked::Container, child, parent, container));
-    assert_bound(rt, alloc, &(Asked::Collection, child, parent, collection));
+    assert_bound(rt, alloc, &(Query::Container, child, parent, container));
+    assert_bound(rt, alloc, &(Query::Collection, child, parent, collection));
 }
 
 #[test]
@@ -247,76 +247,26 @@ fn containers(rt: HostRuntime) {
 
 /// Selections by clauses.
 static BOUND: [Bound; 15] = [
+    (Query::Event, Type::Performance, Type::Exhibition, "parent"),
+    (Query::Event, Type::Article, Type::Conference, "parent"),
+    (Query::Event, Type::Article, Type::Book, "none"),
+    (Query::Chapter, Type::Anthos, Type::Anthology, "child"),
+    (Query::Chapter, Type::Article, Type::Proceedings, "child"),
+    (Query::Chapter, Type::Chapter, Type::Proceedings, "none"),
+    (Query::Chapter, Type::Chapter, Type::Book, "child"),
+    (Query::Part, Type::Case, Type::Legislation, "child"),
+    (Query::Part, Type::Case, Type::Report, "none"),
     (
-        Asked::Event,
-        EntryType::Performance,
-        EntryType::Exhibition,
+        Query::VolumeTitle,
+        Type::Article,
+        Type::Proceedings,
         "parent",
     ),
-    (
-        Asked::Event,
-        EntryType::Article,
-        EntryType::Conference,
-        "parent",
-    ),
-    (Asked::Event, EntryType::Article, EntryType::Book, "none"),
-    (
-        Asked::Chapter,
-        EntryType::Anthos,
-        EntryType::Anthology,
-        "child",
-    ),
-    (
-        Asked::Chapter,
-        EntryType::Article,
-        EntryType::Proceedings,
-        "child",
-    ),
-    (
-        Asked::Chapter,
-        EntryType::Chapter,
-        EntryType::Proceedings,
-        "none",
-    ),
-    (Asked::Chapter, EntryType::Chapter, EntryType::Book, "child"),
-    (
-        Asked::Part,
-        EntryType::Case,
-        EntryType::Legislation,
-        "child",
-    ),
-    (Asked::Part, EntryType::Case, EntryType::Report, "none"),
-    (
-        Asked::VolumeTitle,
-        EntryType::Article,
-        EntryType::Proceedings,
-        "parent",
-    ),
-    (
-        Asked::VolumeTitle,
-        EntryType::Entry,
-        EntryType::Misc,
-        "parent",
-    ),
-    (
-        Asked::VolumeTitle,
-        EntryType::Chapter,
-        EntryType::Book,
-        "none",
-    ),
-    (
-        Asked::AudioVideo,
-        EntryType::Scene,
-        EntryType::Video,
-        "parent",
-    ),
-    (
-        Asked::AudioVideo,
-        EntryType::Audio,
-        EntryType::Book,
-        "child",
-    ),
-    (Asked::AudioVideo, EntryType::Book, EntryType::Book, "none"),
+    (Query::VolumeTitle, Type::Entry, Type::Misc, "parent"),
+    (Query::VolumeTitle, Type::Chapter, Type::Book, "none"),
+    (Query::AudioVideo, Type::Scene, Type::Video, "parent"),
+    (Query::AudioVideo, Type::Audio, Type::Book, "child"),
+    (Query::AudioVideo, Type::Book, Type::Book, "none"),
 ];
 
 #[test]
@@ -364,7 +314,7 @@ fn crew(rt: &impl Abort, alloc: Global) -> Vec<PersonsWithRoles> {
 
 fn film(rt: &impl Abort, alloc: Global) -> Entry {
     let crew = crew(rt, alloc);
-    let mut film = Entry::new(alloc, "film", EntryType::Video).expect(rt, "memory");
+    let mut film = Entry::new(alloc, "film", Type::Video).expect(rt, "memory");
     film.affiliated = Some(crew);
     film
 }

@@ -75,7 +75,7 @@ fn assert_numbers(rt: &impl Abort, alloc: Global) {
 }
 
 /// The serial numbers of these schemes, put into a map.
-fn mapped(rt: &impl Abort, alloc: Global, numbers: &[(&str, &str)]) -> SerialNumber {
+fn serial_map(rt: &impl Abort, alloc: Global, numbers: &[(&str, &str)]) -> SerialNumber {
     let mut map = BTreeMap::new(alloc);
     for (scheme, number) in numbers {
         let scheme = String::from_str(alloc, scheme).expect(rt, "memory");
@@ -98,7 +98,7 @@ fn a_number_replaces_that_of_its_scheme_and_keeps_the_others(rt: HostRuntime) {
         .expect(&rt, "memory");
     let wanted = [("isbn", "0-13-110163-3"), ("doi", "10.1000/182")];
     assert!(rt;
-        serial == mapped(&rt, alloc, &wanted),
+        serial == serial_map(&rt, alloc, &wanted),
         "both schemes have their last number"
     );
 }

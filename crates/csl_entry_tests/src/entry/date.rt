@@ -1,22 +1,11 @@
 //! The dates that an entry answers.
 
-use crate::asked::{borrowed, only};
-use crate::asserted::assert_of;
-use crate::described::described;
+use crate::answers::{only, year};
+use crate::assertions::assert_of;
+use crate::descriptions::entries;
 use csl_elements::DateVariable;
-use csl_entry::EntryLike;
 use std::alloc::Global;
 use std::process::Abort;
-
-/// The year of the date.
-fn year(rt: &impl Abort, alloc: Global, description: &str, variable: DateVariable) -> Option<i32> {
-    let works = described(rt, alloc, description);
-    let entry = only(rt, &works);
-    let date = entry
-        .resolve_date_variable(alloc, variable)
-        .expect(rt, "memory");
-    borrowed(&date).map(|date| date.year())
-}
 
 /// A blog post without a date. Its blog is of 2001 and was visited in 2015, its conference is of
 /// 2002, and its original is of 1999.
@@ -49,7 +38,8 @@ static YEARS: [Row; 10] = [
 ];
 
 fn assert_year(rt: &impl Abort, alloc: Global, &(description, variable, wanted): &Row) {
-    let year = year(rt, alloc, description, variable);
+    let works = entries(rt, alloc, description);
+    let year = year(rt, alloc, only(rt, &works), variable);
     assert_of(rt, &year, &wanted, &(variable, description));
 }
 

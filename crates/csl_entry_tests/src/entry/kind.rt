@@ -1,8 +1,8 @@
 //! The kinds of an entry.
 
-use crate::asked::{assert_answer, only};
-use crate::asserted::assert_of;
-use crate::described::described;
+use crate::answers::{assert_answer, only};
+use crate::assertions::assert_of;
+use crate::descriptions::entries;
 use csl_elements::Kind;
 use csl_entry::{EntryLike, legislation_kind, recording_kind};
 use std::alloc::Global;
@@ -58,7 +58,7 @@ static NAMES: [&str; 45] = [
 
 /// The names of all kinds of the entry, with a space after each.
 fn kinds(rt: &impl Abort, alloc: Global, description: &str, all: &[&'static str]) -> String {
-    let works = described(rt, alloc, description);
+    let works = entries(rt, alloc, description);
     let entry = only(rt, &works);
     let mut kinds = String::new(alloc);
     for name in all {
@@ -160,7 +160,7 @@ fn narrower_kinds(
     alloc: Global,
     description: &str,
 ) -> (Option<Kind>, Option<Kind>) {
-    let works = described(rt, alloc, description);
+    let works = entries(rt, alloc, description);
     let entry = only(rt, &works);
     (recording_kind(entry), legislation_kind(entry))
 }

@@ -1,39 +1,11 @@
 //! The names that an entry answers.
 
-use crate::asked::{assert_answer, only};
-use crate::described::described;
+use crate::answers::{names, only};
+use crate::assertions::assert_of;
+use crate::descriptions::entries;
 use csl_elements::NameVariable;
-use csl_entry::EntryLike;
 use std::alloc::Global;
 use std::process::Abort;
-
-/// The names, with a space after each.
-fn names(rt: &impl Abort, alloc: Global, description: &str, variable: NameVariable) -> String {
-    let works = described(rt, alloc, description);
-    let entry = only(rt, &works);
-    let persons = entry
-        .resolve_name_variable(alloc, variable)
-        .expect(rt, "memory");
-    let mut names = String::new(alloc);
-    for person in &persons {
-        let name = person.as_ref().name.as_str();
-        names.push_str(name).expect(rt, "memory");
-        names.push(' ').expect(rt, "memory");
-    }
-    names
-}
-
-fn assert_names(
-    rt: &impl Abort,
-    alloc: Global,
-    description: &str,
-    variable: NameVariable,
-    wanted: &str,
-) {
-    let names = names(rt, alloc, description, variable);
-    let asked = format!(in alloc; "{variable:?} of {description}").expect(rt, "memory");
-    assert_answer(rt, names.as_str(), wanted, asked.as_str());
-}
 
 /// A chapter of two authors without editors. It is in an anthology with an author and two editors,
 /// which is in a collection with an editor.
@@ -126,31 +98,36 @@ static NAMES: [(&str, NameVariable, &str); 40] = [
     (PLAY, NameVariable::ReviewedAuthor, ""),
 ];
 
-fn assert_all(rt: &impl Abort, alloc: Global, rows: &[(&'static str, NameVariable, &'static str)]) {
-    for (description, variable, wanted) in rows {
-        assert_names(rt, alloc, *description, *variable, *wanted);
-    }
+/// Asserts the names, with a space after each.
+fn assert_names(
+    rt: &impl Abort,
+    alloc: Global,
+    description: &str,
+    variable: NameVariable,
+    wanted: &str,
+) {
+    let works = entries(rt, alloc, description);
+    let names = names(rt, alloc, only(rt, &works), variable);
+    assert_of(rt, &names.as_str(), &wanted, &(variable, description));
 }
 
 #[test]
 fn names_of_an_entry_and_its_parents(rt: HostRuntime) {
-    assert_all(&rt, rt.alloc(), &NAMES);
+    let names: &[(&'static str, NameVariable, &'static str)] = &NAMES;
+    for (description, variable, wanted) in names {
+        assert_names(&rt, rt.alloc(), *description, *variable, *wanted);
+    }
 }
 
 #[test]
 fn editors_who_translate(rt: HostRuntime) {
+    let variable = NameVariable::EditorTranslator;
     for (editors, wanted) in [
         ("Tess, Cora", "Tess "),
         // An editor of another given name is another person.
         ("Tom, Tess, Tom/A.", "Tom Tess "),
     ] {
         let book = format!(in rt.alloc(); "{BOOK}; editors {editors}").expect(&rt, "memory");
-        assert_names(
-            &rt,
-            rt.alloc(),
-            book.as_str(),
-            NameVariable::EditorTranslator,
-            wanted,
-        );
+        assert_names(&rt, rt.alloc(), book.as_str(), variable, wanted);
     }
 }

@@ -1,35 +1,11 @@
 //! The numbers that an entry answers.
 
-use crate::asked::{assert_answer, number_said, only};
-use crate::described::described;
+use crate::answers::{number, only};
+use crate::assertions::assert_of;
+use crate::descriptions::entries;
 use csl_elements::NumberVariable;
-use csl_entry::EntryLike;
 use std::alloc::Global;
 use std::process::Abort;
-
-fn number(rt: &impl Abort, alloc: Global, description: &str, variable: NumberVariable) -> String {
-    let works = described(rt, alloc, description);
-    let entry = only(rt, &works);
-    let found = entry
-        .resolve_number_variable(alloc, variable)
-        .expect(rt, "memory");
-    let number = number_said(rt, alloc, found.as_ref());
-    drop(found);
-    number
-}
-
-/// Asserts the answer: the number, or `'` and the text if it is not a number, or `none`.
-fn assert_number(
-    rt: &impl Abort,
-    alloc: Global,
-    description: &str,
-    variable: NumberVariable,
-    wanted: &str,
-) {
-    let number = number(rt, alloc, description, variable);
-    let asked = format!(in alloc; "{variable:?} of {description}").expect(rt, "memory");
-    assert_answer(rt, number.as_str(), wanted, asked.as_str());
-}
 
 /// Chapter 4 of an anthology, which is volume 2, in a series, which is volume 7.
 const CHAPTER: &str =
@@ -55,8 +31,13 @@ const BOOK: &str = "book; serial version 1.2; in book; serial printing 2";
 const REPOSITORY: &str = "repository; serial version 1.2 beta; edition 'second; pages 'passim; \
     in book; serial printing 2";
 
+/// A book in a series with a printing.
+const PRINTING: &str = "book; in book; serial printing 2";
+
 /// A description, a variable, and the number as text.
-static NUMBERS: [(&str, NumberVariable, &str); 29] = [
+type Row = (&'static str, NumberVariable, &'static str);
+
+static NUMBERS: [Row; 29] = [
     (CHAPTER, NumberVariable::ChapterNumber, "4"),
     (CHAPTER, NumberVariable::Number, "4"),
     (CHAPTER, NumberVariable::CollectionNumber, "7"),
@@ -79,11 +60,7 @@ static NUMBERS: [(&str, NumberVariable, &str); 29] = [
     // Its own serial number has no printing. The series is not searched.
     (REPORT, NumberVariable::PrintingNumber, "none"),
     (BOOK, NumberVariable::Version, "none"),
-    (
-        "book; in book; serial printing 2",
-        NumberVariable::PrintingNumber,
-        "2",
-    ),
+    (PRINTING, NumberVariable::PrintingNumber, "2"),
     // Texts that are not numbers.
     (REPOSITORY, NumberVariable::Version, "'1.2 beta"),
     (REPOSITORY, NumberVariable::Edition, "'second"),
@@ -96,17 +73,17 @@ static NUMBERS: [(&str, NumberVariable, &str); 29] = [
     (ARTICLE, NumberVariable::SupplementNumber, "none"),
 ];
 
-fn assert_all(
-    rt: &impl Abort,
-    alloc: Global,
-    rows: &[(&'static str, NumberVariable, &'static str)],
-) {
-    for (description, variable, wanted) in rows {
-        assert_number(rt, alloc, *description, *variable, *wanted);
-    }
+/// Asserts the number, or `'` and the text if it is not a number, or `none`.
+fn assert_number(rt: &impl Abort, alloc: Global, &(description, variable, wanted): &Row) {
+    let works = entries(rt, alloc, description);
+    let number = number(rt, alloc, only(rt, &works), variable);
+    assert_of(rt, &number.as_str(), &wanted, &(variable, description));
 }
 
 #[test]
 fn numbers_of_an_entry_and_its_parents(rt: HostRuntime) {
-    assert_all(&rt, rt.alloc(), &NUMBERS);
+    let numbers: &[Row] = &NUMBERS;
+    for row in numbers {
+        assert_number(&rt, rt.alloc(), row);
+    }
 }

@@ -1,26 +1,9 @@
 //! The pages that an entry answers.
 
-use crate::asked::{assert_answer, only};
-use crate::described::described;
-use csl_elements::PageVariable;
-use csl_entry::EntryLike;
-use lit_model::MaybeTyped;
+use crate::answers::{assert_answer, only, pages};
+use crate::descriptions::entries;
 use std::alloc::Global;
 use std::process::Abort;
-
-/// The pages, or `'` and the text if it is not pages, or `none` if there is no answer.
-fn pages(rt: &impl Abort, alloc: Global, description: &str) -> String {
-    let works = described(rt, alloc, description);
-    let entry = only(rt, &works);
-    match entry
-        .resolve_page_variable(alloc, PageVariable::Page)
-        .expect(rt, "memory")
-    {
-        None => String::from_str(alloc, "none").expect(rt, "memory"),
-        Some(MaybeTyped::Typed(pages)) => pages.to_string(alloc).expect(rt, "memory"),
-        Some(MaybeTyped::String(text)) => format!(in alloc; "'{text}").expect(rt, "memory"),
-    }
-}
 
 /// A work, and its pages.
 static PAGES: [(&str, &str); 4] = [
@@ -36,7 +19,8 @@ fn assert_pages(
     alloc: Global,
     &(description, wanted): &(&'static str, &'static str),
 ) {
-    let pages = pages(rt, alloc, description);
+    let works = entries(rt, alloc, description);
+    let pages = pages(rt, alloc, only(rt, &works));
     assert_answer(rt, pages.as_str(), wanted, description);
 }
 

@@ -1,42 +1,25 @@
 //! The texts that an entry answers.
 
-use crate::asked::{assert_answer, borrowed, only, text_said};
-use crate::asserted::assert_of;
-use crate::described::described;
-use csl_elements::StandardVariable;
+use crate::answers::{only, text};
+use crate::assertions::assert_of;
+use crate::descriptions::entries;
+use csl_elements::StandardVariable as Text;
 use csl_entry::EntryLike;
 use lit_model::LongShortForm;
 use std::alloc::Global;
 use std::borrow::Cow;
 use std::process::Abort;
 
-/// The text with the marks of its chunks.
-fn text(
-    rt: &impl Abort,
-    alloc: Global,
-    description: &str,
-    form: LongShortForm,
-    variable: StandardVariable,
-) -> String {
-    let works = described(rt, alloc, description);
-    let entry = only(rt, &works);
-    let found = entry
-        .resolve_standard_variable(alloc, form, variable)
-        .expect(rt, "memory");
-    let text = text_said(rt, alloc, borrowed(&found));
-    drop(found);
-    text
-}
-
+/// Asserts the text with the marks of its chunks.
 fn assert_text(
     rt: &impl Abort,
     alloc: Global,
-    (description, form, variable): (&str, LongShortForm, StandardVariable),
+    (description, form, variable): (&str, LongShortForm, Text),
     wanted: &str,
 ) {
-    let text = text(rt, alloc, description, form, variable);
-    let asked = format!(in alloc; "{form:?} {variable:?} of {description}").expect(rt, "memory");
-    assert_answer(rt, text.as_str(), wanted, asked.as_str());
+    let works = entries(rt, alloc, description);
+    let text = text(rt, alloc, only(rt, &works), form, variable);
+    assert_of(rt, &text.as_str(), &wanted, &(form, variable, description));
 }
 
 /// A book of 2014 by one author.
@@ -57,7 +40,7 @@ const PAPER: &str = "article; title Program Slicing; \
     also conference; title POPL 1984; location Salt Lake City";
 
 /// A paper in proceedings that are themselves of a conference.
-const PAPER_OF_PROCEEDINGS: &str = "article; title Program Slicing; \
+const PROCEEDINGS_PAPER: &str = "article; title Program Slicing; \
     in proceedings; title POPL Proceedings; \
     in conference; title POPL 1984";
 
@@ -71,7 +54,7 @@ const TRANSLATION: &str = "book; title The Metamorphosis; publisher Vanguard|New
     in original; title Die Verwandlung; publisher Kurt Wolff|Leipzig";
 
 /// A translation without a publisher.
-const UNPUBLISHED_TRANSLATION: &str = "book; title The Metamorphosis; \
+const UNPUBLISHED: &str = "book; title The Metamorphosis; \
     in original; title Die Verwandlung; publisher Kurt Wolff|Leipzig";
 
 /// A film with texts of its own, in a software repository that has others.
@@ -90,7 +73,7 @@ const NUMBERED: &str = "book; title Crazy Rich Asians; serial doi 10.1007/BF0273
     serial pmid 19255231";
 
 /// A chapter of a book with one number under each scheme.
-const CHAPTER_OF_NUMBERED: &str = "chapter; title Prologue; \
+const NUMBERED_CHAPTER: &str = "chapter; title Prologue; \
     in book; title Crazy Rich Asians; serial doi 10.1007/BF02731494; \
     serial isbn 978-0-385-53697-4; serial issn 0029-6341; serial pmcid PMC2717145; \
     serial pmid 19255231";
@@ -102,201 +85,112 @@ const SHORT: LongShortForm = LongShortForm::Short;
 const WHOLE: &str = "Structure of a Quantized Vortex in Boson Systems";
 
 /// A description, a form, a variable, and the text with the marks of its chunks.
-static TEXTS: [(&str, LongShortForm, StandardVariable, &str); 38] = [
+static TEXTS: [(&str, LongShortForm, Text, &str); 38] = [
     // Titles, in the form of the query.
-    (ARTICLE, LONG, StandardVariable::Title, WHOLE),
-    (ARTICLE, SHORT, StandardVariable::Title, "Quantized Vortex"),
-    (
-        ARTICLE,
-        LONG,
-        StandardVariable::TitleShort,
-        "Quantized Vortex",
-    ),
-    (
-        ARTICLE,
-        LONG,
-        StandardVariable::ContainerTitle,
-        "Il Nuovo Cimento",
-    ),
-    (
-        ARTICLE,
-        SHORT,
-        StandardVariable::ContainerTitle,
-        "Nuovo Cim.",
-    ),
-    (
-        ARTICLE,
-        LONG,
-        StandardVariable::ContainerTitleShort,
-        "Nuovo Cim.",
-    ),
+    (ARTICLE, LONG, Text::Title, WHOLE),
+    (ARTICLE, SHORT, Text::Title, "Quantized Vortex"),
+    (ARTICLE, LONG, Text::TitleShort, "Quantized Vortex"),
+    (ARTICLE, LONG, Text::ContainerTitle, "Il Nuovo Cimento"),
+    (ARTICLE, SHORT, Text::ContainerTitle, "Nuovo Cim."),
+    (ARTICLE, LONG, Text::ContainerTitleShort, "Nuovo Cim."),
     // Without a short form, the whole title replaces it.
-    (
-        CHAPTER,
-        SHORT,
-        StandardVariable::TitleShort,
-        "The Signal-Man",
-    ),
+    (CHAPTER, SHORT, Text::TitleShort, "The Signal-Man"),
     // Texts of parents.
-    (
-        CHAPTER,
-        LONG,
-        StandardVariable::ContainerTitle,
-        "Ghost Stories",
-    ),
-    (
-        CHAPTER,
-        LONG,
-        StandardVariable::CollectionTitle,
-        "Everyman's Library",
-    ),
-    (PAPER, LONG, StandardVariable::Event, "POPL 1984"),
-    (PAPER, LONG, StandardVariable::EventTitle, "POPL 1984"),
-    (PAPER, LONG, StandardVariable::EventPlace, "Salt Lake City"),
-    (
-        PAPER,
-        LONG,
-        StandardVariable::VolumeTitle,
-        "POPL Proceedings",
-    ),
-    (
-        PAPER,
-        LONG,
-        StandardVariable::ContainerTitle,
-        "POPL Proceedings",
-    ),
-    (
-        PAPER_OF_PROCEEDINGS,
-        LONG,
-        StandardVariable::CollectionTitle,
-        "POPL 1984",
-    ),
-    (POST, LONG, StandardVariable::ContainerTitle, "Aeon"),
-    (POST, LONG, StandardVariable::CollectionTitle, "Aeon Media"),
-    (POST, LONG, StandardVariable::Genre, "essay"),
-    (POST, LONG, StandardVariable::Language, "en-AU"),
-    (
-        TRANSLATION,
-        LONG,
-        StandardVariable::OriginalTitle,
-        "Die Verwandlung",
-    ),
-    (
-        TRANSLATION,
-        LONG,
-        StandardVariable::OriginalPublisher,
-        "Kurt Wolff",
-    ),
-    (
-        TRANSLATION,
-        LONG,
-        StandardVariable::OriginalPublisherPlace,
-        "Leipzig",
-    ),
-    (TRANSLATION, LONG, StandardVariable::Publisher, "Vanguard"),
-    (
-        TRANSLATION,
-        LONG,
-        StandardVariable::PublisherPlace,
-        "New York",
-    ),
-    (
-        UNPUBLISHED_TRANSLATION,
-        LONG,
-        StandardVariable::Publisher,
-        "Kurt Wolff",
-    ),
-    (
-        UNPUBLISHED_TRANSLATION,
-        LONG,
-        StandardVariable::PublisherPlace,
-        "Leipzig",
-    ),
+    (CHAPTER, LONG, Text::ContainerTitle, "Ghost Stories"),
+    (CHAPTER, LONG, Text::CollectionTitle, "Everyman's Library"),
+    (PAPER, LONG, Text::Event, "POPL 1984"),
+    (PAPER, LONG, Text::EventTitle, "POPL 1984"),
+    (PAPER, LONG, Text::EventPlace, "Salt Lake City"),
+    (PAPER, LONG, Text::VolumeTitle, "POPL Proceedings"),
+    (PAPER, LONG, Text::ContainerTitle, "POPL Proceedings"),
+    (PROCEEDINGS_PAPER, LONG, Text::CollectionTitle, "POPL 1984"),
+    (POST, LONG, Text::ContainerTitle, "Aeon"),
+    (POST, LONG, Text::CollectionTitle, "Aeon Media"),
+    (POST, LONG, Text::Genre, "essay"),
+    (POST, LONG, Text::Language, "en-AU"),
+    (TRANSLATION, LONG, Text::OriginalTitle, "Die Verwandlung"),
+    (TRANSLATION, LONG, Text::OriginalPublisher, "Kurt Wolff"),
+    (TRANSLATION, LONG, Text::OriginalPublisherPlace, "Leipzig"),
+    (TRANSLATION, LONG, Text::Publisher, "Vanguard"),
+    (TRANSLATION, LONG, Text::PublisherPlace, "New York"),
+    (UNPUBLISHED, LONG, Text::Publisher, "Kurt Wolff"),
+    (UNPUBLISHED, LONG, Text::PublisherPlace, "Leipzig"),
     // The title replaces the authors, and there is no date.
-    (ARTICLE, LONG, StandardVariable::CitationLabel, "Str"),
+    (ARTICLE, LONG, Text::CitationLabel, "Str"),
     // Texts of the entry alone.
-    (FILM, LONG, StandardVariable::ArchiveLocation, "Shelf 4"),
-    (FILM, LONG, StandardVariable::Authority, "Film Society"),
-    (FILM, LONG, StandardVariable::CallNumber, "RT 27"),
-    (FILM, SHORT, StandardVariable::Dimensions, "12 min"),
-    (FILM, LONG, StandardVariable::Note, "none"),
-    (FILM, SHORT, StandardVariable::Note, "none"),
+    (FILM, LONG, Text::ArchiveLocation, "Shelf 4"),
+    (FILM, LONG, Text::Authority, "Film Society"),
+    (FILM, LONG, Text::CallNumber, "RT 27"),
+    (FILM, SHORT, Text::Dimensions, "12 min"),
+    (FILM, LONG, Text::Note, "none"),
+    (FILM, SHORT, Text::Note, "none"),
     // Texts that parents share.
-    (FILM, LONG, StandardVariable::Abstract, "Rays in one week."),
-    (FILM, LONG, StandardVariable::Annote, "Needs a large screen"),
-    (FILM, LONG, StandardVariable::Archive, "Vault 2"),
-    (FILM, LONG, StandardVariable::Source, "Ray Tracer"),
+    (FILM, LONG, Text::Abstract, "Rays in one week."),
+    (FILM, LONG, Text::Annote, "Needs a large screen"),
+    (FILM, LONG, Text::Archive, "Vault 2"),
+    (FILM, LONG, Text::Source, "Ray Tracer"),
     // The repository itself has the note. Here it is the entry and not a parent.
-    (
-        REPOSITORY,
-        LONG,
-        StandardVariable::Note,
-        "Needs a large screen",
-    ),
+    (REPOSITORY, LONG, Text::Note, "Needs a large screen"),
 ];
 
 /// A description, a variable, and the text in both forms.
-static TEXTS_OF_ONE_FORM: [(&str, StandardVariable, &str); 34] = [
-    (BOOK, StandardVariable::CitationLabel, "Kwa14"),
-    (ARTICLE, StandardVariable::CitationKey, "`quantized-vortex"),
-    (POST, StandardVariable::URL, "`https://aeon.co/essays"),
-    (NUMBERED, StandardVariable::DOI, "`10.1007/BF02731494"),
-    (NUMBERED, StandardVariable::ISBN, "`978-0-385-53697-4"),
-    (NUMBERED, StandardVariable::ISSN, "`0029-6341"),
-    (NUMBERED, StandardVariable::PMCID, "`PMC2717145"),
-    (NUMBERED, StandardVariable::PMID, "`19255231"),
+static TEXTS_OF_ONE_FORM: [(&str, Text, &str); 34] = [
+    (BOOK, Text::CitationLabel, "Kwa14"),
+    (ARTICLE, Text::CitationKey, "`quantized-vortex"),
+    (POST, Text::URL, "`https://aeon.co/essays"),
+    (NUMBERED, Text::DOI, "`10.1007/BF02731494"),
+    (NUMBERED, Text::ISBN, "`978-0-385-53697-4"),
+    (NUMBERED, Text::ISSN, "`0029-6341"),
+    (NUMBERED, Text::PMCID, "`PMC2717145"),
+    (NUMBERED, Text::PMID, "`19255231"),
     // A chunk of each kind. An empty text has an empty chunk.
     (
         "book; language Il Nuovo Cimento",
-        StandardVariable::Language,
+        Text::Language,
         "Il Nuovo Cimento",
     ),
-    ("book; key ", StandardVariable::CitationKey, "`"),
-    ("book; title $", StandardVariable::Title, "$"),
+    ("book; key ", Text::CitationKey, "`"),
+    ("book; title $", Text::Title, "$"),
     // No work answers.
-    (ARTICLE, StandardVariable::CollectionTitle, "none"),
-    (ARTICLE, StandardVariable::VolumeTitle, "none"),
-    (CHAPTER, StandardVariable::VolumeTitle, "none"),
+    (ARTICLE, Text::CollectionTitle, "none"),
+    (ARTICLE, Text::VolumeTitle, "none"),
+    (CHAPTER, Text::VolumeTitle, "none"),
     // Events of a parent's parents do not count.
-    (PAPER_OF_PROCEEDINGS, StandardVariable::Event, "none"),
+    (PROCEEDINGS_PAPER, Text::Event, "none"),
     // Numbers are the entry's own.
-    (CHAPTER_OF_NUMBERED, StandardVariable::DOI, "none"),
-    (CHAPTER_OF_NUMBERED, StandardVariable::ISBN, "none"),
-    (CHAPTER_OF_NUMBERED, StandardVariable::ISSN, "none"),
-    (CHAPTER_OF_NUMBERED, StandardVariable::PMCID, "none"),
-    (CHAPTER_OF_NUMBERED, StandardVariable::PMID, "none"),
+    (NUMBERED_CHAPTER, Text::DOI, "none"),
+    (NUMBERED_CHAPTER, Text::ISBN, "none"),
+    (NUMBERED_CHAPTER, Text::ISSN, "none"),
+    (NUMBERED_CHAPTER, Text::PMCID, "none"),
+    (NUMBERED_CHAPTER, Text::PMID, "none"),
     // Variables without an answer.
-    (FILM, StandardVariable::ArchiveCollection, "none"),
-    (FILM, StandardVariable::ArchivePlace, "none"),
-    (FILM, StandardVariable::Division, "none"),
-    (FILM, StandardVariable::Jurisdiction, "none"),
-    (FILM, StandardVariable::Keyword, "none"),
-    (FILM, StandardVariable::License, "none"),
-    (FILM, StandardVariable::Medium, "none"),
-    (FILM, StandardVariable::PartTitle, "none"),
-    (FILM, StandardVariable::References, "none"),
-    (FILM, StandardVariable::ReviewedGenre, "none"),
-    (FILM, StandardVariable::ReviewedTitle, "none"),
-    (FILM, StandardVariable::Scale, "none"),
-    (FILM, StandardVariable::Status, "none"),
-    (FILM, StandardVariable::YearSuffix, "none"),
+    (FILM, Text::ArchiveCollection, "none"),
+    (FILM, Text::ArchivePlace, "none"),
+    (FILM, Text::Division, "none"),
+    (FILM, Text::Jurisdiction, "none"),
+    (FILM, Text::Keyword, "none"),
+    (FILM, Text::License, "none"),
+    (FILM, Text::Medium, "none"),
+    (FILM, Text::PartTitle, "none"),
+    (FILM, Text::References, "none"),
+    (FILM, Text::ReviewedGenre, "none"),
+    (FILM, Text::ReviewedTitle, "none"),
+    (FILM, Text::Scale, "none"),
+    (FILM, Text::Status, "none"),
+    (FILM, Text::YearSuffix, "none"),
 ];
 
 fn assert_all(
     rt: &impl Abort,
     alloc: Global,
-    rows: &[(&'static str, LongShortForm, StandardVariable, &'static str)],
+    rows: &[(&'static str, LongShortForm, Text, &'static str)],
 ) {
     for (description, form, variable, wanted) in rows {
         assert_text(rt, alloc, (*description, *form, *variable), *wanted);
     }
 }
 
-fn assert_all_in_both(
-    rt: &impl Abort,
-    alloc: Global,
-    rows: &[(&'static str, StandardVariable, &'static str)],
-) {
+fn assert_all_in_both(rt: &impl Abort, alloc: Global, rows: &[(&'static str, Text, &'static str)]) {
     for (description, variable, wanted) in rows {
         assert_text(rt, alloc, (*description, LONG, *variable), *wanted);
         assert_text(rt, alloc, (*description, SHORT, *variable), *wanted);
@@ -310,13 +204,8 @@ fn texts_of_an_entry_and_its_parents(rt: HostRuntime) {
 }
 
 /// Whether the text in the short form is borrowed from the entry, or `None` if there is no answer.
-fn is_borrowed(
-    rt: &impl Abort,
-    alloc: Global,
-    description: &str,
-    variable: StandardVariable,
-) -> Option<bool> {
-    let works = described(rt, alloc, description);
+fn is_borrowed(rt: &impl Abort, alloc: Global, description: &str, variable: Text) -> Option<bool> {
+    let works = entries(rt, alloc, description);
     let entry = only(rt, &works);
     match entry
         .resolve_standard_variable(alloc, LongShortForm::Short, variable)
@@ -331,9 +220,9 @@ fn is_borrowed(
 #[test]
 fn texts_that_an_entry_holds_are_lent(rt: HostRuntime) {
     for (variable, wanted) in [
-        (StandardVariable::TitleShort, Some(true)),
-        (StandardVariable::CollectionTitle, Some(true)),
-        (StandardVariable::CitationKey, Some(false)),
+        (Text::TitleShort, Some(true)),
+        (Text::CollectionTitle, Some(true)),
+        (Text::CitationKey, Some(false)),
     ] {
         let borrowed = is_borrowed(&rt, rt.alloc(), CHAPTER, variable);
         assert_of(&rt, &borrowed, &wanted, &variable);

@@ -1,86 +1,23 @@
 //! The terms for numbers and pages, and their expected texts.
 
 use crate::terms::Row;
-use csl::style::{NumberVariable, PageVariable, Term, TermForm};
+use csl::style::Term::{Number, Page};
+use csl::style::TermForm::{Long, Short, Symbol};
+use csl::style::{NumberVariable as Quantity, PageVariable};
 
 pub(crate) static NUMBERS: [Row; 14] = [
-    (
-        Term::Number(NumberVariable::Edition),
-        TermForm::Long,
-        "edition",
-        "editions",
-    ),
-    (
-        Term::Number(NumberVariable::Edition),
-        TermForm::Short,
-        "ed.",
-        "ed.",
-    ),
-    (
-        Term::Number(NumberVariable::Issue),
-        TermForm::Long,
-        "number",
-        "numbers",
-    ),
-    (
-        Term::Number(NumberVariable::Issue),
-        TermForm::Short,
-        "no.",
-        "nos.",
-    ),
-    (
-        Term::Number(NumberVariable::NumberOfPages),
-        TermForm::Long,
-        "page",
-        "pages",
-    ),
-    (
-        Term::Number(NumberVariable::NumberOfPages),
-        TermForm::Short,
-        "p.",
-        "pp.",
-    ),
-    (
-        Term::Number(NumberVariable::Section),
-        TermForm::Long,
-        "section",
-        "sections",
-    ),
-    (
-        Term::Number(NumberVariable::Section),
-        TermForm::Short,
-        "sec.",
-        "secs.",
-    ),
-    (
-        Term::Number(NumberVariable::Section),
-        TermForm::Symbol,
-        "§",
-        "§§",
-    ),
-    (
-        Term::Number(NumberVariable::Version),
-        TermForm::Long,
-        "version",
-        "version",
-    ),
-    (
-        Term::Number(NumberVariable::Volume),
-        TermForm::Long,
-        "volume",
-        "volumes",
-    ),
-    (
-        Term::Number(NumberVariable::Volume),
-        TermForm::Short,
-        "vol.",
-        "vols.",
-    ),
-    (
-        Term::Page(PageVariable::Page),
-        TermForm::Long,
-        "page",
-        "pages",
-    ),
-    (Term::Page(PageVariable::Page), TermForm::Short, "p.", "pp."),
+    (Number(Quantity::Edition), Long, "edition", "editions"),
+    (Number(Quantity::Edition), Short, "ed.", "ed."),
+    (Number(Quantity::Issue), Long, "number", "numbers"),
+    (Number(Quantity::Issue), Short, "no.", "nos."),
+    (Number(Quantity::NumberOfPages), Long, "page", "pages"),
+    (Number(Quantity::NumberOfPages), Short, "p.", "pp."),
+    (Number(Quantity::Section), Long, "section", "sections"),
+    (Number(Quantity::Section), Short, "sec.", "secs."),
+    (Number(Quantity::Section), Symbol, "§", "§§"),
+    (Number(Quantity::Version), Long, "version", "version"),
+    (Number(Quantity::Volume), Long, "volume", "volumes"),
+    (Number(Quantity::Volume), Short, "vol.", "vols."),
+    (Page(PageVariable::Page), Long, "page", "pages"),
+    (Page(PageVariable::Page), Short, "p.", "pp."),
 ];

@@ -19,9 +19,9 @@ use std::collections::BTreeMap;
 use std::process::Abort;
 use url::Url;
 
-/// The described entry, alone in a list. Code that holds the list is quicker to prove than code
+/// The entry of a description, alone in a list. Code that holds the list is quicker to prove than code
 /// that holds the entry.
-pub fn described(rt: &impl Abort, alloc: Global, description: &str) -> Vec<Entry> {
+pub fn entries(rt: &impl Abort, alloc: Global, description: &str) -> Vec<Entry> {
     let mut chains = description.split("; also ");
     let first = chains.next().unwrap_or("");
     let (own, mut wholes) = match first.split_once("; in ") {
@@ -47,7 +47,7 @@ fn chain(rt: &impl Abort, alloc: Global, works: &str) -> Vec<Entry> {
 /// The work that clauses describe, as a part of other works.
 fn part_of(rt: &impl Abort, alloc: Global, clauses: &str, wholes: Vec<Entry>) -> Vec<Entry> {
     let (name, rest) = clauses.split_once("; ").unwrap_or((clauses, ""));
-    let mut works = bare(rt, alloc, type_named(rt, name), wholes);
+    let mut works = bare(rt, alloc, entry_type(rt, name), wholes);
     if let (Some(work), true) = (works.last_mut(), !rest.is_empty()) {
         state_all(rt, alloc, work, rest);
     }
@@ -126,7 +126,7 @@ fn state_persons(
     match word {
         "authors" => work.authors = Some(persons(rt, alloc, value)),
         "editors" => work.editors = Some(persons(rt, alloc, value)),
-        _ => match role_named(word) {
+        _ => match role(word) {
             Some(role) => affiliate(rt, alloc, work, role, value),
             None => return false,
         },
@@ -182,11 +182,11 @@ fn number_field<'e>(
 /// The text with these chunks, and with its short form if it has one.
 pub fn text(rt: &impl Abort, alloc: Global, text: &str) -> FormatString {
     let Some((long, short)) = text.split_once('|') else {
-        let value = pieces(rt, alloc, text);
+        let value = chunks(rt, alloc, text);
         return FormatString { value, short: None };
     };
-    let value = pieces(rt, alloc, long);
-    let short = pieces(rt, alloc, short);
+    let value = chunks(rt, alloc, long);
+    let short = chunks(rt, alloc, short);
     FormatString {
         value,
         short: Some(short),
@@ -194,7 +194,7 @@ pub fn text(rt: &impl Abort, alloc: Global, text: &str) -> FormatString {
 }
 
 /// The text of the chunks that `text` describes.
-pub fn pieces(rt: &impl Abort, alloc: Global, text: &str) -> ChunkedString {
+pub fn chunks(rt: &impl Abort, alloc: Global, text: &str) -> ChunkedString {
     let mut chunks = Vec::new(alloc);
     for piece in text.split('+') {
         let (kind, piece) = kind_of(piece);
@@ -331,7 +331,7 @@ fn affiliate(rt: &impl Abort, alloc: Global, work: &mut Entry, role: PersonRole,
     work.affiliated = Some(groups);
 }
 
-fn role_named(name: &str) -> Option<PersonRole> {
+fn role(name: &str) -> Option<PersonRole> {
     match name {
         "translator" => Some(PersonRole::Translator),
         "compiler" => Some(PersonRole::Compiler),
@@ -350,8 +350,8 @@ fn role_named(name: &str) -> Option<PersonRole> {
     }
 }
 
-fn type_named(rt: &impl Abort, name: &str) -> EntryType {
-    let named = match name {
+fn entry_type(rt: &impl Abort, name: &str) -> EntryType {
+    let kind = match name {
         "article" => EntryType::Article,
         "chapter" => EntryType::Chapter,
         "entry" => EntryType::Entry,
@@ -383,5 +383,5 @@ fn type_named(rt: &impl Abort, name: &str) -> EntryType {
         "original" => EntryType::Original,
         _ => panic!(rt; "a type that no entry has"),
     };
-    named
+    kind
 }
