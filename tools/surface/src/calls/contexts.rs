@@ -1,7 +1,9 @@
 //! The calls of `csl_context`.
 
 use crate::bounds::has_type;
-use csl_context::{Context, LeftState, Mark, RenderError, Rendered, WritingContext};
+use csl_context::{
+    BodyDressing, Context, LeftState, Mark, OpenBody, RenderError, Rendered, WritingContext,
+};
 use csl_entry::{
     EntryLike, InstanceContext, NameDisambiguationProperties, NumberVariableResult,
     PageVariableResult,
@@ -100,6 +102,13 @@ fn texts<T>(
     has_type::<bool, _>(&ctx.open_part_has_text());
 }
 
+fn bodies<T>(ctx: &mut Context<'_, T>, around: BodyDressing<'_>, text: &str, before: OpenBody) {
+    has_type::<Result<OpenBody, RenderError>, _>(&ctx.open_body(around));
+    has_type::<Written, _>(&ctx.push_str_in(text, around.formatting));
+    has_type::<Written, _>(&ctx.ensure_space_in(around.formatting));
+    has_type::<Written, _>(&ctx.close_body(around, before));
+}
+
 fn lookups_for_printing<'s, T: EntryLike>(
     ctx: &mut Context<'s, T>,
     number: NumberVariable,
@@ -178,6 +187,7 @@ fn finish<T>(ctx: Context<'_, T>) {
 
 fn copies() {
     let _: fn(&LeftState, Global) -> Result<LeftState, Memory> = LeftState::clone;
+    let _: fn(&Rendered, Global) -> Result<Rendered, Memory> = Rendered::clone;
 }
 
 // A context is written through this type, which has no call of its own.

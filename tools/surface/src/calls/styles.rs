@@ -55,8 +55,10 @@ fn styles() {
     let _: fn(&Style, Term) -> Option<GrammarGender> = Style::gender;
     let _: fn(&Style, i32, Option<GrammarGender>) -> Option<&str> = Style::ordinal;
     let _: fn(&Style, DateForm) -> Option<&Date> = Style::localized_date;
+    let _: fn(&Style, &Layout) -> Option<(Term, TermForm)> = Style::missing_term;
     let _: fn(&Style, Scope) -> bool = Style::renders_year_suffix_implicitly;
     let _: fn(Global, &Style, &Layout) -> Result<Named, Memory> = csl_style::named_by;
+    let _: fn(&Named, Global) -> Result<Named, Memory> = Named::clone;
 }
 
 fn languages() {

@@ -73,6 +73,10 @@ fn stacks<T: Default + Drop>() {
     let _: fn(NonEmptyStack<T>) -> T = NonEmptyStack::<T>::finish;
 }
 
+fn copied_stacks<T: Clone + Drop>(alloc: Global, stack: &NonEmptyStack<T>) {
+    has_type::<Result<NonEmptyStack<T>, Memory>, _>(&stack.clone(alloc));
+}
+
 fn last_mut_predicate<T, F: Fn(&T) -> bool + Drop>(stack: &mut NonEmptyStack<T>, accepts: F) {
     has_type::<Option<&mut T>, _>(&stack.last_mut_predicate(accepts));
 }

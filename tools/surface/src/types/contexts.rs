@@ -11,12 +11,14 @@ use lit_model::ChunkedString;
 use std::collections::BTreeSet;
 
 fn rendered(it: &Rendered) {
+    equal::<Rendered>();
     let Rendered { content, state } = it;
     has_type::<ElemChildren, _>(content);
     has_type::<LeftState, _>(state);
 }
 
 fn left_state(it: &LeftState) {
+    equal::<LeftState>();
     let LeftState {
         suppressed,
         suppressing,
