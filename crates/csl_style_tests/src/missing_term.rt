@@ -149,7 +149,7 @@ const SHORT_IN: LocaleRows<'static> = LocaleRows {
 
 const IN: Piece = Piece::Word(OtherTerm::In, LONG);
 
-static ROWS: [Row; 44] = [
+static TERMS: [Row; 10] = [
     NOTHING,
     // A text of a term: in its form, or in one that the form falls back to, in any locale.
     Row {
@@ -215,6 +215,9 @@ static ROWS: [Row; 44] = [
         wanted: Some((Term::Other(OtherTerm::Circa), SHORT)),
         ..NOTHING
     },
+];
+
+static LABELS_AND_QUOTES: [Row; 12] = [
     // Labels. That of a locator is judged by the term of a page.
     Row {
         of: "a label",
@@ -297,6 +300,9 @@ static ROWS: [Row; 44] = [
         layout: &[Piece::QuotedCall("a")],
         ..NOTHING
     },
+];
+
+static NAMES: [Row; 14] = [
     // Names: et al., and `and` if it is a word.
     Row {
         of: "names",
@@ -400,6 +406,9 @@ static ROWS: [Row; 44] = [
         wanted: Some((Term::Other(OtherTerm::And), LONG)),
         ..NOTHING
     },
+];
+
+static REACHED: [Row; 8] = [
     // Macros: at each place, the first of a name, and only those that the layout reaches.
     Row {
         of: "a macro of a macro",
@@ -665,10 +674,28 @@ fn assert_missing(rt: &impl Abort, alloc: Global, row: &Row) {
     drop(style);
 }
 
-#[test]
-fn the_first_missing_term_is_returned(rt: HostRuntime) {
-    let rows: &[Row] = &ROWS;
+fn assert_all(rt: &impl Abort, alloc: Global, rows: &[Row]) {
     for row in rows {
-        assert_missing(&rt, rt.alloc(), row);
+        assert_missing(rt, alloc, row);
     }
+}
+
+#[test]
+fn missing_terms_of_texts(rt: HostRuntime) {
+    assert_all(&rt, rt.alloc(), &TERMS);
+}
+
+#[test]
+fn missing_terms_of_labels_and_quotes(rt: HostRuntime) {
+    assert_all(&rt, rt.alloc(), &LABELS_AND_QUOTES);
+}
+
+#[test]
+fn missing_terms_of_names(rt: HostRuntime) {
+    assert_all(&rt, rt.alloc(), &NAMES);
+}
+
+#[test]
+fn missing_terms_of_macros_and_substitutes(rt: HostRuntime) {
+    assert_all(&rt, rt.alloc(), &REACHED);
 }
