@@ -1,6 +1,7 @@
--- The definitions that the contracts of `csl_uses` cite: its entries, and its cites.
+-- The definitions that the contracts of `csl_uses` cite: its entries, its cites and its lists.
 pub mod Book
 pub mod Cite
 pub mod Film
 pub mod InText
+pub mod List
 pub mod Page

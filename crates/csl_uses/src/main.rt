@@ -5,6 +5,8 @@
 //! - `cite`: a style that is built as a value, its cites and its bibliography;
 //! - `in_text`: cites in the running text, in the order of their sort keys;
 //! - `namesakes`: cites that are disambiguated by more of their names;
+//! - `list`: a reference list that renders again only the lines that change;
+//! - `whole_list`: a whole list, from sort keys to HTML, over the works of `twelve`;
 //! - `pair`: two entries of two types, and whether they are alike for a style;
 //! - `page`: a reference list as a whole web page.
 //!
@@ -15,15 +17,19 @@ mod book;
 mod cite;
 mod film;
 mod in_text;
+mod list;
 mod namesakes;
 mod page;
 mod pair;
+mod twelve;
+mod whole_list;
 
 use csl::literature::Entry;
-use csl::style::Style;
-use csl::{BufWriteFormat, EntryLike, Error};
+use csl::style::{Layout, Style};
+use csl::{BufWriteFormat, EntryLike, Error, Snapshot};
 use film::Film;
 use std::alloc::Global;
+use std::collections::HashMap;
 use std::rt::Env;
 use std::{env, io};
 
@@ -145,6 +151,77 @@ fn show_in_text(rt: &(impl Print + AllocGlobal)) -> Result<(), UseError> {
     Ok(())
 }
 
+/// Prints a list of works with the lines kept so far, and how many lines were rendered.
+fn show_lines(
+    rt: &(impl Print + AllocGlobal),
+    style: &Style,
+    works: &[Entry],
+    kept: &mut HashMap<Snapshot, String>,
+) -> Result<(), UseError> {
+    let lines = list::lines(rt.alloc(), style, works, kept)?;
+    for line in &lines {
+        println!(rt; "line: {}", line.html)?;
+    }
+    println!(rt; "lines rendered: {}", list::count_new(&lines))?;
+    Ok(())
+}
+
+/// Prints the list of these works, then with another title of the first, then with a note on it.
+fn show_changes(
+    rt: &(impl Print + AllocGlobal),
+    style: &Style,
+    works: &mut Vec<Entry>,
+) -> Result<(), UseError> {
+    let alloc = rt.alloc();
+    let mut kept = HashMap::new(alloc);
+    show_lines(rt, style, works, &mut kept)?;
+    list::rename_first(alloc, works, "The C Language").map_err(Error::from)?;
+    show_lines(rt, style, works, &mut kept)?;
+    list::annotate_first(alloc, works, "Second edition: 1988.").map_err(Error::from)?;
+    show_lines(rt, style, works, &mut kept)
+}
+
+/// Prints a list of three books that changes.
+fn show_list(rt: &(impl Print + AllocGlobal), style: &Style) -> Result<(), UseError> {
+    let mut books = three_books(rt.alloc())?;
+    let shown = show_changes(rt, style, &mut books);
+    drop(books);
+    shown
+}
+
+/// Prints the cite and the line of each of these works, in the order of a key.
+fn show_listed(
+    rt: &(impl Print + AllocGlobal),
+    style: &Style,
+    key: &Layout,
+    works: &[Entry],
+) -> Result<(), UseError> {
+    let mut list = whole_list::whole_list(rt.alloc(), style, key, works)?;
+    for listed in list.iter_mut() {
+        let line = listed.line(rt.alloc(), style)?;
+        println!(rt; "{}: {line}", listed.cite)?;
+    }
+    Ok(())
+}
+
+/// Prints the cite and the line of each of the twelve works.
+fn show_twelve(rt: &(impl Print + AllocGlobal), style: &Style) -> Result<(), UseError> {
+    let works = twelve::twelve_works(rt.alloc())?;
+    let key = twelve::sort_key(rt.alloc())?;
+    let shown = show_listed(rt, style, &key, &works);
+    drop(key);
+    drop(works);
+    shown
+}
+
+/// Prints a whole list.
+fn show_whole_list(rt: &(impl Print + AllocGlobal)) -> Result<(), UseError> {
+    let style = twelve::author_date_style(rt.alloc())?;
+    let shown = show_twelve(rt, &style);
+    drop(style);
+    shown
+}
+
 /// Prints the cites of two entries, and whether the entries are alike for the style.
 fn show_pair<T: EntryLike, U: EntryLike>(
     rt: &(impl Print + AllocGlobal),
@@ -202,6 +279,8 @@ fn show_uses(
     show_styled(rt, style, book, film)?;
     show_in_text(rt)?;
     show_namesakes(rt)?;
+    show_list(rt, style)?;
+    show_whole_list(rt)?;
     show_titles(rt, film)?;
     show_likeness(rt, style, film)?;
     show_page(rt)

@@ -1,0 +1,150 @@
+//! A whole list, end to end, to be copied: works sorted, numbered, cited, disambiguated, listed.
+
+use csl::style::{Layout, NameVariable, Scope, Style};
+use csl::{
+    BufWriteFormat, CitationNumber, CiteProperties, DisambiguateState, EntryLike, Error,
+    NameDisambiguationProperties, Rendered, Snapshot, Sorting,
+};
+use std::alloc::Global;
+
+/// A work of the list with its cite as text. The snapshot has what the citation's layout names.
+#[derive(Drop)]
+pub struct Listed<'w, T> {
+    work: &'w T,
+    key: String,
+    snapshot: Snapshot,
+    props: CiteProperties<'static>,
+    names: Option<NameDisambiguationProperties>,
+    pub cite: String,
+}
+
+type List<'w, T> = Vec<Listed<'w, T>>;
+
+/// The step of disambiguation that gives a year suffix. It is the last.
+const SUFFIX: usize = 6;
+
+impl<'w, T: EntryLike> Listed<'w, T> {
+    fn render_cite(&mut self, alloc: Global, style: &Style) -> Result<(), Error> {
+        let Rendered { content, state } = csl::cite(alloc, style, &self.snapshot, &self.props)?;
+        self.cite = content.to_text(alloc, BufWriteFormat::Plain)?;
+        self.names = state.first_names;
+        Ok(())
+    }
+
+    /// Shows more of the cite, in CSL's order. Steps 0 and 1 show two authors, then three; 2 and 3
+    /// the initials of the first, then the given name; 4 and 5 those of the second. The last shows
+    /// the names as at first, with a suffix: the number of equal cites before this one.
+    fn show_more(&mut self, step: usize, equal_before: usize) {
+        let Some(mut names) = self.names.take().filter(|_| step < SUFFIX) else {
+            let suffix = u16::try_from(equal_before).unwrap_or(u16::MAX);
+            self.props.speculative.disambiguation = DisambiguateState::YearSuffix(suffix);
+            return;
+        };
+        let (author, places) = (NameVariable::Author, [step.saturating_sub(2) / 2]);
+        if step < 2 {
+            names.add_name(step + 2);
+        } else if names.can_disambiguate(author, &places) {
+            names.disambiguate_list(author, &places);
+        }
+        self.props.speculative.disambiguation = DisambiguateState::NameDisambiguation(names);
+    }
+
+    /// The line of the work as HTML. It has the number and the suffix of the cite, not its names.
+    ///
+    /// # Errors
+    /// [`Error::Memory`]: out of memory, here or in the entry.
+    pub fn line(&mut self, alloc: Global, style: &Style) -> Result<String, Error> {
+        let state = &mut self.props.speculative.disambiguation;
+        if let DisambiguateState::NameDisambiguation(_) = state {
+            *state = DisambiguateState::None;
+        }
+        match csl::bibliography_entry(alloc, style, self.work, &self.props)? {
+            Some(line) => Ok(line.content.to_text(alloc, BufWriteFormat::Html)?),
+            None => Ok(String::new(alloc)),
+        }
+    }
+}
+
+/// The works by their sort keys, which are compared byte by byte.
+fn sorted<'w, T: EntryLike>(
+    alloc: Global,
+    style: &Style,
+    key: &Layout,
+    works: &'w [T],
+) -> Result<List<'w, T>, Error> {
+    let named = csl::named_by(alloc, style, style.citation())?;
+    let (scope, sorting) = (Scope::Bibliography, Sorting::Macro);
+    let mut list = Vec::new(alloc);
+    for work in works {
+        let props = CiteProperties::first(DisambiguateState::None);
+        let key = csl::sort_key(alloc, style, work, &props, key, scope, sorting)?;
+        let snapshot = Snapshot::new(alloc, work, &named)?;
+        list.push(Listed {
+            work,
+            key,
+            snapshot,
+            props,
+            names: None,
+            cite: String::new(alloc),
+        })?;
+    }
+    list.sort_unstable_by(|a, b| a.key.cmp(&b.key));
+    Ok(list)
+}
+
+/// Numbers the works and renders their cites.
+fn cite<T: EntryLike>(alloc: Global, style: &Style, list: &mut List<'_, T>) -> Result<(), Error> {
+    for (place, work) in list.iter_mut().enumerate() {
+        let number = u32::try_from(place).ok().and_then(CitationNumber::new);
+        work.props.speculative.citation_number = number.ok_or(Error::NotNumeric)?;
+        work.render_cite(alloc, style)?;
+    }
+    Ok(())
+}
+
+/// For each work the number of equal cites before it, or `None` if no other cite is equal.
+fn equal_before<T>(alloc: Global, list: &List<'_, T>) -> Result<Vec<Option<usize>>, Error> {
+    let mut equal_before = Vec::new(alloc);
+    for (place, work) in list.iter().enumerate() {
+        let count = list.iter().filter(|it| it.cite == work.cite).count();
+        let before = list.iter().take(place).filter(|it| it.cite == work.cite);
+        equal_before.push((count > 1).then_some(before.count()))?;
+    }
+    Ok(equal_before)
+}
+
+/// Takes a step at each cite that another one equals.
+fn disambiguate<T: EntryLike>(
+    alloc: Global,
+    style: &Style,
+    list: &mut List<'_, T>,
+    step: usize,
+) -> Result<(), Error> {
+    let equal_before = equal_before(alloc, list)?;
+    for (work, equal_before) in list.iter_mut().zip(equal_before) {
+        if let Some(equal_before) = equal_before {
+            work.show_more(step, equal_before);
+            work.render_cite(alloc, style)?;
+        }
+    }
+    Ok(())
+}
+
+/// The works with their cites, sorted by a key, which is a call of a macro.
+///
+/// # Errors
+/// [`Error::Memory`]: out of memory, here or in an entry.
+/// [`Error::NotNumeric`]: there are more works than citation numbers.
+pub fn whole_list<'w, T: EntryLike>(
+    alloc: Global,
+    style: &Style,
+    key: &Layout,
+    works: &'w [T],
+) -> Result<List<'w, T>, Error> {
+    let mut list = sorted(alloc, style, key, works)?;
+    cite(alloc, style, &mut list)?;
+    for step in 0..=SUFFIX {
+        disambiguate(alloc, style, &mut list, step)?;
+    }
+    Ok(list)
+}
