@@ -2,7 +2,7 @@
 //! snapshot of its work: what the work answers to all that the bibliography's layout names.
 
 ghost use Rattle.std.specs.Prelude.{◌≡◌, IfOk, string_bytes};
-ghost use Rattle.csl_uses.specs.List.{line_html};
+ghost use Rattle.csl_uses.specs.List.{line_html, NamedByBibliography, AreLines};
 
 use csl::literature::{Entry, FormatString};
 use csl::style::{Named, Style};
@@ -32,13 +32,18 @@ fn rendered_line<T: EntryLike>(alloc: Global, style: &Style, entry: &T) -> Resul
 
 /// The line of a work: the kept one, if a work with an equal snapshot had one, or a new one, which
 /// is kept too. A snapshot renders as its work does.
+#[tactic(auto, using(crate::proofs::KeptLines::unchanged_lines))]
 fn kept_line<T: EntryLike>(
     alloc: Global,
     style: &Style,
     named: &Named,
     work: &T,
     kept: &mut HashMap<Snapshot, String>,
-) -> Result<Line, Error> {
+) -> Result<Line, Error>
+    ensures line { NamedByBibliography style.now named.now → AreLines style.now kept.old
+        → IfOk result (λ line. string_bytes line.html ≡ line_html style.now (T.answers work.now)) }
+    ensures kept { AreLines style.now kept.old → AreLines style.now kept.new }
+{
     let snapshot = Snapshot::new(alloc, work, named)?;
     if let Some(html) = kept.get(&snapshot) {
         let html = html.clone()?;
