@@ -1,4 +1,5 @@
 pub mod Affixes
 pub mod Contents
 pub mod StateEqual
+pub mod Leaving
 pub mod BodyAround

@@ -147,6 +147,10 @@ Runs f result old new = MatchResult result (λ _. Becomes f old new) (λ e. Fail
 abbrev pub GivesBy : {R E V : Type 0} → (R → V) → Result R E → V → Type 0
 GivesBy view result wanted = IfOk result (λ value. view value ≡ wanted)
 
+-- If a call returns a value, it is the wanted one.
+abbrev pub Gives : {V E : Type 0} → Result V E → V → Type 0
+Gives result wanted = IfOk result (λ value. value ≡ wanted)
+
 -- The context had not failed. The call read the wanted value and left the context unchanged.
 pub record ReadsAs {R V T : Type 0} (view : R → V) (answer : R) (wanted : V) (old new : ContextView T) : Type 0 where
   pub value : view answer ≡ wanted

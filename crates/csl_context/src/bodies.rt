@@ -68,6 +68,7 @@ impl<'s, T> Context<'s, T> {
     /// # Errors
     /// [`RenderError::Memory`]: out of memory. The context has failed.
     /// [`RenderError::Failed`]: the context had failed already.
+    #[inline(never)]
     pub fn open_body(&mut self, around: BodyDressing<'_>) -> Result<OpenBody, RenderError>
         ensures after { Runs (with_open_body (body_attributes around.entry)) result self.old self.new }
         ensures before { IfOk result (λ before. before ≡ values_before self.old.inherited) }
@@ -157,6 +158,7 @@ impl<'s, T> Context<'s, T> {
     /// # Errors
     /// [`RenderError::Memory`]: out of memory. The context has failed.
     /// [`RenderError::Failed`]: the context had failed already.
+    #[inline(never)]
     pub fn close_body(
         &mut self,
         around: BodyDressing<'_>,

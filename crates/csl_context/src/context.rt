@@ -7,7 +7,7 @@ ghost use Rattle.csl_tree.specs.Content.{IsContent};
 ghost use Rattle.csl_tree.specs.Tokens.{tokens};
 ghost use Rattle.csl_entry.specs.Cite.{cite_state};
 ghost use Rattle.csl_entry.specs.NameProperties.{name_properties};
-ghost use Rattle.csl_context.specs.ContextView.{new_context, initial_state};
+ghost use Rattle.csl_context.specs.ContextView.{Gives, new_context, initial_state};
 ghost use Rattle.csl_context.specs.LeftState.{left_state_view};
 
 use crate::error::RenderError;
@@ -216,7 +216,7 @@ impl<'s, T> Context<'s, T> {
         instance: InstanceContext<'s, T>,
         scope: Scope,
     ) -> Result<Context<'s, T>, Memory>
-        ensures { IfOk result (λ c. c ≡ new_context style.now scope instance.entry.entry.now
+        ensures { Gives result (new_context style.now scope instance.entry.entry.now
             (cite_state instance.entry.cite_props.now) instance.entry.sorting instance.entry.kind
             initial_state) }
     {
@@ -235,7 +235,7 @@ impl<'s, T> Context<'s, T> {
         scope: Scope,
         start: &LeftState,
     ) -> Result<Context<'s, T>, Memory>
-        ensures { IfOk result (λ c. c ≡ new_context style.now scope instance.entry.entry.now
+        ensures { Gives result (new_context style.now scope instance.entry.entry.now
             (cite_state instance.entry.cite_props.now) instance.entry.sorting instance.entry.kind
             (left_state_view start.now)) }
     {

@@ -6,7 +6,7 @@ ghost use Rattle.csl_tree.specs.Content.{◌++>◌, affixed_content};
 ghost use Rattle.csl_tree.specs.Flat.{affix_content};
 ghost use Rattle.csl_context.specs.Texts.{text_in_if, between_in};
 ghost use Rattle.csl_context.specs.Quotes.{opening_quote, closing_quote, quote_text, leading_punctuation, after_leading_punctuation, moved_punctuation, moves_punctuation, affixed_after};
-ghost use Rattle.csl_context.specs.ContextView.{Runs, IsInnermost, with_part, close_part_by, with_quotes_toggled, with_quotes};
+ghost use Rattle.csl_context.specs.ContextView.{Runs, Gives, IsInnermost, with_part, close_part_by, with_quotes_toggled, with_quotes};
 
 use crate::context::Context;
 use crate::error::RenderError;
@@ -303,8 +303,7 @@ impl<'s, T> Context<'s, T> {
         ensures after { Runs (λ now.
             with_quotes (option_map (λ t. t.now) suffix.entry) (with_quotes_toggled now))
             result self.old self.new }
-        ensures moved { IfOk result (λ moved. moved
-            ≡ moves_punctuation self.old.style
+        ensures moved { Gives result (moves_punctuation self.old.style
             (option_map (λ t. t.now) suffix.entry) self.old.inner) }
     {
         self.ensure_live()?;

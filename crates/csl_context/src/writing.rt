@@ -299,6 +299,7 @@ impl<'s, T> Context<'s, T> {
     /// # Errors
     /// [`RenderError::Memory`]: out of memory. The context has failed.
     /// [`RenderError::Failed`]: the context had failed already.
+    #[inline(never)]
     pub fn push_elem(&mut self) -> Result<Mark, RenderError>
         ensures after { Runs with_part result self.old self.new }
         ensures mark { IfOk result (λ mark. length self.new.outer ≡ mark + 1) }
