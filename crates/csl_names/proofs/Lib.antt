@@ -1,2 +1,3 @@
 pub mod Pieces
 pub mod Counts
+pub mod GivenNames

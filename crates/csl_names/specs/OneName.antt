@@ -3,9 +3,9 @@
 -- whether the name is reversed, and on the settings (`NameStyleView`): the two parts with their
 -- formattings and affixes, the separator, the text after initials, whether these keep a hyphen,
 -- whether a particle is demoted, and whether the name is in a sort key. `name_content` is the
--- content of these pieces alone, so its gaps depend on this name only. `part_style_view` and
--- `name_style_view` serve the code: only private contracts cite them.
-use Rattle.std.specs.Prelude.{ℕ, Bool, true, false, ◌||◌, List, [], ◌∷◌, ◌++◌, Option, Some, None, option_map, if◌then◌else◌}
+-- content of these pieces alone, so its gaps depend on this name only. `part_style_view`,
+-- `name_style_view` and `given_or_empty` serve the code: only private contracts cite them.
+use Rattle.std.specs.Prelude.{ℕ, Bool, true, false, ◌||◌, List, [], ◌∷◌, ◌++◌, Option, Some, None, option_map, unwrap_or, if◌then◌else◌}
 use Rattle.lit_model.specs.Person.{PersonView}
 use Rattle.lit_model.specs.Name.{is_institutional, is_cjk, name_particle, name_without_particle, name_without_article}
 use Rattle.lit_model.specs.Initials.{initials, given_words}
@@ -89,6 +89,10 @@ initialized_given text hyphen ShortInitialized given = lettered_name text given
 initialized_given text hyphen ShortFull given = lettered_name text given
 initialized_given text hyphen LongInitialized given = initials text hyphen given
 initialized_given text hyphen LongFull given = lettered_name text given
+
+-- the given name of a person; without one, no text
+abbrev pub given_or_empty : PersonView → List ℕ
+given_or_empty p = unwrap_or p.given_name []
 
 -- the given name as it is written
 abbrev pub given_text : Option (List ℕ) → Bool → DisambiguatedNameForm → List ℕ → List ℕ

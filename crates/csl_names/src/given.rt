@@ -1,12 +1,11 @@
 //! Given names, in full or shortened (CSL 1.0.2, Name: initialize-with).
 
-ghost use Rattle.std.specs.Prelude.{◌≡◌, ◌∷◌, [], Some, IfOk, option_map, string_bytes};
+ghost use Rattle.std.specs.Prelude.{◌∷◌, [], string_bytes};
+ghost use Rattle.lit_model.specs.Initials.{initials};
 ghost use Rattle.lit_model.specs.Person.{person_view};
-ghost use Rattle.lit_model.specs.Initials.{person_initials};
-ghost use Rattle.lit_model.specs.FirstNames.{person_first_name};
-ghost use Rattle.csl_context.specs.ContextView.{Runs};
+ghost use Rattle.csl_context.specs.ContextView.{Runs, GivesBy};
 ghost use Rattle.csl_names.specs.Piece.{word, with_pieces};
-ghost use Rattle.csl_names.specs.OneName.{name_style_view, initialized_given, given_word, given_block};
+ghost use Rattle.csl_names.specs.OneName.{name_style_view, given_or_empty, lettered_name, initialized_given, given_word, given_block};
 
 use crate::name::NameStyle;
 use crate::piece::{push_after_gap, push_optional, push_word};
@@ -17,8 +16,8 @@ use std::alloc::Global;
 
 /// The initials of a person's given name.
 fn initials_of(alloc: Global, person: &Person, text: &str, hyphen: bool) -> Result<String, Memory>
-    ensures { IfOk result (λ short. string_bytes short
-        ≡ person_initials (Some text.now) hyphen (person_view person.now)) }
+    ensures { GivesBy string_bytes result
+        (initials text.now hyphen (given_or_empty (person_view person.now))) }
 {
     let mut short = String::new(alloc);
     match person.initials(&mut short, Some(text), hyphen) {
@@ -30,8 +29,8 @@ fn initials_of(alloc: Global, person: &Person, text: &str, hyphen: bool) -> Resu
 /// The given name of a person. Each word of one capital letter, with or without a dot, becomes that
 /// letter and `text`.
 fn lettered_name(alloc: Global, person: &Person, text: &str) -> Result<String, Memory>
-    ensures { IfOk result (λ short. string_bytes short
-        ≡ person_first_name (Some text.now) (person_view person.now)) }
+    ensures { GivesBy string_bytes result
+        (lettered_name text.now (given_or_empty (person_view person.now))) }
 {
     let mut short = String::new(alloc);
     match person.first_name_with_delimiter(&mut short, Some(text)) {
@@ -45,14 +44,12 @@ fn lettered_name(alloc: Global, person: &Person, text: &str) -> Result<String, M
 fn shorten(
     alloc: Global,
     person: &Person,
-    given: &str,
     form: DisambiguatedNameForm,
     text: &str,
     hyphen: bool,
 ) -> Result<String, Memory>
-    requires given_name { option_map string_bytes person.now.given_name ≡ Some given.now }
-    ensures { IfOk result (λ short. string_bytes short
-        ≡ initialized_given text.now hyphen form given.now) }
+    ensures { GivesBy string_bytes result
+        (initialized_given text.now hyphen form (given_or_empty (person_view person.now))) }
 {
     match form {
         DisambiguatedNameForm::LongInitialized => initials_of(alloc, person, text, hyphen),
@@ -79,7 +76,7 @@ impl NameStyle<'_> {
             None => ctx.ensure_live(),
             Some(given) => match self.initialize_with {
                 None => push_word(ctx, given.as_str(), self.given.formatting),
-                Some(text) => self.push_short(ctx, person, given.as_str(), form, text),
+                Some(text) => self.push_short(ctx, person, form, text),
             },
         }
     }
@@ -89,17 +86,14 @@ impl NameStyle<'_> {
         self,
         ctx: &mut Context<'_, T>,
         person: &Person,
-        given: &str,
         form: DisambiguatedNameForm,
         text: &str,
     ) -> Result<(), RenderError>
-        requires given_name { option_map string_bytes person.now.given_name ≡ Some given.now }
         ensures { Runs (with_pieces (word (initialized_given text.now
-            (name_style_view self.entry).hyphen
-            form given.now) (name_style_view self.entry).given.formatting ∷ [])) result ctx.old
-            ctx.new }
+            (name_style_view self.entry).hyphen form (given_or_empty (person_view person.now)))
+            (name_style_view self.entry).given.formatting ∷ [])) result ctx.old ctx.new }
     {
-        let short = shorten(ctx.alloc(), person, given, form, text, self.hyphen);
+        let short = shorten(ctx.alloc(), person, form, text, self.hyphen);
         let short = ctx.attempt(short)?;
         push_word(ctx, short.as_str(), self.given.formatting)
     }
