@@ -6,3 +6,4 @@ mod PaddedNumbers
 mod DigitOrder
 mod KeyOrder
 pub mod JoinedParts
+pub mod Theorems

@@ -39,7 +39,7 @@ use Rattle.csl_nodes.specs.DateText.{is_written, part_text}
 use Rattle.csl_nodes.specs.DateKey.{sort_key}
 use Rattle.csl_nodes.specs.Usage.{Info, no_info}
 use Rattle.csl_nodes.specs.Numbers.{presence_info}
-use Rattle.csl_nodes.specs.Text.{RenderOutput, render_output, same_variable, no_affixes}
+use Rattle.csl_nodes.specs.Text.{RenderOutput, render_output, same_variable, no_affix_texts}
 use Rattle.std.specs.Borrow.{Bor}
 use Rattle.csl_elements.specs.declared.date.Date.{Date}
 use Rattle.csl_elements.specs.View.{view_date, view_date_part}
@@ -195,7 +195,7 @@ is_stripped Year strip = false
 
 -- the attributes of a part; it has no affixes if only the suffix is written
 abbrev pub part_dressing : Bool → DatePartNode → Dressing
-part_dressing alone p = record { formatting = p.formatting; affixes = if alone then no_affixes else p.affixes; display = None }
+part_dressing alone p = record { formatting = p.formatting; affixes = if alone then no_affix_texts else p.affixes; display = None }
 
 abbrev pub part_content : RenderInput → DateParts → List ℕ → DateView → Inherited → DatePartNode → List Token
 part_content w parts suffix d inh p =

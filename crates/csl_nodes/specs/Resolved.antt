@@ -7,7 +7,7 @@ use Rattle.csl_nodes.specs.declared.resolved.ResolvedText.TheVariants as of_foun
 use Rattle.csl_nodes.specs.Text.{ResolvedText, standard_text, number_result, term, value}
 
 abbrev pub resolved_view : declared.ResolvedText → ResolvedText
-resolved_view (of_found.Answer v found) = standard_text v (cow_view chunks found)
-resolved_view (of_found.Numeral v found) = number_result v (number_or_page_view found)
+resolved_view (of_found.StandardText v found) = standard_text v (cow_view chunks found)
+resolved_view (of_found.NumberResult v found) = number_result v (number_or_page_view found)
 resolved_view (of_found.Term words) = term words.now
 resolved_view (of_found.Value words) = value words.now

@@ -33,7 +33,7 @@ use Rattle.csl_context.specs.RenderInput.{RenderInput, peek_standard, term_in}
 use Rattle.csl_context.specs.Texts.{text_in, chunks_in, link_in}
 use Rattle.csl_context.specs.ContextView.{ContextView, Runs, render_input}
 use Rattle.csl_context.specs.declared.error.RenderError.{RenderError}
-use Rattle.csl_context.specs.Quotes.{quoted_content, moves_punctuation, affixed_after}
+use Rattle.csl_context.specs.Quotes.{toggled_if, quoted_between}
 use Rattle.csl_nodes.specs.NumberOrPage.{peek_number_or_page, shown_in, text_node_text}
 use Rattle.csl_nodes.specs.Usage.{usage_flags, no_usage_flags, Info, info_of}
 
@@ -218,15 +218,6 @@ begins_link d v = is_address_prefix (url_prefix v) d.dressing.affixes.prefix
 -- term or a value has none. A text of a variable looks it up for printing, whatever it resolves to.
 -- There is no lookup for a name or a date variable, or if the special form does not show the text.
 
--- quotes within quotes are of the other kind
-abbrev pub toggled_if : Bool → Bool → Bool
-toggled_if true depth = not depth
-toggled_if false depth = depth
-
--- a context on the other side of quotes, if there are any
-abbrev pub with_quotes_toggled_if : {T : Type 0} → Bool → ContextView T → ContextView T
-with_quotes_toggled_if quotes now = record now { inherited = record now.inherited { in_quotes = toggled_if quotes now.inherited.in_quotes } }
-
 -- the inherited values of a text's body
 abbrev pub in_body : TextDressing → Inherited → Inherited
 in_body d inh = record inh {
@@ -235,32 +226,17 @@ in_body d inh = record inh {
   strip_periods = d.strip_periods || inh.strip_periods;
 }
 
--- a body in quotes, if the text has them
-abbrev pub in_quotes_if : Bool → StyleParts → Inherited → Option (List ℕ) → List Token → List Token
-in_quotes_if true style inh suffix c = quoted_content style inh suffix c
-in_quotes_if false style inh suffix c = c
-
--- whether the front of the suffix moved into the quotes
-abbrev pub moved_if : Bool → StyleParts → Option (List ℕ) → List Token → Bool
-moved_if true style suffix c = moves_punctuation style suffix c
-moved_if false style suffix c = false
-
--- a body in quotes and affixes
-abbrev pub quoted_between : Bool → StyleParts → AffixTexts → Inherited → List Token → List Token
-quoted_between quotes style a inh c =
-    affixed_after (moved_if quotes style a.suffix c) inh a (in_quotes_if quotes style inh a.suffix c)
-
 -- a text's box around its body
 abbrev pub text_box : StyleParts → AffixTexts → TextDressing → Option Meta → Inherited → List Token → List Token
 text_box style a d meta inh c =
     elem_content d.dressing.display meta (quoted_between d.quotes style a (with_node_formatting d.dressing.formatting inh) c)
 
-abbrev pub no_affixes : AffixTexts
-no_affixes = record { prefix = None; suffix = None }
+abbrev pub no_affix_texts : AffixTexts
+no_affix_texts = record { prefix = None; suffix = None }
 
 -- the affixes of a text: none if its prefix begins a link
 abbrev pub resolved_affixes : TextDressing → ResolvedText → AffixTexts
-resolved_affixes d (standard_text v cs) = if begins_link d v then no_affixes else d.dressing.affixes
+resolved_affixes d (standard_text v cs) = if begins_link d v then no_affix_texts else d.dressing.affixes
 resolved_affixes d (number_result v n) = d.dressing.affixes
 resolved_affixes d (term bs) = d.dressing.affixes
 resolved_affixes d (value bs) = d.dressing.affixes

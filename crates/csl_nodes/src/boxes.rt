@@ -7,7 +7,7 @@ ghost use Rattle.csl_context.specs.ContextView.{Runs, with_content};
 ghost use Rattle.csl_nodes.specs.Boxes.{body_in, in_plain, plain_box};
 
 use crate::dressing::{Body, write_body};
-use csl_context::{Context, RenderError};
+use csl_context::{BodyDressing, Context, RenderError};
 use csl_entry::EntryLike;
 use csl_style::{Affixes, Display, Formatting};
 use csl_tree::ElemMeta;
@@ -33,14 +33,16 @@ pub(crate) fn render_unquoted<'s, T: EntryLike>(
         (body_in (in_plain (dressing_of around.entry.formatting around.entry.affixes.now
         around.entry.display) around.entry.strip_periods inh) body.entry))) result ctx.old ctx.new }
 {
-    ctx.push_format(around.formatting)?;
+    let inside = BodyDressing {
+        formatting: around.formatting,
+        affixes: around.affixes,
+        quotes: false,
+        strip_periods: around.strip_periods,
+    };
     let element = ctx.push_elem()?;
-    let middle = ctx.apply_prefix()?;
-    let stripping = ctx.may_strip_periods(around.strip_periods);
+    let before = ctx.open_body(inside)?;
     write_body(ctx, body)?;
-    ctx.stop_stripping_periods(stripping);
-    ctx.apply_suffix(around.affixes, middle, false)?;
+    ctx.close_body(inside, before)?;
     ctx.commit_elem(element, around.display, Some(meta))?;
-    ctx.pop_format();
     Ok(())
 }

@@ -5,8 +5,8 @@ ghost use Rattle.lit_model.specs.Date.{date_view};
 ghost use Rattle.csl_elements.specs.View.{view_date};
 ghost use Rattle.csl_entry.specs.Answers.{cow_view};
 ghost use Rattle.csl_context.specs.RenderInput.{peek_date};
-ghost use Rattle.csl_context.specs.ContextView.{GivesBy, render_input};
-ghost use Rattle.csl_nodes.specs.Dates.{date_info, date_shows, date_output, is_own, date_shows_variable, date_shows_own, printed_date, date_or_key, resolved_date, localized_node};
+ghost use Rattle.csl_context.specs.ContextView.{Runs, GivesBy, render_input, with_content};
+ghost use Rattle.csl_nodes.specs.Dates.{date_box, date_info, date_shows, date_output, is_own, date_shows_variable, date_shows_own, printed_date, date_or_key, resolved_date, localized_node};
 ghost use Rattle.csl_nodes.specs.Text.{Appends};
 ghost use Rattle.csl_nodes.specs.Usage.{info_view};
 
@@ -16,7 +16,7 @@ use crate::date_suffix::{first_suffix, implicit_suffix};
 use crate::empty::push_nothing;
 use crate::number::presence_info;
 use crate::usage::{UsageInfo, no_info};
-use csl_context::{Context, RenderError};
+use csl_context::{BodyDressing, Context, RenderError};
 use csl_entry::{EntryLike, Sorting, SpecialForm, as_deref};
 use csl_style::{Date, DateVariable, Variable};
 use csl_tree::ElemMeta;
@@ -145,7 +145,31 @@ fn render_key<'s, T: EntryLike>(
     ctx.push_str(key.as_str())
 }
 
-/// Appends the box of a date.
+/// Appends the box of a date around its parts.
+fn write_box<'s, T: EntryLike>(
+    ctx: &mut Context<'s, T>,
+    written: LocalizedDate<'_>,
+    found: DateValue<'_>,
+) -> Result<(), RenderError>
+    ensures { Runs (λ now. with_content (date_box (render_input T.answers now)
+        (localized_node written.entry) found.entry.suffix.now (date_view found.entry.date.now)) now)
+        result ctx.old ctx.new }
+{
+    let around = BodyDressing {
+        formatting: written.formatting(),
+        affixes: &written.node.affixes,
+        quotes: false,
+        strip_periods: false,
+    };
+    let element = ctx.push_elem()?;
+    let before = ctx.open_body(around)?;
+    render_parts(ctx, written, found)?;
+    ctx.close_body(around, before)?;
+    ctx.commit_elem(element, written.node.display, Some(ElemMeta::Date))?;
+    Ok(())
+}
+
+/// Appends the box of a date. From then on a date counts as rendered.
 fn render_box<'s, T: EntryLike>(
     ctx: &mut Context<'s, T>,
     written: LocalizedDate<'_>,
@@ -159,14 +183,7 @@ fn render_box<'s, T: EntryLike>(
         date,
         suffix: suffix.as_str(),
     };
-    ctx.push_format(written.formatting())?;
-    let element = ctx.push_elem()?;
-    let middle = ctx.apply_prefix()?;
-    render_parts(ctx, written, found)?;
-    ctx.apply_suffix(&written.node.affixes, middle, false)?;
-    ctx.commit_elem(element, written.node.display, Some(ElemMeta::Date))?;
-    ctx.pop_format();
-    Ok(())
+    write_box(ctx, written, found)
 }
 
 /// Renders a date that was found: its sort key while sorting, else its box. There is no box if the

@@ -6,7 +6,7 @@ ghost use Rattle.csl_elements.specs.declared.date.DateParts.TheVariants.{YearMon
 ghost use Rattle.csl_elements.specs.Dressing.{dressing_of};
 ghost use Rattle.csl_elements.specs.View.{view_date_part};
 ghost use Rattle.csl_tree.specs.Tokens.{has_children};
-ghost use Rattle.csl_context.specs.ContextView.{Runs, render_input, with_content};
+ghost use Rattle.csl_context.specs.ContextView.{Runs, Gives, render_input, with_content};
 ghost use Rattle.csl_context.specs.Texts.{text_in, between_in};
 ghost use Rattle.csl_nodes.specs.Boxes.{in_plain, plain_between};
 ghost use Rattle.csl_nodes.specs.Dates.{is_suffix_alone, own_part, form_over, formatting_over, part_over, suffix_with, part_value, is_stripped, part_content, date_body, localized_node, own_parts};
@@ -14,7 +14,7 @@ ghost use Rattle.csl_nodes.specs.Dates.{is_suffix_alone, own_part, form_over, fo
 use crate::boxes::NodeDressing;
 use crate::date_suffix::is_suffix_alone;
 use crate::date_text::{is_written, part_text};
-use csl_context::{Context, RenderError};
+use csl_context::{BodyDressing, Context, RenderError};
 use csl_entry::EntryLike;
 use csl_style::{Affixes, Date, DateAnyForm, DatePart, DatePartName, DateParts, Formatting};
 use lit_model::{Date as Given, Memory};
@@ -181,13 +181,15 @@ fn write_part<'s, T: EntryLike>(
         (text_in (in_plain (dressing_of around.entry.formatting around.entry.affixes.now
         around.entry.display) around.entry.strip_periods inh) text.now))) result ctx.old ctx.new }
 {
-    ctx.push_format(around.formatting)?;
-    let middle = ctx.apply_prefix()?;
-    let stripping = ctx.may_strip_periods(around.strip_periods);
+    let inside = BodyDressing {
+        formatting: around.formatting,
+        affixes: around.affixes,
+        quotes: false,
+        strip_periods: around.strip_periods,
+    };
+    let before = ctx.open_body(inside)?;
     ctx.push_str(text)?;
-    ctx.stop_stripping_periods(stripping);
-    ctx.apply_suffix(around.affixes, middle, false)?;
-    ctx.pop_format();
+    ctx.close_body(inside, before)?;
     Ok(())
 }
 
@@ -219,18 +221,18 @@ fn render_part<'s, T: EntryLike>(
 
 /// Renders a part, after the delimiter unless no part of the date has printed yet (`first`).
 /// Returns whether still none has.
-fn render_behind<'s, T: EntryLike>(
+fn render_next_part<'s, T: EntryLike>(
     ctx: &mut Context<'s, T>,
     written: LocalizedDate<'_>,
     found: DateValue<'_>,
     part: &DatePart,
     first: bool,
 ) -> Result<bool, RenderError>
-    ensures value { IfOk result (λ still. still ≡ (first && not (has_children (part_content
+    ensures value { Gives result (first && not (has_children (part_content
         (render_input T.answers ctx.old) (unwrap_or
         (localized_node written.entry).parts YearMonthDay)
         found.entry.suffix.now (date_view found.entry.date.now) ctx.old.inherited (part_over
-        (own_parts written.entry) (view_date_part part.now)))))) }
+        (own_parts written.entry) (view_date_part part.now))))) }
     ensures after { Runs (λ now. with_content (λ inh.
         let part = part_content (render_input T.answers now)
         (unwrap_or (localized_node written.entry).parts YearMonthDay) found.entry.suffix.now
@@ -264,7 +266,7 @@ pub(crate) fn render_parts<'s, T: EntryLike>(
     let mut first = true;
     let parts = written.date_part();
     for part in parts {
-        first = render_behind(ctx, written, found, part, first)?;
+        first = render_next_part(ctx, written, found, part, first)?;
     }
     Ok(())
 }

@@ -28,7 +28,6 @@ mod usage;
 pub use branch_conditions::{BranchConditionIter, BranchConditionPos};
 pub use date::{date_info, date_shows, render_date};
 pub use date_key::full_sort_key;
-pub use dressing::{close_quotes, open_quotes};
 pub use empty::push_nothing;
 pub use label::{label_info, render_label};
 pub use number::{number_info, number_shows, render_number};

@@ -25,9 +25,9 @@ use std::borrow::Cow;
 #[derive(Drop)]
 pub(crate) enum ResolvedText<'a> {
     /// The answer to a standard variable.
-    Answer(StandardVariable, Cow<'a, ChunkedString>),
+    StandardText(StandardVariable, Cow<'a, ChunkedString>),
     /// The answer to a variable that holds a number or pages.
-    Numeral(NumberOrPageVariable, NumberOrPageVariableResult<'a>),
+    NumberResult(NumberOrPageVariable, NumberOrPageVariableResult<'a>),
     /// The text of a term.
     Term(&'a str),
     /// The value in the style.
@@ -50,7 +50,7 @@ pub(crate) fn peek_standard<'s, T: EntryLike>(
 }
 
 /// The resolved text for an answer to a variable that holds a number or pages.
-fn number_result<'a>(
+fn resolved_number<'a>(
     variable: NumberOrPageVariable,
     answer: Option<NumberOrPageVariableResult<'a>>,
 ) -> Option<ResolvedText<'a>>
@@ -58,7 +58,7 @@ fn number_result<'a>(
         ≡ option_map (number_result variable) (option_map number_or_page_view answer.entry) }
 {
     match answer {
-        Some(answer) => Some(ResolvedText::Numeral(variable, answer)),
+        Some(answer) => Some(ResolvedText::NumberResult(variable, answer)),
         None => None,
     }
 }
@@ -77,16 +77,16 @@ pub(crate) fn peek_text<'s, T: EntryLike>(
     }
     match variable {
         Variable::Standard(variable) => match peek_standard(ctx, form, variable)? {
-            Some(answer) => Ok(Some(ResolvedText::Answer(variable, answer))),
+            Some(answer) => Ok(Some(ResolvedText::StandardText(variable, answer))),
             None => Ok(None),
         },
         Variable::Number(variable) => {
             let variable = NumberOrPageVariable::Number(variable);
-            Ok(number_result(variable, peek_number_or_page(ctx, variable)?))
+            Ok(resolved_number(variable, peek_number_or_page(ctx, variable)?))
         }
         Variable::Page(variable) => {
             let variable = NumberOrPageVariable::Page(variable);
-            Ok(number_result(variable, peek_number_or_page(ctx, variable)?))
+            Ok(resolved_number(variable, peek_number_or_page(ctx, variable)?))
         }
         Variable::Name(_) | Variable::Date(_) => Ok(None),
     }
@@ -110,16 +110,16 @@ pub(crate) fn resolve_text<'s, T: EntryLike>(
     }
     match variable {
         Variable::Standard(variable) => match ctx.resolve_standard_variable(form, variable)? {
-            Some(answer) => Ok(Some(ResolvedText::Answer(variable, answer))),
+            Some(answer) => Ok(Some(ResolvedText::StandardText(variable, answer))),
             None => Ok(None),
         },
         Variable::Number(variable) => {
             let variable = NumberOrPageVariable::Number(variable);
-            Ok(number_result(variable, resolve_number_or_page(ctx, variable)?))
+            Ok(resolved_number(variable, resolve_number_or_page(ctx, variable)?))
         }
         Variable::Page(variable) => {
             let variable = NumberOrPageVariable::Page(variable);
-            Ok(number_result(variable, resolve_number_or_page(ctx, variable)?))
+            Ok(resolved_number(variable, resolve_number_or_page(ctx, variable)?))
         }
         Variable::Name(_) | Variable::Date(_) => Ok(None),
     }
@@ -166,11 +166,11 @@ pub(crate) fn resolved_info(called: bool, found: &Option<ResolvedText<'_>>) -> (
 {
     match found {
         None => (false, UsageInfo::of_variable(called, false)),
-        Some(ResolvedText::Answer(_, text)) => {
+        Some(ResolvedText::StandardText(_, text)) => {
             let prints = !text.as_ref().is_empty();
             (prints, UsageInfo::of_variable(true, prints))
         }
-        Some(ResolvedText::Numeral(..)) => (true, UsageInfo::of_variable(true, true)),
+        Some(ResolvedText::NumberResult(..)) => (true, UsageInfo::of_variable(true, true)),
         Some(ResolvedText::Term(_)) => (true, UsageInfo::default()),
         Some(ResolvedText::Value(text)) => (!text.is_empty(), UsageInfo::default()),
     }

@@ -7,7 +7,7 @@ ghost use Rattle.lit_model.specs.Chunks.{chunks_text};
 ghost use Rattle.csl_elements.specs.Node.{of_variable, of_term, of_value};
 ghost use Rattle.csl_elements.specs.View.{text_dressing};
 ghost use Rattle.csl_tree.specs.Tokens.{meta_of};
-ghost use Rattle.csl_context.specs.ContextView.{Runs, GivesBy, render_input};
+ghost use Rattle.csl_context.specs.ContextView.{Runs, Gives, GivesBy, render_input};
 ghost use Rattle.csl_nodes.specs.Text.{Appends, standard_text, render_output, in_body, text_box, calls_variable, resolved_affixes, standard_meta, numeral_meta, resolved_meta, resolved_body, resolved_content, target_info, target_shows, text_output, with_output};
 ghost use Rattle.csl_nodes.specs.Resolved.{resolved_view};
 ghost use Rattle.csl_nodes.specs.Usage.{info_view};
@@ -69,7 +69,7 @@ pub fn variable_shows<'s, T: EntryLike>(
     variable: Variable,
     asked: Variable,
 ) -> Result<bool, Memory>
-    ensures { GivesBy (λ standard_text. standard_text) result
+    ensures { Gives result
         (target_shows (render_input T.answers ctx.now)
         ctx.now.state asked (of_variable variable form)) }
 {
@@ -251,13 +251,13 @@ pub(crate) fn render_found<'s, T: EntryLike>(
         result ctx.old ctx.new }
 {
     match found {
-        ResolvedText::Answer(variable, answer) => render_answer(
+        ResolvedText::StandardText(variable, answer) => render_answer(
             ctx,
             text,
             *variable,
             answer.as_ref(),
         ),
-        ResolvedText::Numeral(variable, answer) => {
+        ResolvedText::NumberResult(variable, answer) => {
             let meta = Some(numeral_meta(*variable));
             let shown = ctx.attempt(text_node_text(ctx, answer))?;
             render_body(ctx, text, &text.affixes, meta, Body::Number(&shown))

@@ -80,27 +80,27 @@ pub fn add_child_info(
 
 /// A dry run without its group flag: a layout, a macro, a choice and a substitute count no group
 /// among their nodes.
-pub fn without_group_flag(said: (bool, UsageInfo)) -> (bool, UsageInfo)
-    ensures { info_view result ≡ without_group_flag (info_view said) }
+pub fn without_group_flag(info: (bool, UsageInfo)) -> (bool, UsageInfo)
+    ensures { info_view result ≡ without_group_flag (info_view info) }
 {
-    let (prints, mut usage) = said;
+    let (prints, mut usage) = info;
     usage.has_non_empty_group = false;
     (prints, usage)
 }
 
 /// The dry run of a group, by that of its children.
-pub fn info_of_group(said: (bool, UsageInfo)) -> (bool, UsageInfo)
-    ensures { info_view result ≡ group_info (info_view said) }
+pub fn info_of_group(info: (bool, UsageInfo)) -> (bool, UsageInfo)
+    ensures { info_view result ≡ group_info (info_view info) }
 {
-    let (prints, usage) = said;
+    let (prints, usage) = info;
     (prints && usage.should_render_group(), usage)
 }
 
 /// The dry run of a text of a macro, by that of the macro's nodes.
-pub fn info_of_macro(said: (bool, UsageInfo)) -> (bool, UsageInfo)
-    ensures { info_view result ≡ macro_info (info_view said) }
+pub fn info_of_macro(info: (bool, UsageInfo)) -> (bool, UsageInfo)
+    ensures { info_view result ≡ macro_info (info_view info) }
 {
-    let (prints, mut usage) = said;
+    let (prints, mut usage) = info;
     let shows = usage.should_render_group() && prints;
     usage.has_used_macros = shows;
     usage.has_non_empty_group = false;

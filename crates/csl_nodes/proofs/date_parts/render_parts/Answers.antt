@@ -27,7 +27,7 @@ loop-part-preserved g c =
     let rest = drop (i + 1) parts in
     let contents = contents_of g.T.EntryLike.answers c.args.written c.args.found now rest in
     let less : i < length parts = grind (arith, common_steps) in
-    let step : c.render_behind.new.ctx ≡ record now { inner = ctx.inner ++> behind } =
+    let step : c.render_next_part.new.ctx ≡ record now { inner = ctx.inner ++> behind } =
     c.in_ok-first.ensures.after.becomes
     ∙ ap (with_one_more g.T.EntryLike.answers c.args.written c.args.found first p) c.loop-part.invariant.frame in
     let inner = ap (λ b. b.inner) step in
