@@ -11,9 +11,9 @@ use csl_context::{Context, RenderError, Rendered};
 use csl_entry::{CiteProperties, DisambiguateState, EntryLike};
 use csl_names::{commit_names, peeked_lists, resolved_lists, write_names};
 use csl_nodes::{
-    UsageInfo, close_quotes, date_info, date_shows, label_info, no_info, number_info, number_shows,
-    open_quotes, push_nothing, render_date, render_label, render_number, render_term, render_value,
-    render_variable, term_info, value_info, variable_info, variable_shows,
+    UsageInfo, date_info, date_shows, label_info, no_info, number_info, number_shows, push_nothing,
+    render_date, render_label, render_number, render_term, render_value, render_variable,
+    term_info, value_info, variable_info, variable_shows,
 };
 use csl_samples::{BuiltIn, BuiltInStyle};
 use csl_style::{
@@ -75,9 +75,9 @@ fn value_run<'s, T: EntryLike>(
     ensures { OnOk result (ctx.new.outer ≡ ctx.old.outer) }
 {
     let info = value_info(ctx, value);
-    let mark = open_quotes(ctx, true)?;
+    let mark = ctx.push_quotes()?;
     render_value(ctx, text, value)?;
-    let moved = close_quotes(ctx, mark, true, &text.affixes)?;
+    let moved = ctx.pop_quotes(mark, text.affixes.suffix.as_deref())?;
     Ok((info, moved))
 }
 

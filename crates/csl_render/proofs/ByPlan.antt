@@ -1,16 +1,41 @@
 -- Rendering by a plan. The plan of a choice is that of the nodes that it takes. A call by a plan
 -- changes the context as the definition states.
-use Rattle.std.proofs.Common.{◌≡◌, Option, Some, None, IfSome, Result, Ok, Err, List, subst, sym, ◌∙◌}
+use Rattle.std.proofs.Common.{◌≡◌, ℕ, true, false, Option, Some, None, IfSome, Result, Ok, Err, List, subst, sym, ◌∙◌}
 use Rattle.std.specs.Option.{IsSomeAnd}
-use Rattle.csl_elements.specs.Node.{ExpandedNode, ExpandedNodes}
-use Rattle.csl_context.specs.ContextView.{ContextView, Runs, Becomes}
+use Rattle.csl_elements.specs.Node.{ExpandedNode, ExpandedNodes, ExpandedSubstitutes, expand}
+use Rattle.csl_elements.specs.View.{view_names}
+use Rattle.csl_elements.specs.declared.element.Names.{Names}
+use Rattle.csl_context.specs.ContextView.{ContextView, frame, Runs, Becomes, FailsAs}
 use Rattle.csl_context.specs.State.{State}
 use Rattle.csl_context.specs.RenderInput.{RenderInput}
 use Rattle.csl_context.specs.declared.error.RenderError.{RenderError}
+use Rattle.csl_context.specs.declared.error.RenderError.TheVariants.{Memory, Failed}
 use Rattle.csl_render.specs.declared.plan.ListPlan.{ListPlan}
 use Rattle.csl_render.specs.declared.plan.NodeInfo.{NodeInfo}
 use Rattle.csl_render.specs.declared.plan.NodePlan.{NodePlan}
-use Rattle.csl_render.specs.Plan.{AreReadAlike, inside_of, AreInside, AreInfos, IsPlan, ArePlans}
+use Rattle.csl_render.specs.Plan.{AreReadAlike, inside_of, AreInside, AreInfos, AreOfSubstitutes, IsPlan, ArePlans, HasPlans, HasPlansOfSubstitutes}
+use Rattle.csl_render.specs.Names.{expanded_substitutes_of}
+use Rattle.csl_render.proofs.Plans.{substitutes_inside}
+
+-- the plan of the nodes inside
+pub inside_planned : (w : RenderInput) (fs : ExpandedNodes) (plan : Option NodePlan) (inside : Option ListPlan) → IfSome plan (HasPlans w fs) → IfSome inside (λ nodes. IsSomeAnd plan (λ node. (nodes.at.now ≡ node.at.now) × (nodes.infos.now ≡ inside_of node.info.now)))
+    → IfSome inside (ArePlans w fs)
+inside_planned w fs plan None h same = tt
+inside_planned w fs None (Some nodes) h same = absurd same
+inside_planned w fs (Some node) (Some nodes) h same =
+    subst (λ at. AreInfos w at fs nodes.infos.now) (sym same.0)
+    (subst (λ is. AreInfos w node.at.now fs is) (sym same.1) h)
+
+-- names have a plan of their first substitute
+pub names_planned : (w : RenderInput) (s : State) (env : List ℕ → Option ExpandedNodes) (x : Names) (plan : Option NodePlan) → IfSome plan (IsPlan w s (expand env (view_names x))) → IfSome plan (HasPlansOfSubstitutes w (expanded_substitutes_of env x))
+names_planned w s env x None h = tt
+names_planned w s env x (Some p) h = substitutes_inside w p.at.now env x (inside_of p.info.now) h.1.1
+
+-- the plan of the first substitute is that of its children
+pub substitute_planned : (w : RenderInput) (ss : ExpandedSubstitutes) (fs : ExpandedNodes) → ((at : State) → (is : List NodeInfo) → AreOfSubstitutes w at ss is → AreInfos w at fs is)
+    → (plan : Option NodePlan) → IfSome plan (HasPlansOfSubstitutes w ss) → IfSome plan (HasPlans w fs)
+substitute_planned w ss fs planned None h = tt
+substitute_planned w ss fs planned (Some p) h = planned p.at.now (inside_of p.info.now) h
 
 -- the plan of a choice is that of the nodes that it takes
 pub taken_planned : (w : RenderInput) (s : State) (f : ExpandedNode) (fs : ExpandedNodes) → ((at : State) → AreReadAlike w at s → (is : List NodeInfo) → AreInside w at f is → AreInfos w at fs is)
@@ -30,3 +55,11 @@ ends_as f h old new (Err x) e l = l
 
 pub shown_as : {T : Type 0} (f h : ContextView T → ContextView T) (old new : ContextView T) → f old ≡ h old → Becomes f old new → Becomes h old new
 shown_as f h old new e l = record { was_live = l.was_live; becomes = l.becomes ∙ e }
+
+never : {P : Type 0} → true ≡ false → P
+never e = cc
+
+-- a call that fails after others that left the fixed values
+pub fails_later : {T : Type 0} (f : ContextView T → ContextView T) (a b c : ContextView T) (e : RenderError) → Becomes f a b → frame b ≡ frame a → b.failed ≡ a.failed → FailsAs e b c → FailsAs e a c
+fails_later f a b c Memory l same live h = (l.was_live, h.1, h.2 ∙ same)
+fails_later f a b c Failed l same live h = never (sym h.0 ∙ live ∙ l.was_live)

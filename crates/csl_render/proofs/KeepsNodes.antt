@@ -6,7 +6,7 @@ use Rattle.csl_elements.specs.Node.{ExpandedNode, expanded_text, expanded_macro,
 use Rattle.csl_tree.specs.Tokens.{has_text}
 use Rattle.csl_context.specs.State.{State, Inherited, with_node_formatting}
 use Rattle.csl_context.specs.RenderInput.{RenderInput}
-use Rattle.csl_names.specs.NamesLists.{lists_state, resolved_lists}
+use Rattle.csl_names.specs.NamesLists.{all_empty, lists_state, resolved_lists}
 use Rattle.csl_nodes.specs.Conditions.{branch_matches}
 use Rattle.csl_nodes.specs.Usage.{should_render_group}
 use Rattle.csl_nodes.specs.Text.{RenderOutput, render_output, then_output}
@@ -29,12 +29,12 @@ module _ (w : RenderInput) where
     tree_keeps (expanded_names n is) inh s =
         let t = lists_state w s n.variables in
         let ls = resolved_lists w s n.variables in
-        names_keep w n ls (refused_in w n is ls t) inh (substitute_output w is (in_substitute n inh) (suppressing_from t)) s t
+        names_keep w n ls (refused_in w n is (all_empty ls) t) inh (substitute_output w is (in_substitute n inh) (suppressing_from t)) s t
         (lists_keep w n.variables s) (insteads_keep is (in_substitute n inh) (suppressing_from t))
     tree_keeps (shorthand written n) inh s =
         let t = lists_state w s n.variables in
         let ls = resolved_lists w s n.variables in
-        names_keep w n ls (refused_in w n no_expanded_substitutes ls t) inh (render_output [] (suppressing_from t)) s t (lists_keep w n.variables s) (keeps_itself (suppressing_from t))
+        names_keep w n ls (refused_in w n no_expanded_substitutes (all_empty ls) t) inh (render_output [] (suppressing_from t)) s t (lists_keep w n.variables s) (keeps_itself (suppressing_from t))
     tree_keeps (expanded_choose cs) inh s = cases_keep cs inh s
     tree_keeps (expanded_group delimiter d fs) inh s = delimited_keep fs (in_group delimiter d inh) true s
 

@@ -6,17 +6,20 @@ use Rattle.std.proofs.lemmas.List.{append_assoc, at_drop_more}
 use Rattle.csl_elements.specs.declared.element.Choose.{Choose}
 use Rattle.csl_elements.specs.declared.element.Group.{Group}
 use Rattle.csl_elements.specs.declared.element.LayoutRenderingElement.{LayoutRenderingElement}
-use Rattle.csl_elements.specs.Node.{Node, Nodes, Branches, no_branches, otherwise, branch, ExpandedNode, expanded_text, expanded_macro, unknown_macro, expanded_number, expanded_label, expanded_date, expanded_names, shorthand, expanded_choose, expanded_group, ExpandedNodes, no_expanded_nodes, expanded_node, ExpandedBranches, no_expanded_branches, expanded_otherwise, expanded_branch, expand, expand_nodes, expand_branches}
-use Rattle.csl_elements.specs.View.{view_node, view_choose, view_group, view_nodes}
+use Rattle.csl_elements.specs.declared.element.Names.{Names}
+use Rattle.csl_elements.specs.Node.{Node, Nodes, Branches, no_branches, otherwise, branch, ExpandedNode, expanded_text, expanded_macro, unknown_macro, expanded_number, expanded_label, expanded_date, expanded_names, shorthand, expanded_choose, expanded_group, ExpandedNodes, no_expanded_nodes, expanded_node, ExpandedBranches, no_expanded_branches, expanded_otherwise, expanded_branch, ExpandedSubstitutes, no_expanded_substitutes, expanded_substitute, expand, expand_nodes, expand_branches}
+use Rattle.csl_elements.specs.View.{view_node, view_choose, view_group, view_names, view_nodes}
 use Rattle.csl_context.specs.State.{State}
 use Rattle.csl_context.specs.RenderInput.{RenderInput}
 use Rattle.csl_nodes.specs.Conditions.{branch_matches, chosen_nodes, chosen_children}
 use Rattle.csl_render.specs.declared.plan.NodeInfo.{NodeInfo}
 use Rattle.csl_render.specs.declared.plan.NodePlan.{NodePlan}
-use Rattle.csl_render.specs.Plan.{AreReadAlike, answer_of, inside_of, AreInside, AreInfos, AreTaken, AreOfTaken, IsInfo, IsPlan}
+use Rattle.csl_render.specs.Names.{expanded_substitutes_of}
+use Rattle.csl_render.specs.Plan.{AreReadAlike, answer_of, inside_of, AreInside, AreInfos, AreTaken, AreOfTaken, AreOfSubstitutes, IsInfo, IsPlan}
 use Rattle.csl_render.specs.Tree.{info}
 use Rattle.csl_render.proofs.Chosen.{IsChoice, is_choice}
 use Rattle.csl_render.proofs.GroupView.{group_out}
+use Rattle.csl_render.proofs.NamesView.{names_out}
 use Rattle.csl_render.proofs.Reading.{info_alike, holds_alike}
 
 -- ---- no results
@@ -39,6 +42,10 @@ module _ (w : RenderInput) (s : State) where
   unplanned fs [] e = no_infos fs
   unplanned fs (i ∷ is) e = absurd (omega (arith, e))
 
+  none_of_substitutes : (ss : ExpandedSubstitutes) → AreOfSubstitutes w s ss []
+  none_of_substitutes no_expanded_substitutes = tt
+  none_of_substitutes (expanded_substitute fs ss) = no_infos fs
+
   pub none_inside : (f : ExpandedNode) → AreInside w s f []
   none_inside (expanded_text t d) = tt
   none_inside (expanded_macro fs d) = no_infos fs
@@ -46,7 +53,7 @@ module _ (w : RenderInput) (s : State) where
   none_inside (expanded_number n) = tt
   none_inside (expanded_label v l) = tt
   none_inside (expanded_date n) = tt
-  none_inside (expanded_names n is) = tt
+  none_inside (expanded_names n ss) = none_of_substitutes ss
   none_inside (shorthand written n) = tt
   none_inside (expanded_choose cs) = no_taken cs
   none_inside (expanded_group delimiter d fs) = no_infos fs
@@ -78,7 +85,7 @@ module _ (w : RenderInput) (s t : State) (alike : AreReadAlike w s t) where
     inside_alike (expanded_number n) is h = tt
     inside_alike (expanded_label v l) is h = tt
     inside_alike (expanded_date n) is h = tt
-    inside_alike (expanded_names n ss) is h = tt
+    inside_alike (expanded_names n ss) is h = of_substitutes_alike ss is h
     inside_alike (shorthand written n) is h = tt
     inside_alike (expanded_choose cs) is h = taken_alike cs is h
     inside_alike (expanded_group delimiter d fs) is h = infos_alike fs is h
@@ -93,6 +100,10 @@ module _ (w : RenderInput) (s t : State) (alike : AreReadAlike w s t) where
     taken_alike (expanded_otherwise fs) is h = infos_alike fs is h
     taken_alike (expanded_branch ts fs cs) is h = taken_by (branch_matches w s ts) (branch_matches w t ts) (holds_alike w s t alike ts) (infos_alike fs is) (taken_alike cs is) h
 
+    of_substitutes_alike : (ss : ExpandedSubstitutes) (is : List NodeInfo) → AreOfSubstitutes w s ss is → AreOfSubstitutes w t ss is
+    of_substitutes_alike no_expanded_substitutes is h = tt
+    of_substitutes_alike (expanded_substitute fs ss) is h = infos_alike fs is h
+
   pub info_moved : (f : ExpandedNode) (i : NodeInfo) → IsInfo w s f i → IsInfo w t f i
   info_moved f i h = (h.0 ∙ info_alike w s t alike f, inside_alike f (inside_of i) h.1)
 
@@ -103,6 +114,13 @@ answer_by_plan w s f p h = h.1.0 ∙ info_alike w p.at.now s h.0 f
 -- a plan of a group has the results for its children
 pub group_planned : (w : RenderInput) (s : State) (env : List ℕ → Option ExpandedNodes) (g : Group) (p : NodePlan) → IsPlan w s (expand env (view_group g)) p → AreInfos w p.at.now (expand_nodes env (view_nodes g.children.items)) (inside_of p.info.now)
 group_planned w s env g p h = subst (λ n. AreInside w p.at.now (expand env n) (inside_of p.info.now)) (group_out g) h.1.1
+
+-- the results for the nodes inside names are those for their first substitute
+pub substitutes_inside : (w : RenderInput) (s : State) (env : List ℕ → Option ExpandedNodes) (x : Names) (is : List NodeInfo) → AreInside w s (expand env (view_names x)) is → AreOfSubstitutes w s (expanded_substitutes_of env x) is
+substitutes_inside w s env x is h = subst (λ n. AreInside w s (expand env n) is) (names_out x) h
+
+pub names_asked : (w : RenderInput) (s : State) (env : List ℕ → Option ExpandedNodes) (x : Names) (is : List NodeInfo) → AreOfSubstitutes w s (expanded_substitutes_of env x) is → AreInside w s (expand env (view_names x)) is
+names_asked w s env x is h = subst (λ n. AreInside w s (expand env n) is) (sym (names_out x)) h
 
 -- ---- the nodes that a choice takes
 

@@ -1,7 +1,7 @@
 -- The children of a substitute, in the place of the names around them, have the same size, dry run
 -- and shown variables as elsewhere, and are names of the same variables. Of several substitutes the
 -- first one counts.
-use Rattle.std.proofs.Common.{◌≡◌, ℕ, ◌<◌, ◌+◌, suc, Bool, true, false, List, Option, Some, None, option_map, IfSome, if◌then◌else◌, refl, ap, ap₂, arith}
+use Rattle.std.proofs.Common.{◌≡◌, ℕ, ◌<◌, ◌+◌, suc, Bool, true, false, List, [], ◌∷◌, Option, Some, None, option_map, IfSome, if◌then◌else◌, refl, ap, ap₂, arith}
 use Rattle.std.specs.Prelude.{◌||◌, ◌&&◌}
 use Rattle.csl_elements.specs.declared.taxonomy.NameVariable.{NameVariable}
 use Rattle.csl_elements.specs.declared.taxonomy.Variable.{Variable}
@@ -12,6 +12,8 @@ use Rattle.csl_context.specs.State.{State, Inherited}
 use Rattle.csl_context.specs.RenderInput.{RenderInput}
 use Rattle.csl_nodes.specs.Usage.{info_union, as_child_info, without_group_flag}
 use Rattle.csl_render.specs.Names.{is_names_of, any_is_names_of, choice_is_names_of, substitute_has_names_of}
+use Rattle.csl_render.specs.declared.plan.NodeInfo.{NodeInfo}
+use Rattle.csl_render.specs.Plan.{AreInfos, AreOfTaken, AreOfSubstitutes, IsInfo}
 use Rattle.csl_render.specs.Tree.{is_group, info, nodes_info, shows, any_shows, substitute_info, substitute_shows, substitute_output, choice_info, choice_shows, first_substitute_output}
 
 -- names with a substitute have children
@@ -29,25 +31,29 @@ has_children : (n : NamesNode) (ns : Nodes) (ss : Substitutes) → is_childless 
 has_children n ns ss = grind (arith, none_of_four)
 
 module _ (env : List ℕ → Option ExpandedNodes) (original : NamesNode) where
-  -- a function with one result for names without children, in a substitute and elsewhere
-  module _ {A : Type 0} (f : ExpandedNode → A) (same : (n m : NamesNode) → f (shorthand n m) ≡ f (expanded_names n no_expanded_substitutes)) where
-    by_test : (n m : NamesNode) (b : Bool) → f (if b then shorthand n m else expanded_names n no_expanded_substitutes) ≡ f (expanded_names n no_expanded_substitutes)
+  -- a relation between a child in a substitute and the same child elsewhere
+  module _ (R : ExpandedNode → ExpandedNode → Type 0) (itself : (f : ExpandedNode) → R f f) (same : (n m : NamesNode) → R (shorthand n m) (expanded_names n no_expanded_substitutes)) where
+    by_test : (n m : NamesNode) (b : Bool) → R (if b then shorthand n m else expanded_names n no_expanded_substitutes) (expanded_names n no_expanded_substitutes)
     by_test n m true = same n m
-    by_test n m false = refl
+    by_test n m false = itself _
 
-    names_within : (n : NamesNode) (ss : Substitutes) → f (as_substitute_child original (names n ss) (expand env (names n ss))) ≡ f (expand env (names n ss))
+    names_within : (n : NamesNode) (ss : Substitutes) → R (as_substitute_child original (names n ss) (expand env (names n ss))) (expand env (names n ss))
     names_within n no_substitutes = by_test n (shorthand_expansion original n) (is_childless n no_substitutes)
-    names_within n (substitute ns ss) = rw (has_children n ns ss) refl
+    names_within n (substitute ns ss) = rw (has_children n ns ss) (itself _)
 
-    one_within : (n : Node) → f (as_substitute_child original n (expand env n)) ≡ f (expand env n)
-    one_within (text t d) = refl
-    one_within (call name d) = refl
-    one_within (number n) = refl
-    one_within (label v l) = refl
-    one_within (date d) = refl
-    one_within (names n ss) = names_within n ss
-    one_within (choose bs) = refl
-    one_within (group delimiter d ns) = refl
+    related_within : (n : Node) → R (as_substitute_child original n (expand env n)) (expand env n)
+    related_within (text t d) = itself _
+    related_within (call name d) = itself _
+    related_within (number n) = itself _
+    related_within (label v l) = itself _
+    related_within (date d) = itself _
+    related_within (names n ss) = names_within n ss
+    related_within (choose bs) = itself _
+    related_within (group delimiter d ns) = itself _
+
+  -- a function with one result for names without children, in a substitute and elsewhere
+  one_within : {A : Type 0} (f : ExpandedNode → A) → ((n m : NamesNode) → f (shorthand n m) ≡ f (expanded_names n no_expanded_substitutes)) → (n : Node) → f (as_substitute_child original n (expand env n)) ≡ f (expand env n)
+  one_within f same = related_within (λ g h. f g ≡ f h) (λ g. refl) same
 
   sizes_within : (ns : Nodes) → sizes (expand_substitute_nodes env original ns) ≡ sizes (expand_nodes env ns)
   sizes_within no_nodes = refl
@@ -66,7 +72,29 @@ module _ (env : List ℕ → Option ExpandedNodes) (original : NamesNode) where
     shown_within v no_nodes = refl
     shown_within v (node n ns) = ap₂ (λ a b. a || b) (one_within (shows w s v) (λ n m. refl) n) (shown_within v ns)
 
+    -- a result for a child in a substitute is one for the child elsewhere
+    within_both : (i : NodeInfo) (n : Node) → (IsInfo w s (as_substitute_child original n (expand env n)) i → IsInfo w s (expand env n) i) × (IsInfo w s (expand env n) i → IsInfo w s (as_substitute_child original n (expand env n)) i)
+    within_both i = related_within (λ f g. (IsInfo w s f i → IsInfo w s g i) × (IsInfo w s g i → IsInfo w s f i)) (λ f. (λ h. h, λ h. h)) (λ n m. (λ h. h, λ h. h))
+
+    planned_within : (ns : Nodes) (is : List NodeInfo) → AreInfos w s (expand_substitute_nodes env original ns) is → AreInfos w s (expand_nodes env ns) is
+    planned_within no_nodes is h = tt
+    planned_within (node n ns) [] h = tt
+    planned_within (node n ns) (i ∷ is) h = let one = (within_both i n).0 (h.0, h.1) in (one.0, one.1, planned_within ns is h.2)
+
+    asked_within : (ns : Nodes) (is : List NodeInfo) → AreInfos w s (expand_nodes env ns) is → AreInfos w s (expand_substitute_nodes env original ns) is
+    asked_within no_nodes is h = tt
+    asked_within (node n ns) [] h = tt
+    asked_within (node n ns) (i ∷ is) h = let one = (within_both i n).1 (h.0, h.1) in (one.0, one.1, asked_within ns is h.2)
+
     -- ---- the first substitute
+
+    pub planned_by : (ss : Substitutes) (is : List NodeInfo) → AreOfSubstitutes w s (expand_substitutes env original ss) is → AreOfTaken w s (option_map (expand_nodes env) (first_substitute ss)) is
+    planned_by no_substitutes is h = tt
+    planned_by (substitute ns ss) is h = planned_within ns is h
+
+    pub asked_by : (ss : Substitutes) (is : List NodeInfo) → AreOfTaken w s (option_map (expand_nodes env) (first_substitute ss)) is → AreOfSubstitutes w s (expand_substitutes env original ss) is
+    asked_by no_substitutes is h = tt
+    asked_by (substitute ns ss) is h = asked_within ns is h
 
     pub said_by : (ss : Substitutes) → substitute_info w s (expand_substitutes env original ss) ≡ choice_info w s (option_map (expand_nodes env) (first_substitute ss))
     said_by no_substitutes = refl

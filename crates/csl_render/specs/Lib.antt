@@ -9,3 +9,4 @@ pub mod Rendering
 pub mod PairOutput
 pub mod Keeps
 pub mod CiteContent
+pub mod Laws

@@ -24,7 +24,7 @@ use Rattle.csl_nodes.specs.Usage.{should_render_group, Info, no_info, info_union
 use Rattle.csl_nodes.specs.Numbers.{number_info, number_shows, number_output}
 use Rattle.csl_nodes.specs.Labels.{label_info, label_output}
 use Rattle.csl_nodes.specs.Dates.{date_info, date_shows, date_output}
-use Rattle.csl_nodes.specs.Text.{RenderOutput, render_output, then_output, in_body, text_box, no_affixes, target_info, target_shows, text_output, shows_macro_affixes}
+use Rattle.csl_nodes.specs.Text.{RenderOutput, render_output, then_output, in_body, text_box, no_affix_texts, target_info, target_shows, text_output, shows_macro_affixes}
 use Rattle.csl_render.specs.Names.{author, is_refused, names_show, names_info, in_substitute, suppressing_from, lists_or_substitute}
 
 abbrev pub is_group : ExpandedNode → Bool
@@ -61,7 +61,7 @@ delimited_child_output first inh m = render_output (delimited_child inh.delimite
 -- text that calls a macro that the style lacks is nothing.
 
 abbrev pub macro_affixes : RenderInput → TextDressing → AffixTexts
-macro_affixes w d = if shows_macro_affixes w.instance.special then d.dressing.affixes else no_affixes
+macro_affixes w d = if shows_macro_affixes w.instance.special then d.dressing.affixes else no_affix_texts
 
 -- the nodes of a macro inherit no delimiter
 abbrev pub in_macro : TextDressing → Inherited → Inherited
@@ -147,13 +147,12 @@ module _ (w : RenderInput) where
     substitute_info s no_expanded_substitutes = no_info
     substitute_info s (expanded_substitute fs is) = without_group_flag (nodes_info s fs)
 
-  -- whether the names are refused, in the state after the lookups for these lists
-  abbrev pub refused_in : NamesNode → ExpandedSubstitutes → PersonLists → State → Bool
-  refused_in n is ls s =
-      is_refused w.instance.special n (all_empty ls) is (names_show author n (all_empty ls) (substitute_shows s author is))
+  -- whether the names are refused, with or without persons
+  abbrev pub refused_in : NamesNode → ExpandedSubstitutes → Bool → State → Bool
+  refused_in n is empty s = is_refused w.instance.special n empty is (names_show author n empty (substitute_shows s author is))
 
   abbrev pub names_output : NamesNode → ExpandedSubstitutes → Inherited → RenderOutput → PersonLists → State → RenderOutput
-  names_output n is inh sub ls s = lists_or_substitute w n ls (refused_in n is ls s) inh sub s
+  names_output n is inh sub ls s = lists_or_substitute w n ls (refused_in n is (all_empty ls) s) inh sub s
 
   -- the content of names without children in a substitute
   abbrev pub shorthand_output : NamesNode → Inherited → State → RenderOutput

@@ -5,12 +5,12 @@ ghost use Rattle.std.specs.List.{list_all, list_any};
 ghost use Rattle.csl_elements.specs.declared.taxonomy.Variable.{Variable};
 ghost use Rattle.csl_elements.specs.Node.{size, sizes};
 ghost use Rattle.csl_elements.specs.View.{view_nodes, view_branch, view_choose};
-ghost use Rattle.csl_context.specs.ContextView.{Reads, GivesBy, FailsSilently, render_input};
+ghost use Rattle.csl_context.specs.ContextView.{Gives, Reads, GivesBy, FailsSilently, render_input};
 ghost use Rattle.csl_context.specs.State.{State};
 ghost use Rattle.csl_nodes.specs.Conditions.{branch_matches, satisfies, chosen_children};
 ghost use Rattle.csl_nodes.specs.RemainingConditions.{remaining_conditions, context_of, after_first, after_deciding};
 ghost use Rattle.csl_render.specs.declared.plan.NodeInfo.{NodeInfo};
-ghost use Rattle.csl_render.specs.Expanded.{expanded, expanded_nodes};
+ghost use Rattle.csl_render.specs.Expanded.{expanded, expanded_nodes, expanded_taken};
 ghost use Rattle.csl_render.specs.Plan.{AreReadAlike, AreInside, AreOfTaken};
 ghost use Rattle.csl_render.specs.Tree.{info, shows, node_output, choice_info, choice_shows, choice_output};
 
@@ -29,8 +29,7 @@ use lit_model::Memory;
 fn all_hold<'a, 's, T: EntryLike>(
     conditions: &mut BranchConditionIter<'a, 's, T>,
 ) -> Result<bool, RenderError>
-    ensures value { IfOk result (λ holds. holds
-        ≡ list_all (λ b. b) (remaining_conditions T.answers conditions.old)) }
+    ensures value { Gives result (list_all (λ b. b) (remaining_conditions T.answers conditions.old)) }
     ensures read { OnOk result (remaining_conditions T.answers conditions.new
         ≡ after_first not (remaining_conditions T.answers conditions.old)) }
     ensures err { IfErr result (λ e. FailsSilently e (context_of conditions.old)) }
@@ -47,8 +46,7 @@ fn all_hold<'a, 's, T: EntryLike>(
 fn any_holds<'a, 's, T: EntryLike>(
     conditions: &mut BranchConditionIter<'a, 's, T>,
 ) -> Result<bool, RenderError>
-    ensures value { IfOk result (λ holds. holds
-        ≡ list_any (λ b. b) (remaining_conditions T.answers conditions.old)) }
+    ensures value { Gives result (list_any (λ b. b) (remaining_conditions T.answers conditions.old)) }
     ensures read { OnOk result (remaining_conditions T.answers conditions.new
         ≡ after_first (λ b. b) (remaining_conditions T.answers conditions.old)) }
     ensures err { IfErr result (λ e. FailsSilently e (context_of conditions.old)) }
@@ -66,8 +64,7 @@ fn satisfies<'a, 's, T: EntryLike>(
     match_: ChooseMatch,
     conditions: &mut BranchConditionIter<'a, 's, T>,
 ) -> Result<bool, RenderError>
-    ensures value { IfOk result (λ taken. taken
-        ≡ satisfies match_ (remaining_conditions T.answers conditions.old)) }
+    ensures value { Gives result (satisfies match_ (remaining_conditions T.answers conditions.old)) }
     ensures read { OnOk result (remaining_conditions T.answers conditions.new
         ≡ after_deciding match_ (remaining_conditions T.answers conditions.old)) }
     ensures err { IfErr result (λ e. FailsSilently e (context_of conditions.old)) }
@@ -85,8 +82,7 @@ fn satisfies<'a, 's, T: EntryLike>(
 /// Whether the branch is taken if no branch before it is.
 #[tactic(auto, unfolding(csl_nodes::specs::Conditions::branch_matches))]
 fn holds<'s, T: EntryLike>(ctx: &Context<'s, T>, branch: &ChooseBranch) -> Result<bool, RenderError>
-    ensures value { IfOk result (λ taken. taken
-        ≡ branch_matches (render_input T.answers ctx.now) ctx.now.state
+    ensures value { Gives result (branch_matches (render_input T.answers ctx.now) ctx.now.state
         (view_branch branch.now).tests) }
     ensures err { IfErr result (λ e. FailsSilently e ctx.now) }
 {
@@ -150,28 +146,25 @@ fn taken_nodes<'s, T: EntryLike>(
     ensures info { IfOk result (λ taken. info (render_input T.answers ctx.now) ctx.now.state
         (expanded ctx.now.style (view_choose choose.now))
         ≡ choice_info (render_input T.answers ctx.now) ctx.now.state
-        (option_map (expanded_nodes ctx.now.style) (option_map (λ ns. view_nodes ns.now) taken))) }
+        (expanded_taken ctx.now.style taken)) }
     ensures shown { IfOk result (λ taken. (v : Variable) → shows (render_input T.answers ctx.now)
         ctx.now.state v (expanded ctx.now.style (view_choose choose.now))
         ≡ choice_shows (render_input T.answers ctx.now) ctx.now.state v
-        (option_map (expanded_nodes ctx.now.style) (option_map (λ ns. view_nodes ns.now) taken))) }
-    ensures made { IfOk result (λ taken. node_output (render_input T.answers ctx.now)
+        (expanded_taken ctx.now.style taken)) }
+    ensures output { IfOk result (λ taken. node_output (render_input T.answers ctx.now)
         (expanded ctx.now.style (view_choose choose.now)) ctx.now.inherited ctx.now.state
-        ≡ choice_output (render_input T.answers ctx.now)
-        (option_map (expanded_nodes ctx.now.style) (option_map (λ ns. view_nodes ns.now) taken))
+        ≡ choice_output (render_input T.answers ctx.now) (expanded_taken ctx.now.style taken)
         ctx.now.inherited ctx.now.state) }
-    ensures asked { IfOk result (λ taken. (infos : List NodeInfo)
+    ensures from_nodes { IfOk result (λ taken. (infos : List NodeInfo)
         → AreOfTaken (render_input T.answers ctx.now) ctx.now.state
-        (option_map (expanded_nodes ctx.now.style) (option_map (λ ns. view_nodes ns.now) taken))
-        infos
+        (expanded_taken ctx.now.style taken) infos
         → AreInside (render_input T.answers ctx.now) ctx.now.state
         (expanded ctx.now.style (view_choose choose.now)) infos) }
-    ensures planned { IfOk result (λ taken. (at : State)
+    ensures to_nodes { IfOk result (λ taken. (at : State)
         → AreReadAlike (render_input T.answers ctx.now) at ctx.now.state → (infos : List NodeInfo)
         → AreInside (render_input T.answers ctx.now) at
         (expanded ctx.now.style (view_choose choose.now)) infos
-        → AreOfTaken (render_input T.answers ctx.now) at
-        (option_map (expanded_nodes ctx.now.style) (option_map (λ ns. view_nodes ns.now) taken))
+        → AreOfTaken (render_input T.answers ctx.now) at (expanded_taken ctx.now.style taken)
         infos) }
 {
     match first_taken(ctx, choose) {

@@ -1,16 +1,16 @@
 //! Nodes, and lists of nodes.
 
-ghost use Rattle.std.specs.Prelude.{◌≡◌, true, IfOk, IfSome, if◌then◌else◌};
+ghost use Rattle.std.specs.Prelude.{◌≡◌, true, IfOk, IfSome};
 ghost use Rattle.csl_elements.specs.Node.{expand};
 ghost use Rattle.csl_elements.specs.View.{view_node, view_nodes, view_rendering};
-ghost use Rattle.csl_context.specs.ContextView.{Runs, GivesBy, render_input};
+ghost use Rattle.csl_context.specs.ContextView.{Runs, Gives, render_input};
 ghost use Rattle.csl_nodes.specs.Usage.{info_view};
 ghost use Rattle.csl_render.specs.Expanded.{expanded, expanded_nodes};
 ghost use Rattle.csl_render.specs.Names.{Macros};
-ghost use Rattle.csl_render.specs.Plan.{AreReadAlike, IsInfo, AreInfos, IsPlan, ArePlans};
-ghost use Rattle.csl_render.specs.Tree.{info, nodes_info, any_shows, is_group, node_output, nodes_output, delimited_output, delimited_child_output};
-ghost use Rattle.csl_render.specs.Rendering.{element_rendering};
-ghost use Rattle.csl_nodes.specs.Text.{Appends, with_output};
+ghost use Rattle.csl_render.specs.Plan.{AreInfos, IsDryRunOf, IsPlanOf, ArePlansOf};
+ghost use Rattle.csl_render.specs.Tree.{nodes_info, any_shows, is_group, node_output, nodes_output, delimited_output, delimited_child_output};
+ghost use Rattle.csl_render.specs.Rendering.{element_rendering, prints_in, after_child};
+ghost use Rattle.csl_nodes.specs.Text.{Appends};
 
 use crate::dry_run::DryRun;
 use crate::node::Node;
@@ -151,7 +151,7 @@ pub(crate) fn any_shows<'c, 's, T: EntryLike>(
     nodes: &'s [LayoutRenderingElement],
     query: &mut Query<'c, 's, T>,
 ) -> Result<bool, Memory>
-    ensures value { GivesBy (λ answer. answer) result (any_shows
+    ensures value { Gives result (any_shows
         (render_input T.answers query.old.now) query.old.now.state query.old.variable
         (expanded_nodes query.old.now.style (view_nodes nodes.now))) }
     ensures kept { query.new ≡ query.old }
@@ -170,9 +170,7 @@ fn ask_node<'s, T: EntryLike>(
     ctx: &Context<'s, T>,
     node: &'s LayoutRenderingElement,
 ) -> Result<(DryState, NodeInfo), Memory>
-    ensures at { IfOk result (λ r. AreReadAlike (render_input T.answers ctx.now) r.0 ctx.now.state) }
-    ensures info { IfOk result (λ r. IsInfo (render_input T.answers ctx.now) r.0
-        (expanded ctx.now.style (view_node node.now)) r.1) }
+    ensures { IfOk result (IsDryRunOf T.answers ctx.now (view_node node.now)) }
 {
     let at = DryState::of(ctx)?;
     let info = node.node_info(&mut DryRun::new(ctx))?;
@@ -186,8 +184,7 @@ pub(crate) fn render_all<'p, 's, T: EntryLike>(
     nodes: &'s [LayoutRenderingElement],
     plan: Option<ListPlan<'p>>,
 ) -> Result<(), RenderError>
-    requires { IfSome plan (ArePlans (render_input T.answers ctx.old)
-        (expanded_nodes ctx.old.style (view_nodes nodes.now))) }
+    requires { IfSome plan (ArePlansOf T.answers ctx.old (view_nodes nodes.now)) }
     ensures { Appends T.answers (λ w. nodes_output w
         (expanded_nodes w.style (view_nodes nodes.now))) result ctx.old ctx.new }
 {
@@ -207,8 +204,7 @@ pub(crate) fn render_with_delimiter<'p, 's, T: EntryLike>(
     nodes: &'s [LayoutRenderingElement],
     plan: Option<ListPlan<'p>>,
 ) -> Result<(), RenderError>
-    requires { IfSome plan (ArePlans (render_input T.answers ctx.old)
-        (expanded_nodes ctx.old.style (view_nodes nodes.now))) }
+    requires { IfSome plan (ArePlansOf T.answers ctx.old (view_nodes nodes.now)) }
     ensures { Appends T.answers (λ w inherited. delimited_output w
         (expanded_nodes w.style (view_nodes nodes.now)) inherited true) result ctx.old ctx.new }
 {
@@ -233,14 +229,9 @@ fn render_if_it_prints<'p, 's, T: EntryLike>(
     first: bool,
     plan: Option<NodePlan<'p>>,
 ) -> Result<bool, RenderError>
-    requires { IfSome plan (IsPlan (render_input T.answers ctx.old) ctx.old.state
-        (expanded ctx.old.style (view_node node.now))) }
-    ensures value { GivesBy (λ answer. answer) result (info (render_input T.answers ctx.old)
-        ctx.old.state (expanded ctx.old.style (view_node node.now))).prints }
-    ensures after { Runs (λ now. if (info (render_input T.answers now) now.state
-        (expanded now.style (view_node node.now))).prints then with_output
-        (delimited_child_output first now.inherited (node_output (render_input T.answers now)
-        (expanded now.style (view_node node.now)) now.inherited now.state)) now else now)
+    requires { IfSome plan (IsPlanOf T.answers ctx.old (view_node node.now)) }
+    ensures value { Gives result (prints_in T.answers ctx.old (view_node node.now)) }
+    ensures after { Runs (after_child T.answers first (view_node node.now))
         result ctx.old ctx.new }
 {
     match plan {
@@ -262,14 +253,9 @@ fn render_by_plan<'p, 's, T: EntryLike>(
     first: bool,
     plan: NodePlan<'p>,
 ) -> Result<bool, RenderError>
-    requires { IsPlan (render_input T.answers ctx.old) ctx.old.state
-        (expanded ctx.old.style (view_node node.now)) plan }
-    ensures value { GivesBy (λ answer. answer) result (info (render_input T.answers ctx.old)
-        ctx.old.state (expanded ctx.old.style (view_node node.now))).prints }
-    ensures after { Runs (λ now. if (info (render_input T.answers now) now.state
-        (expanded now.style (view_node node.now))).prints then with_output
-        (delimited_child_output first now.inherited (node_output (render_input T.answers now)
-        (expanded now.style (view_node node.now)) now.inherited now.state)) now else now)
+    requires { IsPlanOf T.answers ctx.old (view_node node.now) plan }
+    ensures value { Gives result (prints_in T.answers ctx.old (view_node node.now)) }
+    ensures after { Runs (after_child T.answers first (view_node node.now))
         result ctx.old ctx.new }
 {
     let prints = plan.prints();
@@ -289,20 +275,19 @@ fn render_admitted<'p, 's, T: EntryLike>(
     first: bool,
     plan: NodePlan<'p>,
 ) -> Result<(), RenderError>
-    requires { IsPlan (render_input T.answers ctx.old) ctx.old.state
-        (expanded ctx.old.style (view_node node.now)) plan }
+    requires { IsPlanOf T.answers ctx.old (view_node node.now) plan }
     ensures { Appends T.answers (λ w inherited s. delimited_child_output first inherited
         (node_output w (expanded w.style (view_node node.now)) inherited s))
         result ctx.old ctx.new }
 {
     match ctx.delimiter() {
         Some(delimiter) if !first => {
-            let behind = ctx.push_elem()?;
+            let delimited = ctx.push_elem()?;
             ctx.push_str(delimiter)?;
             let element = ctx.push_elem()?;
             node.render_by(ctx, Some(plan))?;
             ctx.commit_elem(element, None, None)?;
-            ctx.commit_elem(behind, None, None)?;
+            ctx.commit_elem(delimited, None, None)?;
             Ok(())
         }
         _ => {

@@ -3,10 +3,10 @@
 ghost use Rattle.std.specs.Prelude.{None, IfOk};
 ghost use Rattle.csl_tree.specs.Content.{elem_content};
 ghost use Rattle.csl_elements.specs.View.{view_group};
-ghost use Rattle.csl_context.specs.ContextView.{Runs, IsInnermost, close_part_by, render_input};
+ghost use Rattle.csl_context.specs.ContextView.{Runs, IsInnermost, close_part_by};
 ghost use Rattle.csl_nodes.specs.Text.{Appends};
 ghost use Rattle.csl_render.specs.Expanded.{expanded};
-ghost use Rattle.csl_render.specs.Plan.{AreReadAlike, IsInfo, IsPlan};
+ghost use Rattle.csl_render.specs.Plan.{IsDryRunOf, IsPlanOf};
 ghost use Rattle.csl_render.specs.Tree.{node_output, shown_if};
 
 use crate::dry_run::DryRun;
@@ -14,7 +14,7 @@ use crate::element::{any_shows, nodes_info, render_with_delimiter};
 use crate::node::Node;
 use crate::plan::{DryState, NodeInfo, NodePlan};
 use crate::query::Query;
-use csl_context::{Context, Mark, RenderError};
+use csl_context::{BodyDressing, Context, Mark, RenderError};
 use csl_entry::EntryLike;
 use csl_nodes::info_of_group;
 use csl_style::{Display, Group};
@@ -63,9 +63,7 @@ fn ask_group<'s, T: EntryLike>(
     ctx: &Context<'s, T>,
     group: &'s Group,
 ) -> Result<(DryState, NodeInfo), Memory>
-    ensures at { IfOk result (λ r. AreReadAlike (render_input T.answers ctx.now) r.0 ctx.now.state) }
-    ensures info { IfOk result (λ r. IsInfo (render_input T.answers ctx.now) r.0
-        (expanded ctx.now.style (view_group group.now)) r.1) }
+    ensures { IfOk result (IsDryRunOf T.answers ctx.now (view_group group.now)) }
 {
     let at = DryState::of(ctx)?;
     let info = group.node_info(&mut DryRun::new(ctx))?;
@@ -79,21 +77,24 @@ fn render_group_by_plan<'p, 's, T: EntryLike>(
     group: &'s Group,
     plan: NodePlan<'p>,
 ) -> Result<(), RenderError>
-    requires { IsPlan (render_input T.answers ctx.old) ctx.old.state
-        (expanded ctx.old.style (view_group group.now)) plan }
+    requires { IsPlanOf T.answers ctx.old (view_group group.now) plan }
     ensures { Appends T.answers (λ w. node_output w (expanded w.style (view_group group.now)))
         result ctx.old ctx.new }
 {
     let usage = plan.usage();
-    ctx.push_format(group.formatting)?;
-    ctx.push_delimiter(group.delimiter.as_deref())?;
+    let around = BodyDressing {
+        formatting: group.formatting,
+        affixes: &group.affixes,
+        quotes: false,
+        strip_periods: false,
+    };
     let element = ctx.push_elem()?;
-    let middle = ctx.apply_prefix()?;
+    let before = ctx.open_body(around)?;
+    ctx.push_delimiter(group.delimiter.as_deref())?;
     render_with_delimiter(ctx, &group.children, Some(plan.inside()))?;
-    ctx.apply_suffix(&group.affixes, middle, false)?;
-    close_group(ctx, element, usage.should_render_group(), group.display)?;
     ctx.pop_delimiter();
-    ctx.pop_format();
+    ctx.close_body(around, before)?;
+    close_group(ctx, element, usage.should_render_group(), group.display)?;
     Ok(())
 }
 

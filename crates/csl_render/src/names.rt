@@ -1,29 +1,31 @@
 //! Names (CSL 1.0.2, Names; Substitute): the dry run, shown variables and content of a names node.
 
-ghost use Rattle.std.specs.Prelude.{◌≡◌, Bool, ◌<◌, ◌&&◌, ◌||◌, [], false, map, IfOk, IfSome, option_map};
+ghost use Rattle.std.specs.Prelude.{◌≡◌, Bool, ◌<◌, ◌&&◌, ◌||◌, List, [], false, map, IfOk, IfSome, option_map};
 ghost use Rattle.csl_elements.specs.declared.taxonomy.Variable.{Variable};
 ghost use Rattle.csl_elements.specs.declared.taxonomy.NameVariable.{NameVariable};
-ghost use Rattle.csl_elements.specs.Names.{NamesNode};
+ghost use Rattle.csl_elements.specs.Names.{NamesNode, shorthand_expansion};
 ghost use Rattle.csl_elements.specs.NamesParts.{names_node, names_substitutes, first_substitute, parts_node};
 ghost use Rattle.csl_elements.specs.Node.{ExpandedNode, expand, expand_nodes, expand_substitute_nodes, no_expanded_substitutes, sizes, expanded_substitutes_size, as_substitute_child};
 ghost use Rattle.csl_elements.specs.View.{view_node, view_nodes, view_names};
 ghost use Rattle.csl_style.specs.Expanded.{macro_env};
 ghost use Rattle.csl_context.specs.State.{Inherited, State};
-ghost use Rattle.csl_context.specs.ContextView.{Runs, GivesBy, render_input};
+ghost use Rattle.csl_context.specs.ContextView.{Runs, Gives, GivesBy, render_input};
 ghost use Rattle.csl_names.specs.NamesForms.{writes_no_name};
 ghost use Rattle.csl_names.specs.NamesLists.{all_empty, peeked_lists};
 ghost use Rattle.csl_names.specs.PersonLists.{list_of};
-ghost use Rattle.csl_render.specs.Expanded.{expanded, expanded_nodes, expanded_substitutes};
+ghost use Rattle.csl_render.specs.declared.plan.NodeInfo.{NodeInfo};
+ghost use Rattle.csl_render.specs.Expanded.{expanded, expanded_nodes, expanded_taken, expanded_substitutes};
 ghost use Rattle.csl_render.specs.Names.{Macros, author, has_variable, is_of_names, is_names_of, any_is_names_of, substitute_has_names_of, expanded_substitutes_of, standing_in, refuses_alone, is_refused, names_show, names_or_substitute_info, in_substitute, suppressing_from, boxed_substitute};
 ghost use Rattle.csl_nodes.specs.Text.{Appends, render_output};
 ghost use Rattle.csl_nodes.specs.Usage.{info_view};
+ghost use Rattle.csl_render.specs.Plan.{AreOfTaken, AreOfSubstitutes, IsPlanOf, ArePlansOf, HasPlansOf, HasPlansWithin, answer_of, inside_of};
 ghost use Rattle.csl_render.specs.Rendering.{with_whole_output};
-ghost use Rattle.csl_render.specs.Tree.{node_output, substitute_shows, substitute_info, substitute_output, output_until_text, first_substitute_output, choice_info, choice_shows, names_output, shorthand_output};
+ghost use Rattle.csl_render.specs.Tree.{node_output, substitute_shows, substitute_info, substitute_output, output_until_text, first_substitute_output, choice_info, choice_shows, refused_in, names_output, shorthand_output};
 
 use crate::dry_run::DryRun;
 use crate::element::{any_shows, nodes_info};
 use crate::node::Node;
-use crate::plan::{NodeInfo, NodePlan};
+use crate::plan::{ListPlan, NodeInfo, NodePlan, inside_plan, next_plan};
 use crate::query::Query;
 use csl_context::{Context, RenderError};
 use csl_entry::{EntryLike, SpecialForm};
@@ -48,9 +50,9 @@ fn summarize_names<'s, T: EntryLike>(
     ctx: &Context<'s, T>,
     parts: NamesParts<'_>,
 ) -> Result<NamesSummary, Memory>
-    ensures empty { IfOk result (λ judged. judged.is_empty ≡ all_empty (peeked_lists
+    ensures empty { IfOk result (λ r. r.is_empty ≡ all_empty (peeked_lists
         (render_input T.answers ctx.now) ctx.now.state (parts_node parts.entry).variables)) }
-    ensures void { IfOk result (λ judged. judged.is_void ≡ writes_no_name (parts_node parts.entry)
+    ensures void { IfOk result (λ r. r.is_void ≡ writes_no_name (parts_node parts.entry)
         (peeked_lists (render_input T.answers ctx.now) ctx.now.state
         (parts_node parts.entry).variables)) }
 {
@@ -82,16 +84,16 @@ fn is_of_names(variable: Variable, variables: &[NameVariable]) -> bool
 }
 
 /// The dry run of names that are not refused, from the dry run of their substitute.
-fn names_or_substitute_info(is_void: bool, said: (bool, UsageInfo)) -> (bool, UsageInfo)
-    ensures { info_view result ≡ names_or_substitute_info is_void (info_view said) }
+fn names_or_substitute_info(is_void: bool, inside: (bool, UsageInfo)) -> (bool, UsageInfo)
+    ensures { info_view result ≡ names_or_substitute_info is_void (info_view inside) }
 {
     let usage = UsageInfo {
         has_vars: true,
-        has_non_empty_vars: !is_void || said.1.has_non_empty_vars,
-        has_used_macros: is_void && said.1.has_used_macros,
+        has_non_empty_vars: !is_void || inside.1.has_non_empty_vars,
+        has_used_macros: is_void && inside.1.has_used_macros,
         has_non_empty_group: false,
     };
-    (!is_void || said.0, usage)
+    (!is_void || inside.0, usage)
 }
 
 /// The children of the first substitute.
@@ -107,26 +109,35 @@ fn first_nodes(names: &Names) -> Option<&[LayoutRenderingElement]>
 
 /// The children of the first `cs:substitute`. The dry run, shown variables and content of the
 /// substitutes come from these children alone. In dry runs and queries, names without children
-/// among them count as they do elsewhere.
+/// among them count as they do elsewhere. The results for the substitutes are those for these
+/// children.
 fn substitute_nodes<'n, 's, T: EntryLike>(
     ctx: &Context<'s, T>,
     names: &'n Names,
 ) -> Option<&'n [LayoutRenderingElement]>
     ensures inside { IfSome result (λ ns. sizes (expanded_nodes ctx.now.style (view_nodes ns.now))
         < expanded_substitutes_size (expanded_substitutes ctx.now.style names.now)) }
-    ensures said { substitute_info (render_input T.answers ctx.now) ctx.now.state
+    ensures info { substitute_info (render_input T.answers ctx.now) ctx.now.state
         (expanded_substitutes ctx.now.style names.now)
         ≡ choice_info (render_input T.answers ctx.now) ctx.now.state
-        (option_map (expanded_nodes ctx.now.style) (option_map (λ ns. view_nodes ns.now) result)) }
+        (expanded_taken ctx.now.style result) }
     ensures shown { (v : Variable) → substitute_shows (render_input T.answers ctx.now)
         ctx.now.state v (expanded_substitutes ctx.now.style names.now)
         ≡ choice_shows (render_input T.answers ctx.now) ctx.now.state v
-        (option_map (expanded_nodes ctx.now.style) (option_map (λ ns. view_nodes ns.now) result)) }
-    ensures made { (inh : Inherited) → (s : State) → substitute_output
+        (expanded_taken ctx.now.style result) }
+    ensures output { (inh : Inherited) → (s : State) → substitute_output
         (render_input T.answers ctx.now) (expanded_substitutes ctx.now.style names.now) inh s
         ≡ first_substitute_output (render_input T.answers ctx.now)
         (option_map (expand_substitute_nodes (macro_env ctx.now.style) (names_node names.now))
         (option_map (λ ns. view_nodes ns.now) result)) inh s }
+    ensures from_nodes { (at : State) → (infos : List NodeInfo)
+        → AreOfTaken (render_input T.answers ctx.now) at (expanded_taken ctx.now.style result) infos
+        → AreOfSubstitutes (render_input T.answers ctx.now) at
+        (expanded_substitutes ctx.now.style names.now) infos }
+    ensures to_nodes { (at : State) → (infos : List NodeInfo)
+        → AreOfSubstitutes (render_input T.answers ctx.now) at
+        (expanded_substitutes ctx.now.style names.now) infos
+        → AreOfTaken (render_input T.answers ctx.now) at (expanded_taken ctx.now.style result) infos }
 {
     first_nodes(names)
 }
@@ -209,23 +220,25 @@ fn has_or_substitutes(variable: NameVariable, names: &Names, is_empty: bool) -> 
     substitute_has_names_of(variable, names)
 }
 
-/// The dry run of the first substitute, without the group flag.
+/// The dry run of the first substitute, without the group flag, and that of each of its children.
 #[cycle(info)]
 fn substitute_info<'c, 's, T: EntryLike>(
     names: &'s Names,
     run: &mut DryRun<'c, 's, T>,
-) -> Result<(bool, UsageInfo), Memory>
-    ensures value { GivesBy info_view result (substitute_info
+) -> Result<NodeInfo, Memory>
+    ensures value { GivesBy answer_of result (substitute_info
         (render_input T.answers run.old) run.old.state
         (expanded_substitutes run.old.style names.now)) }
+    ensures each { IfOk result (λ info. AreOfSubstitutes (render_input T.answers run.old)
+        run.old.state (expanded_substitutes run.old.style names.now) (inside_of info)) }
     ensures kept { run.new ≡ run.old }
 {
     match substitute_nodes(run.context(), names) {
         Some(nodes) => {
-            let (sum, _) = nodes_info(nodes, run)?;
-            Ok(without_group_flag(sum))
+            let (sum, each) = nodes_info(nodes, run)?;
+            Ok(NodeInfo::new(without_group_flag(sum), each))
         }
-        None => Ok(no_info()),
+        None => Ok(run.leaf(no_info())),
     }
 }
 
@@ -238,15 +251,16 @@ impl Node for Names {
         &'s self,
         run: &mut DryRun<'c, 's, T>,
     ) -> Result<NodeInfo, Memory> {
-        let judged = summarize_names(run.context(), self.parts())?;
-        if refuses(run.context(), self, judged.is_empty)? {
+        let summary = summarize_names(run.context(), self.parts())?;
+        if refuses(run.context(), self, summary.is_empty)? {
             return Ok(run.leaf(no_info()));
         }
-        if !judged.is_void {
+        if !summary.is_void {
             return Ok(run.leaf(names_or_substitute_info(false, no_info())));
         }
-        let answer = substitute_info(self, run)?;
-        Ok(run.leaf(names_or_substitute_info(true, answer)))
+        let tried = substitute_info(self, run)?;
+        let answer = names_or_substitute_info(true, tried.answer);
+        Ok(NodeInfo::new(answer, tried.inside))
     }
 
     #[cycle(shows)]
@@ -254,8 +268,8 @@ impl Node for Names {
         &'s self,
         query: &mut Query<'c, 's, T>,
     ) -> Result<bool, Memory> {
-        let judged = summarize_names(query.context(), self.parts())?;
-        names_or_substitute_show(self, query, judged.is_empty)
+        let summary = summarize_names(query.context(), self.parts())?;
+        names_or_substitute_show(self, query, summary.is_empty)
     }
 
     #[cycle(render)]
@@ -263,11 +277,10 @@ impl Node for Names {
     fn render_by<'p, 's, T: EntryLike>(
         &'s self,
         ctx: &mut Context<'s, T>,
-        _plan: Option<NodePlan<'p>>,
+        plan: Option<NodePlan<'p>>,
     ) -> Result<(), RenderError> {
-        let parts = self.parts();
-        let lists = resolved_lists(ctx, parts.variables)?;
-        render_lists(ctx, self, &lists)?;
+        let lists = resolved_lists(ctx, &self.variable)?;
+        render_lists(ctx, self, &lists, plan)?;
         Ok(())
     }
 }
@@ -279,7 +292,7 @@ fn names_or_substitute_show<'c, 's, T: EntryLike>(
     query: &mut Query<'c, 's, T>,
     is_empty: bool,
 ) -> Result<bool, Memory>
-    ensures value { GivesBy (λ answer. answer) result (names_show query.old.variable
+    ensures value { Gives result (names_show query.old.variable
         (names_node names.now) is_empty (substitute_shows (render_input T.answers query.old.now)
         query.old.now.state query.old.variable
         (expanded_substitutes query.old.now.style names.now))) }
@@ -304,11 +317,8 @@ fn refuses<'s, T: EntryLike>(
     names: &'s Names,
     is_empty: bool,
 ) -> Result<bool, Memory>
-    ensures { GivesBy (λ refused. refused) result (is_refused ctx.now.special
-        (names_node names.now) is_empty (expanded_substitutes ctx.now.style names.now)
-        (names_show author (names_node names.now) is_empty (substitute_shows
-        (render_input T.answers ctx.now) ctx.now.state author
-        (expanded_substitutes ctx.now.style names.now)))) }
+    ensures { Gives result (refused_in (render_input T.answers ctx.now) (names_node names.now)
+        (expanded_substitutes ctx.now.style names.now) is_empty ctx.now.state) }
 {
     match ctx.special_form() {
         None => Ok(false),
@@ -325,7 +335,7 @@ fn shows_author<'s, T: EntryLike>(
     names: &'s Names,
     is_empty: bool,
 ) -> Result<bool, Memory>
-    ensures { GivesBy (λ shows. shows) result (names_show author (names_node names.now) is_empty
+    ensures { Gives result (names_show author (names_node names.now) is_empty
         (substitute_shows (render_input T.answers ctx.now) ctx.now.state author
         (expanded_substitutes ctx.now.style names.now))) }
 {
@@ -333,13 +343,15 @@ fn shows_author<'s, T: EntryLike>(
     names_or_substitute_show(names, &mut query, is_empty)
 }
 
-/// Appends the content of names with these lists.
+/// Appends the content of names with these lists. The plan is from before the lookups for them.
 #[cycle(render)]
-fn render_lists<'s, T: EntryLike>(
+fn render_lists<'p, 's, T: EntryLike>(
     ctx: &mut Context<'s, T>,
     names: &'s Names,
     lists: &[PersonList<'s>],
+    plan: Option<NodePlan<'p>>,
 ) -> Result<(), RenderError>
+    requires { IfSome plan (HasPlansWithin T.answers ctx.old names.now) }
     ensures { Appends T.answers (λ w inherited s. names_output w (names_node names.now)
         (expanded_substitutes w.style names.now) inherited
         (substitute_output w (expanded_substitutes w.style names.now)
@@ -352,25 +364,27 @@ fn render_lists<'s, T: EntryLike>(
         return push_nothing(ctx);
     }
     if is_empty {
-        return render_substitute(ctx, names, lists);
+        return render_substitute(ctx, names, lists, plan);
     }
     write_names(ctx, names.parts(), lists)
 }
 
 /// Renders the substitute of names without persons, if there is one.
 #[cycle(render)]
-fn render_substitute<'s, T: EntryLike>(
+fn render_substitute<'p, 's, T: EntryLike>(
     ctx: &mut Context<'s, T>,
     names: &'s Names,
     lists: &[PersonList<'s>],
+    plan: Option<NodePlan<'p>>,
 ) -> Result<(), RenderError>
+    requires { IfSome plan (HasPlansWithin T.answers ctx.old names.now) }
     ensures { Appends T.answers (λ w inherited s. boxed_substitute (names_node names.now)
         (map list_of lists.now) (substitute_output w (expanded_substitutes w.style names.now)
         (in_substitute (names_node names.now) inherited) (suppressing_from s)) s)
         result ctx.old ctx.new }
 {
     match substitute_nodes(ctx, names) {
-        Some(nodes) => render_first_substitute(ctx, nodes, names, lists),
+        Some(nodes) => render_first_substitute(ctx, nodes, names, lists, plan),
         None => push_nothing(ctx),
     }
 }
@@ -378,49 +392,55 @@ fn render_substitute<'s, T: EntryLike>(
 /// Appends the box of names with the children of their substitute, up to the first that adds text.
 /// Lookups of these children suppress their variables.
 #[cycle(render)]
-fn render_first_substitute<'s, T: EntryLike>(
+fn render_first_substitute<'p, 's, T: EntryLike>(
     ctx: &mut Context<'s, T>,
     nodes: &'s [LayoutRenderingElement],
     names: &'s Names,
     lists: &[PersonList<'s>],
+    plan: Option<NodePlan<'p>>,
 ) -> Result<(), RenderError>
+    requires { IfSome plan (HasPlansOf T.answers ctx.old (view_nodes nodes.now)) }
     ensures { Appends T.answers (λ w inherited s. boxed_substitute (names_node names.now)
         (map list_of lists.now) (output_until_text w
         (expand_substitute_nodes (macro_env w.style) (names_node names.now) (view_nodes nodes.now))
         (in_substitute (names_node names.now) inherited) (render_output [] (suppressing_from s))) s)
         result ctx.old ctx.new }
 {
-    let parts = names.parts();
     ctx.push_name_options(&names.options)?;
-    ctx.push_format(parts.formatting)?;
+    ctx.push_format(names.formatting)?;
     let suppressing = ctx.start_suppressing_queried_variables();
     let element = ctx.push_elem()?;
-    render_until_text(ctx, nodes, parts)?;
-    commit_names(ctx, element, parts.display, lists)?;
+    render_until_text(ctx, nodes, names, inside_plan(plan))?;
+    commit_names(ctx, element, names.display, lists)?;
     ctx.restore_suppressing(suppressing);
     ctx.pop_format();
     ctx.pop_name_options();
     Ok(())
 }
 
-/// Renders children of a substitute for as long as the open part has no text.
+/// Renders children of a substitute, each by its plan if it has one, for as long as the open part
+/// has no text.
 #[cycle(render)]
-fn render_until_text<'s, T: EntryLike>(
+fn render_until_text<'p, 's, T: EntryLike>(
     ctx: &mut Context<'s, T>,
     nodes: &'s [LayoutRenderingElement],
-    original: NamesParts<'s>,
+    original: &'s Names,
+    plan: Option<ListPlan<'p>>,
 ) -> Result<(), RenderError>
+    requires { IfSome plan (ArePlansOf T.answers ctx.old (view_nodes nodes.now)) }
     ensures { Runs (λ now. with_whole_output (output_until_text (render_input T.answers now)
-        (expand_substitute_nodes (macro_env now.style) (parts_node original.entry)
+        (expand_substitute_nodes (macro_env now.style) (names_node original.now)
         (view_nodes nodes.now)) now.inherited
         (render_output now.inner now.state)) now) result ctx.old ctx.new }
 {
     ctx.ensure_live()?;
+    let mut plan = plan;
     for node in nodes {
         if ctx.open_part_has_text() {
             return Ok(());
         }
-        render_in_place(ctx, node, original)?;
+        let known = next_plan(ctx, &mut plan);
+        render_in_place(ctx, node, original, known)?;
     }
     Ok(())
 }
@@ -456,21 +476,23 @@ fn childless_names(names: &Names) -> Option<&Names>
     }
 }
 
-/// Renders a child of a substitute. Names without children are rendered in the place of the names
-/// around the substitute.
+/// Renders a child of a substitute, by its plan if it has one. Names without children are rendered
+/// in the place of the names around the substitute.
 #[cycle(render)]
-fn render_in_place<'s, T: EntryLike>(
+fn render_in_place<'p, 's, T: EntryLike>(
     ctx: &mut Context<'s, T>,
     node: &'s LayoutRenderingElement,
-    original: NamesParts<'s>,
+    original: &'s Names,
+    plan: Option<NodePlan<'p>>,
 ) -> Result<(), RenderError>
+    requires { IfSome plan (IsPlanOf T.answers ctx.old (view_node node.now)) }
     ensures { Appends T.answers (λ w. node_output w (as_substitute_child
-        (parts_node original.entry) (view_node node.now) (expanded w.style (view_node node.now))))
+        (names_node original.now) (view_node node.now) (expanded w.style (view_node node.now))))
         result ctx.old ctx.new }
 {
     match shorthand(node) {
-        Some(names) => render_shorthand(ctx, names.parts_in_place_of(original)),
-        None => node.render_by(ctx, None),
+        Some(names) => render_shorthand(ctx, names, original),
+        None => node.render_by(ctx, plan),
     }
 }
 
@@ -491,9 +513,22 @@ fn refuses_shorthand<'s, T: EntryLike>(ctx: &Context<'s, T>, parts: NamesParts<'
     }
 }
 
-/// Renders names of these parts, which have no substitute.
+/// Renders names without children in the place of `original`.
 #[inline(never)]
 fn render_shorthand<'s, T: EntryLike>(
+    ctx: &mut Context<'s, T>,
+    names: &'s Names,
+    original: &'s Names,
+) -> Result<(), RenderError>
+    ensures { Appends T.answers (λ w. shorthand_output w
+        (shorthand_expansion (names_node original.now) (names_node names.now)))
+        result ctx.old ctx.new }
+{
+    render_parts(ctx, names.parts_in_place_of(original.parts()))
+}
+
+/// Renders names of these parts, which have no substitute.
+fn render_parts<'s, T: EntryLike>(
     ctx: &mut Context<'s, T>,
     parts: NamesParts<'s>,
 ) -> Result<(), RenderError>

@@ -3,7 +3,7 @@
 ghost use Rattle.std.specs.Prelude.{◌≡◌, IfOk, IfSome};
 ghost use Rattle.csl_elements.specs.Node.{ExpandedNode};
 ghost use Rattle.csl_style.specs.Style.{StyleParts};
-ghost use Rattle.csl_context.specs.ContextView.{GivesBy, render_input};
+ghost use Rattle.csl_context.specs.ContextView.{Gives, render_input};
 ghost use Rattle.csl_nodes.specs.Text.{Appends};
 ghost use Rattle.csl_render.specs.Plan.{IsInfo, IsPlan};
 ghost use Rattle.csl_render.specs.Rendering.{of_node};
@@ -38,7 +38,7 @@ pub(crate) trait Node {
         &'s self,
         query: &mut Query<'c, 's, T>,
     ) -> Result<bool, Memory>
-        ensures value { GivesBy (λ answer. answer) result
+        ensures value { Gives result
             (shows (render_input T.answers query.old.now) query.old.now.state query.old.variable
             (expansion query.old.now.style self.now)) }
         ensures kept { query.new ≡ query.old };

@@ -7,15 +7,10 @@ ghost use Rattle.csl_elements.specs.Node.{expand_layout};
 ghost use Rattle.csl_elements.specs.View.{view_layout};
 ghost use Rattle.csl_style.specs.Expanded.{macro_env};
 ghost use Rattle.csl_entry.specs.Alike.{SameNamedAnswers};
-ghost use Rattle.csl_entry.specs.Answers.{Answers};
 ghost use Rattle.csl_entry.specs.Cite.{cite_state};
 ghost use Rattle.csl_context.specs.LeftState.{left_state_view};
-ghost use Rattle.csl_context.specs.State.{Inherited, State};
-ghost use Rattle.csl_context.specs.RenderInput.{RenderInput};
-ghost use Rattle.csl_render.specs.Keeps.{Keeps};
+ghost use Rattle.csl_render.specs.Laws.{RenderingKeepsState, AlikeEntriesRenderAlike};
 ghost use Rattle.csl_render.specs.PairOutput.{cite_input, layout_output_from, Prints, PrintsSame};
-ghost use Rattle.csl_render.specs.Rendering.{Renderable, output_in};
-ghost use Rattle.csl_render.specs.Tree.{layout_output};
 
 use crate::cites::render_from;
 use csl_context::{LeftState, RenderError, Rendered};
@@ -91,7 +86,7 @@ fn are_alike<T: EntryLike, U: EntryLike>(
 ///
 /// # Errors
 /// [`RenderError::Memory`]: out of memory, here or in an entry.
-#[tactic(auto, using(crate::proofs::KeepsNodes::rendering_keeps))]
+#[tactic(auto, using(crate::proofs::Theorems::rendering_keeps_state, crate::proofs::Theorems::alike_entries_render_alike))]
 pub fn render_pair<'s, T: EntryLike, U: EntryLike>(
     alloc: Global,
     style: &'s Style,
@@ -115,18 +110,10 @@ pub fn render_pair<'s, T: EntryLike, U: EntryLike>(
         (T.answers left.now) (U.answers right.now))) }
     ensures same { IfOk result (λ p. p.alike ≡ true
         → PrintsSame p.left (string_bytes p.left_html) p.right (string_bytes p.right_html)) }
-    // For every input, the state after any node or layout keeps what `Keeps` lists of the one
-    // before.
-    ensures keeps { (w : RenderInput) (r : Renderable) (inherited : Inherited) (s : State)
-        → Keeps s (output_in w r inherited s).state }
+    // Two laws over the definitions, for every input.
+    ensures keeps { RenderingKeepsState }
+    ensures alike_make_the_same { AlikeEntriesRenderAlike }
     ensures err { IfErr result (λ e. e ≡ RenderError.Memory) }
-    ensures alike_make_the_same { (a b : Answers) (inherited : Inherited) (s : State)
-        → SameNamedAnswers (named_in_nodes (expand_layout (macro_env style.now)
-        (view_layout layout.now)).elements) a b
-        → layout_output (cite_input style.now scope (cite_state cite_props.now) sorting kind a)
-        (expand_layout (macro_env style.now) (view_layout layout.now)) inherited s
-        ≡ layout_output (cite_input style.now scope (cite_state cite_props.now) sorting kind b)
-        (expand_layout (macro_env style.now) (view_layout layout.now)) inherited s }
 {
     let alike = are_alike(alloc, style, layout, left, right)?;
     let one = InstanceContext {

@@ -20,8 +20,9 @@ use std::marker::Model;
 pub(crate) struct NodeInfo {
     /// Whether the node would print, and its usage flags.
     pub(crate) answer: (bool, UsageInfo),
-    /// The results for the nodes inside: the children of a group, the nodes of a macro, or the
-    /// nodes that a choice takes. They start at the first node and may break off.
+    /// The results for the nodes inside: the children of a group, the nodes of a macro, the nodes
+    /// that a choice takes, or the children of the first substitute of names. They start at the
+    /// first node and may break off.
     pub(crate) inside: Vec<NodeInfo>,
 }
 

@@ -1,5 +1,5 @@
 use Rattle.std.proofs.Common.{◌≡◌, ◌+◌, ◌*◌, ◌≤◌, true, false, IfSome, drop}
-use Rattle.csl_elements.specs.NamesParts.{parts_node}
+use Rattle.csl_elements.specs.NamesParts.{names_node}
 use Rattle.csl_elements.specs.Node.{size, sizes, expanded_substitutes_size, expand, expand_nodes, expand_substitute_nodes}
 use Rattle.csl_elements.specs.View.{view_node, view_text, view_group, view_choose, view_names, view_nodes}
 use Rattle.csl_style.specs.Expanded.{macro_env}
@@ -18,7 +18,10 @@ abbrev pub decreases-text::TextNode::render_by : goal.decreases-text::TextNode::
 decreases-text::TextNode::render_by g l = 6 * size (expand (macro_env l.ctx.now.style) (view_text l.self.now))
 
 abbrev pub decreases-text::render_call : goal.decreases-text::render_call
-decreases-text::render_call g l = 6 * sizes (expand_nodes (macro_env l.ctx.now.style) (view_nodes l.nodes.now)) + 2
+decreases-text::render_call g l = 6 * sizes (expand_nodes (macro_env l.ctx.now.style) (view_nodes l.nodes.now)) + 3
+
+abbrev pub decreases-text::render_asked_call : goal.decreases-text::render_asked_call
+decreases-text::render_asked_call g l = 6 * sizes (expand_nodes (macro_env l.ctx.now.style) (view_nodes l.nodes.now)) + 2
 
 abbrev pub decreases-text::render_macro : goal.decreases-text::render_macro
 decreases-text::render_macro g l = 6 * sizes (expand_nodes (macro_env l.ctx.now.style) (view_nodes l.nodes.now)) + 1
@@ -96,10 +99,11 @@ invariant-names::render_until_text-loop-node g l =
     let w = render_input g.T.EntryLike.answers l.fn.ctx in
     let rest = view_nodes (drop l.node-index l.nodes) in
     let all = view_nodes l.nodes in
-    let in_place = expand_substitute_nodes (macro_env l.fn.ctx.style) (parts_node l.original) in
+    let in_place = expand_substitute_nodes (macro_env l.fn.ctx.style) (names_node l.original) in
     record {
       sound : l.fn.ctx.failed ≡ false;
       frame : l.ctx ≡ record l.fn.ctx { inner = l.ctx.inner; state = l.ctx.state };
+      planned : IfSome l.plan (ArePlans w (expand_nodes (macro_env l.fn.ctx.style) rest));
       told : with_whole_output (output_until_text w (in_place rest) l.fn.ctx.inherited (render_output l.ctx.inner l.ctx.state)) l.ctx ≡ with_whole_output (output_until_text w (in_place all) l.fn.ctx.inherited (render_output l.fn.ctx.inner l.fn.ctx.state)) l.fn.ctx;
       inside : sizes (expand_nodes (macro_env l.fn.ctx.style) rest) ≤ sizes (expand_nodes (macro_env l.fn.ctx.style) all);
     }

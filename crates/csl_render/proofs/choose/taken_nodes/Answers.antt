@@ -26,20 +26,20 @@ returns-in-Ok-clause-shown g c v =
     let w = render_input g.T.EntryLike.answers now in
     shows_of_choice w now.state (macro_env now.style) v c.args.choose.now ∙ ap (λ o. choice_shows w now.state v (option_map (expand_nodes (macro_env now.style)) o)) (sym c.in-Ok.ensures.value)
 
-pub returns-in-Ok-clause-made : goal.returns-in-Ok-clause-made
-returns-in-Ok-clause-made g c =
+pub returns-in-Ok-clause-output : goal.returns-in-Ok-clause-output
+returns-in-Ok-clause-output g c =
     let now = c.args.ctx.now in
     let w = render_input g.T.EntryLike.answers now in
     tree_of_choice w now.state (macro_env now.style) now.inherited c.args.choose.now ∙ ap (λ o. choice_output w (option_map (expand_nodes (macro_env now.style)) o) now.inherited now.state) (sym c.in-Ok.ensures.value)
 
-pub returns-in-Ok-clause-asked : goal.returns-in-Ok-clause-asked
-returns-in-Ok-clause-asked g c infos h =
+pub returns-in-Ok-clause-from_nodes : goal.returns-in-Ok-clause-from_nodes
+returns-in-Ok-clause-from_nodes g c infos h =
     let now = c.args.ctx.now in
     let w = render_input g.T.EntryLike.answers now in
     asked_nodes w (macro_env now.style) now.state infos c.args.choose.now (subst (λ o. AreOfTaken w now.state (option_map (expand_nodes (macro_env now.style)) o) infos) c.in-Ok.ensures.value h)
 
-pub returns-in-Ok-clause-planned : goal.returns-in-Ok-clause-planned
-returns-in-Ok-clause-planned g c at alike infos h =
+pub returns-in-Ok-clause-to_nodes : goal.returns-in-Ok-clause-to_nodes
+returns-in-Ok-clause-to_nodes g c at alike infos h =
     let now = c.args.ctx.now in
     let w = render_input g.T.EntryLike.answers now in
     subst (λ o. AreOfTaken w at (option_map (expand_nodes (macro_env now.style)) o) infos) (sym c.in-Ok.ensures.value) (planned_nodes w (macro_env now.style) now.state at alike infos c.args.choose.now h)

@@ -7,9 +7,9 @@ use Rattle.csl_render.specs.Plan.{IsInfo}
 use Rattle.csl_render.proofs.Plans.{info_moved}
 use Rattle.csl_render.proofs.group.ask_group.Goals as goal
 
-pub returns-clause-info : goal.returns-clause-info
-returns-clause-info g c =
+pub returns : goal.returns
+returns g c =
     let now = c.args.ctx.now in
     let answers = g.T.EntryLike.answers in
     let found = subst (λ b. IsInfo (render_input answers b) b.state (expand (macro_env b.style) (view_group c.args.group.now)) c.in_ok-info.info) c.new.ensures c.in_ok-info.ensures.value in
-    info_moved (render_input answers now) now.state c.in_ok-at.at (sym c.in_ok-at.ensures) (expand (macro_env now.style) (view_group c.args.group.now)) c.in_ok-info.info found
+    (c.in_ok-at.ensures, info_moved (render_input answers now) now.state c.in_ok-at.at (sym c.in_ok-at.ensures) (expand (macro_env now.style) (view_group c.args.group.now)) c.in_ok-info.info found)

@@ -1,0 +1,48 @@
+-- The laws of rendering, over the definitions of `Tree` and `Rendering`. Each holds for every input,
+-- and `proofs/Theorems.antt` proves it. The first two are clauses of `render_pair`.
+use Rattle.std.specs.Prelude.{◌≡◌, true, Option}
+use Rattle.csl_elements.specs.declared.element.Layout.{Layout}
+use Rattle.csl_elements.specs.declared.named.Named.{Named}
+use Rattle.csl_elements.specs.NamedSet.{NamedItem, named_set}
+use Rattle.csl_elements.specs.Node.{ExpandedLayout, expand_layout}
+use Rattle.csl_elements.specs.View.{view_layout}
+use Rattle.csl_style.specs.declared.style.settings.Scope.{Scope}
+use Rattle.csl_style.specs.Expanded.{macro_env}
+use Rattle.csl_style.specs.Named.{named_in_nodes}
+use Rattle.csl_style.specs.Style.{StyleParts}
+use Rattle.csl_entry.specs.Alike.{SameNamedAnswers}
+use Rattle.csl_entry.specs.Answers.{Answers}
+use Rattle.csl_entry.specs.Cite.{CiteState}
+use Rattle.csl_entry.specs.declared.citation.cite.Sorting.{Sorting}
+use Rattle.csl_entry.specs.declared.citation.cite.SpecialForm.{SpecialForm}
+use Rattle.csl_entry.specs.Snapshot.{snapshot_of, kept_in}
+use Rattle.csl_context.specs.RenderInput.{RenderInput}
+use Rattle.csl_context.specs.State.{Inherited, State}
+use Rattle.csl_render.specs.CiteContent.{new_cite}
+use Rattle.csl_render.specs.Keeps.{Keeps}
+use Rattle.csl_render.specs.PairOutput.{with_answers}
+use Rattle.csl_render.specs.Rendering.{Renderable, output_in}
+use Rattle.csl_render.specs.Tree.{layout_output}
+
+-- Entries that answer alike on what a layout names have equal contents and states by it.
+abbrev pub AlikeEntriesRenderAlike : Type 0
+AlikeEntriesRenderAlike = (w : RenderInput) (l : ExpandedLayout) (a b : Answers) → SameNamedAnswers (named_in_nodes l.elements) a b
+    → (inherited : Inherited) (s : State) → layout_output (with_answers a w) l inherited s ≡ layout_output (with_answers b w) l inherited s
+
+-- No rendering of a layout or a node undoes the state before it (`Keeps`).
+abbrev pub RenderingKeepsState : Type 0
+RenderingKeepsState = (w : RenderInput) (r : Renderable) (inherited : Inherited) (s : State) → Keeps s (output_in w r inherited s).state
+
+-- A snapshot of an entry has the entry's content and state by each layout that names no more than
+-- the snapshot keeps.
+abbrev pub SnapshotsRenderAlike : Type 0
+SnapshotsRenderAlike = (w : RenderInput) (l : ExpandedLayout) (named : Named) (a : Answers)
+    → ((item : NamedItem) → named_in_nodes l.elements item ≡ true → named_set named item ≡ true)
+    → (inherited : Inherited) (s : State) → layout_output (with_answers (kept_in (snapshot_of named a)) w) l inherited s ≡ layout_output (with_answers a w) l inherited s
+
+-- The answers alone decide: two entries, of whatever types, that answer alike on what a layout
+-- names have equal cites by it, in content and in the state left.
+abbrev pub AnswersDecide : Type 0
+AnswersDecide = (style : StyleParts) (scope : Scope) (cite : CiteState) (sorting : Option Sorting) (special : Option SpecialForm) (layout : Layout) (a b : Answers)
+    → SameNamedAnswers (named_in_nodes (expand_layout (macro_env style) (view_layout layout)).elements) a b
+    → new_cite style scope cite sorting special a layout ≡ new_cite style scope cite sorting special b layout
