@@ -4,8 +4,12 @@ use Rattle.std.specs.Prelude.{[], IfSome, String, string_bytes, option_map, unwr
 use Rattle.std.specs.Map.{lookup}
 use Rattle.std.specs.HashMap.{HashMap, get, Updates, IsUnchanged}
 use Rattle.std.specs.declared.alloc.Global.{Global}
+use Rattle.csl.specs.Style.Expanded.{macro_env}
+use Rattle.csl.specs.Style.Named.{named_in_nodes}
 use Rattle.csl.specs.Style.NamedSet.{named_set}
+use Rattle.csl.specs.Style.Node.{expand_layout}
 use Rattle.csl.specs.Style.Style.{StyleParts}
+use Rattle.csl.specs.Style.View.{view_layout}
 use Rattle.csl.specs.Style.declared.element.Layout.{Layout}
 use Rattle.csl.specs.Style.declared.named.Named.{Named}
 use Rattle.csl.specs.Style.declared.style.settings.Scope.TheVariants.{Bibliography}
@@ -32,6 +36,12 @@ module _ (style : StyleParts) (named : Named) (a b : Answers) (alike : SameNamed
 
   pub alike_lines : line_html style a ≡ line_html style b
   alike_lines = alike_by style.bibliography refl
+
+-- the variables and kinds that the layout of the bibliography names are those of any such layout
+pub named_by_layout : (style : StyleParts) (named : Named) (layout : Layout) → style.bibliography ≡ Some layout
+    → named_set named ≡ named_in_nodes (expand_layout (macro_env style) (view_layout layout)).elements → NamedByBibliography style named
+named_by_layout style named layout is all other found =
+    subst (λ o. IfSome o (λ l. named_set named ≡ named_in_nodes (expand_layout (macro_env style) (view_layout l)).elements)) (sym is ∙ found) all
 
 module _ {S : Type 0} (style : StyleParts) (m n : HashMap Snapshot (String Global) S) (kept : AreLines style m) where
   pub unchanged_lines : IsUnchanged m n → AreLines style n

@@ -1,6 +1,6 @@
 -- A reference list that keeps its lines: the line of a work as HTML, and lines that are kept by
 -- snapshots (CSL 1.0.2, Bibliography; Layout). A kept line is the one that its snapshot renders.
-use Rattle.std.specs.Prelude.{◌≡◌, ℕ, List, [], Option, IfSome, String, string_bytes, option_map, unwrap_or}
+use Rattle.std.specs.Prelude.{◌≡◌, ℕ, List, [], map, IfSome, is_some, String, string_bytes, option_map, unwrap_or, if◌then◌else◌}
 use Rattle.std.specs.HashMap.{HashMap, get}
 use Rattle.std.specs.Option.{ForSome}
 use Rattle.std.specs.declared.alloc.Global.{Global}
@@ -25,6 +25,10 @@ use Rattle.csl.specs.Render.CiteContent.{whole_cite}
 abbrev pub line_html : StyleParts → Answers → List ℕ
 line_html style answers =
     unwrap_or (option_map (λ layout. text_in_format Html (whole_cite style Bibliography (first_cite no_disambiguation) answers layout).content) style.bibliography) []
+
+-- the lines of works, none if the style has no bibliography
+abbrev pub lines_html : {T : Type 0} → (T → Answers) → StyleParts → List T → List (List ℕ)
+lines_html answers style works = if is_some style.bibliography then map (λ work. line_html style (answers work)) works else []
 
 -- the variables and kinds are those that the layout of the bibliography names
 abbrev pub NamedByBibliography : StyleParts → Named → Type 0

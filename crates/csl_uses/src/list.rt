@@ -1,8 +1,8 @@
 //! A reference list that renders again only the lines that change. Each line is kept by the
 //! snapshot of its work: what the work answers to all that the bibliography's layout names.
 
-ghost use Rattle.std.specs.Prelude.{◌≡◌, IfOk, string_bytes};
-ghost use Rattle.csl_uses.specs.List.{line_html, NamedByBibliography, AreLines};
+ghost use Rattle.std.specs.Prelude.{◌≡◌, IfOk, map, string_bytes};
+ghost use Rattle.csl_uses.specs.List.{line_html, lines_html, NamedByBibliography, AreLines};
 
 use csl::literature::{Entry, FormatString};
 use csl::style::{Named, Style};
@@ -58,16 +58,23 @@ fn kept_line<T: EntryLike>(
 }
 
 /// The lines of works in a style without citation numbers, in the order of the works. Lines are
-/// taken from those kept by earlier calls for this style, and new ones are kept.
+/// taken from those kept by earlier calls for this style, and new ones are kept. There are none if
+/// the style has no bibliography.
 ///
 /// # Errors
 /// [`Error::Memory`]: out of memory, here or in an entry.
+#[tactic(auto, using(crate::proofs::KeptLines::named_by_layout))]
 pub fn lines<T: EntryLike>(
     alloc: Global,
     style: &Style,
     works: &[T],
     kept: &mut HashMap<Snapshot, String>,
-) -> Result<Vec<Line>, Error> {
+) -> Result<Vec<Line>, Error>
+    ensures lines { AreLines style.now kept.old
+        → IfOk result (λ lines. map (λ line. string_bytes line.html) lines.items
+        ≡ lines_html T.answers style.now works.now) }
+    ensures kept { AreLines style.now kept.old → AreLines style.now kept.new }
+{
     let mut lines = Vec::new(alloc);
     let Some(layout) = style.bibliography() else {
         return Ok(lines);
