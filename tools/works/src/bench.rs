@@ -46,6 +46,8 @@ pub fn count(alloc: Global, name: &str, size: usize) -> Result<usize, WorkError>
         "groups" => nested::groups(alloc, size),
         "macros" => nested::macros(alloc, size),
         "substitutes" => nested::substitutes(alloc, size),
+        "grouped_substitutes" => nested::grouped_substitutes(alloc, size),
+        "grouped_substitutes_suppressed" => nested::grouped_substitutes_suppressed(alloc, size),
         "bibliography" => bibliography::bibliography(alloc, size),
         "doubling" => nested::doubling(alloc, size),
         "doubling_named" => nested::doubling_named(alloc, size),

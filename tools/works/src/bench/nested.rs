@@ -1,7 +1,7 @@
 //! Layouts with deeply nested nodes.
 
 use crate::bench::entry::article;
-use crate::bench::render::{named_count, text_size};
+use crate::bench::render::{named_count, suppressed_size, text_size};
 use crate::bench::styles::{call, linked};
 use crate::error::WorkError;
 use crate::nodes::{names_or, style, title};
@@ -55,6 +55,29 @@ pub fn substitutes(alloc: Global, size: usize) -> Result<usize, WorkError> {
         nodes = vec![in alloc; names_or(alloc, editors, nodes)?]?;
     }
     size_for_one(alloc, &style(alloc, Vec::new(alloc), nodes)?)
+}
+
+/// A style of `size` nested substitutes of editors, each with a group in it. The last group has the
+/// title.
+fn grouped_style(alloc: Global, size: usize) -> Result<Style, WorkError> {
+    let mut nodes = vec![in alloc; title()]?;
+    for _ in 0..size {
+        let editors = vec![in alloc; NameVariable::Editor]?;
+        let group = vec![in alloc; Group::new(nodes).into()]?;
+        nodes = vec![in alloc; names_or(alloc, editors, group)?]?;
+    }
+    style(alloc, Vec::new(alloc), nodes)
+}
+
+/// Renders the title of an article without editors, in `size` nested substitutes with a group, and
+/// counts the bytes of the plain text.
+pub fn grouped_substitutes(alloc: Global, size: usize) -> Result<usize, WorkError> {
+    size_for_one(alloc, &grouped_style(alloc, size)?)
+}
+
+/// Renders the same without the author, and counts the bytes of the plain text.
+pub fn grouped_substitutes_suppressed(alloc: Global, size: usize) -> Result<usize, WorkError> {
+    suppressed_size(alloc, &grouped_style(alloc, size)?)
 }
 
 /// A style of `size` macros. Each calls the next twice. The last has two texts of the genre, which

@@ -4,14 +4,16 @@ use crate::bench::entry::article;
 use crate::bench::literature::page_ranges;
 use crate::error::WorkError;
 use crate::nodes::{style, title};
+use crate::refuse::text_of;
+use csl::entry::SpecialForm;
 use csl::literature::MaybeTyped;
 use csl::style::{
     CslMacro, Group, Layout, LayoutRenderingElement, PageRangeFormat, PageVariable, Style,
     StyleSettings, Text,
 };
 use csl::{
-    BufWriteFormat, CiteProperties, DisambiguateState, EntryLike, RenderError, Rendered, cite_pair,
-    named_by,
+    BufWriteFormat, CiteProperties, DisambiguateState, EntryLike, InstanceContext, RenderError,
+    Rendered, cite_pair, named_by,
 };
 use std::alloc::Global;
 
@@ -60,6 +62,18 @@ pub fn text_size<T: EntryLike>(
             .to_text(alloc, BufWriteFormat::Plain)?
             .len(),
     )
+}
+
+/// Renders an article of one author without the author, and counts the bytes of the plain text.
+pub fn suppressed_size(alloc: Global, style: &Style) -> Result<usize, WorkError> {
+    let cite_props = CiteProperties::first(DisambiguateState::None);
+    let instance = InstanceContext {
+        entry: &article(alloc, 1)?,
+        cite_props: &cite_props,
+        sorting: None,
+        kind: Some(SpecialForm::SuppressAuthor),
+    };
+    Ok(text_of(alloc, style, instance)?.len())
 }
 
 /// Renders `size` groups of a title and texts of a macro for an article, and counts the children of

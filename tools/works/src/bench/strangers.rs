@@ -5,19 +5,17 @@
 use crate::bench::cites::{in_english, year};
 use crate::bench::entry::article;
 use crate::bench::literature::authors;
-use crate::bench::render::text_size;
+use crate::bench::render::{suppressed_size, text_size};
 use crate::bench::styles::{call, linked};
 use crate::error::WorkError;
 use crate::nodes::{names_or, style, title};
-use crate::refuse::text_of;
-use csl::entry::SpecialForm;
 use csl::literature::EntryType;
 use csl::style::{
     Choose, ChooseBranch, CslMacro, Date, DatePart, DatePartName, DateVariable, Group, Label,
     LayoutRenderingElement, NameVariable, Names, NumberOrPageVariable, OtherTerm, PageVariable,
     StandardVariable, Style, Term, Text,
 };
-use csl::{CiteProperties, DisambiguateState, Entry, InstanceContext};
+use csl::Entry;
 use std::alloc::Global;
 
 /// The limit of the depth, as `docs/CALLING.md` gives it.
@@ -50,15 +48,7 @@ fn size_within(alloc: Global, style: Style, size: usize) -> Result<usize, WorkEr
 /// Renders a style within the limits for an article of one author, without the author, and counts
 /// the bytes of the plain text.
 fn suppressed_within(alloc: Global, style: Style, size: usize) -> Result<usize, WorkError> {
-    let style = limited(style, size)?;
-    let cite_props = CiteProperties::first(DisambiguateState::None);
-    let instance = InstanceContext {
-        entry: &article(alloc, 1)?,
-        cite_props: &cite_props,
-        sorting: None,
-        kind: Some(SpecialForm::SuppressAuthor),
-    };
-    Ok(text_of(alloc, &style, instance)?.len())
+    suppressed_size(alloc, &limited(style, size)?)
 }
 
 /// How many parts of a size the layout has room for, beside itself and what it already has.
