@@ -9,13 +9,13 @@ use crate::bench::render::{suppressed_size, text_size};
 use crate::bench::styles::{call, linked};
 use crate::error::WorkError;
 use crate::nodes::{names_or, style, title};
+use csl::Entry;
 use csl::literature::EntryType;
 use csl::style::{
     Choose, ChooseBranch, CslMacro, Date, DatePart, DatePartName, DateVariable, Group, Label,
     LayoutRenderingElement, NameVariable, Names, NumberOrPageVariable, OtherTerm, PageVariable,
     StandardVariable, Style, Term, Text,
 };
-use csl::Entry;
 use std::alloc::Global;
 
 /// The limit of the depth, as `docs/CALLING.md` gives it.
