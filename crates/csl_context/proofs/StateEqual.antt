@@ -1,5 +1,5 @@
 -- `==` of states and of renderings decides whether their views are equal.
-use Rattle.std.proofs.Common.{◌≡◌, Bool, true, false, List, refl, ap, rules}
+use Rattle.std.proofs.Common.{◌≡◌, Bool, List, refl, ap, rules}
 use Rattle.std.specs.Bool.{Decides, beq}
 use Rattle.std.specs.Cmp.Lexicographic.{pointwise}
 use Rattle.std.proofs.lemmas.Slice.Eq.{slice_eq-Decides}

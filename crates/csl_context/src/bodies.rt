@@ -70,7 +70,8 @@ impl<'s, T> Context<'s, T> {
     /// [`RenderError::Failed`]: the context had failed already.
     #[inline(never)]
     pub fn open_body(&mut self, around: BodyDressing<'_>) -> Result<OpenBody, RenderError>
-        ensures after { Runs (with_open_body (body_attributes around.entry)) result self.old self.new }
+        ensures after { Runs (with_open_body (body_attributes around.entry)) result self.old
+            self.new }
         ensures before { IfOk result (λ before. before ≡ values_before self.old.inherited) }
         ensures parts { IfOk result (λ _. HasOpenBody (body_attributes around.entry) self.new) }
     {

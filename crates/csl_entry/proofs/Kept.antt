@@ -1,9 +1,9 @@
 -- What a snapshot keeps of an entry, and what it answers.
-use Rattle.std.proofs.Common.{◌≡◌, ◌↔◌, true, false, List, [], ◌∷◌, Option, Some, None, option_map, map, Result, Ok, Err, refl, sym, subst, ap, ◌∙◌, rules}
+use Rattle.std.proofs.Common.{◌≡◌, ◌↔◌, true, false, List, [], ◌∷◌, Option, Some, None, option_map, map, Result, Ok, Err, refl, sym, ap, ◌∙◌, rules}
 use Rattle.std.specs.Prelude.{Bool, cond, ◌||◌, ◌&&◌, IfOk}
 use Rattle.std.specs.BTreeMap.{is_at}
 use Rattle.std.specs.Bool.{Decides}
-use Rattle.std.specs.List.{list_any, filter, filter_map, cons_option}
+use Rattle.std.specs.List.{list_any, filter, cons_option}
 use Rattle.std.specs.declared.cmp.Ordering.{Ordering}
 use Rattle.std.specs.declared.cmp.Ordering.TheVariants.{Equal}
 use Rattle.std.proofs.lemmas.Bool.{false≢true}
@@ -31,7 +31,7 @@ use Rattle.csl_elements.specs.contracts.taxonomy.DateVariablePartialEq.TheImpl.{
 use Rattle.csl_elements.specs.contracts.taxonomy.KindPartialEq.TheImpl.{eq-value as eq_kind}
 use Rattle.csl_entry.specs.Alike.{SameAnswer, SameNamedAnswers, Each}
 use Rattle.csl_entry.specs.Answers.{Answers}
-use Rattle.csl_entry.specs.Snapshot.{Kept, paired, keyed, with_answer, kept_answers, answer_at, some_people, people_or_none, snapshot_of, kept_in, no_answers}
+use Rattle.csl_entry.specs.Snapshot.{paired, keyed, kept_answers, answer_at, some_people, people_or_none, snapshot_of, kept_in, no_answers}
 use Rattle.csl_entry.proofs.AlikeSets.{is_equal, numbers_if, pages_if, standards_if, names_if, dates_if, kinds_if}
 
 -- ---- the views of what is kept

@@ -49,14 +49,14 @@ pub record CiteState : Type 0 where
 
 -- the state of a first cite, with its disambiguation
 abbrev pub first_cite : Disambiguation → CiteState
-first_cite told = record {
+first_cite d = record {
   first_note = None;
   is_first = true;
   is_near_note = false;
   initial_index = 0;
   locator = None;
   citation_number = 0;
-  disambiguation = told;
+  disambiguation = d;
   ibid = Different;
 }
 

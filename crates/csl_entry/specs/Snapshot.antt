@@ -5,7 +5,7 @@
 -- the entry are kept.
 -- A snapshot answers what it keeps. To other variables it has no answer, and it is of no other
 -- kind.
-use Rattle.std.specs.Prelude.{◌≡◌, Bool, false, cond, List, [], ◌∷◌, Option, Some, None, map, option_map}
+use Rattle.std.specs.Prelude.{Bool, false, cond, List, [], ◌∷◌, Option, Some, None, map, option_map}
 use Rattle.std.specs.List.{filter, filter_map, list_any}
 use Rattle.csl_common.specs.declared.form.LongShortForm.{LongShortForm}
 use Rattle.csl_common.specs.declared.form.LongShortForm.TheVariants.{Long, Short}

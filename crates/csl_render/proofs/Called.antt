@@ -1,6 +1,5 @@
 -- The context after the calls that render a text that calls a macro, one after another.
-use Rattle.std.proofs.Common.{Option, None}
-use Rattle.csl_elements.specs.declared.formatting.Display.{Display}
+use Rattle.std.proofs.Common.{None}
 use Rattle.csl_elements.specs.Dressing.{AffixTexts, TextDressing}
 use Rattle.csl_elements.specs.Node.{Nodes, expand_nodes}
 use Rattle.csl_style.specs.Expanded.{macro_env}

@@ -134,7 +134,7 @@ impl NameDisambiguationProperties {
     /// [`can_disambiguate`](Self::can_disambiguate) returns whether the call is allowed.
     pub fn disambiguate_list(&mut self, variable: NameVariable, items: &[usize]) -> bool
         requires { CanDisambiguate variable items.now (name_properties self.old) }
-        ensures told { name_properties self.new
+        ensures after { name_properties self.new
             ≡ with_disambiguated_list variable items.now (name_properties self.old) }
         ensures answer { (result ≡ Bool.false)
             ↔ (name_properties self.new ≡ name_properties self.old) }

@@ -1,4 +1,4 @@
-use Rattle.std.proofs.Common.{arith, sym}
+use Rattle.std.proofs.Common.{arith}
 use Rattle.std.proofs.lemmas.Grind.{common_steps}
 use Rattle.csl_style.proofs.AskedTerms.{child_first}
 use Rattle.csl_style.proofs.YearSuffixes.{names_sized, children_sized}

@@ -21,8 +21,8 @@ disambiguate_forms-requires c =
     let holds = holds_at lists place c.index_mut.result.now (HoldsEach c.args.items.now) (c.requires place (sym c.in-Some.ensures)) c.index_mut.ensures.value in
     λ k d within. omega (arith, holds k d within, ap length c.deref_mut.ensures.value)
 
-pub returns-clause-told : goal.returns-clause-told
-returns-clause-told c =
+pub returns-clause-after : goal.returns-clause-after
+returns-clause-after c =
     let lists = c.args.self.now.name_forms.items in
     let place = c.in-Some.place in
     let change = disambiguated_forms c.args.self.now.default_name_form c.args.items.now in
