@@ -3,10 +3,12 @@
 mod bibliography;
 mod cites;
 mod entry;
+mod full_note;
 mod html;
 mod literature;
 mod nested;
 mod render;
+mod rows;
 mod strangers;
 mod styles;
 mod tree;
@@ -49,6 +51,8 @@ pub fn count(alloc: Global, name: &str, size: usize) -> Result<usize, WorkError>
         "grouped_substitutes" => nested::grouped_substitutes(alloc, size),
         "grouped_substitutes_suppressed" => nested::grouped_substitutes_suppressed(alloc, size),
         "bibliography" => bibliography::bibliography(alloc, size),
+        "bibliography_simplified" => bibliography::bibliography_simplified(alloc, size),
+        "full_note" => full_note::full_note(alloc, size),
         "doubling" => nested::doubling(alloc, size),
         "doubling_named" => nested::doubling_named(alloc, size),
         "doubling_size" => nested::doubling_size(alloc, size),

@@ -1,57 +1,19 @@
-//! The bibliography of an author-date style, as in large styles: twenty macros, nodes nested up to
+//! The bibliography of an author-date style, as in large styles: twenty-one macros, nodes nested up
 //! fifteen deep with the macros expanded, choices and substitutes.
 
-use crate::bench::cites::{in_english, joined_by_and, year};
-use crate::bench::render::text_size;
+use crate::bench::render::{simplified_size, text_size};
+use crate::bench::rows::{CONTAINER, DOI, Holder, Part, Row, TITLE, URL, style_of};
 use crate::error::WorkError;
 use csl::style::{
-    Choose, ChooseBranch, CslMacro, DateVariable, Group, InheritableNameOptions, Kind, Label,
-    LayoutRenderingElement, Name, NameAsSortOrder, NameVariable, Names, Number,
-    NumberOrPageVariable, NumberVariable, PageVariable, StandardVariable, Substitute, Text,
-    Variable,
+    DateVariable, Kind, NameAsSortOrder, NameVariable, NumberOrPageVariable, NumberVariable,
+    PageVariable, StandardVariable, Style, Variable,
 };
 use csl_samples::BuiltIn;
 use std::alloc::Global;
 
-/// A node without children.
-enum Part {
-    Text(Variable),
-    Quoted(Variable),
-    Value(&'static str),
-    Macro(&'static str),
-    Number(NumberVariable),
-    Label(NumberOrPageVariable),
-    Year(DateVariable),
-}
+const FAMILY_FIRST: Option<NameAsSortOrder> = Some(NameAsSortOrder::First);
 
-/// The node that holds the parts of a macro.
-enum Holder {
-    /// A group with this delimiter.
-    Group(&'static str),
-    /// A choice by whether the entry has the variable.
-    Given(Variable),
-    /// A choice by whether the entry is of the kind.
-    Kind(Kind),
-    /// The names of the variable. The parts are their substitute.
-    Names(NameVariable),
-}
-
-/// A macro of one node: its name, the node, the node's parts, and the parts of the `cs:else` if the
-/// node is a choice.
-struct Row {
-    name: &'static str,
-    holder: Holder,
-    parts: &'static [Part],
-    otherwise: &'static [Part],
-}
-
-const TITLE: Variable = Variable::Standard(StandardVariable::Title);
-
-const CONTAINER: Variable = Variable::Standard(StandardVariable::ContainerTitle);
-
-const DOI: Variable = Variable::Standard(StandardVariable::DOI);
-
-static MACROS: [Row; 20] = [
+static MACROS: [Row; 21] = [
     Row {
         name: "entry",
         holder: Holder::Group(". "),
@@ -70,19 +32,25 @@ static MACROS: [Row; 20] = [
     },
     Row {
         name: "authors",
-        holder: Holder::Names(NameVariable::Author),
+        holder: Holder::Names(NameVariable::Composer, FAMILY_FIRST),
+        parts: &[Part::Macro("writers")],
+        otherwise: &[],
+    },
+    Row {
+        name: "writers",
+        holder: Holder::Names(NameVariable::Author, FAMILY_FIRST),
         parts: &[Part::Macro("editors")],
         otherwise: &[],
     },
     Row {
         name: "editors",
-        holder: Holder::Names(NameVariable::Editor),
+        holder: Holder::Names(NameVariable::Editor, FAMILY_FIRST),
         parts: &[Part::Macro("translators")],
         otherwise: &[],
     },
     Row {
         name: "translators",
-        holder: Holder::Names(NameVariable::Translator),
+        holder: Holder::Names(NameVariable::Translator, FAMILY_FIRST),
         parts: &[Part::Macro("title")],
         otherwise: &[],
     },
@@ -194,115 +162,35 @@ static MACROS: [Row; 20] = [
         name: "access",
         holder: Holder::Given(DOI),
         parts: &[Part::Text(DOI)],
-        otherwise: &[Part::Text(Variable::Standard(StandardVariable::URL))],
+        otherwise: &[Part::Text(URL)],
     },
 ];
 
-/// The node of a part.
-fn node(alloc: Global, part: &Part) -> Result<LayoutRenderingElement, WorkError> {
-    match part {
-        Part::Text(variable) => Ok(Text::variable(*variable).into()),
-        Part::Quoted(variable) => Ok(Text {
-            quotes: true,
-            ..Text::variable(*variable)
-        }
-        .into()),
-        Part::Value(words) => Ok(Text::value(alloc, words)?.into()),
-        Part::Macro(name) => Ok(Text::macro_call(alloc, name)?.into()),
-        Part::Number(variable) => Ok(Number::new((*variable).into()).into()),
-        Part::Label(variable) => Ok(Label::short(*variable).into()),
-        Part::Year(variable) => year(alloc, *variable),
-    }
-}
-
-/// The nodes of the parts.
-fn nodes(alloc: Global, parts: &[Part]) -> Result<Vec<LayoutRenderingElement>, WorkError> {
-    let mut nodes = Vec::new(alloc);
-    for part in parts {
-        nodes.push(node(alloc, part)?)?;
-    }
-    Ok(nodes)
-}
-
-/// A choice of one branch and the `cs:else` nodes.
-fn choice(
-    alloc: Global,
-    branch: ChooseBranch,
-    otherwise: Vec<LayoutRenderingElement>,
-) -> LayoutRenderingElement {
-    Choose {
-        otherwise: Some(otherwise),
-        ..Choose::new(alloc, branch)
-    }
-    .into()
-}
-
-/// The names of a variable, the first with the family name first, and their substitute.
-fn persons(
-    alloc: Global,
-    variable: NameVariable,
-    instead: Vec<LayoutRenderingElement>,
-) -> Result<LayoutRenderingElement, WorkError> {
-    let options = InheritableNameOptions {
-        name_as_sort_order: Some(NameAsSortOrder::First),
-        ..joined_by_and()
-    };
-    let name = Name {
-        options,
-        ..Name::new(alloc)
-    };
-    let substitute = Substitute { children: instead };
-    let variables = vec![in alloc; variable]?;
-    let names = Names {
-        children: vec![in alloc; name.into(), substitute.into()]?,
-        ..Names::new(alloc, variables)
-    };
-    Ok(names.into())
-}
-
-/// The node of a row's macro.
-fn held(alloc: Global, row: &Row) -> Result<LayoutRenderingElement, WorkError> {
-    let parts = nodes(alloc, row.parts)?;
-    let otherwise = nodes(alloc, row.otherwise)?;
-    match &row.holder {
-        Holder::Group(delimiter) => Ok(Group::delimited(alloc, delimiter, parts)?.into()),
-        Holder::Given(variable) => {
-            let branch = ChooseBranch {
-                variable: Some(vec![in alloc; *variable]?),
-                ..ChooseBranch::new(parts)
-            };
-            Ok(choice(alloc, branch, otherwise))
-        }
-        Holder::Kind(kind) => {
-            let branch = ChooseBranch {
-                type_: Some(vec![in alloc; *kind]?),
-                ..ChooseBranch::new(parts)
-            };
-            Ok(choice(alloc, branch, otherwise))
-        }
-        Holder::Names(variable) => persons(alloc, *variable, parts),
-    }
-}
-
-/// All macros of the style.
-fn macros(alloc: Global) -> Result<Vec<CslMacro>, WorkError> {
-    let mut macros = Vec::new(alloc);
-    for row in &MACROS {
-        let nodes = vec![in alloc; held(alloc, row)?]?;
-        macros.push(CslMacro::new(alloc, row.name, nodes)?)?;
-    }
-    Ok(macros)
+/// The style of these macros.
+fn style(alloc: Global) -> Result<Style, WorkError> {
+    style_of(alloc, &MACROS, "entry")
 }
 
 /// Cites an article of a journal `size` times in the style, in English, and counts the bytes of the
 /// plain texts.
 pub fn bibliography(alloc: Global, size: usize) -> Result<usize, WorkError> {
-    let entry = Text::macro_call(alloc, "entry")?;
-    let style = in_english(alloc, macros(alloc)?, entry.into(), 0)?;
+    let style = style(alloc)?;
     let article = BuiltIn::QuantizedVortex.entry(alloc)?;
     let mut bytes = 0;
     for _ in 0..size {
         bytes += text_size(alloc, &style, &article)?;
+    }
+    Ok(bytes)
+}
+
+/// Cites the article `size` times, makes the normal form of each content, and counts the bytes of
+/// text in these.
+pub fn bibliography_simplified(alloc: Global, size: usize) -> Result<usize, WorkError> {
+    let style = style(alloc)?;
+    let article = BuiltIn::QuantizedVortex.entry(alloc)?;
+    let mut bytes = 0;
+    for _ in 0..size {
+        bytes += simplified_size(alloc, &style, &article)?;
     }
     Ok(bytes)
 }

@@ -11,6 +11,7 @@ use csl::style::{
     CslMacro, Group, Layout, LayoutRenderingElement, PageRangeFormat, PageVariable, Style,
     StyleSettings, Text,
 };
+use csl::tree::simplify_fully;
 use csl::{
     BufWriteFormat, CiteProperties, DisambiguateState, EntryLike, InstanceContext, RenderError,
     Rendered, cite_pair, named_by,
@@ -62,6 +63,17 @@ pub fn text_size<T: EntryLike>(
             .to_text(alloc, BufWriteFormat::Plain)?
             .len(),
     )
+}
+
+/// Renders the first cite of an entry, and counts the bytes of text in the normal form of its
+/// content.
+pub fn simplified_size<T: EntryLike>(
+    alloc: Global,
+    style: &Style,
+    entry: &T,
+) -> Result<usize, WorkError> {
+    let rendered = rendered(alloc, style, entry)?;
+    Ok(simplify_fully(alloc, &rendered.content)?.str_len())
 }
 
 /// Renders an article of one author without the author, and counts the bytes of the plain text.
