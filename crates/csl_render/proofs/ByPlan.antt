@@ -13,7 +13,7 @@ use Rattle.csl_context.specs.declared.error.RenderError.TheVariants.{Memory, Fai
 use Rattle.csl_render.specs.declared.plan.ListPlan.{ListPlan}
 use Rattle.csl_render.specs.declared.plan.NodeInfo.{NodeInfo}
 use Rattle.csl_render.specs.declared.plan.NodePlan.{NodePlan}
-use Rattle.csl_render.specs.Plan.{AreReadAlike, inside_of, AreInside, AreInfos, AreOfSubstitutes, IsPlan, ArePlans, HasPlans, HasPlansOfSubstitutes}
+use Rattle.csl_render.specs.Plan.{inside_of, AreInside, AreInfos, AreOfSubstitutes, IsPlan, ArePlans, HasPlans, HasPlansOfSubstitutes}
 use Rattle.csl_render.specs.Names.{expanded_substitutes_of}
 use Rattle.csl_render.proofs.Plans.{substitutes_inside}
 
@@ -29,7 +29,7 @@ inside_planned w fs (Some node) (Some nodes) h same =
 -- names have a plan of their first substitute
 pub names_planned : (w : RenderInput) (s : State) (env : List ℕ → Option ExpandedNodes) (x : Names) (plan : Option NodePlan) → IfSome plan (IsPlan w s (expand env (view_names x))) → IfSome plan (HasPlansOfSubstitutes w (expanded_substitutes_of env x))
 names_planned w s env x None h = tt
-names_planned w s env x (Some p) h = substitutes_inside w p.at.now env x (inside_of p.info.now) h.1.1
+names_planned w s env x (Some p) h = substitutes_inside w p.at.now s env x (inside_of p.info.now) (h.1 s h.0).1
 
 -- the plan of the first substitute is that of its children
 pub substitute_planned : (w : RenderInput) (ss : ExpandedSubstitutes) (fs : ExpandedNodes) → ((at : State) → (is : List NodeInfo) → AreOfSubstitutes w at ss is → AreInfos w at fs is)
@@ -38,14 +38,14 @@ substitute_planned w ss fs planned None h = tt
 substitute_planned w ss fs planned (Some p) h = planned p.at.now (inside_of p.info.now) h
 
 -- the plan of a choice is that of the nodes that it takes
-pub taken_planned : (w : RenderInput) (s : State) (f : ExpandedNode) (fs : ExpandedNodes) → ((at : State) → AreReadAlike w at s → (is : List NodeInfo) → AreInside w at f is → AreInfos w at fs is)
+pub taken_planned : (w : RenderInput) (s : State) (f : ExpandedNode) (fs : ExpandedNodes) → ((at : State) → (is : List NodeInfo) → AreInside w at s f is → AreInfos w at fs is)
     → (plan : Option NodePlan) (inside : Option ListPlan) → IfSome plan (IsPlan w s f) → IfSome inside (λ nodes. IsSomeAnd plan (λ node. (nodes.at.now ≡ node.at.now) × (nodes.infos.now ≡ inside_of node.info.now)))
     → IfSome inside (ArePlans w fs)
 taken_planned w s f fs planned plan None h same = tt
 taken_planned w s f fs planned None (Some nodes) h same = absurd same
 taken_planned w s f fs planned (Some node) (Some nodes) h same =
     subst (λ at. AreInfos w at fs nodes.infos.now) (sym same.0)
-    (subst (λ is. AreInfos w node.at.now fs is) (sym same.1) (planned node.at.now h.0 (inside_of node.info.now) h.1.1))
+    (subst (λ is. AreInfos w node.at.now fs is) (sym same.1) (planned node.at.now (inside_of node.info.now) (h.1 s h.0).1))
 
 -- ---- calls that change the context by an equal function
 

@@ -1,11 +1,11 @@
 -- A choice has the dry run (without the group flag), the shown variables and the output of the
 -- nodes that it takes.
-use Rattle.std.proofs.Common.{◌≡◌, ℕ, ◌<◌, ◌+◌, suc, Bool, true, false, List, Option, Some, None, option_map, IfSome, if◌then◌else◌, refl, ap, sym, arith}
-use Rattle.csl_elements.specs.declared.element.Choose.{Choose}
+use Rattle.std.proofs.Common.{◌≡◌, ℕ, ◌<◌, ◌+◌, suc, Bool, true, false, List, ◌∷◌, map, Option, Some, None, option_map, IfSome, if◌then◌else◌, refl, ap, sym, arith}
+use Rattle.csl_elements.specs.declared.element.Choose.{Choose, out-Choose}
 use Rattle.csl_elements.specs.declared.taxonomy.Variable.{Variable}
 use Rattle.csl_elements.specs.declared.element.LayoutRenderingElement.TheFolds.{fold_out-Choose}
 use Rattle.csl_elements.specs.Node.{Node, choose, Nodes, Branches, no_branches, otherwise, branch, ExpandedNodes, expand, expand_nodes, expand_branches, size, sizes, expanded_branches_size}
-use Rattle.csl_elements.specs.View.{view_choose, NamesChildView, BranchView, element_step, child_step, choose_step, branch_step, group_step, names_step, substitute_step}
+use Rattle.csl_elements.specs.View.{view_branch, view_choose, branches_of, NamesChildView, BranchView, element_step, child_step, choose_step, branch_step, group_step, names_step, substitute_step}
 use Rattle.csl_context.specs.State.{State, Inherited}
 use Rattle.csl_context.specs.RenderInput.{RenderInput}
 use Rattle.csl_nodes.specs.Conditions.{branch_matches, chosen_nodes, chosen_children}
@@ -16,6 +16,10 @@ IsChoice n = (bs : Branches) × (n ≡ choose bs)
 
 pub is_choice : (c : Choose) → IsChoice (view_choose c)
 is_choice c = (_, fold_out-Choose Node NamesChildView Node BranchView Node Node Nodes element_step child_step choose_step branch_step group_step names_step substitute_step c)
+
+-- a choice as data
+pub choice_out : (c : Choose) → (o : Option Nodes) × (view_choose c ≡ choose (branches_of (map view_branch ((out-Choose c).if_ ∷ (out-Choose c).else_if.items)) o))
+choice_out c = (_, fold_out-Choose Node NamesChildView Node BranchView Node Node Nodes element_step child_step choose_step branch_step group_step names_step substitute_step c)
 
 module _ (w : RenderInput) (s : State) (env : List ℕ → Option ExpandedNodes) where
   -- a function of the chosen nodes, branch by branch

@@ -33,6 +33,9 @@ module _ {X : Type 0} (Right : List ℕ → X → Type 0) where
   pub learned : {S : Type 0} (m n : HashMap (Bor (List ℕ)) X S) (k : Bor (List ℕ)) (x : X) → Updates text_eq m n k (Some x) → Kept m → Right k.now x → Kept n
   learned m n k x up kept new q y e = kept_by k q (text_eq k q) x y (get text_eq m q) refl (kept q y) new (sym (up.0 q) ∙ e)
 
+  pub unchanged : {S : Type 0} (m n : HashMap (Bor (List ℕ)) X S) → n.entries ≡ m.entries → Kept m → Kept n
+  unchanged m n same kept name a e = kept name a (ap (lookup (text_eq name)) (sym same) ∙ e)
+
 -- a value that is found has a property that each such value has
 pub recalled : {X : Type 0} (P : X → Type 0) (o : Option X) → ((a : X) → o ≡ Some a → P a) → IfSome o P
 recalled P None h = tt

@@ -1,30 +1,52 @@
--- Dry runs read of a state the suppressed variables and, under two special forms, whether a date
--- was rendered.
-use Rattle.std.proofs.Common.{◌≡◌, Bool, true, false, List, [], ◌∷◌, map, Option, Some, None, refl, sym, ap, ap₂, ◌∙◌}
-use Rattle.std.specs.Prelude.{◌||◌, ◌&&◌, not, is_some, if◌then◌else◌}
+-- Dry runs read of a state whether variables are suppressed and, under two special forms, whether a
+-- date was rendered. In two states that agree on what a dry run reads it has one result.
+use Rattle.std.proofs.Common.{◌≡◌, Bool, true, false, length, List, [], ◌∷◌, map, Option, Some, None, IfSome, refl, sym, ap, ap₂, subst, ◌∙◌}
+use mathlib.Core.Bool.{beq}
+use Rattle.std.specs.Prelude.{◌||◌, ◌&&◌, ◌==◌, not, is_some, unwrap_or, if◌then◌else◌, option_map}
+use Rattle.std.specs.BTreeMap.{is_at}
+use Rattle.std.specs.List.{list_any}
+use Rattle.std.specs.Ordering.{is_eq}
+use Rattle.std.specs.declared.cmp.Ordering.{Ordering}
+use Rattle.std.specs.declared.cmp.Ordering.TheVariants.{Less, Equal, Greater}
+use Rattle.lit_model.specs.Chunks.{is_white_space}
+use Rattle.csl_common.specs.declared.form.LongShortForm.{LongShortForm}
+use Rattle.csl_elements.proofs.Variables.{variable_ordered}
 use Rattle.csl_elements.specs.declared.taxonomy.DateVariable.{DateVariable}
 use Rattle.csl_elements.specs.declared.taxonomy.NameVariable.{NameVariable}
+use Rattle.csl_elements.specs.declared.taxonomy.NumberVariable.{NumberVariable}
 use Rattle.csl_elements.specs.declared.taxonomy.NumberOrPageVariable.{NumberOrPageVariable}
 use Rattle.csl_elements.specs.declared.taxonomy.NumberOrPageVariable.TheVariants as number_or_page
+use Rattle.csl_elements.specs.declared.taxonomy.PageVariable.{PageVariable}
+use Rattle.csl_elements.specs.declared.taxonomy.StandardVariable.{StandardVariable}
 use Rattle.csl_elements.specs.declared.taxonomy.Variable.{Variable}
 use Rattle.csl_elements.specs.declared.taxonomy.Variable.TheVariants as variable
-use Rattle.csl_elements.specs.Names.{LabelNode}
+use Rattle.csl_elements.specs.Names.{LabelNode, NamesNode}
 use Rattle.csl_elements.specs.Node.{Tests, Target, of_variable, of_term, of_value, NumberNode, ExpandedNode, expanded_text, expanded_macro, unknown_macro, expanded_number, expanded_label, expanded_date, expanded_names, shorthand, expanded_choose, expanded_group, ExpandedNodes, no_expanded_nodes, expanded_node, ExpandedBranches, no_expanded_branches, expanded_otherwise, expanded_branch, ExpandedSubstitutes, no_expanded_substitutes, expanded_substitute}
+use Rattle.csl_elements.specs.Taxonomy.{variable_of}
+use Rattle.csl_entry.specs.Alike.{Each}
+use Rattle.csl_entry.specs.Instance.{resolve_number, resolve_page, resolve_standard, resolve_names, resolve_date}
 use Rattle.csl_entry.specs.declared.citation.cite.SpecialForm.{SpecialForm}
 use Rattle.csl_entry.specs.declared.citation.cite.SpecialForm.TheVariants.{VarOnly, OnlyFirstDate, OnlyYearSuffix, SuppressAuthor}
-use Rattle.csl_context.specs.State.{State}
-use Rattle.csl_context.specs.RenderInput.{RenderInput, peek_names, peek_date}
+use Rattle.csl_context.specs.State.{State, is_suppressed, variable_cmp}
+use Rattle.csl_context.specs.RenderInput.{RenderInput, peek_number, peek_page, peek_standard, peek_names, peek_date}
 use Rattle.csl_names.specs.NamesLists.{all_empty, peeked_lists}
+use Rattle.csl_entry.specs.NumberResult.{number, page}
 use Rattle.csl_nodes.specs.NumberOrPage.{peek_number_or_page}
-use Rattle.csl_nodes.specs.Conditions.{is_numeric, is_present, all_if, branch_matches}
+use Rattle.csl_nodes.specs.Conditions.{is_some_and, is_number, is_typed, is_typed_result, is_numeric, is_uncertain, is_present, all_if, branch_matches}
 use Rattle.csl_nodes.specs.Dates.{date_shows_variable, variable_info}
-use Rattle.csl_nodes.specs.Usage.{no_info, info_union, as_child_info, without_group_flag, macro_info, group_info}
-use Rattle.csl_nodes.specs.Labels.{label_info}
+use Rattle.csl_nodes.specs.Usage.{info_of, no_usage_flags, no_info}
+use Rattle.csl_nodes.specs.Labels.{text_beside, label_by_special_form, label_info}
 use Rattle.csl_nodes.specs.Numbers.{presence_info, shows_own, number_info}
-use Rattle.csl_nodes.specs.Text.{calls, resolved_text, resolved_info, is_of}
-use Rattle.csl_render.specs.Names.{author, names_show, names_info}
-use Rattle.csl_render.specs.Plan.{asks_for_dates, dry, AreReadAlike}
-use Rattle.csl_render.specs.Tree.{info, nodes_info, branches_info, substitute_info, shows, any_shows, branches_show, substitute_shows, is_group}
+use Rattle.csl_nodes.specs.Text.{standard_text, number_result, shows_variable, calls, resolved_variable, resolved_text, resolved_info, is_of, target_info}
+use Rattle.csl_render.specs.declared.variable_set.VariableSet.{VariableSet}
+use Rattle.csl_names.specs.NamesForms.{writes_no_name}
+use Rattle.csl_render.specs.Names.{author, is_refused, names_show, names_info, names_or_substitute_info}
+use Rattle.csl_render.specs.Plan.{asks_for_dates, asks_for_author, dry, AreSuppressedAlike, AreAlikeOn, AreKept, HasTested, HasReadByNames}
+use Rattle.csl_render.specs.Tree.{info, shows, any_shows, branches_show, substitute_shows, substitute_info}
+use Rattle.csl_render.specs.VariableSet.{Has, IsWithin}
+use Rattle.csl_render.proofs.VariableSets.{each_of}
+
+-- ---- dates
 
 date_shown_dry : (special : Option SpecialForm) (seen : Bool) (own : Option DateVariable) (v : Variable) → date_shows_variable special (not (asks_for_dates special && seen)) own v ≡ date_shows_variable special (not seen) own v
 date_shown_dry None seen own v = refl
@@ -33,139 +55,203 @@ date_shown_dry (Some OnlyFirstDate) seen own v = refl
 date_shown_dry (Some OnlyYearSuffix) seen own v = refl
 date_shown_dry (Some SuppressAuthor) seen own v = refl
 
-module _ (w : RenderInput) (s : State) where
-  abbrev d : State
-  d = dry w.instance.special s
+date_shown_same : (w : RenderInput) (s u : State) → (asks_for_dates w.instance.special && s.first_date_seen) ≡ (asks_for_dates w.instance.special && u.first_date_seen) → (own : Option DateVariable) (v : Variable)
+    → date_shows_variable w.instance.special (not s.first_date_seen) own v ≡ date_shows_variable w.instance.special (not u.first_date_seen) own v
+date_shown_same w s u marks own v =
+    sym (date_shown_dry w.instance.special s.first_date_seen own v)
+    ∙ ap (λ b. date_shows_variable w.instance.special (not b) own v) marks
+    ∙ date_shown_dry w.instance.special u.first_date_seen own v
 
-  numeric_dry : (x : Variable) → is_numeric w d x ≡ is_numeric w s x
-  numeric_dry (variable.Standard x) = refl
-  numeric_dry (variable.Number x) = refl
-  numeric_dry (variable.Page x) = refl
-  numeric_dry (variable.Name x) = refl
-  numeric_dry (variable.Date x) = refl
+-- ---- one variable
 
-  present_dry : (x : Variable) → is_present w d x ≡ is_present w s x
-  present_dry (variable.Standard x) = refl
-  present_dry (variable.Number x) = refl
-  present_dry (variable.Page x) = refl
-  present_dry (variable.Name x) = refl
-  present_dry (variable.Date x) = refl
+module _ (w : RenderInput) (s u : State) where
+  abbrev Same : Variable → Type 0
+  Same v = is_suppressed s v ≡ is_suppressed u v
 
-  each_dry : {A : Type 0} (f g : A → Bool) → ((x : A) → f x ≡ g x) → (xs : List A) → map f xs ≡ map g xs
-  each_dry f g h [] = refl
-  each_dry f g h (x ∷ xs) = ap₂ (λ y ys. y ∷ ys) (h x) (each_dry f g h xs)
+  number_same : (v : NumberVariable) → Same (variable.Number v) → peek_number w s v ≡ peek_number w u v
+  number_same v e = ap (λ b. if b then None else resolve_number w.instance v) e
 
-  pub holds_dry : (ts : Tests) → branch_matches w d ts ≡ branch_matches w s ts
-  unfolding branch_matches
-  holds_dry ts =
-      let numbers = each_dry (is_numeric w d) (is_numeric w s) numeric_dry (all_if ts.is_numeric) in
-      let present = each_dry (is_present w d) (is_present w s) present_dry (all_if ts.variable) in
-      rw (numbers, present) refl
+  page_same : (v : PageVariable) → Same (variable.Page v) → peek_page w s v ≡ peek_page w u v
+  page_same v e = ap (λ b. if b then None else resolve_page w.instance v) e
 
-  number_or_page_dry : (v : NumberOrPageVariable) → peek_number_or_page w d v ≡ peek_number_or_page w s v
-  number_or_page_dry (number_or_page.Number v) = refl
-  number_or_page_dry (number_or_page.Page v) = refl
+  standard_same : (form : LongShortForm) (v : StandardVariable) → Same (variable.Standard v) → peek_standard w s form v ≡ peek_standard w u form v
+  standard_same form v e = ap (λ b. if b then None else resolve_standard w.instance form v) e
 
-  found_dry : (t : Target) → resolved_text w d t ≡ resolved_text w s t
-  found_dry (of_variable (variable.Standard v) form) = refl
-  found_dry (of_variable (variable.Number v) form) = refl
-  found_dry (of_variable (variable.Page v) form) = refl
-  found_dry (of_variable (variable.Name v) form) = refl
-  found_dry (of_variable (variable.Date v) form) = refl
-  found_dry (of_term t form plural) = refl
-  found_dry (of_value bs) = refl
+  names_same : (v : NameVariable) → Same (variable.Name v) → peek_names w s v ≡ peek_names w u v
+  names_same v e = ap (λ b. if b then [] else resolve_names w.instance v) e
 
-  number_dry : (n : NumberNode) → number_info w d n ≡ number_info w s n
-  number_dry n = ap (λ o. presence_info (if shows_own w n then is_some o else false)) (number_or_page_dry n.variable)
+  date_same : (v : DateVariable) → Same (variable.Date v) → peek_date w s v ≡ peek_date w u v
+  date_same v e = ap (λ b. if b then None else resolve_date w.instance v) e
 
-  label_dry : (v : NumberOrPageVariable) (l : LabelNode) → label_info w d v l ≡ label_info w s v l
-  label_dry (number_or_page.Number v) l = refl
-  label_dry (number_or_page.Page v) l = refl
+  number_or_page_same : (v : NumberOrPageVariable) → Same (variable_of v) → peek_number_or_page w s v ≡ peek_number_or_page w u v
+  number_or_page_same (number_or_page.Number v) e = ap (option_map number) (number_same v e)
+  number_or_page_same (number_or_page.Page v) e = ap (option_map page) (page_same v e)
 
-  date_dry : (o : Option DateVariable) → variable_info w d o ≡ variable_info w s o
-  date_dry None = refl
-  date_dry (Some v) = ap (λ b. if b then presence_info (is_some (peek_date w s v)) else no_info)
-      (date_shown_dry w.instance.special s.first_date_seen (Some v) (variable.Date v))
+  numeric_same : (v : Variable) → Same v → is_numeric w s v ≡ is_numeric w u v
+  numeric_same (variable.Standard v) e = ap (is_some_and is_number) (standard_same _ v e)
+  numeric_same (variable.Number v) e = ap (is_some_and is_typed_result) (number_same v e)
+  numeric_same (variable.Page v) e = ap (is_some_and is_typed) (page_same v e)
+  numeric_same (variable.Name v) e = refl
+  numeric_same (variable.Date v) e = refl
 
-  lists_dry : (vs : List NameVariable) → peeked_lists w d vs ≡ peeked_lists w s vs
-  lists_dry [] = refl
-  lists_dry (v ∷ vs) = ap (λ l. (peek_names w s v, v) ∷ l) (lists_dry vs)
+  present_same : (v : Variable) → Same v → is_present w s v ≡ is_present w u v
+  present_same (variable.Standard v) e = ap (λ o. is_some_and (λ cs. not (is_white_space cs)) o) (standard_same _ v e)
+  present_same (variable.Number v) e = ap (λ o. is_some o) (number_same v e)
+  present_same (variable.Page v) e = ap (λ o. is_some o) (page_same v e)
+  present_same (variable.Name v) e = ap (λ l. not (length l == 0)) (names_same v e)
+  present_same (variable.Date v) e = ap (λ o. is_some o) (date_same v e)
 
-  mutual
-    shows_dry : (v : Variable) (f : ExpandedNode) → shows w d v f ≡ shows w s v f
-    shows_dry v (expanded_text t d) = ap (λ o. is_some o && is_of v t) (found_dry t)
-    shows_dry v (expanded_macro fs d) = any_dry v fs
-    shows_dry v unknown_macro = refl
-    shows_dry v (expanded_number n) = refl
-    shows_dry v (expanded_label u l) = refl
-    shows_dry v (expanded_date n) = date_shown_dry w.instance.special s.first_date_seen n.variable v
-    shows_dry v (expanded_names n is) = ap₂ (λ ls b. names_show v n (all_empty ls) b) (lists_dry n.variables) (substitute_shows_dry v is)
-    shows_dry v (shorthand written n) = ap (λ ls. names_show v written (all_empty ls) false) (lists_dry written.variables)
-    shows_dry v (expanded_choose cs) = cases_show_dry v cs
-    shows_dry v (expanded_group delimiter d fs) = any_dry v fs
+  uncertain_same : (v : DateVariable) → Same (variable.Date v) → is_uncertain w s v ≡ is_uncertain w u v
+  uncertain_same v e = ap (λ o. is_some_and (λ d. d.approximate) o) (date_same v e)
 
-    any_dry : (v : Variable) (fs : ExpandedNodes) → any_shows w d v fs ≡ any_shows w s v fs
-    any_dry v no_expanded_nodes = refl
-    any_dry v (expanded_node f fs) = ap₂ (λ a b. a || b) (shows_dry v f) (any_dry v fs)
+  resolved_same : (form : LongShortForm) (v : Variable) → Same v → resolved_variable w s form v ≡ resolved_variable w u form v
+  resolved_same form (variable.Standard v) e = ap (option_map (standard_text v)) (standard_same form v e)
+  resolved_same form (variable.Number v) e = ap (λ o. option_map (number_result (number_or_page.Number v)) (option_map number o)) (number_same v e)
+  resolved_same form (variable.Page v) e = ap (λ o. option_map (number_result (number_or_page.Page v)) (option_map page o)) (page_same v e)
+  resolved_same form (variable.Name v) e = refl
+  resolved_same form (variable.Date v) e = refl
 
-    cases_show_dry : (v : Variable) (cs : ExpandedBranches) → branches_show w d v cs ≡ branches_show w s v cs
-    cases_show_dry v no_expanded_branches = refl
-    cases_show_dry v (expanded_otherwise fs) = any_dry v fs
-    cases_show_dry v (expanded_branch ts fs cs) = ap₂ (λ b y. if b then any_shows w d v fs else y) (holds_dry ts) (cases_show_dry v cs) ∙ ap (λ x. if branch_matches w s ts then x else branches_show w s v cs) (any_dry v fs)
+  text_same : (form : LongShortForm) (v : Variable) → Same v → resolved_text w s (of_variable v form) ≡ resolved_text w u (of_variable v form)
+  text_same form v e = ap (λ o. if shows_variable w.instance.special v then o else None) (resolved_same form v e)
 
-    substitute_shows_dry : (v : Variable) (is : ExpandedSubstitutes) → substitute_shows w d v is ≡ substitute_shows w s v is
-    substitute_shows_dry v no_expanded_substitutes = refl
-    substitute_shows_dry v (expanded_substitute fs is) = any_dry v fs
+  -- ---- nodes that read one variable
 
-  mutual
-    pub info_dry : (f : ExpandedNode) → info w d f ≡ info w s f
-    info_dry (expanded_text t d) = ap (resolved_info (calls t)) (found_dry t)
-    info_dry (expanded_macro fs d) = ap (λ i. macro_info (without_group_flag i)) (infos_dry fs)
-    info_dry unknown_macro = refl
-    info_dry (expanded_number n) = number_dry n
-    info_dry (expanded_label v l) = label_dry v l
-    info_dry (expanded_date n) = date_dry n.variable
-    info_dry (expanded_names n is) =
-        ap₂ (λ ls b. names_info w.instance.special n ls is b (substitute_info w d is)) (lists_dry n.variables) (shows_dry author (expanded_names n is))
-        ∙ ap (names_info w.instance.special n (peeked_lists w s n.variables) is (shows w s author (expanded_names n is))) (substitute_info_dry is)
-    info_dry (shorthand written n) =
-        ap₂ (λ ls b. names_info w.instance.special written ls no_expanded_substitutes b no_info) (lists_dry written.variables) (shows_dry author (shorthand written n))
-    info_dry (expanded_choose cs) = cases_info_dry cs
-    info_dry (expanded_group delimiter d fs) = ap group_info (infos_dry fs)
+  pub variable_info_same : (form : LongShortForm) (v : Variable) → Same v → target_info w s (of_variable v form) ≡ target_info w u (of_variable v form)
+  variable_info_same form v e = ap (resolved_info (calls (of_variable v form))) (text_same form v e)
 
-    infos_dry : (fs : ExpandedNodes) → nodes_info w d fs ≡ nodes_info w s fs
-    infos_dry no_expanded_nodes = refl
-    infos_dry (expanded_node f fs) = ap₂ (λ a b. info_union (as_child_info (is_group f) a) b) (info_dry f) (infos_dry fs)
+  pub number_info_same : (n : NumberNode) → Same (variable_of n.variable) → number_info w s n ≡ number_info w u n
+  number_info_same n e = ap (λ o. presence_info (if shows_own w n then is_some o else false)) (number_or_page_same n.variable e)
 
-    cases_info_dry : (cs : ExpandedBranches) → branches_info w d cs ≡ branches_info w s cs
-    cases_info_dry no_expanded_branches = refl
-    cases_info_dry (expanded_otherwise fs) = ap without_group_flag (infos_dry fs)
-    cases_info_dry (expanded_branch ts fs cs) = ap₂ (λ b y. if b then without_group_flag (nodes_info w d fs) else y) (holds_dry ts) (cases_info_dry cs) ∙ ap (λ x. if branch_matches w s ts then without_group_flag x else branches_info w s cs) (infos_dry fs)
+  pub label_info_same : (v : NumberOrPageVariable) (l : LabelNode) → Same (variable_of v) → label_info w s v l ≡ label_info w u v l
+  label_info_same v l e = ap (λ o. info_of (unwrap_or (label_by_special_form w.instance.special v) (is_some (text_beside w v l o))) no_usage_flags) (number_or_page_same v e)
 
-    substitute_info_dry : (is : ExpandedSubstitutes) → substitute_info w d is ≡ substitute_info w s is
-    substitute_info_dry no_expanded_substitutes = refl
-    substitute_info_dry (expanded_substitute fs is) = ap without_group_flag (infos_dry fs)
+  pub date_info_same : (asks_for_dates w.instance.special && s.first_date_seen) ≡ (asks_for_dates w.instance.special && u.first_date_seen) → (o : Option DateVariable) → IfSome o (λ v. Same (variable.Date v)) → variable_info w s o ≡ variable_info w u o
+  date_info_same marks None e = refl
+  date_info_same marks (Some v) e = ap₂ (λ b o. if b then presence_info (is_some o) else no_info) (date_shown_same w s u marks (Some v) (variable.Date v)) (date_same v e)
 
--- dry runs have the same result in two states of which they read the same
-module _ (w : RenderInput) (s t : State) (alike : AreReadAlike w s t) where
-  pub info_alike : (f : ExpandedNode) → info w s f ≡ info w t f
-  info_alike f = sym (info_dry w s f) ∙ ap (λ x. info w x f) alike ∙ info_dry w t f
+  -- ---- lists
 
-  pub holds_alike : (ts : Tests) → branch_matches w s ts ≡ branch_matches w t ts
-  holds_alike ts = sym (holds_dry w s ts) ∙ ap (λ x. branch_matches w x ts) alike ∙ holds_dry w t ts
+  each_same : {A : Type 0} (P : A → Type 0) (f g : A → Bool) → ((x : A) → P x → f x ≡ g x) → (xs : List A) → Each P xs → map f xs ≡ map g xs
+  each_same P f g h [] e = refl
+  each_same P f g h (x ∷ xs) e = ap₂ (λ y ys. y ∷ ys) (h x e.0) (each_same P f g h xs e.1)
 
--- dry runs read the same of two states if the two parts that they read are equal
-pub read_alike : (special : Option SpecialForm) (s t : State) → (asks_for_dates special && s.first_date_seen) ≡ (asks_for_dates special && t.first_date_seen) → s.suppressed ≡ t.suppressed → dry special s ≡ dry special t
-read_alike special s t mark keys = ap₂ (λ ks b. record { suppressed = ks; suppressing = false; first_date_seen = b; first_names = None }) keys mark
+  module _ (read : VariableSet) (alike : AreSuppressedAlike read s u) where
+    pub lists_same : (vs : List NameVariable) → Each (λ v. Has read (variable.Name v)) vs → peeked_lists w s vs ≡ peeked_lists w u vs
+    lists_same [] e = refl
+    lists_same (v ∷ vs) e = ap₂ (λ l ls. (l, v) ∷ ls) (names_same v (alike (variable.Name v) e.0)) (lists_same vs e.1)
 
-pub mark_unread : (a seen first : Bool) → not a ≡ true → (a && seen) ≡ (a && not first)
-mark_unread false seen first e = refl
-mark_unread true seen first e = absurd (cc)
+    -- a branch whose tests read these variables is taken in both states or in none
+    pub matches_same : (ts : Tests) → HasTested read ts → branch_matches w s ts ≡ branch_matches w u ts
+    unfolding branch_matches
+    matches_same ts h =
+        let numbers = each_same (Has read) (is_numeric w s) (is_numeric w u) (λ v e. numeric_same v (alike v e)) (all_if ts.is_numeric) h.0 in
+        let dates = each_same (λ v. Has read (variable.Date v)) (is_uncertain w s) (is_uncertain w u) (λ v e. uncertain_same v (alike (variable.Date v) e)) (all_if ts.is_uncertain_date) h.1 in
+        let present = each_same (Has read) (is_present w s) (is_present w u) (λ v e. present_same v (alike v e)) (all_if ts.variable) h.2 in
+        rw (numbers, dates, present) refl
 
-pub mark_unset : (a seen : Bool) → not seen ≡ true → (a && seen) ≡ (a && not true)
-mark_unset a false e = refl
-mark_unset a true e = absurd (cc)
+    -- ---- everything
 
-pub mark_set : (a seen : Bool) → seen ≡ true → (a && seen) ≡ (a && not false)
-mark_set a true e = refl
-mark_set a false e = absurd (cc)
+    module _ (all : (v : Variable) → Has read v) (marks : (asks_for_dates w.instance.special && s.first_date_seen) ≡ (asks_for_dates w.instance.special && u.first_date_seen)) where
+      all_tested : (ts : Tests) → HasTested read ts
+      all_tested ts = (each_of (Has read) all _, each_of (λ v. Has read (variable.Date v)) (λ v. all (variable.Date v)) _, each_of (Has read) all _)
+
+      all_lists_same : (vs : List NameVariable) → peeked_lists w s vs ≡ peeked_lists w u vs
+      all_lists_same vs = lists_same vs (each_of (λ v. Has read (variable.Name v)) (λ v. all (variable.Name v)) vs)
+
+      all_text_same : (t : Target) → resolved_text w s t ≡ resolved_text w u t
+      all_text_same (of_variable v form) = text_same form v (alike v (all v))
+      all_text_same (of_term t form plural) = refl
+      all_text_same (of_value bs) = refl
+
+      mutual
+        pub shows_same : (v : Variable) (f : ExpandedNode) → shows w s v f ≡ shows w u v f
+        shows_same v (expanded_text t d) = ap (λ o. is_some o && is_of v t) (all_text_same t)
+        shows_same v (expanded_macro fs d) = any_same v fs
+        shows_same v unknown_macro = refl
+        shows_same v (expanded_number n) = refl
+        shows_same v (expanded_label x l) = refl
+        shows_same v (expanded_date n) = date_shown_same w s u marks n.variable v
+        shows_same v (expanded_names n is) = ap₂ (λ ls b. names_show v n (all_empty ls) b) (all_lists_same n.variables) (substitute_shows_same v is)
+        shows_same v (shorthand written n) = ap (λ ls. names_show v written (all_empty ls) false) (all_lists_same written.variables)
+        shows_same v (expanded_choose cs) = branches_show_same v cs
+        shows_same v (expanded_group delimiter d fs) = any_same v fs
+
+        any_same : (v : Variable) (fs : ExpandedNodes) → any_shows w s v fs ≡ any_shows w u v fs
+        any_same v no_expanded_nodes = refl
+        any_same v (expanded_node f fs) = ap₂ (λ a b. a || b) (shows_same v f) (any_same v fs)
+
+        branches_show_same : (v : Variable) (cs : ExpandedBranches) → branches_show w s v cs ≡ branches_show w u v cs
+        branches_show_same v no_expanded_branches = refl
+        branches_show_same v (expanded_otherwise fs) = any_same v fs
+        branches_show_same v (expanded_branch ts fs cs) = ap₂ (λ b y. if b then any_shows w s v fs else y) (matches_same ts (all_tested ts)) (branches_show_same v cs) ∙ ap (λ x. if branch_matches w u ts then x else branches_show w u v cs) (any_same v fs)
+
+        substitute_shows_same : (v : Variable) (is : ExpandedSubstitutes) → substitute_shows w s v is ≡ substitute_shows w u v is
+        substitute_shows_same v no_expanded_substitutes = refl
+        substitute_shows_same v (expanded_substitute fs is) = any_same v fs
+
+-- ---- names
+
+refused_same : (special : Option SpecialForm) (n : NamesNode) (empty : Bool) (is : ExpandedSubstitutes) (a b : Bool) → (asks_for_author special ≡ true → a ≡ b) → is_refused special n empty is a ≡ is_refused special n empty is b
+refused_same None n empty is a b h = refl
+refused_same (Some (VarOnly v)) n empty is a b h = refl
+refused_same (Some OnlyFirstDate) n empty is a b h = refl
+refused_same (Some OnlyYearSuffix) n empty is a b h = refl
+refused_same (Some SuppressAuthor) n empty is a b h = h refl
+
+-- a dry run of names that read `read` in the state `s`, in another state `u`
+pub names_info_same : (w : RenderInput) (s u : State) (read : VariableSet) → AreAlikeOn w read (dry w.instance.special s) u → (n : NamesNode) (is : ExpandedSubstitutes) → HasReadByNames w.instance.special n.variables read
+    → info w u (expanded_names n is) ≡ names_info w.instance.special n (peeked_lists w s n.variables) is (shows w s author (expanded_names n is)) (substitute_info w u is)
+names_info_same w s u read alike n is h =
+    let special = w.instance.special in
+    let ls = peeked_lists w s n.variables in
+    let f = expanded_names n is in
+    let sub = substitute_info w u is in
+    ap (λ l. names_info special n l is (shows w u author f) sub) (sym (lists_same w s u read alike.1 n.variables h.0))
+    ∙ ap (λ r. if r then no_info else names_or_substitute_info (writes_no_name n ls) sub)
+    (refused_same special n (all_empty ls) is (shows w u author f) (shows w s author f) (λ asks. sym (shows_same w s u read alike.1 (h.1 asks) alike.0 author f)))
+
+-- ---- the sets
+
+-- what is read of a set is read of a part of it
+pub alike_within : (w : RenderInput) (a b : VariableSet) (d s : State) → IsWithin a b → AreAlikeOn w b d s → AreAlikeOn w a d s
+alike_within w a b d s within h = (h.0, λ v has. h.1 v (within v has))
+
+-- what dry runs read of a state is alike to the state
+pub alike_to_itself : (w : RenderInput) (read : VariableSet) (s : State) → AreAlikeOn w read (dry w.instance.special s) s
+alike_to_itself w read s = (refl, λ v has. refl)
+
+is_equal : (r : Ordering) → is_eq r ≡ true → r ≡ Equal
+is_equal Less h = cc
+is_equal Equal h = refl
+is_equal Greater h = cc
+
+module _ (P : Variable → Type 0) where
+  in_head : (v k : Variable) (b : Bool) (rest : Bool) → is_at (variable_cmp v) k ≡ b → P k → (rest ≡ true → P v) → (b || rest) ≡ true → P v
+  in_head v k true rest e p more h = subst P (sym ((variable_ordered v k).0 (is_equal (variable_cmp v k) e))) p
+  in_head v k false rest e p more h = more h
+
+  each_at : (ks : List Variable) → Each P ks → (v : Variable) → list_any (is_at (variable_cmp v)) ks ≡ true → P v
+  each_at [] e v h = cc
+  each_at (k ∷ ks) e v h = in_head v k (is_at (variable_cmp v) k) (list_any (is_at (variable_cmp v)) ks) refl e.0 (each_at ks e.1 v) h
+
+both_or_none : (a b : Bool) → (a ≡ true → b ≡ true) → (b ≡ true → a ≡ true) → a ≡ b
+both_or_none true b f g = sym (f refl)
+both_or_none false true f g = g refl
+both_or_none false false f g = refl
+
+-- two lists that have the same of the variables that were read
+pub kept_alike : (read : VariableSet) (vs us : List Variable) → AreKept read vs us → AreKept read us vs → (v : Variable) → Has read v → list_any (is_at (variable_cmp v)) vs ≡ list_any (is_at (variable_cmp v)) us
+kept_alike read vs us there back v has =
+    both_or_none (list_any (is_at (variable_cmp v)) vs) (list_any (is_at (variable_cmp v)) us)
+    (λ e. each_at (λ k. Has read k → list_any (is_at (variable_cmp k)) us ≡ true) vs there v e has)
+    (λ e. each_at (λ k. Has read k → list_any (is_at (variable_cmp k)) vs ≡ true) us back v e has)
+
+pub same_bits : (a b : Bool) → not (beq a b) ≡ false → a ≡ b
+same_bits true true e = refl
+same_bits true false e = absurd (cc)
+same_bits false true e = absurd (cc)
+same_bits false false e = refl
+
+pub double_not : (b : Bool) → not (not b) ≡ b
+double_not true = refl
+double_not false = refl

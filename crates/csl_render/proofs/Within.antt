@@ -79,12 +79,12 @@ module _ (env : List ℕ → Option ExpandedNodes) (original : NamesNode) where
     planned_within : (ns : Nodes) (is : List NodeInfo) → AreInfos w s (expand_substitute_nodes env original ns) is → AreInfos w s (expand_nodes env ns) is
     planned_within no_nodes is h = tt
     planned_within (node n ns) [] h = tt
-    planned_within (node n ns) (i ∷ is) h = let one = (within_both i n).0 (h.0, h.1) in (one.0, one.1, planned_within ns is h.2)
+    planned_within (node n ns) (i ∷ is) h = ((within_both i n).0 h.0, planned_within ns is h.1)
 
     asked_within : (ns : Nodes) (is : List NodeInfo) → AreInfos w s (expand_nodes env ns) is → AreInfos w s (expand_substitute_nodes env original ns) is
     asked_within no_nodes is h = tt
     asked_within (node n ns) [] h = tt
-    asked_within (node n ns) (i ∷ is) h = let one = (within_both i n).1 (h.0, h.1) in (one.0, one.1, asked_within ns is h.2)
+    asked_within (node n ns) (i ∷ is) h = ((within_both i n).1 h.0, asked_within ns is h.1)
 
     -- ---- the first substitute
 

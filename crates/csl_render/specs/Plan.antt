@@ -1,25 +1,37 @@
 -- A *plan* is the result of a dry run for a node and for the nodes inside it. By its plan a node is
--- rendered without another dry run (CSL 1.0.2, Group). A plan holds for the state of its dry run,
--- and for each state of which dry runs read the same (`dry`): the suppressed variables and, under
--- two special forms, whether a date was rendered. A list of results may break off. The nodes after
--- its end have no plan. Only private contracts cite these definitions.
+-- rendered without another dry run (CSL 1.0.2, Group). A dry run reads two things of a state
+-- (`dry`): the suppressed variables and, under two special forms, whether a date was rendered. A
+-- result has the set of the variables that its dry run read. It is the same in each state that
+-- agrees on them and on the date (`AreAlikeOn`). So what names in a substitute suppress ends the
+-- plans of the nodes that read it, and of no others. A list of results may break off. The nodes
+-- after its end have no plan. Only private contracts cite these definitions.
 use Rattle.std.specs.Prelude.{◌≡◌, ⊤, Bool, true, false, ◌&&◌, List, [], ◌∷◌, Option, Some, None}
 use Rattle.std.specs.Bool.{MatchBool}
+use Rattle.std.specs.BTreeMap.{is_at}
+use Rattle.std.specs.List.{list_any}
+use Rattle.csl_elements.specs.declared.element.Choose.{Choose, out-Choose}
 use Rattle.csl_elements.specs.declared.element.Names.{Names}
-use Rattle.csl_elements.specs.Node.{Node, Nodes, ExpandedNode, expanded_text, expanded_macro, unknown_macro, expanded_number, expanded_label, expanded_date, expanded_names, shorthand, expanded_choose, expanded_group, ExpandedNodes, no_expanded_nodes, expanded_node, ExpandedBranches, no_expanded_branches, expanded_otherwise, expanded_branch, ExpandedSubstitutes, no_expanded_substitutes, expanded_substitute}
+use Rattle.csl_elements.specs.declared.taxonomy.NameVariable.{NameVariable}
+use Rattle.csl_elements.specs.declared.taxonomy.Variable.{Variable}
+use Rattle.csl_elements.specs.declared.taxonomy.Variable.TheVariants as variable
+use Rattle.csl_elements.specs.Node.{Tests, Node, Nodes, ExpandedNode, expanded_text, expanded_macro, unknown_macro, expanded_number, expanded_label, expanded_date, expanded_names, shorthand, expanded_choose, expanded_group, ExpandedNodes, no_expanded_nodes, expanded_node, ExpandedBranches, no_expanded_branches, expanded_otherwise, expanded_branch, ExpandedSubstitutes, no_expanded_substitutes, expanded_substitute}
+use Rattle.csl_elements.specs.View.{view_branch}
 use Rattle.csl_entry.specs.declared.citation.cite.SpecialForm.{SpecialForm}
 use Rattle.csl_entry.specs.declared.citation.cite.SpecialForm.TheVariants.{VarOnly, OnlyFirstDate, OnlyYearSuffix, SuppressAuthor}
+use Rattle.csl_entry.specs.Alike.{Each}
 use Rattle.csl_entry.specs.Answers.{Answers}
-use Rattle.csl_context.specs.State.{State}
+use Rattle.csl_context.specs.State.{State, is_suppressed, variable_cmp}
 use Rattle.csl_context.specs.RenderInput.{RenderInput}
 use Rattle.csl_context.specs.ContextView.{ContextView, render_input}
-use Rattle.csl_nodes.specs.Conditions.{branch_matches}
+use Rattle.csl_nodes.specs.Conditions.{all_if, branch_matches}
 use Rattle.csl_nodes.specs.Usage.{Info, info_view}
 use Rattle.csl_render.specs.declared.plan.NodeInfo.{NodeInfo, out-NodeInfo}
 use Rattle.csl_render.specs.declared.plan.NodePlan.{NodePlan}
 use Rattle.csl_render.specs.declared.plan.ListPlan.{ListPlan}
+use Rattle.csl_render.specs.declared.variable_set.VariableSet.{VariableSet}
 use Rattle.csl_render.specs.Expanded.{expanded, expanded_nodes, expanded_substitutes}
-use Rattle.csl_render.specs.Tree.{info}
+use Rattle.csl_render.specs.Tree.{info, nodes_info, substitute_info}
+use Rattle.csl_render.specs.VariableSet.{Has}
 
 -- ---- what dry runs read of a state
 
@@ -39,44 +51,77 @@ dry special s = record {
   first_names = None;
 }
 
--- dry runs read the same of both states
-abbrev pub AreReadAlike : RenderInput → State → State → Type 0
-AreReadAlike w s t = dry w.instance.special s ≡ dry w.instance.special t
+-- both states suppress the same of these variables
+abbrev pub AreSuppressedAlike : VariableSet → State → State → Type 0
+AreSuppressedAlike read s t = (v : Variable) → Has read v → is_suppressed s v ≡ is_suppressed t v
+
+-- dry runs that read these variables read `d` of the state
+abbrev pub AreAlikeOn : RenderInput → VariableSet → State → State → Type 0
+AreAlikeOn w read d s = (d.first_date_seen ≡ (dry w.instance.special s).first_date_seen) × AreSuppressedAlike read d s
+
+-- the second list has each variable of the first that was read
+abbrev pub AreKept : VariableSet → List Variable → List Variable → Type 0
+AreKept read vs us = Each (λ v. Has read v → list_any (is_at (variable_cmp v)) us ≡ true) vs
+
+-- the set has the variables that the tests of a branch, or of a choice, look up
+abbrev pub HasTested : VariableSet → Tests → Type 0
+HasTested read ts = Each (Has read) (all_if ts.is_numeric) × Each (λ v. Has read (variable.Date v)) (all_if ts.is_uncertain_date) × Each (Has read) (all_if ts.variable)
+
+abbrev pub HasAllTested : VariableSet → Choose → Type 0
+HasAllTested read c = HasTested read (view_branch (out-Choose c).if_).tests × Each (λ b. HasTested read (view_branch b).tests) (out-Choose c).else_if.items
+
+-- the special form for which names answer whether they show the author
+abbrev pub asks_for_author : Option SpecialForm → Bool
+asks_for_author None = false
+asks_for_author (Some (VarOnly v)) = false
+asks_for_author (Some OnlyFirstDate) = false
+asks_for_author (Some OnlyYearSuffix) = false
+asks_for_author (Some SuppressAuthor) = true
+
+-- The set has what a dry run of names reads, but for the nodes in their substitute: their variables
+-- or, if it asks for the author, all.
+abbrev pub HasReadByNames : Option SpecialForm → List NameVariable → VariableSet → Type 0
+HasReadByNames special vs read = Each (λ v. Has read (variable.Name v)) vs × (asks_for_author special ≡ true → (v : Variable) → Has read v)
 
 -- ---- the results for a node and for the nodes inside it
 
 abbrev pub answer_of : NodeInfo → Info
 answer_of i = info_view (out-NodeInfo i).answer
 
+abbrev pub read_of : NodeInfo → VariableSet
+read_of i = (out-NodeInfo i).read
+
 abbrev pub inside_of : NodeInfo → List NodeInfo
 inside_of i = (out-NodeInfo i).inside.items
 
-module _ (w : RenderInput) (s : State) where
+-- `d` is what the dry runs read of their state
+module _ (w : RenderInput) (d : State) where
   abbrev mutual
-    -- the results for the nodes inside a node: the children of a group, the nodes of a macro, the
-    -- nodes that a choice takes, and the children of the first substitute of names
-    pub AreInside : ExpandedNode → List NodeInfo → Type 0
-    AreInside (expanded_text t d) is = ⊤
-    AreInside (expanded_macro fs d) is = AreInfos fs is
-    AreInside unknown_macro is = ⊤
-    AreInside (expanded_number n) is = ⊤
-    AreInside (expanded_label v l) is = ⊤
-    AreInside (expanded_date n) is = ⊤
-    AreInside (expanded_names n ss) is = AreOfSubstitutes ss is
-    AreInside (shorthand written n) is = ⊤
-    AreInside (expanded_choose cs) is = AreTaken cs is
-    AreInside (expanded_group delimiter d fs) is = AreInfos fs is
+    -- The results for the nodes inside a node, in a state in which they hold: the children of a
+    -- group, the nodes of a macro, the nodes that a choice takes, and the children of the first
+    -- substitute of names.
+    pub AreInside : State → ExpandedNode → List NodeInfo → Type 0
+    AreInside s (expanded_text t e) is = ⊤
+    AreInside s (expanded_macro fs e) is = AreInfos fs is
+    AreInside s unknown_macro is = ⊤
+    AreInside s (expanded_number n) is = ⊤
+    AreInside s (expanded_label v l) is = ⊤
+    AreInside s (expanded_date n) is = ⊤
+    AreInside s (expanded_names n ss) is = AreOfSubstitutes ss is
+    AreInside s (shorthand written n) is = ⊤
+    AreInside s (expanded_choose cs) is = AreTaken s cs is
+    AreInside s (expanded_group delimiter e fs) is = AreInfos fs is
 
     -- each result is that for its node; the last nodes may have none
     pub AreInfos : ExpandedNodes → List NodeInfo → Type 0
     AreInfos no_expanded_nodes is = ⊤
     AreInfos (expanded_node f fs) [] = ⊤
-    AreInfos (expanded_node f fs) (i ∷ is) = (answer_of i ≡ info w s f) × AreInside f (inside_of i) × AreInfos fs is
+    AreInfos (expanded_node f fs) (i ∷ is) = ((s : State) → AreAlikeOn w (read_of i) d s → (answer_of i ≡ info w s f) × AreInside s f (inside_of i)) × AreInfos fs is
 
-    pub AreTaken : ExpandedBranches → List NodeInfo → Type 0
-    AreTaken no_expanded_branches is = ⊤
-    AreTaken (expanded_otherwise fs) is = AreInfos fs is
-    AreTaken (expanded_branch ts fs cs) is = MatchBool (branch_matches w s ts) (AreInfos fs is) (AreTaken cs is)
+    pub AreTaken : State → ExpandedBranches → List NodeInfo → Type 0
+    AreTaken s no_expanded_branches is = ⊤
+    AreTaken s (expanded_otherwise fs) is = AreInfos fs is
+    AreTaken s (expanded_branch ts fs cs) is = MatchBool (branch_matches w s ts) (AreInfos fs is) (AreTaken s cs is)
 
     pub AreOfSubstitutes : ExpandedSubstitutes → List NodeInfo → Type 0
     AreOfSubstitutes no_expanded_substitutes is = ⊤
@@ -89,13 +134,21 @@ module _ (w : RenderInput) (s : State) where
 
   -- the result for a node, with the results for the nodes inside it
   abbrev pub IsInfo : ExpandedNode → NodeInfo → Type 0
-  IsInfo f i = (answer_of i ≡ info w s f) × AreInside f (inside_of i)
+  IsInfo f i = (s : State) → AreAlikeOn w (read_of i) d s → (answer_of i ≡ info w s f) × AreInside s f (inside_of i)
+
+  -- the result for nodes together, with the results for each
+  abbrev pub IsInfoOfNodes : ExpandedNodes → NodeInfo → Type 0
+  IsInfoOfNodes fs i = ((s : State) → AreAlikeOn w (read_of i) d s → answer_of i ≡ nodes_info w s fs) × AreInfos fs (inside_of i)
+
+  -- the result for substitutes, with the results for the children of the first
+  abbrev pub IsInfoOfSubstitutes : ExpandedSubstitutes → NodeInfo → Type 0
+  IsInfoOfSubstitutes ss i = ((s : State) → AreAlikeOn w (read_of i) d s → answer_of i ≡ substitute_info w s ss) × AreOfSubstitutes ss (inside_of i)
 
 -- ---- plans
 
 -- a plan of a node that holds for a state
 abbrev pub IsPlan : RenderInput → State → ExpandedNode → NodePlan → Type 0
-IsPlan w s f p = AreReadAlike w p.at.now s × IsInfo w p.at.now f p.info.now
+IsPlan w s f p = AreAlikeOn w (read_of p.info.now) p.at.now s × IsInfo w p.at.now f p.info.now
 
 -- a plan of a list of nodes; it may not hold for the state any more
 abbrev pub ArePlans : RenderInput → ExpandedNodes → ListPlan → Type 0
@@ -110,10 +163,15 @@ abbrev pub HasPlansOfSubstitutes : RenderInput → ExpandedSubstitutes → NodeP
 HasPlansOfSubstitutes w ss p = AreOfSubstitutes w p.at.now ss (inside_of p.info.now)
 
 -- ---- plans in a context
+
+-- what dry runs read of the state of a context
+abbrev pub dry_now : {T : Type 0} → ContextView T → State
+dry_now now = dry now.special now.state
+
 module _ {T : Type 0} (answers : T → Answers) (now : ContextView T) where
-  -- a state that is read alike, and the result of a dry run in it
+  -- what a dry run reads, and its result
   abbrev pub IsDryRun : ExpandedNode → State × NodeInfo → Type 0
-  IsDryRun f r = AreReadAlike (render_input answers now) r.0 now.state × IsInfo (render_input answers now) r.0 f r.1
+  IsDryRun f r = AreAlikeOn (render_input answers now) (read_of r.1) r.0 now.state × IsInfo (render_input answers now) r.0 f r.1
 
   abbrev pub IsDryRunOf : Node → State × NodeInfo → Type 0
   IsDryRunOf n = IsDryRun (expanded now.style n)

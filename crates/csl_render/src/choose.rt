@@ -3,26 +3,32 @@
 ghost use Rattle.std.specs.Prelude.{◌≡◌, ◌<◌, List, not, IfOk, OnOk, IfErr, IfSome, option_map};
 ghost use Rattle.std.specs.List.{list_all, list_any};
 ghost use Rattle.csl_elements.specs.declared.taxonomy.Variable.{Variable};
+ghost use Rattle.csl_elements.specs.declared.taxonomy.Variable.TheVariants as variable;
+ghost use Rattle.csl_entry.specs.Alike.{Each};
 ghost use Rattle.csl_elements.specs.Node.{size, sizes};
 ghost use Rattle.csl_elements.specs.View.{view_nodes, view_branch, view_choose};
 ghost use Rattle.csl_context.specs.ContextView.{Gives, Reads, GivesBy, FailsSilently, render_input};
 ghost use Rattle.csl_context.specs.State.{State};
-ghost use Rattle.csl_nodes.specs.Conditions.{branch_matches, satisfies, chosen_children};
+ghost use Rattle.csl_nodes.specs.Conditions.{all_if, branch_matches, satisfies, chosen_children};
 ghost use Rattle.csl_nodes.specs.RemainingConditions.{remaining_conditions, context_of, after_first, after_deciding};
 ghost use Rattle.csl_render.specs.declared.plan.NodeInfo.{NodeInfo};
 ghost use Rattle.csl_render.specs.Expanded.{expanded, expanded_nodes, expanded_taken};
-ghost use Rattle.csl_render.specs.Plan.{AreReadAlike, AreInside, AreOfTaken};
-ghost use Rattle.csl_render.specs.Tree.{info, shows, node_output, choice_info, choice_shows, choice_output};
+ghost use Rattle.csl_render.specs.Plan.{HasTested, HasAllTested, AreInside, AreOfTaken};
+ghost use Rattle.csl_render.specs.VariableSet.{Has, IsWithin};
+ghost use Rattle.csl_render.specs.Tree.{shows, node_output, choice_shows, choice_output};
 
 use crate::dry_run::DryRun;
 use crate::element::{any_shows, nodes_info, render_with_delimiter};
 use crate::node::Node;
 use crate::plan::{NodeInfo, NodePlan, inside_plan};
 use crate::query::Query;
+use crate::variable_set::VariableSet;
 use csl_context::{Context, RenderError};
 use csl_entry::EntryLike;
 use csl_nodes::{BranchConditionIter, no_info, push_nothing, without_group_flag};
-use csl_style::{Choose, ChooseBranch, ChooseMatch, LayoutRenderingElement};
+use csl_style::{
+    Choose, ChooseBranch, ChooseMatch, DateVariable, LayoutRenderingElement, Variable,
+};
 use lit_model::Memory;
 
 /// Whether all remaining conditions hold. Reads up to the first that does not.
@@ -134,8 +140,7 @@ pub fn choose_children<'a, 's, T: EntryLike>(
 }
 
 /// Returns the nodes that a choice takes. The choice shows the variables they show, and renders
-/// them delimited. Its dry run is theirs together, without the group flag. The results for the
-/// nodes inside the choice are the results for these nodes.
+/// them delimited. The results for the nodes inside the choice are the results for these nodes.
 fn taken_nodes<'s, T: EntryLike>(
     ctx: &Context<'s, T>,
     choose: &'s Choose,
@@ -143,10 +148,8 @@ fn taken_nodes<'s, T: EntryLike>(
     ensures within { IfOk result (λ taken. IfSome taken (λ ns.
         sizes (expanded_nodes ctx.now.style (view_nodes ns.now))
         < size (expanded ctx.now.style (view_choose choose.now)))) }
-    ensures info { IfOk result (λ taken. info (render_input T.answers ctx.now) ctx.now.state
-        (expanded ctx.now.style (view_choose choose.now))
-        ≡ choice_info (render_input T.answers ctx.now) ctx.now.state
-        (expanded_taken ctx.now.style taken)) }
+    ensures value { GivesBy (option_map (λ ns. view_nodes ns.now)) result (chosen_children
+        (render_input T.answers ctx.now) ctx.now.state (view_choose choose.now)) }
     ensures shown { IfOk result (λ taken. (v : Variable) → shows (render_input T.answers ctx.now)
         ctx.now.state v (expanded ctx.now.style (view_choose choose.now))
         ≡ choice_shows (render_input T.answers ctx.now) ctx.now.state v
@@ -155,14 +158,8 @@ fn taken_nodes<'s, T: EntryLike>(
         (expanded ctx.now.style (view_choose choose.now)) ctx.now.inherited ctx.now.state
         ≡ choice_output (render_input T.answers ctx.now) (expanded_taken ctx.now.style taken)
         ctx.now.inherited ctx.now.state) }
-    ensures from_nodes { IfOk result (λ taken. (infos : List NodeInfo)
-        → AreOfTaken (render_input T.answers ctx.now) ctx.now.state
-        (expanded_taken ctx.now.style taken) infos
-        → AreInside (render_input T.answers ctx.now) ctx.now.state
-        (expanded ctx.now.style (view_choose choose.now)) infos) }
-    ensures to_nodes { IfOk result (λ taken. (at : State)
-        → AreReadAlike (render_input T.answers ctx.now) at ctx.now.state → (infos : List NodeInfo)
-        → AreInside (render_input T.answers ctx.now) at
+    ensures results { IfOk result (λ taken. (at : State) → (infos : List NodeInfo)
+        → AreInside (render_input T.answers ctx.now) at ctx.now.state
         (expanded ctx.now.style (view_choose choose.now)) infos
         → AreOfTaken (render_input T.answers ctx.now) at (expanded_taken ctx.now.style taken)
         infos) }
@@ -173,6 +170,49 @@ fn taken_nodes<'s, T: EntryLike>(
     }
 }
 
+/// The set with the variables of tests too, if there are any.
+fn with_tested(set: VariableSet, tests: &Option<Vec<Variable>>) -> VariableSet
+    ensures has { Each (Has result) (all_if (option_map (λ v. v.items) tests.now)) }
+    ensures kept { IsWithin set result }
+{
+    match tests {
+        Some(tests) => set.with_all(tests),
+        None => set,
+    }
+}
+
+/// The set with the dates of tests too, if there are any.
+fn with_tested_dates(set: VariableSet, tests: &Option<Vec<DateVariable>>) -> VariableSet
+    ensures has { Each (λ v. Has result (variable.Date v))
+        (all_if (option_map (λ v. v.items) tests.now)) }
+    ensures kept { IsWithin set result }
+{
+    match tests {
+        Some(tests) => set.with_dates(tests),
+        None => set,
+    }
+}
+
+/// The variables that the tests of a branch look up.
+fn tested_by(branch: &ChooseBranch) -> VariableSet
+    ensures { HasTested result (view_branch branch.now).tests }
+{
+    let set = with_tested(VariableSet::new(), &branch.is_numeric);
+    let set = with_tested(set, &branch.variable);
+    with_tested_dates(set, &branch.is_uncertain_date)
+}
+
+/// The variables that the tests of a choice look up.
+fn tested_variables(choose: &Choose) -> VariableSet
+    ensures { HasAllTested result choose.now }
+{
+    let mut set = tested_by(&choose.if_);
+    for branch in &choose.else_if {
+        set = set.union(tested_by(branch));
+    }
+    set
+}
+
 impl Node for Choose {
     ghost expansion = { λ style c. expanded style (view_choose c) };
 
@@ -181,12 +221,14 @@ impl Node for Choose {
         &'s self,
         run: &mut DryRun<'c, 's, T>,
     ) -> Result<NodeInfo, Memory> {
+        let tested = tested_variables(self);
         match taken_nodes(run.context(), self)? {
             Some(nodes) => {
-                let (sum, inside) = nodes_info(nodes, run)?;
-                Ok(NodeInfo::new(without_group_flag(sum), inside))
+                let info = nodes_info(nodes, run)?;
+                let answer = without_group_flag(info.answer);
+                Ok(NodeInfo::new(answer, tested.union(info.read), info.inside))
             }
-            None => Ok(run.leaf(no_info())),
+            None => Ok(run.leaf(no_info(), tested)),
         }
     }
 

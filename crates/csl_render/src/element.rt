@@ -4,11 +4,10 @@ ghost use Rattle.std.specs.Prelude.{◌≡◌, true, IfOk, IfSome};
 ghost use Rattle.csl_elements.specs.Node.{expand};
 ghost use Rattle.csl_elements.specs.View.{view_node, view_nodes, view_rendering};
 ghost use Rattle.csl_context.specs.ContextView.{Runs, Gives, render_input};
-ghost use Rattle.csl_nodes.specs.Usage.{info_view};
 ghost use Rattle.csl_render.specs.Expanded.{expanded, expanded_nodes};
 ghost use Rattle.csl_render.specs.Names.{Macros};
-ghost use Rattle.csl_render.specs.Plan.{AreInfos, IsDryRunOf, IsPlanOf, ArePlansOf};
-ghost use Rattle.csl_render.specs.Tree.{nodes_info, any_shows, is_group, node_output, nodes_output, delimited_output, delimited_child_output};
+ghost use Rattle.csl_render.specs.Plan.{dry_now, IsInfoOfNodes, IsDryRunOf, IsPlanOf, ArePlansOf};
+ghost use Rattle.csl_render.specs.Tree.{any_shows, is_group, node_output, nodes_output, delimited_output, delimited_child_output};
 ghost use Rattle.csl_render.specs.Rendering.{element_rendering, prints_in, after_child};
 ghost use Rattle.csl_nodes.specs.Text.{Appends};
 
@@ -17,6 +16,7 @@ use crate::node::Node;
 use crate::plan::{DryState, ListPlan, NodeInfo, NodePlan, next_plan};
 use crate::query::Query;
 use crate::render::RenderCsl;
+use crate::variable_set::VariableSet;
 use csl_context::{Context, RenderError};
 use csl_entry::EntryLike;
 use csl_nodes::{UsageInfo, add_child_info, no_info};
@@ -70,26 +70,26 @@ fn is_group(node: &LayoutRenderingElement) -> bool
     }
 }
 
-/// The dry run of a list of nodes together, and the dry run of each.
+/// The dry run of nodes together, with the dry run of each inside.
 #[cycle(info)]
 pub(crate) fn nodes_info<'c, 's, T: EntryLike>(
     nodes: &'s [LayoutRenderingElement],
     run: &mut DryRun<'c, 's, T>,
-) -> Result<((bool, UsageInfo), Vec<NodeInfo>), Memory>
-    ensures sum { IfOk result (λ r. info_view r.0 ≡ nodes_info (render_input T.answers run.old)
-        run.old.state (expanded_nodes run.old.style (view_nodes nodes.now))) }
-    ensures each { IfOk result (λ r. AreInfos (render_input T.answers run.old) run.old.state
-        (expanded_nodes run.old.style (view_nodes nodes.now)) r.1.items) }
+) -> Result<NodeInfo, Memory>
+    ensures value { IfOk result (IsInfoOfNodes (render_input T.answers run.old) (dry_now run.old)
+        (expanded_nodes run.old.style (view_nodes nodes.now))) }
     ensures kept { run.new ≡ run.old }
 {
     let mut sum = no_info();
+    let mut read = VariableSet::new();
     let mut each = Vec::with_capacity(run.context().alloc(), nodes.len())?;
     for node in nodes {
         let info = node.node_info(run)?;
         sum = add_child_info(sum, info.answer, is_group(node));
+        read = read.union(info.read);
         each.push(info)?;
     }
-    Ok((sum, each))
+    Ok(NodeInfo::new(sum, read, each))
 }
 
 impl Node for LayoutRenderingElement {

@@ -28,8 +28,9 @@ impl Node for Group {
         &'s self,
         run: &mut DryRun<'c, 's, T>,
     ) -> Result<NodeInfo, Memory> {
-        let (sum, inside) = nodes_info(&self.children, run)?;
-        Ok(NodeInfo::new(info_of_group(sum), inside))
+        let info = nodes_info(&self.children, run)?;
+        let answer = info_of_group(info.answer);
+        Ok(NodeInfo::new(answer, info.read, info.inside))
     }
 
     #[cycle(shows)]

@@ -21,9 +21,9 @@ impl RenderCsl for Layout {
         &'s self,
         ctx: &mut Context<'s, T>,
     ) -> Result<(bool, UsageInfo), RenderError> {
-        let answers = nodes_info(&self.elements, &mut DryRun::new(ctx));
-        let (sum, _) = ctx.attempt(answers)?;
-        Ok(without_group_flag(sum))
+        let info = nodes_info(&self.elements, &mut DryRun::new(ctx));
+        let info = ctx.attempt(info)?;
+        Ok(without_group_flag(info.answer))
     }
 
     fn will_render<'s, T: EntryLike>(

@@ -1,22 +1,26 @@
 //! Numbers, labels and dates (CSL 1.0.2, Number; Label; Date). They hold no other nodes, and
 //! `csl_nodes` renders them.
 
+ghost use Rattle.std.specs.Prelude.{IfSome};
+ghost use Rattle.csl_elements.specs.declared.taxonomy.Variable.TheVariants as variable;
 ghost use Rattle.csl_elements.specs.Names.{view_label};
 ghost use Rattle.csl_elements.specs.Node.{date, label, number};
 ghost use Rattle.csl_elements.specs.View.{view_date, view_number};
 ghost use Rattle.csl_render.specs.Expanded.{expanded};
+ghost use Rattle.csl_render.specs.VariableSet.{Has};
 
 use crate::dry_run::DryRun;
 use crate::node::Node;
 use crate::plan::{NodeInfo, NodePlan};
 use crate::query::Query;
+use crate::variable_set::VariableSet;
 use csl_context::{Context, RenderError};
 use csl_entry::EntryLike;
 use csl_nodes::{
     date_info, date_shows, label_info, number_info, number_shows, render_date, render_label,
     render_number,
 };
-use csl_style::{Date, Label, Number};
+use csl_style::{Date, Label, Number, Variable};
 use lit_model::Memory;
 
 impl Node for Number {
@@ -26,7 +30,9 @@ impl Node for Number {
         &'s self,
         run: &mut DryRun<'c, 's, T>,
     ) -> Result<NodeInfo, Memory> {
-        Ok(run.leaf(number_info(run.context(), self)?))
+        let answer = number_info(run.context(), self)?;
+        let read = VariableSet::new().with(Variable::from(self.variable));
+        Ok(run.leaf(answer, read))
     }
 
     fn node_shows<'c, 's, T: EntryLike>(
@@ -52,7 +58,9 @@ impl Node for Label {
         &'s self,
         run: &mut DryRun<'c, 's, T>,
     ) -> Result<NodeInfo, Memory> {
-        Ok(run.leaf(label_info(run.context(), self)?))
+        let answer = label_info(run.context(), self)?;
+        let read = VariableSet::new().with(Variable::from(self.variable));
+        Ok(run.leaf(answer, read))
     }
 
     fn node_shows<'c, 's, T: EntryLike>(
@@ -71,6 +79,16 @@ impl Node for Label {
     }
 }
 
+/// The variable of a date, if it has one.
+fn variable_of_date(date: &Date) -> VariableSet
+    ensures { IfSome date.now.variable (λ v. Has result (variable.Date v)) }
+{
+    match date.variable {
+        Some(variable) => VariableSet::new().with(Variable::Date(variable)),
+        None => VariableSet::new(),
+    }
+}
+
 impl Node for Date {
     ghost expansion = { λ style d. expanded style (date (view_date d)) };
 
@@ -78,7 +96,8 @@ impl Node for Date {
         &'s self,
         run: &mut DryRun<'c, 's, T>,
     ) -> Result<NodeInfo, Memory> {
-        Ok(run.leaf(date_info(run.context(), self)?))
+        let answer = date_info(run.context(), self)?;
+        Ok(run.leaf(answer, variable_of_date(self)))
     }
 
     fn node_shows<'c, 's, T: EntryLike>(

@@ -19,6 +19,7 @@ mod plan;
 mod query;
 mod render;
 mod text;
+mod variable_set;
 
 pub use choose::choose_children;
 pub use cites::{bibliography_entry, cite, cite_in, cite_pair, sort_key};

@@ -9,7 +9,7 @@ ghost use Rattle.csl_elements.specs.Node.{ExpandedNode, expand, expand_nodes, ex
 ghost use Rattle.csl_elements.specs.View.{view_node, view_nodes, view_names};
 ghost use Rattle.csl_style.specs.Expanded.{macro_env};
 ghost use Rattle.csl_context.specs.State.{Inherited, State};
-ghost use Rattle.csl_context.specs.ContextView.{Runs, Gives, GivesBy, render_input};
+ghost use Rattle.csl_context.specs.ContextView.{Runs, Gives, render_input};
 ghost use Rattle.csl_names.specs.NamesForms.{writes_no_name};
 ghost use Rattle.csl_names.specs.NamesLists.{all_empty, peeked_lists};
 ghost use Rattle.csl_names.specs.PersonLists.{list_of};
@@ -18,7 +18,7 @@ ghost use Rattle.csl_render.specs.Expanded.{expanded, expanded_nodes, expanded_t
 ghost use Rattle.csl_render.specs.Names.{Macros, author, has_variable, is_of_names, is_names_of, any_is_names_of, substitute_has_names_of, expanded_substitutes_of, standing_in, refuses_alone, is_refused, names_show, names_or_substitute_info, in_substitute, suppressing_from, boxed_substitute};
 ghost use Rattle.csl_nodes.specs.Text.{Appends, render_output};
 ghost use Rattle.csl_nodes.specs.Usage.{info_view};
-ghost use Rattle.csl_render.specs.Plan.{AreOfTaken, AreOfSubstitutes, IsPlanOf, ArePlansOf, HasPlansOf, HasPlansWithin, answer_of, inside_of};
+ghost use Rattle.csl_render.specs.Plan.{asks_for_author, dry_now, HasReadByNames, AreOfTaken, AreOfSubstitutes, IsInfoOfSubstitutes, IsPlanOf, ArePlansOf, HasPlansOf, HasPlansWithin};
 ghost use Rattle.csl_render.specs.Rendering.{with_whole_output};
 ghost use Rattle.csl_render.specs.Tree.{node_output, substitute_shows, substitute_info, substitute_output, output_until_text, first_substitute_output, choice_info, choice_shows, refused_in, names_output, shorthand_output};
 
@@ -27,6 +27,7 @@ use crate::element::{any_shows, nodes_info};
 use crate::node::Node;
 use crate::plan::{ListPlan, NodeInfo, NodePlan, inside_plan, next_plan};
 use crate::query::Query;
+use crate::variable_set::VariableSet;
 use csl_context::{Context, RenderError};
 use csl_entry::{EntryLike, SpecialForm};
 use csl_names::{
@@ -117,10 +118,9 @@ fn substitute_nodes<'n, 's, T: EntryLike>(
 ) -> Option<&'n [LayoutRenderingElement]>
     ensures inside { IfSome result (λ ns. sizes (expanded_nodes ctx.now.style (view_nodes ns.now))
         < expanded_substitutes_size (expanded_substitutes ctx.now.style names.now)) }
-    ensures info { substitute_info (render_input T.answers ctx.now) ctx.now.state
+    ensures info { (s : State) → substitute_info (render_input T.answers ctx.now) s
         (expanded_substitutes ctx.now.style names.now)
-        ≡ choice_info (render_input T.answers ctx.now) ctx.now.state
-        (expanded_taken ctx.now.style result) }
+        ≡ choice_info (render_input T.answers ctx.now) s (expanded_taken ctx.now.style result) }
     ensures shown { (v : Variable) → substitute_shows (render_input T.answers ctx.now)
         ctx.now.state v (expanded_substitutes ctx.now.style names.now)
         ≡ choice_shows (render_input T.answers ctx.now) ctx.now.state v
@@ -226,20 +226,42 @@ fn substitute_info<'c, 's, T: EntryLike>(
     names: &'s Names,
     run: &mut DryRun<'c, 's, T>,
 ) -> Result<NodeInfo, Memory>
-    ensures value { GivesBy answer_of result (substitute_info
-        (render_input T.answers run.old) run.old.state
-        (expanded_substitutes run.old.style names.now)) }
-    ensures each { IfOk result (λ info. AreOfSubstitutes (render_input T.answers run.old)
-        run.old.state (expanded_substitutes run.old.style names.now) (inside_of info)) }
+    ensures value { IfOk result (IsInfoOfSubstitutes (render_input T.answers run.old)
+        (dry_now run.old) (expanded_substitutes run.old.style names.now)) }
     ensures kept { run.new ≡ run.old }
 {
     match substitute_nodes(run.context(), names) {
         Some(nodes) => {
-            let (sum, each) = nodes_info(nodes, run)?;
-            Ok(NodeInfo::new(without_group_flag(sum), each))
+            let info = nodes_info(nodes, run)?;
+            let answer = without_group_flag(info.answer);
+            Ok(NodeInfo::new(answer, info.read, info.inside))
         }
-        None => Ok(run.leaf(no_info())),
+        None => Ok(run.leaf(no_info(), VariableSet::new())),
     }
+}
+
+/// Whether the special form asks names if they show the author.
+fn asks_for_author(special: Option<SpecialForm>) -> bool
+    ensures { result ≡ asks_for_author special }
+{
+    match special {
+        None => false,
+        Some(SpecialForm::VarOnly(_)) => false,
+        Some(SpecialForm::OnlyFirstDate) => false,
+        Some(SpecialForm::OnlyYearSuffix) => false,
+        Some(SpecialForm::SuppressAuthor) => true,
+    }
+}
+
+/// The variables that a dry run of names reads, but for those of the nodes in their substitute.
+/// Whether names show the author may depend on any.
+fn read_by_names(special: Option<SpecialForm>, variables: &[NameVariable]) -> VariableSet
+    ensures { HasReadByNames special variables.now result }
+{
+    if asks_for_author(special) {
+        return VariableSet::all();
+    }
+    VariableSet::new().with_names(variables)
 }
 
 impl Node for Names {
@@ -251,16 +273,17 @@ impl Node for Names {
         &'s self,
         run: &mut DryRun<'c, 's, T>,
     ) -> Result<NodeInfo, Memory> {
+        let read = read_by_names(run.context().special_form(), &self.variable);
         let summary = summarize_names(run.context(), self.parts())?;
         if refuses(run.context(), self, summary.is_empty)? {
-            return Ok(run.leaf(no_info()));
+            return Ok(run.leaf(no_info(), read));
         }
         if !summary.is_void {
-            return Ok(run.leaf(names_or_substitute_info(false, no_info())));
+            return Ok(run.leaf(names_or_substitute_info(false, no_info()), read));
         }
         let tried = substitute_info(self, run)?;
         let answer = names_or_substitute_info(true, tried.answer);
-        Ok(NodeInfo::new(answer, tried.inside))
+        Ok(NodeInfo::new(answer, read.union(tried.read), tried.inside))
     }
 
     #[cycle(shows)]

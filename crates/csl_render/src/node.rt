@@ -5,7 +5,7 @@ ghost use Rattle.csl_elements.specs.Node.{ExpandedNode};
 ghost use Rattle.csl_style.specs.Style.{StyleParts};
 ghost use Rattle.csl_context.specs.ContextView.{Gives, render_input};
 ghost use Rattle.csl_nodes.specs.Text.{Appends};
-ghost use Rattle.csl_render.specs.Plan.{IsInfo, IsPlan};
+ghost use Rattle.csl_render.specs.Plan.{dry_now, IsInfo, IsPlan};
 ghost use Rattle.csl_render.specs.Rendering.{of_node};
 ghost use Rattle.csl_render.specs.Tree.{node_output, shows};
 
@@ -29,7 +29,7 @@ pub(crate) trait Node {
         &'s self,
         run: &mut DryRun<'c, 's, T>,
     ) -> Result<NodeInfo, Memory>
-        ensures value { IfOk result (IsInfo (render_input T.answers run.old) run.old.state
+        ensures value { IfOk result (IsInfo (render_input T.answers run.old) (dry_now run.old)
             (expansion run.old.style self.now)) }
         ensures kept { run.new ≡ run.old };
 

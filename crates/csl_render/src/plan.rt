@@ -1,12 +1,13 @@
 //! Plans. A plan is the result of a dry run of a node and of the nodes inside it. By its plan the
 //! node is rendered without another dry run (CSL 1.0.2, Group).
 
-ghost use Rattle.std.specs.Prelude.{◌≡◌, ◌&&◌, not, IfOk, IfSome, IsSomeAnd, IsTrue};
+ghost use Rattle.std.specs.Prelude.{◌≡◌, IfOk, IfSome, IsSomeAnd, IsTrue};
 ghost use Rattle.csl_elements.specs.Node.{ExpandedNode, ExpandedNodes, expanded_node};
 ghost use Rattle.csl_context.specs.ContextView.{render_input};
 ghost use Rattle.csl_nodes.specs.Usage.{info_view, usage_flags_of};
-ghost use Rattle.csl_render.specs.Plan.{asks_for_dates, AreReadAlike, answer_of, inside_of, IsPlan, ArePlans};
+ghost use Rattle.csl_render.specs.Plan.{asks_for_dates, dry_now, AreAlikeOn, AreKept, answer_of, read_of, inside_of, IsPlan, ArePlans};
 
+use crate::variable_set::VariableSet;
 use csl_context::Context;
 use csl_entry::{EntryLike, SpecialForm};
 use csl_nodes::UsageInfo;
@@ -20,6 +21,8 @@ use std::marker::Model;
 pub(crate) struct NodeInfo {
     /// Whether the node would print, and its usage flags.
     pub(crate) answer: (bool, UsageInfo),
+    /// The variables that the dry run read. The result holds while the same of them are suppressed.
+    pub(crate) read: VariableSet,
     /// The results for the nodes inside: the children of a group, the nodes of a macro, the nodes
     /// that a choice takes, or the children of the first substitute of names. They start at the
     /// first node and may break off.
@@ -27,12 +30,21 @@ pub(crate) struct NodeInfo {
 }
 
 impl NodeInfo {
-    /// A result, with the results for the nodes inside.
-    pub(crate) fn new(answer: (bool, UsageInfo), inside: Vec<NodeInfo>) -> NodeInfo
+    /// A result, with the variables that were read and the results for the nodes inside.
+    pub(crate) fn new(
+        answer: (bool, UsageInfo),
+        read: VariableSet,
+        inside: Vec<NodeInfo>,
+    ) -> NodeInfo
         ensures answer { answer_of result ≡ info_view answer }
+        ensures read { read_of result ≡ read }
         ensures inside { inside_of result ≡ inside.items }
     {
-        NodeInfo { answer, inside }
+        NodeInfo {
+            answer,
+            read,
+            inside,
+        }
     }
 }
 
@@ -40,6 +52,7 @@ impl NodeInfo {
 #[derive(Drop)]
 pub(crate) struct DryState {
     suppressed: BTreeSet<Variable>,
+    /// Whether a date was rendered. It is `false` if dry runs do not ask.
     first_date_seen: bool,
 }
 
@@ -70,51 +83,50 @@ fn asks_for_dates(special: Option<SpecialForm>) -> bool
     }
 }
 
-/// Whether dry runs under the special form read the same of the dates in two states. In the first
-/// state a date was rendered if `seen`, in the second unless `is_first`.
-#[tactic(auto, using(crate::proofs::Reading::mark_unread, crate::proofs::Reading::mark_unset, crate::proofs::Reading::mark_set))]
-fn is_same_mark(special: Option<SpecialForm>, seen: bool, is_first: bool) -> bool
-    ensures { IsTrue result
-        → (asks_for_dates special && seen) ≡ (asks_for_dates special && not is_first) }
+/// Whether a date was rendered, if dry runs in the context ask.
+#[tactic(auto, using(crate::proofs::Reading::double_not))]
+fn date_seen<'s, T: EntryLike>(ctx: &Context<'s, T>) -> bool
+    ensures { result ≡ (dry_now ctx.now).first_date_seen }
 {
-    if !asks_for_dates(special) {
-        return true;
-    }
-    if is_first { !seen } else { seen }
+    asks_for_dates(ctx.special_form()) && !ctx.peek_is_first_date()
 }
 
-/// Whether these are the suppressed variables of the context.
-fn are_suppressed<'s, T: EntryLike>(ctx: &Context<'s, T>, variables: &BTreeSet<Variable>) -> bool
-    ensures { IsTrue result → variables.now.keys ≡ ctx.now.state.suppressed }
+/// Whether the second set has each variable of the first that was read.
+fn are_kept(read: VariableSet, first: &BTreeSet<Variable>, second: &BTreeSet<Variable>) -> bool
+    ensures { IsTrue result → AreKept read first.now.keys second.now.keys }
 {
-    variables == ctx.suppressed()
+    if first.is_empty() {
+        return true;
+    }
+    for variable in first {
+        if read.contains(*variable) && !second.contains(variable) {
+            return false;
+        }
+    }
+    true
 }
 
 impl DryState {
     /// Copies the part of the context's state that dry runs read.
     pub(crate) fn of<'s, T: EntryLike>(ctx: &Context<'s, T>) -> Result<DryState, Memory>
-        ensures { IfOk result (λ at. AreReadAlike (render_input T.answers ctx.now) at ctx.now.state) }
+        ensures { IfOk result (λ at. at ≡ dry_now ctx.now) }
     {
         Ok(DryState {
             suppressed: ctx.suppressed().clone()?,
-            first_date_seen: !ctx.peek_is_first_date(),
+            first_date_seen: date_seen(ctx),
         })
     }
 
-    /// Whether dry runs read the same of the context as of this state.
-    #[tactic(auto, using(crate::proofs::Reading::read_alike))]
-    pub(crate) fn is_of<'s, T: EntryLike>(&self, ctx: &Context<'s, T>) -> bool
-        ensures { IsTrue result → AreReadAlike
-            (render_input T.answers ctx.now) self.now ctx.now.state }
+    /// Whether dry runs that read these variables read the same of the context as of this state.
+    pub(crate) fn is_alike<'s, T: EntryLike>(&self, read: VariableSet, ctx: &Context<'s, T>) -> bool
+        ensures { IsTrue result → AreAlikeOn
+            (render_input T.answers ctx.now) read self.now ctx.now.state }
     {
-        if !is_same_mark(
-            ctx.special_form(),
-            self.first_date_seen,
-            ctx.peek_is_first_date(),
-        ) {
+        if self.first_date_seen != date_seen(ctx) {
             return false;
         }
-        are_suppressed(ctx, &self.suppressed)
+        let now = ctx.suppressed();
+        are_kept(read, &self.suppressed, now) && are_kept(read, now, &self.suppressed)
     }
 }
 
@@ -181,7 +193,7 @@ impl<'p> ListPlan<'p> {
     {
         let (info, rest) = self.infos.split_first()?;
         self.infos = rest;
-        if self.at.is_of(ctx) {
+        if self.at.is_alike(info.read, ctx) {
             Some(NodePlan { at: self.at, info })
         } else {
             None

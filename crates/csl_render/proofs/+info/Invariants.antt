@@ -2,11 +2,12 @@ use Rattle.std.proofs.Common.{◌≡◌, ◌+◌, ◌*◌, ◌≤◌, ◌++◌, 
 use Rattle.csl_elements.specs.Node.{size, sizes, expanded_substitutes_size, expand, expand_nodes}
 use Rattle.csl_elements.specs.View.{view_node, view_text, view_group, view_choose, view_names, view_nodes}
 use Rattle.csl_style.specs.Expanded.{macro_env}
+use Rattle.csl_context.specs.State.{State}
 use Rattle.csl_context.specs.ContextView.{render_input}
 use Rattle.csl_nodes.specs.Usage.{info_union, info_view}
 use Rattle.csl_render.specs.declared.plan.NodeInfo.{NodeInfo}
 use Rattle.csl_render.specs.Names.{expanded_substitutes_of}
-use Rattle.csl_render.specs.Plan.{AreInfos}
+use Rattle.csl_render.specs.Plan.{dry_now, AreAlikeOn, AreInfos}
 use Rattle.csl_render.specs.Tree.{nodes_info}
 use Rattle.csl_render.proofs.+info.Given as goal
 
@@ -34,16 +35,18 @@ decreases-names::substitute_info g l = 2 * expanded_substitutes_size (expanded_s
 abbrev pub decreases-element::nodes_info : goal.decreases-element::nodes_info
 decreases-element::nodes_info g l = 2 * sizes (expand_nodes (macro_env l.run.now.style) (view_nodes l.nodes.now))
 
--- The union of the results so far, with that of the remaining nodes, is that of all nodes. The
--- results so far, with any for the remaining nodes, are results for all nodes.
+-- In each state that agrees on what was read so far, the union of the results so far, with that of
+-- the remaining nodes, is that of all nodes. The results so far, with any for the remaining nodes,
+-- are results for all nodes.
 abbrev pub invariant-element::nodes_info-loop-node : goal.invariant-element::nodes_info-loop-node
 invariant-element::nodes_info-loop-node g l =
     let w = render_input g.T.EntryLike.answers l.fn.run in
+    let d = dry_now l.fn.run in
     let rest = expand_nodes (macro_env l.fn.run.style) (view_nodes (drop l.node-index l.nodes)) in
     let all = expand_nodes (macro_env l.fn.run.style) (view_nodes l.nodes) in
     record {
       kept : l.run ≡ l.fn.run;
-      sum : info_union (info_view l.sum) (nodes_info w l.fn.run.state rest) ≡ nodes_info w l.fn.run.state all;
-      each : (others : List NodeInfo) → AreInfos w l.fn.run.state rest others → AreInfos w l.fn.run.state all (l.each.items ++ others);
+      sum : (s : State) → AreAlikeOn w l.read d s → info_union (info_view l.sum) (nodes_info w s rest) ≡ nodes_info w s all;
+      each : (others : List NodeInfo) → AreInfos w d rest others → AreInfos w d all (l.each.items ++ others);
       inside : sizes rest ≤ sizes all;
     }

@@ -4,21 +4,15 @@ use Rattle.csl_elements.specs.View.{view_nodes}
 use Rattle.csl_style.specs.Expanded.{macro_env}
 use Rattle.csl_context.specs.ContextView.{render_input}
 use Rattle.csl_render.specs.Plan.{AreOfTaken}
-use Rattle.csl_render.specs.Tree.{choice_info, choice_shows, choice_output}
-use Rattle.csl_render.proofs.Chosen.{info_of_choice, shows_of_choice, tree_of_choice, some_within}
-use Rattle.csl_render.proofs.Plans.{asked_nodes, planned_nodes}
+use Rattle.csl_render.specs.Tree.{choice_shows, choice_output}
+use Rattle.csl_render.proofs.Chosen.{shows_of_choice, tree_of_choice, some_within}
+use Rattle.csl_render.proofs.Plans.{planned_nodes}
 use Rattle.csl_render.proofs.choose.taken_nodes.Goals as goal
 
 pub returns-in-Ok-clause-within : goal.returns-in-Ok-clause-within
 returns-in-Ok-clause-within g c =
     let now = c.args.ctx.now in
     some_within (render_input g.T.EntryLike.answers now) now.state (macro_env now.style) (λ ns. view_nodes ns.now) c.args.choose.now _ c.in-Ok.ensures.value
-
-pub returns-in-Ok-clause-info : goal.returns-in-Ok-clause-info
-returns-in-Ok-clause-info g c =
-    let now = c.args.ctx.now in
-    let w = render_input g.T.EntryLike.answers now in
-    info_of_choice w now.state (macro_env now.style) c.args.choose.now ∙ ap (λ o. choice_info w now.state (option_map (expand_nodes (macro_env now.style)) o)) (sym c.in-Ok.ensures.value)
 
 pub returns-in-Ok-clause-shown : goal.returns-in-Ok-clause-shown
 returns-in-Ok-clause-shown g c v =
@@ -32,14 +26,8 @@ returns-in-Ok-clause-output g c =
     let w = render_input g.T.EntryLike.answers now in
     tree_of_choice w now.state (macro_env now.style) now.inherited c.args.choose.now ∙ ap (λ o. choice_output w (option_map (expand_nodes (macro_env now.style)) o) now.inherited now.state) (sym c.in-Ok.ensures.value)
 
-pub returns-in-Ok-clause-from_nodes : goal.returns-in-Ok-clause-from_nodes
-returns-in-Ok-clause-from_nodes g c infos h =
+pub returns-in-Ok-clause-results : goal.returns-in-Ok-clause-results
+returns-in-Ok-clause-results g c at infos h =
     let now = c.args.ctx.now in
     let w = render_input g.T.EntryLike.answers now in
-    asked_nodes w (macro_env now.style) now.state infos c.args.choose.now (subst (λ o. AreOfTaken w now.state (option_map (expand_nodes (macro_env now.style)) o) infos) c.in-Ok.ensures.value h)
-
-pub returns-in-Ok-clause-to_nodes : goal.returns-in-Ok-clause-to_nodes
-returns-in-Ok-clause-to_nodes g c at alike infos h =
-    let now = c.args.ctx.now in
-    let w = render_input g.T.EntryLike.answers now in
-    subst (λ o. AreOfTaken w at (option_map (expand_nodes (macro_env now.style)) o) infos) (sym c.in-Ok.ensures.value) (planned_nodes w (macro_env now.style) now.state at alike infos c.args.choose.now h)
+    subst (λ o. AreOfTaken w at (option_map (expand_nodes (macro_env now.style)) o) infos) (sym c.in-Ok.ensures.value) (planned_nodes w (macro_env now.style) at now.state infos c.args.choose.now h)
