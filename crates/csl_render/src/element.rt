@@ -236,12 +236,26 @@ fn render_if_it_prints<'p, 's, T: EntryLike>(
 {
     match plan {
         Some(plan) => render_by_plan(ctx, node, first, plan),
-        None => {
-            let asked = ask_node(ctx, node);
-            let (at, info) = ctx.attempt(asked)?;
-            render_by_plan(ctx, node, first, NodePlan::new(&at, &info))
-        }
+        None => render_asked(ctx, node, first),
     }
+}
+
+/// Renders a node if it would print by a dry run, after the inherited delimiter unless it is the
+/// first. Returns whether it would print.
+#[cycle(render)]
+#[inline(never)]
+fn render_asked<'s, T: EntryLike>(
+    ctx: &mut Context<'s, T>,
+    node: &'s LayoutRenderingElement,
+    first: bool,
+) -> Result<bool, RenderError>
+    ensures value { Gives result (prints_in T.answers ctx.old (view_node node.now)) }
+    ensures after { Runs (after_child T.answers first (view_node node.now))
+        result ctx.old ctx.new }
+{
+    let asked = ask_node(ctx, node);
+    let (at, info) = ctx.attempt(asked)?;
+    render_by_plan(ctx, node, first, NodePlan::new(&at, &info))
 }
 
 /// Renders a node if it prints by its plan, after the inherited delimiter unless it is the first.

@@ -49,11 +49,7 @@ impl Node for Group {
     ) -> Result<(), RenderError> {
         match plan {
             Some(plan) => render_group_by_plan(ctx, self, plan),
-            None => {
-                let asked = ask_group(ctx, self);
-                let (at, info) = ctx.attempt(asked)?;
-                render_group_by_plan(ctx, self, NodePlan::new(&at, &info))
-            }
+            None => render_asked_group(ctx, self),
         }
     }
 }
@@ -69,6 +65,21 @@ fn ask_group<'s, T: EntryLike>(
     let at = DryState::of(ctx)?;
     let info = group.node_info(&mut DryRun::new(ctx))?;
     Ok((at, info))
+}
+
+/// Renders a group by a dry run.
+#[cycle(render)]
+#[inline(never)]
+fn render_asked_group<'s, T: EntryLike>(
+    ctx: &mut Context<'s, T>,
+    group: &'s Group,
+) -> Result<(), RenderError>
+    ensures { Appends T.answers (λ w. node_output w (expanded w.style (view_group group.now)))
+        result ctx.old ctx.new }
+{
+    let asked = ask_group(ctx, group);
+    let (at, info) = ctx.attempt(asked)?;
+    render_group_by_plan(ctx, group, NodePlan::new(&at, &info))
 }
 
 /// Renders a group by its plan.

@@ -118,6 +118,7 @@ impl DryState {
     }
 
     /// Whether dry runs that read these variables read the same of the context as of this state.
+    #[inline(never)]
     pub(crate) fn is_alike<'s, T: EntryLike>(&self, read: VariableSet, ctx: &Context<'s, T>) -> bool
         ensures { IsTrue result → AreAlikeOn
             (render_input T.answers ctx.now) read self.now ctx.now.state }

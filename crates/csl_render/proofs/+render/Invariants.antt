@@ -12,61 +12,67 @@ use Rattle.csl_nodes.specs.Text.{render_output, with_output}
 use Rattle.csl_render.proofs.+render.Given as goal
 
 abbrev pub decreases-element::LayoutRenderingElementNode::render_by : goal.decreases-element::LayoutRenderingElementNode::render_by
-decreases-element::LayoutRenderingElementNode::render_by g l = 6 * size (expand (macro_env l.ctx.now.style) (view_node l.self.now)) + 2
+decreases-element::LayoutRenderingElementNode::render_by g l = 8 * size (expand (macro_env l.ctx.now.style) (view_node l.self.now)) + 3
 
 abbrev pub decreases-text::TextNode::render_by : goal.decreases-text::TextNode::render_by
-decreases-text::TextNode::render_by g l = 6 * size (expand (macro_env l.ctx.now.style) (view_text l.self.now))
+decreases-text::TextNode::render_by g l = 8 * size (expand (macro_env l.ctx.now.style) (view_text l.self.now))
 
 abbrev pub decreases-text::render_call : goal.decreases-text::render_call
-decreases-text::render_call g l = 6 * sizes (expand_nodes (macro_env l.ctx.now.style) (view_nodes l.nodes.now)) + 3
+decreases-text::render_call g l = 8 * sizes (expand_nodes (macro_env l.ctx.now.style) (view_nodes l.nodes.now)) + 3
 
 abbrev pub decreases-text::render_asked_call : goal.decreases-text::render_asked_call
-decreases-text::render_asked_call g l = 6 * sizes (expand_nodes (macro_env l.ctx.now.style) (view_nodes l.nodes.now)) + 2
+decreases-text::render_asked_call g l = 8 * sizes (expand_nodes (macro_env l.ctx.now.style) (view_nodes l.nodes.now)) + 2
 
 abbrev pub decreases-text::render_macro : goal.decreases-text::render_macro
-decreases-text::render_macro g l = 6 * sizes (expand_nodes (macro_env l.ctx.now.style) (view_nodes l.nodes.now)) + 1
+decreases-text::render_macro g l = 8 * sizes (expand_nodes (macro_env l.ctx.now.style) (view_nodes l.nodes.now)) + 1
 
 abbrev pub decreases-group::GroupNode::render_by : goal.decreases-group::GroupNode::render_by
-decreases-group::GroupNode::render_by g l = 6 * size (expand (macro_env l.ctx.now.style) (view_group l.self.now)) + 1
+decreases-group::GroupNode::render_by g l = 8 * size (expand (macro_env l.ctx.now.style) (view_group l.self.now)) + 2
+
+abbrev pub decreases-group::render_asked_group : goal.decreases-group::render_asked_group
+decreases-group::render_asked_group g l = 8 * size (expand (macro_env l.ctx.now.style) (view_group l.group.now)) + 1
 
 abbrev pub decreases-group::render_group_by_plan : goal.decreases-group::render_group_by_plan
-decreases-group::render_group_by_plan g l = 6 * size (expand (macro_env l.ctx.now.style) (view_group l.group.now))
+decreases-group::render_group_by_plan g l = 8 * size (expand (macro_env l.ctx.now.style) (view_group l.group.now))
 
 abbrev pub decreases-choose::ChooseNode::render_by : goal.decreases-choose::ChooseNode::render_by
-decreases-choose::ChooseNode::render_by g l = 6 * size (expand (macro_env l.ctx.now.style) (view_choose l.self.now))
+decreases-choose::ChooseNode::render_by g l = 8 * size (expand (macro_env l.ctx.now.style) (view_choose l.self.now))
 
 abbrev pub decreases-names::NamesNode::render_by : goal.decreases-names::NamesNode::render_by
-decreases-names::NamesNode::render_by g l = 6 * size (expand (macro_env l.ctx.now.style) (view_names l.self.now))
+decreases-names::NamesNode::render_by g l = 8 * size (expand (macro_env l.ctx.now.style) (view_names l.self.now))
 
 abbrev pub decreases-names::render_lists : goal.decreases-names::render_lists
-decreases-names::render_lists g l = 6 * expanded_substitutes_size (expanded_substitutes_of (macro_env l.ctx.now.style) l.names.now) + 2
+decreases-names::render_lists g l = 8 * expanded_substitutes_size (expanded_substitutes_of (macro_env l.ctx.now.style) l.names.now) + 2
 
 abbrev pub decreases-names::render_substitute : goal.decreases-names::render_substitute
-decreases-names::render_substitute g l = 6 * expanded_substitutes_size (expanded_substitutes_of (macro_env l.ctx.now.style) l.names.now) + 1
+decreases-names::render_substitute g l = 8 * expanded_substitutes_size (expanded_substitutes_of (macro_env l.ctx.now.style) l.names.now) + 1
 
 abbrev pub decreases-names::render_first_substitute : goal.decreases-names::render_first_substitute
-decreases-names::render_first_substitute g l = 6 * sizes (expand_nodes (macro_env l.ctx.now.style) (view_nodes l.nodes.now)) + 1
+decreases-names::render_first_substitute g l = 8 * sizes (expand_nodes (macro_env l.ctx.now.style) (view_nodes l.nodes.now)) + 1
 
 abbrev pub decreases-names::render_until_text : goal.decreases-names::render_until_text
-decreases-names::render_until_text g l = 6 * sizes (expand_nodes (macro_env l.ctx.now.style) (view_nodes l.nodes.now))
+decreases-names::render_until_text g l = 8 * sizes (expand_nodes (macro_env l.ctx.now.style) (view_nodes l.nodes.now))
 
 abbrev pub decreases-names::render_in_place : goal.decreases-names::render_in_place
-decreases-names::render_in_place g l = 6 * size (expand (macro_env l.ctx.now.style) (view_node l.node.now)) + 3
+decreases-names::render_in_place g l = 8 * size (expand (macro_env l.ctx.now.style) (view_node l.node.now)) + 4
 
 abbrev pub decreases-element::render_all : goal.decreases-element::render_all
-decreases-element::render_all g l = 6 * sizes (expand_nodes (macro_env l.ctx.now.style) (view_nodes l.nodes.now))
+decreases-element::render_all g l = 8 * sizes (expand_nodes (macro_env l.ctx.now.style) (view_nodes l.nodes.now))
 
 abbrev pub decreases-element::render_with_delimiter : goal.decreases-element::render_with_delimiter
-decreases-element::render_with_delimiter g l = 6 * sizes (expand_nodes (macro_env l.ctx.now.style) (view_nodes l.nodes.now))
+decreases-element::render_with_delimiter g l = 8 * sizes (expand_nodes (macro_env l.ctx.now.style) (view_nodes l.nodes.now))
 
 abbrev pub decreases-element::render_admitted : goal.decreases-element::render_admitted
-decreases-element::render_admitted g l = 6 * size (expand (macro_env l.ctx.now.style) (view_node l.node.now)) + 3
+decreases-element::render_admitted g l = 8 * size (expand (macro_env l.ctx.now.style) (view_node l.node.now)) + 4
 
 abbrev pub decreases-element::render_by_plan : goal.decreases-element::render_by_plan
-decreases-element::render_by_plan g l = 6 * size (expand (macro_env l.ctx.now.style) (view_node l.node.now)) + 4
+decreases-element::render_by_plan g l = 8 * size (expand (macro_env l.ctx.now.style) (view_node l.node.now)) + 5
+
+abbrev pub decreases-element::render_asked : goal.decreases-element::render_asked
+decreases-element::render_asked g l = 8 * size (expand (macro_env l.ctx.now.style) (view_node l.node.now)) + 6
 
 abbrev pub decreases-element::render_if_it_prints : goal.decreases-element::render_if_it_prints
-decreases-element::render_if_it_prints g l = 6 * size (expand (macro_env l.ctx.now.style) (view_node l.node.now)) + 5
+decreases-element::render_if_it_prints g l = 8 * size (expand (macro_env l.ctx.now.style) (view_node l.node.now)) + 7
 
 -- the context so far, with the output of the remaining nodes, is the context with that of all
 abbrev pub invariant-element::render_all-loop-node : goal.invariant-element::render_all-loop-node
