@@ -2,9 +2,10 @@
 -- rendered without another dry run (CSL 1.0.2, Group). A dry run reads two things of a state
 -- (`dry`): the suppressed variables and, under two special forms, whether a date was rendered. A
 -- result has the set of the variables that its dry run read. It is the same in each state that
--- agrees on them and on the date (`AreAlikeOn`). So what names in a substitute suppress ends the
--- plans of the nodes that read it, and of no others. A list of results may break off. The nodes
--- after its end have no plan. Only private contracts cite these definitions.
+-- agrees on them and on the date (`AreAlikeOn`). So a variable that names in a substitute suppress
+-- ends the plans of the nodes that read it, and leaves those whose set is without it. A list of
+-- results may break off. The nodes after its end have no plan. Only private contracts cite these
+-- definitions.
 use Rattle.std.specs.Prelude.{◌≡◌, ⊤, Bool, true, false, ◌&&◌, List, [], ◌∷◌, Option, Some, None}
 use Rattle.std.specs.Bool.{MatchBool}
 use Rattle.std.specs.BTreeMap.{is_at}
