@@ -1,7 +1,7 @@
 -- Rendering by a plan. The plan of a choice is that of the nodes that it takes. A call by a plan
 -- changes the context as the definition states.
-use Rattle.std.proofs.Common.{◌≡◌, ℕ, true, false, Option, Some, None, IfSome, Result, Ok, Err, List, subst, sym, ◌∙◌}
-use Rattle.std.specs.Option.{IsSomeAnd}
+use Rattle.std.proofs.Common.{◌≡◌, ℕ, true, false, Option, Some, None, IfSome, Result, Ok, Err, List, option_copied, option_map, subst, sym, ◌∙◌}
+use denote.Bor.{Bor}
 use Rattle.csl_elements.specs.Node.{ExpandedNode, ExpandedNodes, ExpandedSubstitutes, expand}
 use Rattle.csl_elements.specs.View.{view_names}
 use Rattle.csl_elements.specs.declared.element.Names.{Names}
@@ -11,41 +11,39 @@ use Rattle.csl_context.specs.RenderInput.{RenderInput}
 use Rattle.csl_context.specs.declared.error.RenderError.{RenderError}
 use Rattle.csl_context.specs.declared.error.RenderError.TheVariants.{Memory, Failed}
 use Rattle.csl_render.specs.declared.plan.ListPlan.{ListPlan}
-use Rattle.csl_render.specs.declared.plan.NodeInfo.{NodeInfo}
 use Rattle.csl_render.specs.declared.plan.NodePlan.{NodePlan}
-use Rattle.csl_render.specs.Plan.{inside_of, AreInside, AreInfos, AreOfSubstitutes, IsPlan, ArePlans, HasPlans, HasPlansOfSubstitutes}
+use Rattle.csl_render.specs.declared.plan.PlanItem.{PlanItem}
+use Rattle.csl_render.specs.Plan.{AreInside, AreItems, AreOfSubstitutes, IsPlan, ArePlans, HasPlans, HasPlansOfSubstitutes}
 use Rattle.csl_render.specs.Names.{expanded_substitutes_of}
 use Rattle.csl_render.proofs.Plans.{substitutes_inside}
 
+-- a plan that is handed by reference
+pub lent : {X : Type 0} (P : X → Type 0) (o : Option X) (r : Option (Bor X)) → option_copied r ≡ o → IfSome o P → IfSome r (λ x. P x.now)
+lent P o None e h = tt
+lent P (Some x) (Some r) e h = let same : x ≡ r.now = cc in subst P same h
+lent P None (Some r) e h = absurd (cc)
+
 -- the plan of the nodes inside
-pub inside_planned : (w : RenderInput) (fs : ExpandedNodes) (plan : Option NodePlan) (inside : Option ListPlan) → IfSome plan (HasPlans w fs) → IfSome inside (λ nodes. IsSomeAnd plan (λ node. (nodes.at.now ≡ node.at.now) × (nodes.infos.now ≡ inside_of node.info.now)))
-    → IfSome inside (ArePlans w fs)
-inside_planned w fs plan None h same = tt
-inside_planned w fs None (Some nodes) h same = absurd same
-inside_planned w fs (Some node) (Some nodes) h same =
-    subst (λ at. AreInfos w at fs nodes.infos.now) (sym same.0)
-    (subst (λ is. AreInfos w node.at.now fs is) (sym same.1) h)
+pub inside_planned : (w : RenderInput) (fs : ExpandedNodes) (plan : Option (Bor NodePlan)) (inside : Option ListPlan) → IfSome plan (λ p. HasPlans w fs p.now) → inside ≡ option_map (λ p. p.now.inside) plan → IfSome inside (ArePlans w fs)
+inside_planned w fs None inside h same = rw same tt
+inside_planned w fs (Some p) inside h same = rw same h
 
 -- names have a plan of their first substitute
-pub names_planned : (w : RenderInput) (s : State) (env : List ℕ → Option ExpandedNodes) (x : Names) (plan : Option NodePlan) → IfSome plan (IsPlan w s (expand env (view_names x))) → IfSome plan (HasPlansOfSubstitutes w (expanded_substitutes_of env x))
+pub names_planned : (w : RenderInput) (s : State) (env : List ℕ → Option ExpandedNodes) (x : Names) (plan : Option (Bor NodePlan)) → IfSome plan (λ p. IsPlan w s (expand env (view_names x)) p.now) → IfSome plan (λ p. HasPlansOfSubstitutes w (expanded_substitutes_of env x) p.now)
 names_planned w s env x None h = tt
-names_planned w s env x (Some p) h = substitutes_inside w p.at.now s env x (inside_of p.info.now) (h.1 s h.0).1
+names_planned w s env x (Some p) h = substitutes_inside w p.now.inside.at.now s env x p.now.inside.items.now h.1
 
 -- the plan of the first substitute is that of its children
-pub substitute_planned : (w : RenderInput) (ss : ExpandedSubstitutes) (fs : ExpandedNodes) → ((at : State) → (is : List NodeInfo) → AreOfSubstitutes w at ss is → AreInfos w at fs is)
-    → (plan : Option NodePlan) → IfSome plan (HasPlansOfSubstitutes w ss) → IfSome plan (HasPlans w fs)
+pub substitute_planned : (w : RenderInput) (ss : ExpandedSubstitutes) (fs : ExpandedNodes) → ((at : State) → (is : List PlanItem) → AreOfSubstitutes w at ss is → AreItems w at fs is)
+    → (plan : Option (Bor NodePlan)) → IfSome plan (λ p. HasPlansOfSubstitutes w ss p.now) → IfSome plan (λ p. HasPlans w fs p.now)
 substitute_planned w ss fs planned None h = tt
-substitute_planned w ss fs planned (Some p) h = planned p.at.now (inside_of p.info.now) h
+substitute_planned w ss fs planned (Some p) h = planned p.now.inside.at.now p.now.inside.items.now h
 
 -- the plan of a choice is that of the nodes that it takes
-pub taken_planned : (w : RenderInput) (s : State) (f : ExpandedNode) (fs : ExpandedNodes) → ((at : State) → (is : List NodeInfo) → AreInside w at s f is → AreInfos w at fs is)
-    → (plan : Option NodePlan) (inside : Option ListPlan) → IfSome plan (IsPlan w s f) → IfSome inside (λ nodes. IsSomeAnd plan (λ node. (nodes.at.now ≡ node.at.now) × (nodes.infos.now ≡ inside_of node.info.now)))
-    → IfSome inside (ArePlans w fs)
-taken_planned w s f fs planned plan None h same = tt
-taken_planned w s f fs planned None (Some nodes) h same = absurd same
-taken_planned w s f fs planned (Some node) (Some nodes) h same =
-    subst (λ at. AreInfos w at fs nodes.infos.now) (sym same.0)
-    (subst (λ is. AreInfos w node.at.now fs is) (sym same.1) (planned node.at.now (inside_of node.info.now) (h.1 s h.0).1))
+pub taken_planned : (w : RenderInput) (s : State) (f : ExpandedNode) (fs : ExpandedNodes) → ((at : State) → (is : List PlanItem) → AreInside w at s f is → AreItems w at fs is)
+    → (plan : Option (Bor NodePlan)) → IfSome plan (λ p. IsPlan w s f p.now) → IfSome plan (λ p. HasPlans w fs p.now)
+taken_planned w s f fs planned None h = tt
+taken_planned w s f fs planned (Some p) h = planned p.now.inside.at.now p.now.inside.items.now h.1
 
 -- ---- calls that change the context by an equal function
 

@@ -1,7 +1,7 @@
--- Plans. The result for a group, a macro, names and a choice includes results for the nodes inside.
-use Rattle.std.proofs.Common.{◌≡◌, ℕ, ◌<◌, ◌+◌, ◌++◌, get_or, drop, Bool, true, false, length, subst, List, [], ◌∷◌, Option, Some, None, option_map, map, if◌then◌else◌, refl, sym, ap, ap₂, ◌∙◌, arith}
+-- Plans. The dry run of a group, a macro, names or a choice adds the plan of the nodes inside.
+use Rattle.std.proofs.Common.{◌≡◌, ℕ, ◌<◌, ◌+◌, ◌-◌, ◌++◌, get_or, set, drop, suc, Bool, true, false, length, subst, List, [], ◌∷◌, Option, Some, None, option_map, map, if◌then◌else◌, refl, sym, ap, ap₂, ◌∙◌, arith}
 use Rattle.std.specs.Bool.{MatchBool}
-use Rattle.std.proofs.lemmas.List.{append_assoc, at_drop_more}
+use Rattle.std.proofs.lemmas.List.{append-nil, append_assoc, at_drop_more, drop_at, length-append, set_at, take_at}
 use Rattle.csl_elements.specs.declared.element.Choose.{Choose, out-Choose}
 use Rattle.csl_elements.specs.declared.element.ChooseBranch.{ChooseBranch}
 use Rattle.csl_elements.specs.declared.element.Group.{Group}
@@ -9,52 +9,59 @@ use Rattle.csl_elements.specs.declared.element.LayoutRenderingElement.{LayoutRen
 use Rattle.csl_elements.specs.declared.element.Names.{Names}
 use Rattle.csl_elements.specs.NamesParts.{names_node}
 use Rattle.csl_elements.specs.Node.{Node, Nodes, Branches, no_branches, otherwise, branch, ExpandedNode, expanded_text, expanded_macro, unknown_macro, expanded_number, expanded_label, expanded_date, expanded_names, shorthand, expanded_choose, expanded_group, ExpandedNodes, no_expanded_nodes, expanded_node, ExpandedBranches, no_expanded_branches, expanded_otherwise, expanded_branch, ExpandedSubstitutes, no_expanded_substitutes, expanded_substitute, expand, expand_nodes, expand_branches}
+use Rattle.csl_style.specs.Expanded.{macro_env}
 use Rattle.csl_elements.specs.View.{view_node, view_branch, view_choose, view_group, view_names, view_nodes, branches_of}
 use Rattle.csl_entry.specs.Alike.{Each}
 use Rattle.csl_context.specs.State.{State}
+use Rattle.csl_context.specs.ContextView.{ContextView, render_input}
 use Rattle.csl_context.specs.RenderInput.{RenderInput}
-use Rattle.csl_names.specs.NamesLists.{peeked_lists}
+use Rattle.csl_entry.specs.Answers.{Answers}
+use Rattle.csl_names.specs.NamesForms.{writes_no_name}
+use Rattle.csl_names.specs.NamesLists.{all_empty, peeked_lists}
 use Rattle.csl_nodes.specs.Conditions.{branch_matches, chosen_nodes, chosen_children}
-use Rattle.csl_nodes.specs.Usage.{Info, group_info}
+use Rattle.csl_nodes.specs.Usage.{Info, group_info, info_view, no_info}
+use Rattle.csl_render.specs.declared.plan.AskedNode.{AskedNode}
 use Rattle.csl_render.specs.declared.plan.NodeInfo.{NodeInfo}
-use Rattle.csl_render.specs.declared.plan.NodePlan.{NodePlan}
-use Rattle.csl_render.specs.Names.{author, names_info, expanded_substitutes_of}
+use Rattle.csl_render.specs.declared.plan.PlanItem.{PlanItem}
+use Rattle.csl_render.specs.DryRun.{Adds, Run}
+use Rattle.csl_render.specs.Expanded.{expanded, expanded_substitutes}
+use Rattle.csl_render.specs.Names.{names_or_substitute_info, expanded_substitutes_of}
 use Rattle.csl_render.specs.declared.variable_set.VariableSet.{VariableSet}
-use Rattle.csl_render.specs.Plan.{dry, AreSuppressedAlike, AreAlikeOn, HasTested, HasAllTested, HasReadByNames, answer_of, read_of, inside_of, AreInside, AreInfos, AreTaken, AreOfTaken, AreOfSubstitutes, IsInfo, IsInfoOfNodes, IsInfoOfSubstitutes, IsPlan}
-use Rattle.csl_render.specs.Tree.{info, nodes_info, shows, substitute_info, choice_info}
+use Rattle.csl_render.specs.Plan.{dry, dry_now, AreSuppressedAlike, AreAlikeOn, HasTested, HasAllTested, HasReadByNames, answer_of, AreInside, AreItems, AreTaken, AreOfTaken, AreOfSubstitutes, IsInfo, IsInfoOfNodes, IsInfoOfSubstitutes, IsDryRun}
+use Rattle.csl_render.specs.Tree.{info, nodes_info, refused_in, substitute_info, choice_info}
 use Rattle.csl_render.specs.VariableSet.{IsWithin}
 use Rattle.csl_render.proofs.Chosen.{IsChoice, is_choice, choice_out, info_of_choice}
 use Rattle.csl_render.proofs.GroupView.{group_out}
 use Rattle.csl_render.proofs.NamesView.{names_out}
 use Rattle.csl_render.proofs.Reading.{matches_same, names_info_same, alike_within, alike_to_itself}
 
--- ---- no results
+-- ---- no plan
 
 module _ (w : RenderInput) (d : State) where
-  pub no_infos : (fs : ExpandedNodes) → AreInfos w d fs []
-  no_infos no_expanded_nodes = tt
-  no_infos (expanded_node f fs) = tt
+  pub no_items : (fs : ExpandedNodes) → AreItems w d fs []
+  no_items no_expanded_nodes = tt
+  no_items (expanded_node f fs) = tt
 
-  no_case : (s : State) (b : Bool) (fs : ExpandedNodes) (cs : ExpandedBranches) → AreTaken w d s cs [] → MatchBool b (AreInfos w d fs []) (AreTaken w d s cs [])
-  no_case s true fs cs h = no_infos fs
+  no_case : (s : State) (b : Bool) (fs : ExpandedNodes) (cs : ExpandedBranches) → AreTaken w d s cs [] → MatchBool b (AreItems w d fs []) (AreTaken w d s cs [])
+  no_case s true fs cs h = no_items fs
   no_case s false fs cs h = h
 
   no_taken : (s : State) (cs : ExpandedBranches) → AreTaken w d s cs []
   no_taken s no_expanded_branches = tt
-  no_taken s (expanded_otherwise fs) = no_infos fs
+  no_taken s (expanded_otherwise fs) = no_items fs
   no_taken s (expanded_branch ts fs cs) = no_case s (branch_matches w s ts) fs cs (no_taken s cs)
 
-  pub unplanned : (fs : ExpandedNodes) (is : List NodeInfo) → length is ≡ 0 → AreInfos w d fs is
-  unplanned fs [] e = no_infos fs
+  pub unplanned : (fs : ExpandedNodes) (is : List PlanItem) → length is ≡ 0 → AreItems w d fs is
+  unplanned fs [] e = no_items fs
   unplanned fs (i ∷ is) e = absurd (omega (arith, e))
 
   pub none_of_substitutes : (ss : ExpandedSubstitutes) → AreOfSubstitutes w d ss []
   none_of_substitutes no_expanded_substitutes = tt
-  none_of_substitutes (expanded_substitute fs ss) = no_infos fs
+  none_of_substitutes (expanded_substitute fs ss) = no_items fs
 
   pub none_inside : (s : State) (f : ExpandedNode) → AreInside w d s f []
   none_inside s (expanded_text t e) = tt
-  none_inside s (expanded_macro fs e) = no_infos fs
+  none_inside s (expanded_macro fs e) = no_items fs
   none_inside s unknown_macro = tt
   none_inside s (expanded_number n) = tt
   none_inside s (expanded_label v l) = tt
@@ -62,7 +69,51 @@ module _ (w : RenderInput) (d : State) where
   none_inside s (expanded_names n ss) = none_of_substitutes ss
   none_inside s (shorthand written n) = tt
   none_inside s (expanded_choose cs) = no_taken s cs
-  none_inside s (expanded_group delimiter e fs) = no_infos fs
+  none_inside s (expanded_group delimiter e fs) = no_items fs
+
+-- ---- what a dry run adds
+
+only_one : (is : List PlanItem) → length is ≡ 1 → (i : PlanItem) × (is ≡ i ∷ [])
+only_one [] e = absurd (omega (arith, e))
+only_one (i ∷ []) e = (i, refl)
+only_one (i ∷ j ∷ is) e = absurd (omega (arith, e))
+
+-- the result for a node, and the items for the nodes inside it, of which `P`
+abbrev pub AreClosed : NodeInfo → (List PlanItem → Type 0) → List PlanItem → Type 0
+AreClosed i P is = (inside : List PlanItem) × (is ≡ record { info = i; inside = length inside } ∷ inside) × P inside
+
+module _ {T : Type 0} where
+  pub adds_none : (P : List PlanItem → Type 0) (run : Run T) → P [] → Adds P run run
+  adds_none P run h = record { more = []; added = ap (λ is. record { now = run.now; items = is }) (sym (append-nil run.items)); hold = h }
+
+  pub adds_as : (P Q : List PlanItem → Type 0) (old new : Run T) → ((is : List PlanItem) → P is → Q is) → Adds P old new → Adds Q old new
+  adds_as P Q old new to h = record { more = h.more; added = h.added; hold = to h.more h.hold }
+
+  -- room for a node, the nodes inside it, and then its result
+  pub closed : (P : List PlanItem → Type 0) (i : NodeInfo) (place : ℕ) (start opened end next : Run T) → place ≡ length start.items → Adds (λ is. length is ≡ 1) start opened → Adds P opened end
+      → next ≡ record { now = end.now; items = set end.items place (record { info = i; inside = length end.items - place - 1 }) }
+      → Adds (AreClosed i P) start next
+  closed P i place start opened end next at room inside e =
+      let (j, one) = only_one room.more room.hold in
+      let with_room : opened.items ≡ start.items ++ (j ∷ []) = ap (λ r. r.items) room.added ∙ ap (λ is. start.items ++ is) one in
+      let ended : end.items ≡ start.items ++ (j ∷ inside.more) = ap (λ r. r.items) inside.added ∙ ap (λ is. is ++ inside.more) with_room ∙ append_assoc start.items (j ∷ []) inside.more in
+      let now : end.now ≡ start.now = ap (λ r. r.now) inside.added ∙ ap (λ r. r.now) room.added in
+      let long : length end.items ≡ length start.items + suc (length inside.more) = ap length ended ∙ length-append start.items (j ∷ inside.more) in
+      let count : length end.items - place - 1 ≡ length inside.more = omega (arith, long, at) in
+      record {
+        more = record { info = i; inside = length inside.more } ∷ inside.more;
+        added =
+            e
+            ∙ ap (λ n. record { now = n; items = set end.items place (record { info = i; inside = length end.items - place - 1 }) }) now
+            ∙ ap (λ k. record { now = start.now; items = set end.items place (record { info = i; inside = k }) }) count
+            ∙ ap (λ is. record { now = start.now; items = set is place (record { info = i; inside = length inside.more }) }) ended
+            ∙ ap (λ is. record { now = start.now; items = is }) (set_at start.items j inside.more (record { info = i; inside = length inside.more }) place (sym at));
+        hold = (inside.more, refl, inside.hold);
+      }
+
+  -- a node without nodes inside
+  pub leaf : (answers : T → Answers) (run : Run T) (f : ExpandedNode) (i : NodeInfo) → ((s : State) → AreAlikeOn (render_input answers run.now) i.read (dry_now run.now) s → answer_of i ≡ info (render_input answers run.now) s f) → Adds (IsInfo (render_input answers run.now) (dry_now run.now) f i) run run
+  leaf answers run f i h = adds_none (IsInfo (render_input answers run.now) (dry_now run.now) f i) run (λ s alike. (h s alike, none_inside (render_input answers run.now) (dry_now run.now) s f))
 
 -- ---- node by node
 
@@ -70,39 +121,56 @@ module _ (w : RenderInput) (d : State) where
 pub nodes_from : (env : List ℕ → Option ExpandedNodes) (ns : List LayoutRenderingElement) (i : ℕ) (x : LayoutRenderingElement) → i < length ns → x ≡ get_or ns i x → expand_nodes env (view_nodes (drop i ns)) ≡ expanded_node (expand env (view_node x)) (expand_nodes env (view_nodes (drop (i + 1) ns)))
 nodes_from env ns i x within is = at_drop_more (λ l. expand_nodes env (view_nodes l)) ns i x within ∙ ap (λ y. expand_nodes env (view_nodes (y ∷ drop (i + 1) ns))) (sym is)
 
--- the results so far, one more, and any others
-pub one_more : {X : Type 0} (before now : List X) (x : X) (others : List X) → now ≡ before ++ (x ∷ []) → before ++ (x ∷ others) ≡ now ++ others
-one_more before now x others e = sym (ap (λ xs. xs ++ others) e ∙ append_assoc before (x ∷ []) others)
+-- the result for a node and the items for those inside it, before the items for the nodes after it
+pub first_planned : (w : RenderInput) (d : State) (f : ExpandedNode) (fs : ExpandedNodes) (i : NodeInfo) (inside others : List PlanItem) → IsInfo w d f i inside → AreItems w d fs others → AreItems w d (expanded_node f fs) (record { info = i; inside = length inside } ∷ (inside ++ others))
+first_planned w d f fs i inside others one rest = (
+  (let long = length-append inside others in omega (arith, long)),
+  (λ s alike. subst (λ is. (answer_of i ≡ info w s f) × AreInside w d s f is) (sym (take_at inside others (length inside) refl)) (one s alike)),
+  subst (λ is. AreItems w d fs is) (sym (drop_at inside others (length inside) refl)) rest,
+)
+
+-- the items so far, with any for the remaining nodes, are those of all nodes
+abbrev pub ArePlanned : RenderInput → State → ExpandedNodes → ExpandedNodes → List PlanItem → Type 0
+ArePlanned w d rest all is = (others : List PlanItem) → AreItems w d rest others → AreItems w d all (is ++ others)
+
+pub one_more : {T : Type 0} (w : RenderInput) (d : State) (f : ExpandedNode) (fs rest all : ExpandedNodes) (i : NodeInfo) (start now next : Run T) → rest ≡ expanded_node f fs → Adds (ArePlanned w d rest all) start now → Adds (AreClosed i (IsInfo w d f i)) now next → Adds (ArePlanned w d fs all) start next
+one_more w d f fs rest all i start now next from before more =
+    let (inside, is, one) = more.hold in
+    record {
+      more = before.more ++ more.more;
+      added = more.added ∙ ap (λ r. record { now = r.now; items = r.items ++ more.more }) before.added ∙ ap (λ is. record { now = start.now; items = is }) (append_assoc start.items before.more more.more);
+      hold = λ others h.
+          let first = subst (λ is. AreItems w d (expanded_node f fs) (is ++ others)) (sym is) (first_planned w d f fs i inside others one h) in
+          subst (λ is. AreItems w d all is) (sym (append_assoc before.more more.more others)) (before.hold (more.more ++ others) (subst (λ ns. AreItems w d ns (more.more ++ others)) (sym from) first));
+    }
 
 -- ---- a plan of a node
 
--- a plan has the dry run of the node in the state for which it holds
-pub answer_by_plan : (w : RenderInput) (s : State) (f : ExpandedNode) (p : NodePlan) → IsPlan w s f p → answer_of p.info.now ≡ info w s f
-answer_by_plan w s f p h = (h.1 s h.0).0
-
--- a plan of a group has the results for its children
-pub group_planned : (w : RenderInput) (s : State) (env : List ℕ → Option ExpandedNodes) (g : Group) (p : NodePlan) → IsPlan w s (expand env (view_group g)) p → AreInfos w p.at.now (expand_nodes env (view_nodes g.children.items)) (inside_of p.info.now)
-group_planned w s env g p h = subst (λ n. AreInside w p.at.now s (expand env n) (inside_of p.info.now)) (group_out g) (h.1 s h.0).1
-
--- the results for the nodes inside names are those for their first substitute
-pub substitutes_inside : (w : RenderInput) (d s : State) (env : List ℕ → Option ExpandedNodes) (x : Names) (is : List NodeInfo) → AreInside w d s (expand env (view_names x)) is → AreOfSubstitutes w d (expanded_substitutes_of env x) is
+-- the plan of the nodes inside names is that of their first substitute
+pub substitutes_inside : (w : RenderInput) (d s : State) (env : List ℕ → Option ExpandedNodes) (x : Names) (is : List PlanItem) → AreInside w d s (expand env (view_names x)) is → AreOfSubstitutes w d (expanded_substitutes_of env x) is
 substitutes_inside w d s env x is h = subst (λ n. AreInside w d s (expand env n) is) (names_out x) h
 
-pub names_asked : (w : RenderInput) (d s : State) (env : List ℕ → Option ExpandedNodes) (x : Names) (is : List NodeInfo) → AreOfSubstitutes w d (expanded_substitutes_of env x) is → AreInside w d s (expand env (view_names x)) is
+pub names_asked : (w : RenderInput) (d s : State) (env : List ℕ → Option ExpandedNodes) (x : Names) (is : List PlanItem) → AreOfSubstitutes w d (expanded_substitutes_of env x) is → AreInside w d s (expand env (view_names x)) is
 names_asked w d s env x is h = subst (λ n. AreInside w d s (expand env n) is) (sym (names_out x)) h
 
--- the result of a dry run, as a plan for the state that it read
-pub asked : (w : RenderInput) (s at : State) (f : ExpandedNode) (i : NodeInfo) → at ≡ dry w.instance.special s → IsInfo w (dry w.instance.special s) f i → AreAlikeOn w (read_of i) at s × IsInfo w at f i
-asked w s at f i e h = subst (λ d. AreAlikeOn w (read_of i) d s × IsInfo w d f i) (sym e) (alike_to_itself w (read_of i) s, h)
+-- what a dry run from an empty plan gives
+pub asked : {T : Type 0} (answers : T → Answers) (now : ContextView T) (f : ExpandedNode) (i : NodeInfo) (end : Run T) (r : AskedNode) → Adds (IsInfo (render_input answers now) (dry_now now) f i) (record { now = now; items = [] }) end
+    → r.at ≡ dry_now now → r.answer ≡ i.answer → r.inside.items ≡ end.items → IsDryRun answers now f r
+asked answers now f i end r h at answer inside =
+    let w = render_input answers now in
+    let holds = h.hold now.state (alike_to_itself w i.read now.state) in (
+      ap info_view answer ∙ holds.0,
+      subst (λ d. AreInside w d now.state f r.inside.items) (sym at) (subst (AreInside w (dry_now now) now.state f) (sym (inside ∙ ap (λ r. r.items) h.added)) holds.1),
+    )
 
 -- ---- the nodes that a choice takes
 
-module _ (w : RenderInput) (env : List ℕ → Option ExpandedNodes) (d s : State) (is : List NodeInfo) where
+module _ (w : RenderInput) (env : List ℕ → Option ExpandedNodes) (d s : State) (is : List PlanItem) where
   -- the results for the nodes that are taken in a state, by those for the choice
   taken_here : (b : Bool) (fs : ExpandedNodes) (cs : ExpandedBranches) (ns : Nodes) (o : Option Nodes) → fs ≡ expand_nodes env ns
       → (AreTaken w d s cs is → AreOfTaken w d (option_map (expand_nodes env) o) is)
-      → MatchBool b (AreInfos w d fs is) (AreTaken w d s cs is) → AreOfTaken w d (option_map (expand_nodes env) (if b then Some ns else o)) is
-  taken_here true fs cs ns o f k h = subst (λ x. AreInfos w d x is) f h
+      → MatchBool b (AreItems w d fs is) (AreTaken w d s cs is) → AreOfTaken w d (option_map (expand_nodes env) (if b then Some ns else o)) is
+  taken_here true fs cs ns o f k h = subst (λ x. AreItems w d x is) f h
   taken_here false fs cs ns o f k h = k h
 
   of_branches : (bs : Branches) → AreTaken w d s (expand_branches env bs) is → AreOfTaken w d (option_map (expand_nodes env) (chosen_nodes w s bs)) is
@@ -119,8 +187,8 @@ module _ (w : RenderInput) (env : List ℕ → Option ExpandedNodes) (d s : Stat
   -- and the other way round
   asked_here : (b : Bool) (fs : ExpandedNodes) (cs : ExpandedBranches) (ns : Nodes) (o : Option Nodes) → fs ≡ expand_nodes env ns
       → (AreOfTaken w d (option_map (expand_nodes env) o) is → AreTaken w d s cs is)
-      → AreOfTaken w d (option_map (expand_nodes env) (if b then Some ns else o)) is → MatchBool b (AreInfos w d fs is) (AreTaken w d s cs is)
-  asked_here true fs cs ns o f k h = subst (λ x. AreInfos w d x is) (sym f) h
+      → AreOfTaken w d (option_map (expand_nodes env) (if b then Some ns else o)) is → MatchBool b (AreItems w d fs is) (AreTaken w d s cs is)
+  asked_here true fs cs ns o f k h = subst (λ x. AreItems w d x is) (sym f) h
   asked_here false fs cs ns o f k h = k h
 
   to_branches : (bs : Branches) → AreOfTaken w d (option_map (expand_nodes env) (chosen_nodes w s bs)) is → AreTaken w d s (expand_branches env bs) is
@@ -147,42 +215,47 @@ module _ (w : RenderInput) (s t : State) (read : VariableSet) (alike : AreSuppre
   pub same_chosen : (c : Choose) → HasAllTested read c → chosen_children w s (view_choose c) ≡ chosen_children w t (view_choose c)
   same_chosen c h = let seen = choice_out c in rw seen.1 (same_taken ((out-Choose c).if_ ∷ (out-Choose c).else_if.items) seen.0 h)
 
--- ---- a node around nodes, by the result for these nodes
+-- ---- a node around nodes, by the dry run of these nodes
 
-module _ (w : RenderInput) (d : State) (i r : NodeInfo) (read : read_of r ≡ read_of i) (inside : inside_of r ≡ inside_of i) where
-  pub around : (fs : ExpandedNodes) (f : Info → Info) → IsInfoOfNodes w d fs i → answer_of r ≡ f (answer_of i) → (s : State) → AreAlikeOn w (read_of r) d s → (answer_of r ≡ f (nodes_info w s fs)) × AreInfos w d fs (inside_of r)
-  around fs f h e s alike = (
-    e ∙ ap f (h.0 s (subst (λ x. AreAlikeOn w x d s) read alike)),
-    subst (λ is. AreInfos w d fs is) (sym inside) h.1,
-  )
+module _ (w : RenderInput) (d : State) (i r : NodeInfo) (read : r.read ≡ i.read) where
+  pub around : (fs : ExpandedNodes) (f : Info → Info) (is : List PlanItem) → IsInfoOfNodes w d fs i is → answer_of r ≡ f (answer_of i) → (s : State) → AreAlikeOn w r.read d s → (answer_of r ≡ f (nodes_info w s fs)) × AreItems w d fs is
+  around fs f is h e s alike = (e ∙ ap f (h.0 s (subst (λ x. AreAlikeOn w x d s) read alike)), h.1)
 
-  pub around_group : (env : List ℕ → Option ExpandedNodes) (g : Group) → IsInfoOfNodes w d (expand_nodes env (view_nodes g.children.items)) i → answer_of r ≡ group_info (answer_of i) → IsInfo w d (expand env (view_group g)) r
-  around_group env g h e = subst (λ n. IsInfo w d (expand env n) r) (sym (group_out g)) (around _ group_info h e)
+  pub around_group : (env : List ℕ → Option ExpandedNodes) (g : Group) (is : List PlanItem) → IsInfoOfNodes w d (expand_nodes env (view_nodes g.children.items)) i is → answer_of r ≡ group_info (answer_of i) → IsInfo w d (expand env (view_group g)) r is
+  around_group env g is h e = subst (λ n. IsInfo w d (expand env n) r is) (sym (group_out g)) (around _ group_info is h e)
 
 -- the result for a choice, by that for the nodes that it takes in the state of the dry run
-pub around_taken : (w : RenderInput) (s : State) (env : List ℕ → Option ExpandedNodes) (c : Choose) (taken : Option Nodes) (tested : VariableSet) (r : NodeInfo) → HasAllTested tested c → IsWithin tested (read_of r) → taken ≡ chosen_children w s (view_choose c)
-    → ((u : State) → AreAlikeOn w (read_of r) (dry w.instance.special s) u → answer_of r ≡ choice_info w u (option_map (expand_nodes env) taken)) → AreOfTaken w (dry w.instance.special s) (option_map (expand_nodes env) taken) (inside_of r)
-    → IsInfo w (dry w.instance.special s) (expand env (view_choose c)) r
-around_taken w s env c taken tested r has within here answers inside u alike =
+pub around_taken : (w : RenderInput) (s : State) (env : List ℕ → Option ExpandedNodes) (c : Choose) (taken : Option Nodes) (tested : VariableSet) (r : NodeInfo) (is : List PlanItem) → HasAllTested tested c → IsWithin tested r.read → taken ≡ chosen_children w s (view_choose c)
+    → ((u : State) → AreAlikeOn w r.read (dry w.instance.special s) u → answer_of r ≡ choice_info w u (option_map (expand_nodes env) taken)) → AreOfTaken w (dry w.instance.special s) (option_map (expand_nodes env) taken) is
+    → IsInfo w (dry w.instance.special s) (expand env (view_choose c)) r is
+around_taken w s env c taken tested r is has within here answers inside u alike =
     let there = here ∙ same_chosen w s u tested (λ v h. alike.1 v (within v h)) c has in (
       answers u alike ∙ ap (λ o. choice_info w u (option_map (expand_nodes env) o)) there ∙ sym (info_of_choice w u env c),
-      asked_nodes w env (dry w.instance.special s) u (inside_of r) c (subst (λ o. AreOfTaken w (dry w.instance.special s) (option_map (expand_nodes env) o) (inside_of r)) there inside),
+      asked_nodes w env (dry w.instance.special s) u is c (subst (λ o. AreOfTaken w (dry w.instance.special s) (option_map (expand_nodes env) o) is) there inside),
     )
 
--- the result for names, by that for their substitutes
-pub around_substitutes : (w : RenderInput) (s : State) (env : List ℕ → Option ExpandedNodes) (x : Names) (own : VariableSet) (r : NodeInfo) → HasReadByNames w.instance.special (names_node x).variables own → IsWithin own (read_of r)
-    → ((u : State) → AreAlikeOn w (read_of r) (dry w.instance.special s) u
-    → answer_of r ≡ names_info w.instance.special (names_node x) (peeked_lists w s (names_node x).variables) (expanded_substitutes_of env x) (shows w s author (expanded_names (names_node x) (expanded_substitutes_of env x))) (substitute_info w u (expanded_substitutes_of env x)))
-    → AreOfSubstitutes w (dry w.instance.special s) (expanded_substitutes_of env x) (inside_of r)
-    → IsInfo w (dry w.instance.special s) (expand env (view_names x)) r
-around_substitutes w s env x own r has within answers inside u alike = (
-  answers u alike
-      ∙ sym (names_info_same w s u own (alike_within w own (read_of r) (dry w.instance.special s) u within alike) (names_node x) (expanded_substitutes_of env x) has)
-      ∙ ap (λ n. info w u (expand env n)) (sym (names_out x)),
-  names_asked w (dry w.instance.special s) u env x (inside_of r) inside,
-)
+-- the result for names, by what the dry run finds of their lists, and the result for their substitutes
+pub around_names : {T : Type 0} (answers : T → Answers) (now : ContextView T) (x : Names) (own : VariableSet) (empty void refused : Bool) (r : NodeInfo) (is : List PlanItem) → HasReadByNames now.special (names_node x).variables own → IsWithin own r.read
+    → empty ≡ all_empty (peeked_lists (render_input answers now) now.state (names_node x).variables) → void ≡ writes_no_name (names_node x) (peeked_lists (render_input answers now) now.state (names_node x).variables)
+    → refused ≡ refused_in (render_input answers now) (names_node x) (expanded_substitutes now.style x) empty now.state
+    → ((u : State) → AreAlikeOn (render_input answers now) r.read (dry_now now) u → answer_of r ≡ (if refused then no_info else names_or_substitute_info void (substitute_info (render_input answers now) u (expanded_substitutes now.style x))))
+    → AreOfSubstitutes (render_input answers now) (dry_now now) (expanded_substitutes now.style x) is → IsInfo (render_input answers now) (dry_now now) (expanded now.style (view_names x)) r is
+around_names answers now x own empty void refused r is has within empties voids refuses told inside u alike =
+    let w = render_input answers now in
+    let e = macro_env now.style in
+    let n = names_node x in
+    let ss = expanded_substitutes now.style x in
+    let ls = peeked_lists w now.state n.variables in
+    let sub = substitute_info w u ss in (
+      told u alike
+          ∙ ap (λ b. if refused then no_info else names_or_substitute_info b sub) voids
+          ∙ ap (λ b. if b then no_info else names_or_substitute_info (writes_no_name n ls) sub) (refuses ∙ ap (λ b. refused_in w n ss b now.state) empties)
+          ∙ sym (names_info_same w now.state u own (alike_within w own r.read (dry_now now) u within alike) n ss has)
+          ∙ ap (λ n. info w u (expand e n)) (sym (names_out x)),
+      names_asked w (dry_now now) u e x is inside,
+    )
 
 -- the result for substitutes, by that for the children of the first
-pub around_first : (w : RenderInput) (d : State) (ss : ExpandedSubstitutes) (taken : Option ExpandedNodes) (r : NodeInfo) → ((u : State) → substitute_info w u ss ≡ choice_info w u taken) → ((is : List NodeInfo) → AreOfTaken w d taken is → AreOfSubstitutes w d ss is)
-    → ((u : State) → AreAlikeOn w (read_of r) d u → answer_of r ≡ choice_info w u taken) → AreOfTaken w d taken (inside_of r) → IsInfoOfSubstitutes w d ss r
-around_first w d ss taken r same from answers inside = (λ u alike. answers u alike ∙ sym (same u), from (inside_of r) inside)
+pub around_first : (w : RenderInput) (d : State) (ss : ExpandedSubstitutes) (taken : Option ExpandedNodes) (r : NodeInfo) (is : List PlanItem) → ((u : State) → substitute_info w u ss ≡ choice_info w u taken) → (AreOfTaken w d taken is → AreOfSubstitutes w d ss is)
+    → ((u : State) → AreAlikeOn w r.read d u → answer_of r ≡ choice_info w u taken) → AreOfTaken w d taken is → IsInfoOfSubstitutes w d ss r is
+around_first w d ss taken r is same from answers inside = (λ u alike. answers u alike ∙ sym (same u), from inside)

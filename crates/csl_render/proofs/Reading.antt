@@ -212,6 +212,11 @@ names_info_same w s u read alike n is h =
 
 -- ---- the sets
 
+-- the variable of a date that was read
+pub date_read : (s u : State) (read : VariableSet) → AreSuppressedAlike read s u → (o : Option DateVariable) → IfSome o (λ v. Has read (variable.Date v)) → IfSome o (λ v. is_suppressed s (variable.Date v) ≡ is_suppressed u (variable.Date v))
+date_read s u read alike None h = tt
+date_read s u read alike (Some v) h = alike (variable.Date v) h
+
 -- what is read of a set is read of a part of it
 pub alike_within : (w : RenderInput) (a b : VariableSet) (d s : State) → IsWithin a b → AreAlikeOn w b d s → AreAlikeOn w a d s
 alike_within w a b d s within h = (h.0, λ v has. h.1 v (within v has))

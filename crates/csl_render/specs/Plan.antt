@@ -3,10 +3,11 @@
 -- (`dry`): the suppressed variables and, under two special forms, whether a date was rendered. A
 -- result has the set of the variables that its dry run read. It is the same in each state that
 -- agrees on them and on the date (`AreAlikeOn`). So a variable that names in a substitute suppress
--- ends the plans of the nodes that read it, and leaves those whose set is without it. A list of
--- results may break off. The nodes after its end have no plan. Only private contracts cite these
--- definitions.
-use Rattle.std.specs.Prelude.{◌≡◌, ⊤, Bool, true, false, ◌&&◌, List, [], ◌∷◌, Option, Some, None}
+-- ends the plans of the nodes that read it, and leaves those whose set is without it. All results of
+-- a dry run stand in one list, in the order of the nodes: each before those for the nodes inside its
+-- node. The results for a list of nodes may break off. The nodes after its end have no plan. Only
+-- private contracts cite these definitions.
+use Rattle.std.specs.Prelude.{◌≡◌, ◌≤◌, ⊤, Bool, true, false, ◌&&◌, List, [], ◌∷◌, length, take, drop, Option, Some, None}
 use Rattle.std.specs.Bool.{MatchBool}
 use Rattle.std.specs.BTreeMap.{is_at}
 use Rattle.std.specs.List.{list_any}
@@ -26,9 +27,11 @@ use Rattle.csl_context.specs.RenderInput.{RenderInput}
 use Rattle.csl_context.specs.ContextView.{ContextView, render_input}
 use Rattle.csl_nodes.specs.Conditions.{all_if, branch_matches}
 use Rattle.csl_nodes.specs.Usage.{Info, info_view}
-use Rattle.csl_render.specs.declared.plan.NodeInfo.{NodeInfo, out-NodeInfo}
-use Rattle.csl_render.specs.declared.plan.NodePlan.{NodePlan}
+use Rattle.csl_render.specs.declared.plan.AskedNode.{AskedNode}
 use Rattle.csl_render.specs.declared.plan.ListPlan.{ListPlan}
+use Rattle.csl_render.specs.declared.plan.NodeInfo.{NodeInfo}
+use Rattle.csl_render.specs.declared.plan.NodePlan.{NodePlan}
+use Rattle.csl_render.specs.declared.plan.PlanItem.{PlanItem}
 use Rattle.csl_render.specs.declared.variable_set.VariableSet.{VariableSet}
 use Rattle.csl_render.specs.Expanded.{expanded, expanded_nodes, expanded_substitutes}
 use Rattle.csl_render.specs.Tree.{info, nodes_info, substitute_info}
@@ -87,23 +90,17 @@ HasReadByNames special vs read = Each (λ v. Has read (variable.Name v)) vs × (
 -- ---- the results for a node and for the nodes inside it
 
 abbrev pub answer_of : NodeInfo → Info
-answer_of i = info_view (out-NodeInfo i).answer
-
-abbrev pub read_of : NodeInfo → VariableSet
-read_of i = (out-NodeInfo i).read
-
-abbrev pub inside_of : NodeInfo → List NodeInfo
-inside_of i = (out-NodeInfo i).inside.items
+answer_of i = info_view i.answer
 
 -- `d` is what the dry runs read of their state
 module _ (w : RenderInput) (d : State) where
   abbrev mutual
-    -- The results for the nodes inside a node, in a state in which they hold: the children of a
-    -- group, the nodes of a macro, the nodes that a choice takes, and the children of the first
-    -- substitute of names.
-    pub AreInside : State → ExpandedNode → List NodeInfo → Type 0
+    -- The items for the nodes inside a node, in a state in which they hold: the children of a group,
+    -- the nodes of a macro, the nodes that a choice takes, and the children of the first substitute
+    -- of names.
+    pub AreInside : State → ExpandedNode → List PlanItem → Type 0
     AreInside s (expanded_text t e) is = ⊤
-    AreInside s (expanded_macro fs e) is = AreInfos fs is
+    AreInside s (expanded_macro fs e) is = AreItems fs is
     AreInside s unknown_macro is = ⊤
     AreInside s (expanded_number n) is = ⊤
     AreInside s (expanded_label v l) is = ⊤
@@ -111,57 +108,60 @@ module _ (w : RenderInput) (d : State) where
     AreInside s (expanded_names n ss) is = AreOfSubstitutes ss is
     AreInside s (shorthand written n) is = ⊤
     AreInside s (expanded_choose cs) is = AreTaken s cs is
-    AreInside s (expanded_group delimiter e fs) is = AreInfos fs is
+    AreInside s (expanded_group delimiter e fs) is = AreItems fs is
 
-    -- each result is that for its node; the last nodes may have none
-    pub AreInfos : ExpandedNodes → List NodeInfo → Type 0
-    AreInfos no_expanded_nodes is = ⊤
-    AreInfos (expanded_node f fs) [] = ⊤
-    AreInfos (expanded_node f fs) (i ∷ is) = ((s : State) → AreAlikeOn w (read_of i) d s → (answer_of i ≡ info w s f) × AreInside s f (inside_of i)) × AreInfos fs is
+    -- Each node has its result, then the items for the nodes inside it. The last nodes may have
+    -- none.
+    pub AreItems : ExpandedNodes → List PlanItem → Type 0
+    AreItems no_expanded_nodes is = ⊤
+    AreItems (expanded_node f fs) [] = ⊤
+    AreItems (expanded_node f fs) (i ∷ is) =
+        (i.inside ≤ length is)
+        × ((s : State) → AreAlikeOn w i.info.read d s → (answer_of i.info ≡ info w s f) × AreInside s f (take i.inside is))
+        × AreItems fs (drop i.inside is)
 
-    pub AreTaken : State → ExpandedBranches → List NodeInfo → Type 0
+    pub AreTaken : State → ExpandedBranches → List PlanItem → Type 0
     AreTaken s no_expanded_branches is = ⊤
-    AreTaken s (expanded_otherwise fs) is = AreInfos fs is
-    AreTaken s (expanded_branch ts fs cs) is = MatchBool (branch_matches w s ts) (AreInfos fs is) (AreTaken s cs is)
+    AreTaken s (expanded_otherwise fs) is = AreItems fs is
+    AreTaken s (expanded_branch ts fs cs) is = MatchBool (branch_matches w s ts) (AreItems fs is) (AreTaken s cs is)
 
-    pub AreOfSubstitutes : ExpandedSubstitutes → List NodeInfo → Type 0
+    pub AreOfSubstitutes : ExpandedSubstitutes → List PlanItem → Type 0
     AreOfSubstitutes no_expanded_substitutes is = ⊤
-    AreOfSubstitutes (expanded_substitute fs ss) is = AreInfos fs is
+    AreOfSubstitutes (expanded_substitute fs ss) is = AreItems fs is
 
-  -- the results for the nodes that a choice takes, if it takes any, or for those of a substitute
-  abbrev pub AreOfTaken : Option ExpandedNodes → List NodeInfo → Type 0
+  -- the items for the nodes that a choice takes, if it takes any, or for those of a substitute
+  abbrev pub AreOfTaken : Option ExpandedNodes → List PlanItem → Type 0
   AreOfTaken None is = ⊤
-  AreOfTaken (Some fs) is = AreInfos fs is
+  AreOfTaken (Some fs) is = AreItems fs is
 
-  -- the result for a node, with the results for the nodes inside it
-  abbrev pub IsInfo : ExpandedNode → NodeInfo → Type 0
-  IsInfo f i = (s : State) → AreAlikeOn w (read_of i) d s → (answer_of i ≡ info w s f) × AreInside s f (inside_of i)
+  -- the result for a node, and the items for the nodes inside it
+  abbrev pub IsInfo : ExpandedNode → NodeInfo → List PlanItem → Type 0
+  IsInfo f i is = (s : State) → AreAlikeOn w i.read d s → (answer_of i ≡ info w s f) × AreInside s f is
 
-  -- the result for nodes together, with the results for each
-  abbrev pub IsInfoOfNodes : ExpandedNodes → NodeInfo → Type 0
-  IsInfoOfNodes fs i = ((s : State) → AreAlikeOn w (read_of i) d s → answer_of i ≡ nodes_info w s fs) × AreInfos fs (inside_of i)
+  -- the result for nodes together, and the items for each
+  abbrev pub IsInfoOfNodes : ExpandedNodes → NodeInfo → List PlanItem → Type 0
+  IsInfoOfNodes fs i is = ((s : State) → AreAlikeOn w i.read d s → answer_of i ≡ nodes_info w s fs) × AreItems fs is
 
-  -- the result for substitutes, with the results for the children of the first
-  abbrev pub IsInfoOfSubstitutes : ExpandedSubstitutes → NodeInfo → Type 0
-  IsInfoOfSubstitutes ss i = ((s : State) → AreAlikeOn w (read_of i) d s → answer_of i ≡ substitute_info w s ss) × AreOfSubstitutes ss (inside_of i)
+  -- the result for substitutes, and the items for the children of the first
+  abbrev pub IsInfoOfSubstitutes : ExpandedSubstitutes → NodeInfo → List PlanItem → Type 0
+  IsInfoOfSubstitutes ss i is = ((s : State) → AreAlikeOn w i.read d s → answer_of i ≡ substitute_info w s ss) × AreOfSubstitutes ss is
 
 -- ---- plans
 
--- a plan of a node that holds for a state
-abbrev pub IsPlan : RenderInput → State → ExpandedNode → NodePlan → Type 0
-IsPlan w s f p = AreAlikeOn w (read_of p.info.now) p.at.now s × IsInfo w p.at.now f p.info.now
-
 -- a plan of a list of nodes; it may not hold for the state any more
 abbrev pub ArePlans : RenderInput → ExpandedNodes → ListPlan → Type 0
-ArePlans w fs p = AreInfos w p.at.now fs p.infos.now
+ArePlans w fs p = AreItems w p.at.now fs p.items.now
 
--- a plan of a node with results for the nodes inside: for these, or for the first of these
--- substitutes
+-- a plan of a node that holds for a state
+abbrev pub IsPlan : RenderInput → State → ExpandedNode → NodePlan → Type 0
+IsPlan w s f p = (info_view p.answer ≡ info w s f) × AreInside w p.inside.at.now s f p.inside.items.now
+
+-- a plan of a node with plans of the nodes inside: of these, or of the first of these substitutes
 abbrev pub HasPlans : RenderInput → ExpandedNodes → NodePlan → Type 0
-HasPlans w fs p = AreInfos w p.at.now fs (inside_of p.info.now)
+HasPlans w fs p = ArePlans w fs p.inside
 
 abbrev pub HasPlansOfSubstitutes : RenderInput → ExpandedSubstitutes → NodePlan → Type 0
-HasPlansOfSubstitutes w ss p = AreOfSubstitutes w p.at.now ss (inside_of p.info.now)
+HasPlansOfSubstitutes w ss p = AreOfSubstitutes w p.inside.at.now ss p.inside.items.now
 
 -- ---- plans in a context
 
@@ -170,18 +170,17 @@ abbrev pub dry_now : {T : Type 0} → ContextView T → State
 dry_now now = dry now.special now.state
 
 module _ {T : Type 0} (answers : T → Answers) (now : ContextView T) where
-  -- what a dry run reads, and its result
-  abbrev pub IsDryRun : ExpandedNode → State × NodeInfo → Type 0
-  IsDryRun f r = AreAlikeOn (render_input answers now) (read_of r.1) r.0 now.state × IsInfo (render_input answers now) r.0 f r.1
+  -- what a dry run of a node gives a plan that holds
+  abbrev pub IsDryRun : ExpandedNode → AskedNode → Type 0
+  IsDryRun f r =
+      (info_view r.answer ≡ info (render_input answers now) now.state f)
+      × AreInside (render_input answers now) r.at now.state f r.inside.items
 
-  abbrev pub IsDryRunOf : Node → State × NodeInfo → Type 0
+  abbrev pub IsDryRunOf : Node → AskedNode → Type 0
   IsDryRunOf n = IsDryRun (expanded now.style n)
 
   abbrev pub IsPlanOf : Node → NodePlan → Type 0
   IsPlanOf n p = IsPlan (render_input answers now) now.state (expanded now.style n) p
-
-  abbrev pub ArePlansOf : Nodes → ListPlan → Type 0
-  ArePlansOf ns p = ArePlans (render_input answers now) (expanded_nodes now.style ns) p
 
   abbrev pub HasPlansOf : Nodes → NodePlan → Type 0
   HasPlansOf ns p = HasPlans (render_input answers now) (expanded_nodes now.style ns) p

@@ -11,7 +11,7 @@ ghost use Rattle.csl_context.specs.ContextView.{Gives, Reads, GivesBy, FailsSile
 ghost use Rattle.csl_context.specs.State.{State};
 ghost use Rattle.csl_nodes.specs.Conditions.{all_if, branch_matches, satisfies, chosen_children};
 ghost use Rattle.csl_nodes.specs.RemainingConditions.{remaining_conditions, context_of, after_first, after_deciding};
-ghost use Rattle.csl_render.specs.declared.plan.NodeInfo.{NodeInfo};
+ghost use Rattle.csl_render.specs.declared.plan.PlanItem.{PlanItem};
 ghost use Rattle.csl_render.specs.Expanded.{expanded, expanded_nodes, expanded_taken};
 ghost use Rattle.csl_render.specs.Plan.{HasTested, HasAllTested, AreInside, AreOfTaken};
 ghost use Rattle.csl_render.specs.VariableSet.{Has, IsWithin};
@@ -20,7 +20,7 @@ ghost use Rattle.csl_render.specs.Tree.{shows, node_output, choice_shows, choice
 use crate::dry_run::DryRun;
 use crate::element::{any_shows, nodes_info, render_with_delimiter};
 use crate::node::Node;
-use crate::plan::{NodeInfo, NodePlan, inside_plan};
+use crate::plan::{NodeInfo, NodePlan};
 use crate::query::Query;
 use crate::variable_set::VariableSet;
 use csl_context::{Context, RenderError};
@@ -140,7 +140,7 @@ pub fn choose_children<'a, 's, T: EntryLike>(
 }
 
 /// Returns the nodes that a choice takes. The choice shows the variables they show, and renders
-/// them delimited. The results for the nodes inside the choice are the results for these nodes.
+/// them delimited. The plan of the nodes inside the choice is that of these nodes.
 fn taken_nodes<'s, T: EntryLike>(
     ctx: &Context<'s, T>,
     choose: &'s Choose,
@@ -158,11 +158,11 @@ fn taken_nodes<'s, T: EntryLike>(
         (expanded ctx.now.style (view_choose choose.now)) ctx.now.inherited ctx.now.state
         ≡ choice_output (render_input T.answers ctx.now) (expanded_taken ctx.now.style taken)
         ctx.now.inherited ctx.now.state) }
-    ensures results { IfOk result (λ taken. (at : State) → (infos : List NodeInfo)
+    ensures plan { IfOk result (λ taken. (at : State) → (items : List PlanItem)
         → AreInside (render_input T.answers ctx.now) at ctx.now.state
-        (expanded ctx.now.style (view_choose choose.now)) infos
+        (expanded ctx.now.style (view_choose choose.now)) items
         → AreOfTaken (render_input T.answers ctx.now) at (expanded_taken ctx.now.style taken)
-        infos) }
+        items) }
 {
     match first_taken(ctx, choose) {
         Ok(taken) => Ok(taken),
@@ -226,9 +226,9 @@ impl Node for Choose {
             Some(nodes) => {
                 let info = nodes_info(nodes, run)?;
                 let answer = without_group_flag(info.answer);
-                Ok(NodeInfo::new(answer, tested.union(info.read), info.inside))
+                Ok(NodeInfo::new(answer, tested.union(info.read)))
             }
-            None => Ok(run.leaf(no_info(), tested)),
+            None => Ok(NodeInfo::new(no_info(), tested)),
         }
     }
 
@@ -247,11 +247,11 @@ impl Node for Choose {
     fn render_by<'p, 's, T: EntryLike>(
         &'s self,
         ctx: &mut Context<'s, T>,
-        plan: Option<NodePlan<'p>>,
+        plan: Option<&NodePlan<'p>>,
     ) -> Result<(), RenderError> {
         let taken = taken_nodes(ctx, self);
         match ctx.attempt(taken)? {
-            Some(nodes) => render_with_delimiter(ctx, nodes, inside_plan(plan)),
+            Some(nodes) => render_with_delimiter(ctx, nodes, plan),
             None => push_nothing(ctx),
         }
     }

@@ -4,16 +4,17 @@ ghost use Rattle.std.specs.Prelude.{◌≡◌, true, IfOk, IfSome};
 ghost use Rattle.csl_elements.specs.Node.{expand};
 ghost use Rattle.csl_elements.specs.View.{view_node, view_nodes, view_rendering};
 ghost use Rattle.csl_context.specs.ContextView.{Runs, Gives, render_input};
+ghost use Rattle.csl_render.specs.DryRun.{Adds};
 ghost use Rattle.csl_render.specs.Expanded.{expanded, expanded_nodes};
 ghost use Rattle.csl_render.specs.Names.{Macros};
-ghost use Rattle.csl_render.specs.Plan.{dry_now, IsInfoOfNodes, IsDryRunOf, IsPlanOf, ArePlansOf};
+ghost use Rattle.csl_render.specs.Plan.{dry_now, IsInfoOfNodes, IsDryRunOf, IsPlanOf, HasPlansOf};
 ghost use Rattle.csl_render.specs.Tree.{any_shows, is_group, node_output, nodes_output, delimited_output, delimited_child_output};
 ghost use Rattle.csl_render.specs.Rendering.{element_rendering, prints_in, after_child};
 ghost use Rattle.csl_nodes.specs.Text.{Appends};
 
 use crate::dry_run::DryRun;
 use crate::node::Node;
-use crate::plan::{DryState, ListPlan, NodeInfo, NodePlan, next_plan};
+use crate::plan::{AskedNode, DryState, NodeInfo, NodePlan, inside_plan, next_plan};
 use crate::query::Query;
 use crate::render::RenderCsl;
 use crate::variable_set::VariableSet;
@@ -70,26 +71,26 @@ fn is_group(node: &LayoutRenderingElement) -> bool
     }
 }
 
-/// The dry run of nodes together, with the dry run of each inside.
+/// The dry run of nodes together. It adds the plan of each.
 #[cycle(info)]
 pub(crate) fn nodes_info<'c, 's, T: EntryLike>(
     nodes: &'s [LayoutRenderingElement],
     run: &mut DryRun<'c, 's, T>,
 ) -> Result<NodeInfo, Memory>
-    ensures value { IfOk result (IsInfoOfNodes (render_input T.answers run.old) (dry_now run.old)
-        (expanded_nodes run.old.style (view_nodes nodes.now))) }
-    ensures kept { run.new ≡ run.old }
+    ensures { IfOk result (λ i. Adds (IsInfoOfNodes (render_input T.answers run.old.now)
+        (dry_now run.old.now) (expanded_nodes run.old.now.style (view_nodes nodes.now)) i)
+        run.old run.new) }
 {
     let mut sum = no_info();
     let mut read = VariableSet::new();
-    let mut each = Vec::with_capacity(run.context().alloc(), nodes.len())?;
     for node in nodes {
+        let place = run.open_node()?;
         let info = node.node_info(run)?;
+        run.close_node(place, info);
         sum = add_child_info(sum, info.answer, is_group(node));
         read = read.union(info.read);
-        each.push(info)?;
     }
-    Ok(NodeInfo::new(sum, read, each))
+    Ok(NodeInfo::new(sum, read))
 }
 
 impl Node for LayoutRenderingElement {
@@ -131,7 +132,7 @@ impl Node for LayoutRenderingElement {
     fn render_by<'p, 's, T: EntryLike>(
         &'s self,
         ctx: &mut Context<'s, T>,
-        plan: Option<NodePlan<'p>>,
+        plan: Option<&NodePlan<'p>>,
     ) -> Result<(), RenderError> {
         match self {
             LayoutRenderingElement::Text(text) => text.render_by(ctx, plan),
@@ -169,51 +170,54 @@ pub(crate) fn any_shows<'c, 's, T: EntryLike>(
 fn ask_node<'s, T: EntryLike>(
     ctx: &Context<'s, T>,
     node: &'s LayoutRenderingElement,
-) -> Result<(DryState, NodeInfo), Memory>
+) -> Result<AskedNode, Memory>
     ensures { IfOk result (IsDryRunOf T.answers ctx.now (view_node node.now)) }
 {
     let at = DryState::of(ctx)?;
-    let info = node.node_info(&mut DryRun::new(ctx))?;
-    Ok((at, info))
+    let mut run = DryRun::new(ctx);
+    let info = node.node_info(&mut run)?;
+    Ok(AskedNode::new(at, info.answer, run.into_items()))
 }
 
-/// Renders nodes one after another, each by its plan if it has one.
+/// Renders nodes one after another, each by its plan if it has one. `plan` is that of the node
+/// around them.
 #[cycle(render)]
 pub(crate) fn render_all<'p, 's, T: EntryLike>(
     ctx: &mut Context<'s, T>,
     nodes: &'s [LayoutRenderingElement],
-    plan: Option<ListPlan<'p>>,
+    plan: Option<&NodePlan<'p>>,
 ) -> Result<(), RenderError>
-    requires { IfSome plan (ArePlansOf T.answers ctx.old (view_nodes nodes.now)) }
+    requires { IfSome plan (λ p. HasPlansOf T.answers ctx.old (view_nodes nodes.now) p.now) }
     ensures { Appends T.answers (λ w. nodes_output w
         (expanded_nodes w.style (view_nodes nodes.now))) result ctx.old ctx.new }
 {
     ctx.ensure_live()?;
-    let mut plan = plan;
+    let mut plans = inside_plan(plan);
     for node in nodes {
-        let known = next_plan(ctx, &mut plan);
-        node.render_by(ctx, known)?;
+        let known = next_plan(ctx, &mut plans);
+        node.render_by(ctx, known.as_ref())?;
     }
     Ok(())
 }
 
-/// Renders the nodes that print something, with the inherited delimiter between them.
+/// Renders the nodes that print something, with the inherited delimiter between them. `plan` is
+/// that of the node around them.
 #[cycle(render)]
 pub(crate) fn render_with_delimiter<'p, 's, T: EntryLike>(
     ctx: &mut Context<'s, T>,
     nodes: &'s [LayoutRenderingElement],
-    plan: Option<ListPlan<'p>>,
+    plan: Option<&NodePlan<'p>>,
 ) -> Result<(), RenderError>
-    requires { IfSome plan (ArePlansOf T.answers ctx.old (view_nodes nodes.now)) }
+    requires { IfSome plan (λ p. HasPlansOf T.answers ctx.old (view_nodes nodes.now) p.now) }
     ensures { Appends T.answers (λ w inherited. delimited_output w
         (expanded_nodes w.style (view_nodes nodes.now)) inherited true) result ctx.old ctx.new }
 {
     ctx.ensure_live()?;
-    let mut plan = plan;
+    let mut plans = inside_plan(plan);
     let mut first = true;
     for node in nodes {
-        let known = next_plan(ctx, &mut plan);
-        if render_if_it_prints(ctx, node, first, known)? {
+        let known = next_plan(ctx, &mut plans);
+        if render_if_it_prints(ctx, node, first, known.as_ref())? {
             first = false;
         }
     }
@@ -227,9 +231,9 @@ fn render_if_it_prints<'p, 's, T: EntryLike>(
     ctx: &mut Context<'s, T>,
     node: &'s LayoutRenderingElement,
     first: bool,
-    plan: Option<NodePlan<'p>>,
+    plan: Option<&NodePlan<'p>>,
 ) -> Result<bool, RenderError>
-    requires { IfSome plan (IsPlanOf T.answers ctx.old (view_node node.now)) }
+    requires { IfSome plan (λ p. IsPlanOf T.answers ctx.old (view_node node.now) p.now) }
     ensures value { Gives result (prints_in T.answers ctx.old (view_node node.now)) }
     ensures after { Runs (after_child T.answers first (view_node node.now))
         result ctx.old ctx.new }
@@ -254,8 +258,8 @@ fn render_asked<'s, T: EntryLike>(
         result ctx.old ctx.new }
 {
     let asked = ask_node(ctx, node);
-    let (at, info) = ctx.attempt(asked)?;
-    render_by_plan(ctx, node, first, NodePlan::new(&at, &info))
+    let asked = ctx.attempt(asked)?;
+    render_by_plan(ctx, node, first, &asked.plan())
 }
 
 /// Renders a node if it prints by its plan, after the inherited delimiter unless it is the first.
@@ -265,9 +269,9 @@ fn render_by_plan<'p, 's, T: EntryLike>(
     ctx: &mut Context<'s, T>,
     node: &'s LayoutRenderingElement,
     first: bool,
-    plan: NodePlan<'p>,
+    plan: &NodePlan<'p>,
 ) -> Result<bool, RenderError>
-    requires { IsPlanOf T.answers ctx.old (view_node node.now) plan }
+    requires { IsPlanOf T.answers ctx.old (view_node node.now) plan.now }
     ensures value { Gives result (prints_in T.answers ctx.old (view_node node.now)) }
     ensures after { Runs (after_child T.answers first (view_node node.now))
         result ctx.old ctx.new }
@@ -287,9 +291,9 @@ fn render_admitted<'p, 's, T: EntryLike>(
     ctx: &mut Context<'s, T>,
     node: &'s LayoutRenderingElement,
     first: bool,
-    plan: NodePlan<'p>,
+    plan: &NodePlan<'p>,
 ) -> Result<(), RenderError>
-    requires { IsPlanOf T.answers ctx.old (view_node node.now) plan }
+    requires { IsPlanOf T.answers ctx.old (view_node node.now) plan.now }
     ensures { Appends T.answers (λ w inherited s. delimited_child_output first inherited
         (node_output w (expanded w.style (view_node node.now)) inherited s))
         result ctx.old ctx.new }

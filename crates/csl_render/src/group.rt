@@ -12,7 +12,7 @@ ghost use Rattle.csl_render.specs.Tree.{node_output, shown_if};
 use crate::dry_run::DryRun;
 use crate::element::{any_shows, nodes_info, render_with_delimiter};
 use crate::node::Node;
-use crate::plan::{DryState, NodeInfo, NodePlan};
+use crate::plan::{AskedNode, DryState, NodeInfo, NodePlan};
 use crate::query::Query;
 use csl_context::{BodyDressing, Context, Mark, RenderError};
 use csl_entry::EntryLike;
@@ -29,8 +29,7 @@ impl Node for Group {
         run: &mut DryRun<'c, 's, T>,
     ) -> Result<NodeInfo, Memory> {
         let info = nodes_info(&self.children, run)?;
-        let answer = info_of_group(info.answer);
-        Ok(NodeInfo::new(answer, info.read, info.inside))
+        Ok(NodeInfo::new(info_of_group(info.answer), info.read))
     }
 
     #[cycle(shows)]
@@ -45,7 +44,7 @@ impl Node for Group {
     fn render_by<'p, 's, T: EntryLike>(
         &'s self,
         ctx: &mut Context<'s, T>,
-        plan: Option<NodePlan<'p>>,
+        plan: Option<&NodePlan<'p>>,
     ) -> Result<(), RenderError> {
         match plan {
             Some(plan) => render_group_by_plan(ctx, self, plan),
@@ -56,15 +55,13 @@ impl Node for Group {
 
 /// The dry run of a group, and the state that it read.
 #[inline(never)]
-fn ask_group<'s, T: EntryLike>(
-    ctx: &Context<'s, T>,
-    group: &'s Group,
-) -> Result<(DryState, NodeInfo), Memory>
+fn ask_group<'s, T: EntryLike>(ctx: &Context<'s, T>, group: &'s Group) -> Result<AskedNode, Memory>
     ensures { IfOk result (IsDryRunOf T.answers ctx.now (view_group group.now)) }
 {
     let at = DryState::of(ctx)?;
-    let info = group.node_info(&mut DryRun::new(ctx))?;
-    Ok((at, info))
+    let mut run = DryRun::new(ctx);
+    let info = group.node_info(&mut run)?;
+    Ok(AskedNode::new(at, info.answer, run.into_items()))
 }
 
 /// Renders a group by a dry run.
@@ -78,8 +75,8 @@ fn render_asked_group<'s, T: EntryLike>(
         result ctx.old ctx.new }
 {
     let asked = ask_group(ctx, group);
-    let (at, info) = ctx.attempt(asked)?;
-    render_group_by_plan(ctx, group, NodePlan::new(&at, &info))
+    let asked = ctx.attempt(asked)?;
+    render_group_by_plan(ctx, group, &asked.plan())
 }
 
 /// Renders a group by its plan.
@@ -87,9 +84,9 @@ fn render_asked_group<'s, T: EntryLike>(
 fn render_group_by_plan<'p, 's, T: EntryLike>(
     ctx: &mut Context<'s, T>,
     group: &'s Group,
-    plan: NodePlan<'p>,
+    plan: &NodePlan<'p>,
 ) -> Result<(), RenderError>
-    requires { IsPlanOf T.answers ctx.old (view_group group.now) plan }
+    requires { IsPlanOf T.answers ctx.old (view_group group.now) plan.now }
     ensures { Appends T.answers (λ w. node_output w (expanded w.style (view_group group.now)))
         result ctx.old ctx.new }
 {
@@ -103,7 +100,7 @@ fn render_group_by_plan<'p, 's, T: EntryLike>(
     let element = ctx.push_elem()?;
     let before = ctx.open_body(around)?;
     ctx.push_delimiter(group.delimiter.as_deref())?;
-    render_with_delimiter(ctx, &group.children, Some(plan.inside()))?;
+    render_with_delimiter(ctx, &group.children, Some(plan))?;
     ctx.pop_delimiter();
     ctx.close_body(around, before)?;
     close_group(ctx, element, usage.should_render_group(), group.display)?;

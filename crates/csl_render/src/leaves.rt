@@ -32,7 +32,7 @@ impl Node for Number {
     ) -> Result<NodeInfo, Memory> {
         let answer = number_info(run.context(), self)?;
         let read = VariableSet::new().with(Variable::from(self.variable));
-        Ok(run.leaf(answer, read))
+        Ok(NodeInfo::new(answer, read))
     }
 
     fn node_shows<'c, 's, T: EntryLike>(
@@ -45,7 +45,7 @@ impl Node for Number {
     fn render_by<'p, 's, T: EntryLike>(
         &'s self,
         ctx: &mut Context<'s, T>,
-        _plan: Option<NodePlan<'p>>,
+        _plan: Option<&NodePlan<'p>>,
     ) -> Result<(), RenderError> {
         render_number(ctx, self)
     }
@@ -60,7 +60,7 @@ impl Node for Label {
     ) -> Result<NodeInfo, Memory> {
         let answer = label_info(run.context(), self)?;
         let read = VariableSet::new().with(Variable::from(self.variable));
-        Ok(run.leaf(answer, read))
+        Ok(NodeInfo::new(answer, read))
     }
 
     fn node_shows<'c, 's, T: EntryLike>(
@@ -73,7 +73,7 @@ impl Node for Label {
     fn render_by<'p, 's, T: EntryLike>(
         &'s self,
         ctx: &mut Context<'s, T>,
-        _plan: Option<NodePlan<'p>>,
+        _plan: Option<&NodePlan<'p>>,
     ) -> Result<(), RenderError> {
         render_label(ctx, self)
     }
@@ -97,7 +97,7 @@ impl Node for Date {
         run: &mut DryRun<'c, 's, T>,
     ) -> Result<NodeInfo, Memory> {
         let answer = date_info(run.context(), self)?;
-        Ok(run.leaf(answer, variable_of_date(self)))
+        Ok(NodeInfo::new(answer, variable_of_date(self)))
     }
 
     fn node_shows<'c, 's, T: EntryLike>(
@@ -110,7 +110,7 @@ impl Node for Date {
     fn render_by<'p, 's, T: EntryLike>(
         &'s self,
         ctx: &mut Context<'s, T>,
-        _plan: Option<NodePlan<'p>>,
+        _plan: Option<&NodePlan<'p>>,
     ) -> Result<(), RenderError> {
         render_date(ctx, self)
     }

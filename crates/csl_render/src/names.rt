@@ -13,19 +13,20 @@ ghost use Rattle.csl_context.specs.ContextView.{Runs, Gives, render_input};
 ghost use Rattle.csl_names.specs.NamesForms.{writes_no_name};
 ghost use Rattle.csl_names.specs.NamesLists.{all_empty, peeked_lists};
 ghost use Rattle.csl_names.specs.PersonLists.{list_of};
-ghost use Rattle.csl_render.specs.declared.plan.NodeInfo.{NodeInfo};
+ghost use Rattle.csl_render.specs.declared.plan.PlanItem.{PlanItem};
+ghost use Rattle.csl_render.specs.DryRun.{Adds};
 ghost use Rattle.csl_render.specs.Expanded.{expanded, expanded_nodes, expanded_taken, expanded_substitutes};
 ghost use Rattle.csl_render.specs.Names.{Macros, author, has_variable, is_of_names, is_names_of, any_is_names_of, substitute_has_names_of, expanded_substitutes_of, standing_in, refuses_alone, is_refused, names_show, names_or_substitute_info, in_substitute, suppressing_from, boxed_substitute};
 ghost use Rattle.csl_nodes.specs.Text.{Appends, render_output};
 ghost use Rattle.csl_nodes.specs.Usage.{info_view};
-ghost use Rattle.csl_render.specs.Plan.{asks_for_author, dry_now, HasReadByNames, AreOfTaken, AreOfSubstitutes, IsInfoOfSubstitutes, IsPlanOf, ArePlansOf, HasPlansOf, HasPlansWithin};
+ghost use Rattle.csl_render.specs.Plan.{asks_for_author, dry_now, HasReadByNames, AreOfTaken, AreOfSubstitutes, IsInfoOfSubstitutes, IsPlanOf, HasPlansOf, HasPlansWithin};
 ghost use Rattle.csl_render.specs.Rendering.{with_whole_output};
 ghost use Rattle.csl_render.specs.Tree.{node_output, substitute_shows, substitute_info, substitute_output, output_until_text, first_substitute_output, choice_info, choice_shows, refused_in, names_output, shorthand_output};
 
 use crate::dry_run::DryRun;
 use crate::element::{any_shows, nodes_info};
 use crate::node::Node;
-use crate::plan::{ListPlan, NodeInfo, NodePlan, inside_plan, next_plan};
+use crate::plan::{NodeInfo, NodePlan, inside_plan, next_plan};
 use crate::query::Query;
 use crate::variable_set::VariableSet;
 use csl_context::{Context, RenderError};
@@ -49,14 +50,15 @@ struct NamesSummary {
 /// Looks up the lists of a names node silently, and summarizes them.
 fn summarize_names<'s, T: EntryLike>(
     ctx: &Context<'s, T>,
-    parts: NamesParts<'_>,
+    names: &Names,
 ) -> Result<NamesSummary, Memory>
     ensures empty { IfOk result (λ r. r.is_empty ≡ all_empty (peeked_lists
-        (render_input T.answers ctx.now) ctx.now.state (parts_node parts.entry).variables)) }
-    ensures void { IfOk result (λ r. r.is_void ≡ writes_no_name (parts_node parts.entry)
+        (render_input T.answers ctx.now) ctx.now.state (names_node names.now).variables)) }
+    ensures void { IfOk result (λ r. r.is_void ≡ writes_no_name (names_node names.now)
         (peeked_lists (render_input T.answers ctx.now) ctx.now.state
-        (parts_node parts.entry).variables)) }
+        (names_node names.now).variables)) }
 {
+    let parts = names.parts();
     let lists = peeked_lists(ctx, parts.variables)?;
     Ok(NamesSummary {
         is_empty: all_empty(&lists),
@@ -110,8 +112,7 @@ fn first_nodes(names: &Names) -> Option<&[LayoutRenderingElement]>
 
 /// The children of the first `cs:substitute`. The dry run, shown variables and content of the
 /// substitutes come from these children alone. In dry runs and queries, names without children
-/// among them count as they do elsewhere. The results for the substitutes are those for these
-/// children.
+/// among them count as they do elsewhere. The plan of the substitutes is that of these children.
 fn substitute_nodes<'n, 's, T: EntryLike>(
     ctx: &Context<'s, T>,
     names: &'n Names,
@@ -130,14 +131,14 @@ fn substitute_nodes<'n, 's, T: EntryLike>(
         ≡ first_substitute_output (render_input T.answers ctx.now)
         (option_map (expand_substitute_nodes (macro_env ctx.now.style) (names_node names.now))
         (option_map (λ ns. view_nodes ns.now) result)) inh s }
-    ensures from_nodes { (at : State) → (infos : List NodeInfo)
-        → AreOfTaken (render_input T.answers ctx.now) at (expanded_taken ctx.now.style result) infos
+    ensures from_nodes { (at : State) → (items : List PlanItem)
+        → AreOfTaken (render_input T.answers ctx.now) at (expanded_taken ctx.now.style result) items
         → AreOfSubstitutes (render_input T.answers ctx.now) at
-        (expanded_substitutes ctx.now.style names.now) infos }
-    ensures to_nodes { (at : State) → (infos : List NodeInfo)
+        (expanded_substitutes ctx.now.style names.now) items }
+    ensures to_nodes { (at : State) → (items : List PlanItem)
         → AreOfSubstitutes (render_input T.answers ctx.now) at
-        (expanded_substitutes ctx.now.style names.now) infos
-        → AreOfTaken (render_input T.answers ctx.now) at (expanded_taken ctx.now.style result) infos }
+        (expanded_substitutes ctx.now.style names.now) items
+        → AreOfTaken (render_input T.answers ctx.now) at (expanded_taken ctx.now.style result) items }
 {
     first_nodes(names)
 }
@@ -220,23 +221,22 @@ fn has_or_substitutes(variable: NameVariable, names: &Names, is_empty: bool) -> 
     substitute_has_names_of(variable, names)
 }
 
-/// The dry run of the first substitute, without the group flag, and that of each of its children.
+/// The dry run of the first substitute, without the group flag. It adds the plan of each child.
 #[cycle(info)]
 fn substitute_info<'c, 's, T: EntryLike>(
     names: &'s Names,
     run: &mut DryRun<'c, 's, T>,
 ) -> Result<NodeInfo, Memory>
-    ensures value { IfOk result (IsInfoOfSubstitutes (render_input T.answers run.old)
-        (dry_now run.old) (expanded_substitutes run.old.style names.now)) }
-    ensures kept { run.new ≡ run.old }
+    ensures { IfOk result (λ i. Adds (IsInfoOfSubstitutes (render_input T.answers run.old.now)
+        (dry_now run.old.now) (expanded_substitutes run.old.now.style names.now) i)
+        run.old run.new) }
 {
     match substitute_nodes(run.context(), names) {
         Some(nodes) => {
             let info = nodes_info(nodes, run)?;
-            let answer = without_group_flag(info.answer);
-            Ok(NodeInfo::new(answer, info.read, info.inside))
+            Ok(NodeInfo::new(without_group_flag(info.answer), info.read))
         }
-        None => Ok(run.leaf(no_info(), VariableSet::new())),
+        None => Ok(NodeInfo::new(no_info(), VariableSet::new())),
     }
 }
 
@@ -255,13 +255,13 @@ fn asks_for_author(special: Option<SpecialForm>) -> bool
 
 /// The variables that a dry run of names reads, but for those of the nodes in their substitute.
 /// Whether names show the author may depend on any.
-fn read_by_names(special: Option<SpecialForm>, variables: &[NameVariable]) -> VariableSet
-    ensures { HasReadByNames special variables.now result }
+fn read_by_names<'s, T: EntryLike>(ctx: &Context<'s, T>, names: &Names) -> VariableSet
+    ensures { HasReadByNames ctx.now.special (names_node names.now).variables result }
 {
-    if asks_for_author(special) {
+    if asks_for_author(ctx.special_form()) {
         return VariableSet::all();
     }
-    VariableSet::new().with_names(variables)
+    VariableSet::new().with_names(&names.variable)
 }
 
 impl Node for Names {
@@ -273,17 +273,19 @@ impl Node for Names {
         &'s self,
         run: &mut DryRun<'c, 's, T>,
     ) -> Result<NodeInfo, Memory> {
-        let read = read_by_names(run.context().special_form(), &self.variable);
-        let summary = summarize_names(run.context(), self.parts())?;
-        if refuses(run.context(), self, summary.is_empty)? {
-            return Ok(run.leaf(no_info(), read));
+        let ctx = run.context();
+        let read = read_by_names(ctx, self);
+        let summary = summarize_names(ctx, self)?;
+        if refuses(ctx, self, summary.is_empty)? {
+            return Ok(NodeInfo::new(no_info(), read));
         }
         if !summary.is_void {
-            return Ok(run.leaf(names_or_substitute_info(false, no_info()), read));
+            let answer = names_or_substitute_info(false, no_info());
+            return Ok(NodeInfo::new(answer, read));
         }
         let tried = substitute_info(self, run)?;
         let answer = names_or_substitute_info(true, tried.answer);
-        Ok(NodeInfo::new(answer, read.union(tried.read), tried.inside))
+        Ok(NodeInfo::new(answer, read.union(tried.read)))
     }
 
     #[cycle(shows)]
@@ -291,7 +293,7 @@ impl Node for Names {
         &'s self,
         query: &mut Query<'c, 's, T>,
     ) -> Result<bool, Memory> {
-        let summary = summarize_names(query.context(), self.parts())?;
+        let summary = summarize_names(query.context(), self)?;
         names_or_substitute_show(self, query, summary.is_empty)
     }
 
@@ -300,7 +302,7 @@ impl Node for Names {
     fn render_by<'p, 's, T: EntryLike>(
         &'s self,
         ctx: &mut Context<'s, T>,
-        plan: Option<NodePlan<'p>>,
+        plan: Option<&NodePlan<'p>>,
     ) -> Result<(), RenderError> {
         let lists = resolved_lists(ctx, &self.variable)?;
         render_lists(ctx, self, &lists, plan)?;
@@ -372,9 +374,9 @@ fn render_lists<'p, 's, T: EntryLike>(
     ctx: &mut Context<'s, T>,
     names: &'s Names,
     lists: &[PersonList<'s>],
-    plan: Option<NodePlan<'p>>,
+    plan: Option<&NodePlan<'p>>,
 ) -> Result<(), RenderError>
-    requires { IfSome plan (HasPlansWithin T.answers ctx.old names.now) }
+    requires { IfSome plan (λ p. HasPlansWithin T.answers ctx.old names.now p.now) }
     ensures { Appends T.answers (λ w inherited s. names_output w (names_node names.now)
         (expanded_substitutes w.style names.now) inherited
         (substitute_output w (expanded_substitutes w.style names.now)
@@ -398,9 +400,9 @@ fn render_substitute<'p, 's, T: EntryLike>(
     ctx: &mut Context<'s, T>,
     names: &'s Names,
     lists: &[PersonList<'s>],
-    plan: Option<NodePlan<'p>>,
+    plan: Option<&NodePlan<'p>>,
 ) -> Result<(), RenderError>
-    requires { IfSome plan (HasPlansWithin T.answers ctx.old names.now) }
+    requires { IfSome plan (λ p. HasPlansWithin T.answers ctx.old names.now p.now) }
     ensures { Appends T.answers (λ w inherited s. boxed_substitute (names_node names.now)
         (map list_of lists.now) (substitute_output w (expanded_substitutes w.style names.now)
         (in_substitute (names_node names.now) inherited) (suppressing_from s)) s)
@@ -420,9 +422,9 @@ fn render_first_substitute<'p, 's, T: EntryLike>(
     nodes: &'s [LayoutRenderingElement],
     names: &'s Names,
     lists: &[PersonList<'s>],
-    plan: Option<NodePlan<'p>>,
+    plan: Option<&NodePlan<'p>>,
 ) -> Result<(), RenderError>
-    requires { IfSome plan (HasPlansOf T.answers ctx.old (view_nodes nodes.now)) }
+    requires { IfSome plan (λ p. HasPlansOf T.answers ctx.old (view_nodes nodes.now) p.now) }
     ensures { Appends T.answers (λ w inherited s. boxed_substitute (names_node names.now)
         (map list_of lists.now) (output_until_text w
         (expand_substitute_nodes (macro_env w.style) (names_node names.now) (view_nodes nodes.now))
@@ -433,7 +435,7 @@ fn render_first_substitute<'p, 's, T: EntryLike>(
     ctx.push_format(names.formatting)?;
     let suppressing = ctx.start_suppressing_queried_variables();
     let element = ctx.push_elem()?;
-    render_until_text(ctx, nodes, names, inside_plan(plan))?;
+    render_until_text(ctx, nodes, names, plan)?;
     commit_names(ctx, element, names.display, lists)?;
     ctx.restore_suppressing(suppressing);
     ctx.pop_format();
@@ -442,28 +444,28 @@ fn render_first_substitute<'p, 's, T: EntryLike>(
 }
 
 /// Renders children of a substitute, each by its plan if it has one, for as long as the open part
-/// has no text.
+/// has no text. `plan` is that of the names around them.
 #[cycle(render)]
 fn render_until_text<'p, 's, T: EntryLike>(
     ctx: &mut Context<'s, T>,
     nodes: &'s [LayoutRenderingElement],
     original: &'s Names,
-    plan: Option<ListPlan<'p>>,
+    plan: Option<&NodePlan<'p>>,
 ) -> Result<(), RenderError>
-    requires { IfSome plan (ArePlansOf T.answers ctx.old (view_nodes nodes.now)) }
+    requires { IfSome plan (λ p. HasPlansOf T.answers ctx.old (view_nodes nodes.now) p.now) }
     ensures { Runs (λ now. with_whole_output (output_until_text (render_input T.answers now)
         (expand_substitute_nodes (macro_env now.style) (names_node original.now)
         (view_nodes nodes.now)) now.inherited
         (render_output now.inner now.state)) now) result ctx.old ctx.new }
 {
     ctx.ensure_live()?;
-    let mut plan = plan;
+    let mut plans = inside_plan(plan);
     for node in nodes {
         if ctx.open_part_has_text() {
             return Ok(());
         }
-        let known = next_plan(ctx, &mut plan);
-        render_in_place(ctx, node, original, known)?;
+        let known = next_plan(ctx, &mut plans);
+        render_in_place(ctx, node, original, known.as_ref())?;
     }
     Ok(())
 }
@@ -506,9 +508,9 @@ fn render_in_place<'p, 's, T: EntryLike>(
     ctx: &mut Context<'s, T>,
     node: &'s LayoutRenderingElement,
     original: &'s Names,
-    plan: Option<NodePlan<'p>>,
+    plan: Option<&NodePlan<'p>>,
 ) -> Result<(), RenderError>
-    requires { IfSome plan (IsPlanOf T.answers ctx.old (view_node node.now)) }
+    requires { IfSome plan (λ p. IsPlanOf T.answers ctx.old (view_node node.now) p.now) }
     ensures { Appends T.answers (λ w. node_output w (as_substitute_child
         (names_node original.now) (view_node node.now) (expanded w.style (view_node node.now))))
         result ctx.old ctx.new }

@@ -5,6 +5,7 @@ ghost use Rattle.csl_elements.specs.Node.{ExpandedNode};
 ghost use Rattle.csl_style.specs.Style.{StyleParts};
 ghost use Rattle.csl_context.specs.ContextView.{Gives, render_input};
 ghost use Rattle.csl_nodes.specs.Text.{Appends};
+ghost use Rattle.csl_render.specs.DryRun.{Adds};
 ghost use Rattle.csl_render.specs.Plan.{dry_now, IsInfo, IsPlan};
 ghost use Rattle.csl_render.specs.Rendering.{of_node};
 ghost use Rattle.csl_render.specs.Tree.{node_output, shows};
@@ -24,14 +25,13 @@ pub(crate) trait Node {
     /// The node in a style, with each macro's nodes in the place of its name.
     ghost expansion: { StyleParts → Self → ExpandedNode };
 
-    /// The dry run of the node.
+    /// The dry run of the node. It adds the plan of the nodes inside.
     fn node_info<'c, 's, T: EntryLike>(
         &'s self,
         run: &mut DryRun<'c, 's, T>,
     ) -> Result<NodeInfo, Memory>
-        ensures value { IfOk result (IsInfo (render_input T.answers run.old) (dry_now run.old)
-            (expansion run.old.style self.now)) }
-        ensures kept { run.new ≡ run.old };
+        ensures { IfOk result (λ i. Adds (IsInfo (render_input T.answers run.old.now)
+            (dry_now run.old.now) (expansion run.old.now.style self.now) i) run.old run.new) };
 
     /// Whether the node shows the variable of the query.
     fn node_shows<'c, 's, T: EntryLike>(
@@ -47,10 +47,10 @@ pub(crate) trait Node {
     fn render_by<'p, 's, T: EntryLike>(
         &'s self,
         ctx: &mut Context<'s, T>,
-        plan: Option<NodePlan<'p>>,
+        plan: Option<&NodePlan<'p>>,
     ) -> Result<(), RenderError>
-        requires { IfSome plan (IsPlan (render_input T.answers ctx.old) ctx.old.state
-            (expansion ctx.old.style self.now)) }
+        requires { IfSome plan (λ p. IsPlan (render_input T.answers ctx.old) ctx.old.state
+            (expansion ctx.old.style self.now) p.now) }
         ensures { Appends T.answers (λ w. node_output w (expansion w.style self.now))
             result ctx.old ctx.new };
 }

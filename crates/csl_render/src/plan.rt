@@ -1,11 +1,11 @@
 //! Plans. A plan is the result of a dry run of a node and of the nodes inside it. By its plan the
 //! node is rendered without another dry run (CSL 1.0.2, Group).
 
-ghost use Rattle.std.specs.Prelude.{◌≡◌, IfOk, IfSome, IsSomeAnd, IsTrue};
+ghost use Rattle.std.specs.Prelude.{◌≡◌, IfOk, IfSome, IsTrue, option_map};
 ghost use Rattle.csl_elements.specs.Node.{ExpandedNode, ExpandedNodes, expanded_node};
 ghost use Rattle.csl_context.specs.ContextView.{render_input};
 ghost use Rattle.csl_nodes.specs.Usage.{info_view, usage_flags_of};
-ghost use Rattle.csl_render.specs.Plan.{asks_for_dates, dry_now, AreAlikeOn, AreKept, answer_of, read_of, inside_of, IsPlan, ArePlans};
+ghost use Rattle.csl_render.specs.Plan.{asks_for_dates, dry_now, AreAlikeOn, AreKept, answer_of, IsPlan, ArePlans};
 
 use crate::variable_set::VariableSet;
 use csl_context::Context;
@@ -17,35 +17,34 @@ use std::collections::BTreeSet;
 use std::marker::Model;
 
 /// The result of a dry run of a node.
-#[derive(Drop)]
+#[derive(Clone, Copy)]
 pub(crate) struct NodeInfo {
     /// Whether the node would print, and its usage flags.
     pub(crate) answer: (bool, UsageInfo),
     /// The variables that the dry run read. The result holds while the same of them are suppressed.
     pub(crate) read: VariableSet,
-    /// The results for the nodes inside: the children of a group, the nodes of a macro, the nodes
-    /// that a choice takes, or the children of the first substitute of names. They start at the
-    /// first node and may break off.
-    pub(crate) inside: Vec<NodeInfo>,
 }
 
 impl NodeInfo {
-    /// A result, with the variables that were read and the results for the nodes inside.
-    pub(crate) fn new(
-        answer: (bool, UsageInfo),
-        read: VariableSet,
-        inside: Vec<NodeInfo>,
-    ) -> NodeInfo
+    /// A result, with the variables that were read.
+    pub(crate) fn new(answer: (bool, UsageInfo), read: VariableSet) -> NodeInfo
         ensures answer { answer_of result ≡ info_view answer }
-        ensures read { read_of result ≡ read }
-        ensures inside { inside_of result ≡ inside.items }
+        ensures read { result.read ≡ read }
     {
-        NodeInfo {
-            answer,
-            read,
-            inside,
-        }
+        NodeInfo { answer, read }
     }
+}
+
+/// An item of a plan, in the order of the nodes: the result for a node, before the items for the
+/// nodes inside it.
+#[derive(Clone, Copy)]
+pub(crate) struct PlanItem {
+    /// The result for the node.
+    pub(crate) info: NodeInfo,
+    /// How many of the next items are for the nodes inside: the children of a group, the nodes of a
+    /// macro, the nodes that a choice takes, or the children of the first substitute of names, and
+    /// all inside these. They start at the first node and may break off.
+    pub(crate) inside: usize,
 }
 
 /// The part of a context's state that dry runs read.
@@ -131,54 +130,71 @@ impl DryState {
     }
 }
 
-/// A plan of a node: the result of its dry run, and the state that the dry run read.
-#[derive(Clone, Copy)]
-pub(crate) struct NodePlan<'p> {
-    at: &'p DryState,
-    info: &'p NodeInfo,
+/// What the dry run of a node gave: its answer, the plan of the nodes inside, and the state that it
+/// read.
+#[derive(Drop)]
+pub(crate) struct AskedNode {
+    at: DryState,
+    answer: (bool, UsageInfo),
+    inside: Vec<PlanItem>,
 }
 
-impl<'p> NodePlan<'p> {
-    /// A plan from a result and the state that its dry run read.
-    pub(crate) fn new(at: &'p DryState, info: &'p NodeInfo) -> NodePlan<'p>
-        ensures at { result.at.now ≡ at.now }
-        ensures info { result.info.now ≡ info.now }
+impl AskedNode {
+    /// An asked node from the state that the dry run read, its answer, and the plan of the nodes
+    /// inside.
+    pub(crate) fn new(at: DryState, answer: (bool, UsageInfo), inside: Vec<PlanItem>) -> AskedNode
+        ensures at { result.at ≡ at }
+        ensures answer { result.answer ≡ answer }
+        ensures inside { result.inside.items ≡ inside.items }
     {
-        NodePlan { at, info }
+        AskedNode { at, answer, inside }
     }
 
-    /// Whether the node would print.
-    pub(crate) fn prints(self) -> bool
-        ensures { result ≡ (answer_of self.entry.info.now).prints }
+    /// The plan of the node.
+    pub(crate) fn plan(&self) -> NodePlan<'_>
+        ensures answer { result.answer ≡ self.now.answer }
+        ensures at { result.inside.at.now ≡ self.now.at }
+        ensures items { result.inside.items.now ≡ self.now.inside.items }
     {
-        self.info.answer.0
-    }
-
-    /// The usage flags of the node.
-    pub(crate) fn usage(self) -> UsageInfo
-        ensures { usage_flags_of result ≡ (answer_of self.entry.info.now).flags }
-    {
-        self.info.answer.1
-    }
-
-    /// The plan of the nodes inside.
-    pub(crate) fn inside(self) -> ListPlan<'p>
-        ensures at { result.at.now ≡ self.entry.at.now }
-        ensures infos { result.infos.now ≡ inside_of self.entry.info.now }
-    {
-        ListPlan {
-            at: self.at,
-            infos: self.info.inside.as_slice(),
+        NodePlan {
+            answer: self.answer,
+            inside: ListPlan {
+                at: &self.at,
+                items: self.inside.as_slice(),
+            },
         }
     }
 }
 
-/// A plan of a list of nodes: the results from the first node on, and the state that the dry runs
+/// A plan of a node: what its dry run answered, and the plan of the nodes inside.
+#[derive(Clone, Copy)]
+pub(crate) struct NodePlan<'p> {
+    answer: (bool, UsageInfo),
+    inside: ListPlan<'p>,
+}
+
+impl<'p> NodePlan<'p> {
+    /// Whether the node would print.
+    pub(crate) fn prints(&self) -> bool
+        ensures { result ≡ (info_view self.now.answer).prints }
+    {
+        self.answer.0
+    }
+
+    /// The usage flags of the node.
+    pub(crate) fn usage(&self) -> UsageInfo
+        ensures { usage_flags_of result ≡ (info_view self.now.answer).flags }
+    {
+        self.answer.1
+    }
+}
+
+/// A plan of a list of nodes: the items from the first node on, and the state that the dry runs
 /// read.
 #[derive(Clone, Copy)]
 pub(crate) struct ListPlan<'p> {
     at: &'p DryState,
-    infos: &'p [NodeInfo],
+    items: &'p [PlanItem],
 }
 
 impl<'p> ListPlan<'p> {
@@ -192,13 +208,19 @@ impl<'p> ListPlan<'p> {
             → ArePlans (render_input T.answers ctx.now) (expanded_node f fs) self.old
             → ArePlans (render_input T.answers ctx.now) fs self.new }
     {
-        let (info, rest) = self.infos.split_first()?;
-        self.infos = rest;
-        if self.at.is_alike(info.read, ctx) {
-            Some(NodePlan { at: self.at, info })
-        } else {
-            None
+        let (first, rest) = self.items.split_first()?;
+        let (inside, after) = rest.split_at_checked(first.inside)?;
+        self.items = after;
+        if !self.at.is_alike(first.info.read, ctx) {
+            return None;
         }
+        Some(NodePlan {
+            answer: first.info.answer,
+            inside: ListPlan {
+                at: self.at,
+                items: inside,
+            },
+        })
     }
 }
 
@@ -222,12 +244,11 @@ pub(crate) fn next_plan<'p, 's, T: EntryLike>(
 }
 
 /// The plan of the nodes inside a node, if the node has a plan.
-pub(crate) fn inside_plan<'p>(plan: Option<NodePlan<'p>>) -> Option<ListPlan<'p>>
-    ensures { IfSome result (λ nodes. IsSomeAnd plan.entry (λ node.
-        (nodes.at.now ≡ node.at.now) × (nodes.infos.now ≡ inside_of node.info.now))) }
+pub(crate) fn inside_plan<'p>(plan: Option<&NodePlan<'p>>) -> Option<ListPlan<'p>>
+    ensures { result ≡ option_map (λ p. p.now.inside) plan.entry }
 {
     match plan {
-        Some(plan) => Some(plan.inside()),
+        Some(plan) => Some(plan.inside),
         None => None,
     }
 }

@@ -82,7 +82,7 @@ invariant-element::render_all-loop-node g l =
     record {
       sound : l.fn.ctx.failed ≡ false;
       frame : l.ctx ≡ record l.fn.ctx { inner = l.ctx.inner; state = l.ctx.state };
-      planned : IfSome l.plan (ArePlans w rest);
+      planned : IfSome l.plans (ArePlans w rest);
       told : with_output (nodes_output w rest l.fn.ctx.inherited l.ctx.state) l.ctx ≡ with_output (nodes_output w (expand_nodes (macro_env l.fn.ctx.style) (view_nodes l.nodes)) l.fn.ctx.inherited l.fn.ctx.state) l.fn.ctx;
       inside : sizes rest ≤ sizes (expand_nodes (macro_env l.fn.ctx.style) (view_nodes l.nodes));
     }
@@ -94,7 +94,7 @@ invariant-element::render_with_delimiter-loop-node g l =
     record {
       sound : l.fn.ctx.failed ≡ false;
       frame : l.ctx ≡ record l.fn.ctx { inner = l.ctx.inner; state = l.ctx.state };
-      planned : IfSome l.plan (ArePlans w rest);
+      planned : IfSome l.plans (ArePlans w rest);
       told : with_output (delimited_output w rest l.fn.ctx.inherited l.first l.ctx.state) l.ctx ≡ with_output (delimited_output w (expand_nodes (macro_env l.fn.ctx.style) (view_nodes l.nodes)) l.fn.ctx.inherited true l.fn.ctx.state) l.fn.ctx;
       inside : sizes rest ≤ sizes (expand_nodes (macro_env l.fn.ctx.style) (view_nodes l.nodes));
     }
@@ -109,7 +109,7 @@ invariant-names::render_until_text-loop-node g l =
     record {
       sound : l.fn.ctx.failed ≡ false;
       frame : l.ctx ≡ record l.fn.ctx { inner = l.ctx.inner; state = l.ctx.state };
-      planned : IfSome l.plan (ArePlans w (expand_nodes (macro_env l.fn.ctx.style) rest));
+      planned : IfSome l.plans (ArePlans w (expand_nodes (macro_env l.fn.ctx.style) rest));
       told : with_whole_output (output_until_text w (in_place rest) l.fn.ctx.inherited (render_output l.ctx.inner l.ctx.state)) l.ctx ≡ with_whole_output (output_until_text w (in_place all) l.fn.ctx.inherited (render_output l.fn.ctx.inner l.fn.ctx.state)) l.fn.ctx;
       inside : sizes (expand_nodes (macro_env l.fn.ctx.style) rest) ≤ sizes (expand_nodes (macro_env l.fn.ctx.style) all);
     }

@@ -26,8 +26,8 @@ returns-in-Ok-clause-output g c =
     let w = render_input g.T.EntryLike.answers now in
     tree_of_choice w now.state (macro_env now.style) now.inherited c.args.choose.now ∙ ap (λ o. choice_output w (option_map (expand_nodes (macro_env now.style)) o) now.inherited now.state) (sym c.in-Ok.ensures.value)
 
-pub returns-in-Ok-clause-results : goal.returns-in-Ok-clause-results
-returns-in-Ok-clause-results g c at infos h =
+pub returns-in-Ok-clause-plan : goal.returns-in-Ok-clause-plan
+returns-in-Ok-clause-plan g c at items h =
     let now = c.args.ctx.now in
     let w = render_input g.T.EntryLike.answers now in
-    subst (λ o. AreOfTaken w at (option_map (expand_nodes (macro_env now.style)) o) infos) (sym c.in-Ok.ensures.value) (planned_nodes w (macro_env now.style) at now.state infos c.args.choose.now h)
+    subst (λ o. AreOfTaken w at (option_map (expand_nodes (macro_env now.style)) o) items) (sym c.in-Ok.ensures.value) (planned_nodes w (macro_env now.style) at now.state items c.args.choose.now h)

@@ -1,8 +1,9 @@
-use Rattle.std.proofs.Common.{subst}
+use Rattle.std.proofs.Common.{subst, ◌∙◌}
 use Rattle.csl_elements.specs.Node.{expand}
 use Rattle.csl_elements.specs.View.{view_node}
 use Rattle.csl_style.specs.Expanded.{macro_env}
 use Rattle.csl_context.specs.ContextView.{render_input}
+use Rattle.csl_render.specs.DryRun.{Adds}
 use Rattle.csl_render.specs.Plan.{dry_now, IsInfo}
 use Rattle.csl_render.proofs.Plans.{asked}
 use Rattle.csl_render.proofs.element.ask_node.Goals as goal
@@ -11,6 +12,7 @@ pub returns : goal.returns
 returns g c =
     let now = c.args.ctx.now in
     let answers = g.T.EntryLike.answers in
-    let f = expand (macro_env now.style) (view_node c.args.node.now) in
-    let found = subst (λ b. IsInfo (render_input answers b) (dry_now b) (expand (macro_env b.style) (view_node c.args.node.now)) c.in_ok-info.info) c.new.ensures c.in_ok-info.ensures.value in
-    asked (render_input answers now) now.state c.in_ok-at.at f c.in_ok-info.info c.in_ok-at.ensures found
+    let n = view_node c.args.node.now in
+    let end = c.node_info.new.run in
+    let found = subst (λ r. Adds (IsInfo (render_input answers r.now) (dry_now r.now) (expand (macro_env r.now.style) n) c.in_ok-info.info) r end) c.new-run.ensures c.in_ok-info.ensures in
+    asked answers now (expand (macro_env now.style) n) c.in_ok-info.info end c.new.result found (c.new.ensures.at ∙ c.in_ok-at.ensures) c.new.ensures.answer (c.new.ensures.inside ∙ c.into_items.ensures)

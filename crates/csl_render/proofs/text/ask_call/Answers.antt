@@ -1,11 +1,13 @@
-use Rattle.std.proofs.Common.{subst, ap, ◌∙◌}
+use Rattle.std.proofs.Common.{[], subst, refl, ◌∙◌}
 use Rattle.csl_elements.specs.Node.{expand_nodes, expanded_macro}
 use Rattle.csl_elements.specs.View.{view_nodes, text_dressing}
 use Rattle.csl_style.specs.Expanded.{macro_env}
 use Rattle.csl_context.specs.ContextView.{render_input}
 use Rattle.csl_nodes.specs.Usage.{without_group_flag, macro_info}
-use Rattle.csl_render.specs.Plan.{dry_now, IsInfoOfNodes}
-use Rattle.csl_render.proofs.Plans.{asked, around}
+use Rattle.csl_render.specs.declared.plan.NodeInfo.{NodeInfo}
+use Rattle.csl_render.specs.DryRun.{Adds, Run}
+use Rattle.csl_render.specs.Plan.{dry_now, IsInfo, IsInfoOfNodes}
+use Rattle.csl_render.proofs.Plans.{adds_as, asked, around}
 use Rattle.csl_render.proofs.text.ask_call.Goals as goal
 
 pub returns : goal.returns
@@ -13,9 +15,14 @@ returns g c =
     let now = c.args.ctx.now in
     let answers = g.T.EntryLike.answers in
     let w = render_input answers now in
+    let d = dry_now now in
     let ns = view_nodes c.args.nodes.now in
-    let d = text_dressing c.args.text.now in
-    let found = subst (λ b. IsInfoOfNodes (render_input answers b) (dry_now b) (expand_nodes (macro_env b.style) ns) c.in_ok-info.info) c.new-run.ensures c.in_ok-info.ensures.value in
-    let answer = c.new.ensures.answer ∙ c.info_of_macro-answer.ensures ∙ ap macro_info c.without_group_flag.ensures in
-    asked w now.state c.in_ok-at.at (expanded_macro (expand_nodes (macro_env now.style) ns) d) c.new.result c.in_ok-at.ensures
-    (around w (dry_now now) c.in_ok-info.info c.new.result c.new.ensures.read c.new.ensures.inside (expand_nodes (macro_env now.style) ns) (λ i. macro_info (without_group_flag i)) found answer)
+    let fs = expand_nodes (macro_env now.style) ns in
+    let f = expanded_macro fs (text_dressing c.args.text.now) in
+    let nodes = c.in_ok-info.info in
+    let call : NodeInfo = record { answer = c.answer_of_call-answer.result; read = nodes.read } in
+    let start : Run g.row.T.Denot = record { now = now; items = [] } in
+    let end = c.nodes_info.new.run in
+    let found = subst (λ r. Adds (IsInfoOfNodes (render_input answers r.now) (dry_now r.now) (expand_nodes (macro_env r.now.style) ns) nodes) r end) c.new-run.ensures c.in_ok-info.ensures in
+    let called = adds_as (IsInfoOfNodes w d fs nodes) (IsInfo w d f call) start end (λ is h. around w d nodes call refl fs (λ i. macro_info (without_group_flag i)) is h c.answer_of_call-answer.ensures) found in
+    asked answers now f call end c.new.result called (c.new.ensures.at ∙ c.in_ok-at.ensures) c.new.ensures.answer (c.new.ensures.inside ∙ c.into_items.ensures)
