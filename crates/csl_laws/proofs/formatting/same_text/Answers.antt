@@ -1,0 +1,10 @@
+use Rattle.std.proofs.Common.{sym, ◌∙◌}
+use Rattle.csl_tree.proofs.MetaEqual.{formatted_decides}
+use Rattle.csl_tree.specs.contracts.formatting.FormattedHash.TheImpl.Laws.{respects_eq-law}
+use Rattle.csl_laws.proofs.formatting.same_text.Goals as goal
+
+pub returns-clause-equal : goal.returns-clause-equal
+returns-clause-equal c = let d = formatted_decides c.args.a.now c.args.b.now in (λ t. d.0 (sym c.eq.ensures ∙ t), λ h. c.eq.ensures ∙ d.1 h)
+
+pub returns-clause-hashed : goal.returns-clause-hashed
+returns-clause-hashed c = λ h. respects_eq-law c.args.a.now c.args.b.now ((formatted_decides c.args.a.now c.args.b.now).1 h)

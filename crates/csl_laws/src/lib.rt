@@ -1,0 +1,29 @@
+//! What callers of the public types rely on, each as a contract over a call of theirs: `==` is true
+//! exactly if the views agree, equal values have the same hash, and orders are those of the views.
+//! Also two entry types that answer oddly, and proved calls of functions with a condition that no
+//! library meets.
+#![tactic(auto)]
+
+pub mod blank;
+pub mod children;
+pub mod citation_label;
+pub mod elem;
+pub mod entry;
+pub mod formatting;
+pub mod locale;
+pub mod maybe_typed;
+pub mod name_form;
+pub mod name_properties;
+pub mod number_result;
+pub mod numeric;
+pub mod page;
+pub mod person;
+pub mod quotes;
+pub mod rendered;
+pub mod select;
+pub mod source;
+pub mod stack;
+pub mod table;
+pub mod taxonomy;
+pub mod term;
+pub mod text;

@@ -1,0 +1,17 @@
+//! Tests of the answers of entries and cites to a style.
+
+mod alike;
+mod answers;
+mod citation_label;
+mod cite;
+mod descriptions;
+mod entry;
+mod instance;
+mod language;
+mod letters;
+mod looks;
+mod name_form;
+mod name_properties;
+mod number_result;
+mod numbers;
+mod snapshot;

@@ -1,0 +1,26 @@
+//! The tests of `csl_style` and of `csl_elements`, which it hands on: their public calls, with inputs
+//! and expected results that are written out by hand. A module tests the module of the same name in
+//! one of the two, if there is one.
+
+mod constructors;
+mod defaults;
+mod element;
+mod locale;
+mod many_macros;
+mod missing;
+mod missing_term;
+mod named;
+mod names;
+mod names_parts;
+mod notation;
+mod number;
+mod of_citation;
+mod options_of_scopes;
+mod reach;
+mod size;
+mod style;
+mod style_ordinals;
+mod taxonomy;
+mod term;
+mod term_names;
+mod variable_names;

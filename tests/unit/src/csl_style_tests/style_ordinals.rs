@@ -1,0 +1,59 @@
+//! The ordinals of a style, as a value.
+
+use crate::assertions::assert_text;
+use crate::csl_style_tests::notation::{EMPTY, LocaleRows, SILENT, StyleRows, style};
+use csl_style::{OrdinalSlot, Style};
+use std::alloc::Global;
+use std::process::Abort;
+
+/// A style with a suffix and a word for 3, and with a default suffix.
+const ROWS: StyleRows<'static> = StyleRows {
+    locales: &[LocaleRows {
+        ordinals: &[
+            (OrdinalSlot::Default, None, None, "th"),
+            (OrdinalSlot::Two(3), None, None, "rd"),
+            (OrdinalSlot::Long(3), None, None, "third"),
+        ],
+        ..SILENT
+    }],
+    ..EMPTY
+};
+
+/// The suffix and the word of a number, which outlive the ordinals.
+fn both(style: &Style, number: i32) -> (Option<&str>, Option<&str>) {
+    let ordinals = style.ordinals();
+    (ordinals.suffix(number, None), ordinals.word(number, None))
+}
+
+/// A number, its suffix and its word.
+type Row = (i32, Option<&'static str>, Option<&'static str>);
+
+static NUMBERS: [Row; 3] = [
+    (3, Some("rd"), Some("third")),
+    (23, Some("rd"), None),
+    (4, Some("th"), None),
+];
+
+fn assert_both(rt: &impl Abort, style: &Style, &(number, wanted_suffix, wanted_word): &Row) {
+    let (suffix, word) = both(style, number);
+    assert_text(rt, suffix, wanted_suffix);
+    assert_text(rt, word, wanted_word);
+}
+
+fn assert_all(rt: &impl Abort, style: &Style) {
+    let rows: &[Row] = &NUMBERS;
+    for row in rows {
+        assert_both(rt, style, row);
+    }
+}
+
+fn assert_style(rt: &impl Abort, alloc: Global) {
+    let style = style(rt, alloc, &ROWS);
+    assert_all(rt, &style);
+    drop(style);
+}
+
+#[test]
+fn ordinals_outlive_the_value_that_is_asked(rt: HostRuntime) {
+    assert_style(&rt, rt.alloc());
+}

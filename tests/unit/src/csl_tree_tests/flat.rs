@@ -1,0 +1,215 @@
+//! Contents that are written into a flat tree by calls.
+//!
+//! The words of a script have one space between them, and each stands for one call:
+//!
+//! | Word | Call |
+//! |---|---|
+//! | `[` | opens a part |
+//! | `]` | closes the part as a block with the meta of a date |
+//! | `}<\|>` | closes the part and splices it between `<` and `>`, each of which may be missing |
+//! | `!` | discards the part |
+//! | `=a` | pushes the text `a` as a text |
+//! | `()` | pushes an element without children |
+//! | any other | pushes the child that the word describes, as in descriptions of trees |
+
+use crate::assertions::{assert_of, assert_same};
+use crate::csl_tree_tests::trees::{assert_tree, read_formatted, read_leaf};
+use csl_elements::Display;
+use csl_tree::{Elem, ElemChild, ElemChildren, ElemMeta, FlatTree, Formatted, Formatting};
+use std::alloc::Global;
+use std::process::Abort;
+
+/// The text of an affix, or `None` if it is missing.
+fn read_affix(rt: &impl Abort, alloc: Global, word: &str) -> Option<Formatted> {
+    if word.is_empty() {
+        return None;
+    }
+    Some(read_formatted(rt, alloc, word))
+}
+
+/// Closes or discards the innermost part, by a word.
+fn close(rt: &impl Abort, tree: &mut FlatTree, alloc: Global, word: &str) {
+    if tree.depth() == 1 {
+        panic!(rt; "a part is open");
+    }
+    if let Some(affixes) = word.strip_prefix('}') {
+        let (before, after) = affixes.split_once('|').expect(rt, "there are two affixes");
+        let before = read_affix(rt, alloc, before);
+        let after = read_affix(rt, alloc, after);
+        tree.close_spliced(before, after).expect(rt, "memory");
+    } else if word == "!" {
+        tree.discard();
+    } else {
+        tree.close_elem(Some(Display::Block), Some(ElemMeta::Date))
+            .expect(rt, "memory");
+    }
+}
+
+/// An element without children.
+fn childless(alloc: Global) -> ElemChild {
+    ElemChild::from(Elem {
+        children: ElemChildren::new(alloc),
+        display: None,
+        meta: None,
+    })
+}
+
+/// Calls the function of a word.
+fn call(rt: &impl Abort, tree: &mut FlatTree, alloc: Global, word: &str) {
+    if word == "[" {
+        tree.open().expect(rt, "memory");
+    } else if let Some(text) = word.strip_prefix('=') {
+        tree.push_text(text, Formatting::default())
+            .expect(rt, "memory");
+    } else if word == "()" {
+        tree.push(childless(alloc)).expect(rt, "memory");
+    } else if word == "]" || word == "!" || word.starts_with('}') {
+        close(rt, tree, alloc, word);
+    } else {
+        tree.push(read_leaf(rt, alloc, word)).expect(rt, "memory");
+    }
+}
+
+/// The flat tree after the calls of a script.
+fn tree_of(rt: &impl Abort, alloc: Global, script: &str) -> FlatTree {
+    let mut tree = FlatTree::new(alloc);
+    for word in script.split(' ') {
+        if !word.is_empty() {
+            call(rt, &mut tree, alloc, word);
+        }
+    }
+    tree
+}
+
+/// The contents of the root.
+fn contents(rt: &impl Abort, tree: FlatTree) -> ElemChildren {
+    if tree.depth() != 1 {
+        panic!(rt; "the root alone is open");
+    }
+    tree.finish().expect(rt, "memory")
+}
+
+/// A script, and the tree after its calls.
+static CALLS: [(&str, &str); 22] = [
+    ("", ""),
+    ("a b", "ab"),
+    ("=a =b", "ab"),
+    ("=a /b c", "a /b c"),
+    ("a _ = $_ @_|u b", "ab"),
+    ("a $b @c|u #1 d", "a $b @c|u #1 d"),
+    ("a [ b ] c", "a ( b )block:date c"),
+    ("[ a [ b ] c ]", "( a ( b )block:date c )block:date"),
+    ("a [ b }<|> c", "a<b>c"),
+    ("a [ /b }<|> c", "a< /b >c"),
+    ("a [ /b }/<|/> /c", "a /<b>c"),
+    ("a [ b }| c", "abc"),
+    ("a [ #1 }<| b", "a< #1 b"),
+    ("[ [ a }<|> [ b }<|> }-|-", "-<a><b>-"),
+    ("[ a [ b }<|> c ] d", "( a<b>c )block:date d"),
+    ("a [ b !", "a"),
+    ("[ a [ b ! c ]", "( ac )block:date"),
+    ("a [ b [ c ] ! d", "ad"),
+    // A pushed element is kept, even without children.
+    ("a () b", "a ( ) b"),
+    ("[ () ]", "( ( ) )block:date"),
+    ("a [ () }<|> b", "a< ( ) >b"),
+    ("a [ () ! b", "ab"),
+];
+
+fn assert_calls(rt: &impl Abort, alloc: Global, &(script, wanted): &(&str, &str)) {
+    let tree = contents(rt, tree_of(rt, alloc, script));
+    assert_tree(rt, alloc, tree, wanted, script);
+}
+
+#[test]
+fn the_calls_of_a_script_build_a_tree(rt: HostRuntime) {
+    let calls: &[(&str, &str)] = &CALLS;
+    for row in calls {
+        assert_calls(&rt, rt.alloc(), row);
+    }
+}
+
+/// A script of empty parts, and the tree after its calls.
+static EMPTY: [(&str, &str); 8] = [
+    ("[ ]", ""),
+    ("a [ ] b", "ab"),
+    ("a [ _ $_ ] b", "ab"),
+    ("a [ }<|> b", "ab"),
+    ("a [ _ $_ }<|> b", "ab"),
+    ("[ [ ] }<|>", ""),
+    ("[ [ }<|> ]", ""),
+    ("a [ ! b", "ab"),
+];
+
+#[test]
+fn an_empty_part_leaves_nothing(rt: HostRuntime) {
+    let empty: &[(&str, &str)] = &EMPTY;
+    for row in empty {
+        assert_calls(&rt, rt.alloc(), row);
+    }
+}
+
+/// The number of open parts, and whether the innermost part is empty, has text, and ends in white
+/// space.
+type Flags = (usize, bool, bool, bool);
+
+fn flags(rt: &impl Abort, alloc: Global, script: &str) -> Flags {
+    let tree = tree_of(rt, alloc, script);
+    (
+        tree.depth(),
+        tree.is_empty(),
+        tree.has_text(),
+        tree.ends_in_white_space(),
+    )
+}
+
+/// A script, and the flags of the part that is open after it.
+static FLAGS: [(&str, Flags); 17] = [
+    ("", (1, true, false, false)),
+    ("a", (1, false, true, false)),
+    ("a~", (1, false, true, true)),
+    ("a~ [", (2, true, false, false)),
+    ("a~ [ _ $_", (2, true, false, false)),
+    ("a~ [ #1", (2, false, false, false)),
+    ("a~ [ b", (2, false, true, false)),
+    ("a~ [ b ]", (1, false, true, false)),
+    ("a [ b~ ]", (1, false, true, true)),
+    ("a [ b~ }|", (1, false, true, true)),
+    ("a [ b~ }|>", (1, false, true, false)),
+    ("a~ [ #1 ]", (1, false, true, true)),
+    ("a [ b~ !", (1, false, true, false)),
+    ("[ [ ] [ }<|>", (2, true, false, false)),
+    ("[ [ [", (4, true, false, false)),
+    ("()", (1, false, false, false)),
+    ("a~ [ ()", (2, false, false, false)),
+];
+
+fn assert_flags(rt: &impl Abort, alloc: Global, &(script, wanted): &(&str, Flags)) {
+    assert_of(rt, &flags(rt, alloc, script), &wanted, &script);
+}
+
+#[test]
+fn readers_of_the_innermost_part(rt: HostRuntime) {
+    let rows: &[(&str, Flags)] = &FLAGS;
+    for row in rows {
+        assert_flags(&rt, rt.alloc(), row);
+    }
+}
+
+/// A tree of a thousand spliced parts.
+fn thousand(rt: &impl Abort, alloc: Global) -> FlatTree {
+    let mut tree = FlatTree::new(alloc);
+    for _ in 0..1000 {
+        call(rt, &mut tree, alloc, "[");
+        call(rt, &mut tree, alloc, "a");
+        call(rt, &mut tree, alloc, "}<|>");
+    }
+    tree
+}
+
+#[test]
+fn a_thousand_splices_are_one_text(rt: HostRuntime) {
+    let tree = contents(&rt, thousand(&rt, rt.alloc()));
+    assert_same(&rt, &tree.str_len(), &3000);
+    assert_same(&rt, &tree.0.len(), &1);
+}

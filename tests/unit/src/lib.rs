@@ -1,0 +1,21 @@
+//! The tests of the public calls, a module for each library. Nothing proves them.
+#![tactic(auto)]
+
+#[cfg(test)]
+mod assertions;
+#[cfg(test)]
+mod csl_cli_tests;
+#[cfg(test)]
+mod csl_context_tests;
+#[cfg(test)]
+mod csl_entry_tests;
+#[cfg(test)]
+mod csl_render_tests;
+#[cfg(test)]
+mod csl_style_tests;
+#[cfg(test)]
+mod csl_tests;
+#[cfg(test)]
+mod csl_tree_tests;
+#[cfg(test)]
+mod lit_model_tests;
