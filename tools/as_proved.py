@@ -1,8 +1,8 @@
-"""A program that nothing proves, compiled as `rattle build` compiles a proved one. It is the bitcode of `rt try` without its run-time checks, and
+"""A program that nothing proves, compiled as `rattle build` compiles a proved one. It is the bitcode of an unproved build without its run-time checks, and
 with those functions out of line that the sources keep so. For the tools that count instructions and stack."""
 import glob, os, re, signal, subprocess, time
 
-from unproved import TARGET, Failure, kit
+from kit import TARGET, Failure, kit, words_of_try
 
 # As `rattle build` compiles a program.
 COMPILED = """-march=x86-64 -mllvm -no-trap-after-noreturn -ffunction-sections -fdata-sections -mllvm -trap-unreachable
@@ -15,10 +15,10 @@ class OtherKit(Failure):
 
 
 def bitcode(crate, words, room):
-    """The bitcode that `rt try` compiles before it runs the program with these words. It is complete as soon as its object file exists."""
+    """The bitcode that the kit compiles before it runs the program with these words. It is complete as soon as its object file exists."""
     temp, kept = f"{room}/try", f"{room}/checked.bc"
     os.mkdir(temp)
-    words = ["rt", "try", "--seconds", "300", "--", *words]
+    words = words_of_try(os.path.basename(crate), f"{room}/checkout", words)
     with open(f"{room}/said", "w+") as said:
         tried = subprocess.Popen(words, cwd=crate, env={**os.environ, "TMPDIR": temp}, start_new_session=True, stdin=subprocess.DEVNULL,
                                  stdout=said, stderr=said)
@@ -35,12 +35,12 @@ def bitcode(crate, words, room):
         tried.wait()
         said.seek(0)
         if not os.path.exists(kept):
-            raise (Failure if tried.returncode else OtherKit)(f"{said.read()[-3000:]}\nrt try left no bitcode")
+            raise (Failure if tried.returncode else OtherKit)(f"{said.read()[-3000:]}\nthe build left no bitcode")
         return kept
 
 
 def out_of_line(checkout):
-    """The functions that the sources keep out of line, as expressions: the bitcode of `rt try` does not say so."""
+    """The functions that the sources keep out of line, as expressions: the bitcode of an unproved build does not say so."""
     names = set()
     for file in glob.glob(f"{checkout}/crates/*/src/**/*.rt", recursive=True):
         crate = os.path.relpath(file, f"{checkout}/crates").partition("/")[0]
@@ -63,10 +63,11 @@ def unchecked(text, kept):
         yield line
 
 
-def built(crate, words, room, kept=()):
-    """The program of a crate that was laid out in the room. The functions `kept` stay out of line too. With these words it succeeds."""
+def built(crate, words, room, kept=(), given=None):
+    """The program of a crate that was laid out in the room. The functions `kept` stay out of line too. With these words it succeeds. If its
+    bitcode is given, it is not compiled again."""
     functions = "|".join(out_of_line(f"{room}/checkout").union(kept))
-    checked, tools = bitcode(crate, words, room), f"{kit()}/toolchain"
+    checked, tools = given or bitcode(crate, words, room), f"{kit()}/toolchain"
     clang = [f"{tools}/bin/clang", f"--target={TARGET}", f"--sysroot={tools}"]
     plain = ["-x", "ir", "-S", "-emit-llvm", "-O0", "-Xclang", "-disable-llvm-passes"]
     subprocess.run([*clang, *plain, checked, "-o", f"{room}/checked.ll"], check=True)

@@ -1,11 +1,11 @@
 // The heap of `tools/refuse_memory`, in place of the kit's. It counts the memory requests, and writes
 // their number to the file descriptor in ANSWERS when the process ends. If the variable EVERY is k, it
-// tries the first request and each k-th one after it: in one copy of the process (fork) it refuses that
+// tries request FIRST and each k-th one after it: in one copy of the process (fork) it refuses that
 // request alone, and in another all requests from it on. The process itself waits for both, and goes on
 // with the request met. Each copy has its own files for standard output and standard error, which begin
-// with what the process has written. For each copy, ANSWERS gets a line with the request, whether all
-// from it on were refused, the copy's status as the system has it, the number of refusals and the
-// lengths of its two outputs, which follow.
+// with what the process has written. SIGALRM ends a copy that takes longer than a minute. For each copy,
+// ANSWERS gets a line with the request, whether all from it on were refused, the copy's status as the
+// system has it, the number of refusals and the lengths of its two outputs, which follow.
 typedef unsigned long size;
 
 // The result of a request: whether it was met, and the address. If it was not met, nobody reads there.
@@ -36,17 +36,23 @@ enum { SECONDS = 60, HERE = 1, READ_WRITE = 3, SHARED_OF_NO_FILE = 33 };
 
 static char nowhere[16];
 static int answers = -1, is_copy, refuses_all;
-static long requests, every;
+static long requests, first, every;
 // Where the process reads how many requests a copy refused.
 static long *refusals;
 
+static long number_in(const char *variable, long otherwise) {
+    char *said = getenv(variable);
+    return said ? strtol(said, 0, 10) : otherwise;
+}
+
 __attribute__((constructor)) static void begin(void) {
-    char *to = getenv("ANSWERS"), *step = getenv("EVERY");
-    if (to) answers = (int)strtol(to, 0, 10);
-    if (step) every = strtol(step, 0, 10);
+    answers = (int)number_in("ANSWERS", -1);
+    first = number_in("FIRST", 1);
+    every = number_in("EVERY", 0);
     refusals = mmap(0, sizeof *refusals, READ_WRITE, SHARED_OF_NO_FILE, -1, 0);
 }
 
+// Copies the start of a file.
 static void copy_start(int to, int from, long length) {
     for (long at = 0; at < length;) {
         if (sendfile(to, from, &at, length - at) <= 0) abort();
@@ -83,7 +89,7 @@ static int is_copy_that_refuses(int all) {
 
 static int is_refused(void) {
     requests++;
-    int is_tried = !is_copy && every > 0 && (requests - 1) % every == 0;
+    int is_tried = !is_copy && every > 0 && requests >= first && (requests - first) % every == 0;
     int refused = is_copy ? refuses_all : is_tried && (is_copy_that_refuses(0) || is_copy_that_refuses(1));
     *refusals += refused;
     return refused;

@@ -1,25 +1,12 @@
 """Rattle sources that nothing proves stand outside of the crates, as `.rs` files in FOLDER/src, since `rt ci` takes each `.rt` file for a crate's.
 FOLDER/uses names the libraries that they use. This module lays them out as a crate, named after the folder, in a copy of the checkout.
 
-Its `objects_of` keeps what `rt try` compiles, so that tools can link it into a program of their own.
+Its `compiled` keeps what the kit compiles, so that tools can link it into a program of their own.
 
 As a command, `python3 tools/unproved.py FOLDER..` formats the files of the folders where they stand."""
-import glob, os, shutil, subprocess, sys, tempfile, time
+import glob, os, signal, subprocess, sys, tempfile, time
 
-TOP = os.path.dirname(os.path.dirname(os.path.realpath(__file__)))
-TARGET = "x86_64-unknown-linux-gnu"
-
-
-class Failure(Exception):
-    """A fault that ends a tool."""
-
-
-def kit():
-    """The kit's folder: that of `bin/rt`."""
-    command = shutil.which("rt")
-    if not command:
-        raise Failure("there is no command rt")
-    return os.path.dirname(os.path.dirname(os.path.realpath(command)))
+from kit import TARGET, TOP, Failure, kit, words_of_try
 
 
 def checked(words):
@@ -49,7 +36,7 @@ def lay_out(folder, room, commit=None, sources=None):
 
 def formatted(folder, crate):
     """Formats a crate that was laid out, and returns the files of its folder that the format changes, each with its new text."""
-    subprocess.run(["rt", "fmt"], cwd=crate, check=True, stdout=subprocess.DEVNULL)
+    subprocess.run([f"{kit()}/bin/rt", "fmt"], cwd=crate, check=True, stdout=subprocess.DEVNULL)
     texts = {}
     for file in glob.glob(f"{TOP}/{folder}/src/**/*.rs", recursive=True):
         laid_out = f"{crate}/{os.path.relpath(file, f'{TOP}/{folder}')}"
@@ -60,31 +47,49 @@ def formatted(folder, crate):
     return texts
 
 
-def objects_of(crate, words, room):
-    """The object files that `rt try` links into the program of a crate, which it runs with these words. Each is there only while rt works, so a
-    second name is given to it as it begins to be written."""
-    name = os.path.basename(crate)
-    temp, objects = f"{room}/{name}-tmp", {}
+def link_anew(file, seen, second):
+    """Gives a file a second name, once."""
+    try:
+        number = os.stat(file).st_ino
+        if number not in seen:
+            os.link(file, second)
+            seen[number] = second
+    except OSError:
+        pass
+
+
+def compiled(crate, words, room):
+    """What the kit compiles before it runs the program of a crate with these words, unproved: the object files that it links, and the bitcode
+    of the program. Each is there only while it works, so a second name is given to it as it begins to be written. The bitcode is complete as
+    soon as its object file is there. The first module, of a few bytes, only shows that the compiler runs."""
+    name, checkout = os.path.basename(crate), os.path.dirname(os.path.dirname(crate))
+    temp, objects, bitcode = f"{room}/{name}-tmp", {}, {}
     os.mkdir(temp)
     with open(f"{room}/{name}.log", "w+b") as log:
-        rt = subprocess.Popen(["rt", "try", "--seconds", "300", "--", *words], cwd=crate, env={**os.environ, "TMPDIR": temp},
-                              stdin=subprocess.DEVNULL, stdout=log, stderr=log)
-        while rt.poll() is None:
-            for it in glob.glob(f"{temp}/**/module*.o*", recursive=True):
-                try:
-                    file = os.stat(it).st_ino
-                    if file not in objects:
-                        second = f"{room}/{name}-{len(objects)}.o"
-                        os.link(it, second)
-                        objects[file] = second
-                except OSError:
-                    continue
-            time.sleep(0.01)
+        build = subprocess.Popen(words_of_try(name, checkout, words), cwd=crate, env={**os.environ, "TMPDIR": temp}, start_new_session=True,
+                                 stdin=subprocess.DEVNULL, stdout=log, stderr=log)
+        try:
+            while build.poll() is None:
+                for it in glob.glob(f"{temp}/**/module*.o*", recursive=True):
+                    link_anew(it, objects, f"{room}/{name}-{len(objects)}.o")
+                    beside = f"{os.path.dirname(it)}/module.bc"
+                    if os.path.exists(beside) and os.path.getsize(beside) > 100_000:
+                        link_anew(beside, bitcode, f"{room}/{name}-{len(bitcode)}.bc")
+                time.sleep(0.01)
+        finally:
+            if build.poll() is None:
+                os.killpg(build.pid, signal.SIGTERM)
+                build.wait()
         log.seek(0)
         said = log.read().decode(errors="replace")
-    if rt.returncode != 0:
-        raise Failure(f"{name}: rt try ended with {rt.returncode}: {said[-1000:]}")
-    return list(objects.values())
+    if build.returncode != 0:
+        raise Failure(f"{name}: the build ended with {build.returncode}: {said[-1000:]}")
+    return list(objects.values()), next(iter(bitcode.values()), None)
+
+
+def objects_of(crate, words, room):
+    """The object files that the kit links into the program of a crate, which it runs with these words."""
+    return compiled(crate, words, room)[0]
 
 
 def link(program, objects):

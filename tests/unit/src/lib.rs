@@ -1,4 +1,5 @@
-//! The tests of the public calls, a module for each library. Nothing proves them.
+//! The tests of the public calls, a module for each library, and the public surface. Nothing proves
+//! them.
 #![tactic(auto)]
 
 #[cfg(test)]
@@ -19,3 +20,5 @@ mod csl_tests;
 mod csl_tree_tests;
 #[cfg(test)]
 mod lit_model_tests;
+#[cfg(test)]
+mod surface;

@@ -1,6 +1,6 @@
 //! The terms of a locale.
 
-use crate::bounds::{copied, defaulted, equal, has_type};
+use crate::surface::bounds::{copied, defaulted, equal, has_type};
 use csl_style::{
     Date, Locale, Locator, NameVariable, NumberVariable, OrdinalMatch, OrdinalSlot, OrdinalTerm,
     OtherTerm, PageVariable, Term, TermEntry, TermForm,

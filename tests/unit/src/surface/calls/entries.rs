@@ -1,6 +1,6 @@
 //! The calls of `csl_entry`.
 
-use crate::bounds::has_type;
+use crate::surface::bounds::has_type;
 use csl_entry::{
     Alphanumerical, CitationNumber, CiteProperties, DisambiguateState, DisambiguatedNameForm,
     EntryLike, InstanceContext, NameDisambiguationProperties, NoteNumber,

@@ -1,6 +1,6 @@
 //! The types of `lit_model`.
 
-use crate::bounds::{copied, defaulted, equal, has_type, hashed};
+use crate::surface::bounds::{copied, defaulted, equal, has_type, hashed};
 use lit_model::{
     Bind, ChunkKind, ChunkedString, Clause, Date, Entry, EntryType, Field, FormatString,
     GrammarGender, LanguageIdentifier, LongShortForm, MaybeTyped, Memory, NumberForm, Numeric,

@@ -1,6 +1,6 @@
 //! The nodes of a style, except those of names.
 
-use crate::bounds::has_type;
+use crate::surface::bounds::has_type;
 use csl_style::{
     Affixes, Choose, ChooseBranch, ChooseMatch, CslMacro, Date, DateAnyForm, DateForm, DatePart,
     DatePartName, DateParts, DateVariable, Display, Formatting, Group, Kind, Label, LabelPluralize,

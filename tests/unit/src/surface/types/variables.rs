@@ -1,6 +1,6 @@
 //! The variables of CSL, and the kinds of entries.
 
-use crate::bounds::{copied, equal, has_type, hashed, ordered};
+use crate::surface::bounds::{copied, equal, has_type, hashed, ordered};
 use csl_style::{
     DateVariable, Kind, Locator, NameVariable, NumberOrPageVariable, NumberVariable, PageVariable,
     StandardVariable, Variable,

@@ -1,6 +1,6 @@
 //! The calls of `csl_style`, and the locales of `csl`.
 
-use crate::bounds::has_type;
+use crate::surface::bounds::has_type;
 use csl_style::{
     Choose, ChooseBranch, CslMacro, Date, DateForm, DateVariable, Formatting, Kind, Layout, Locale,
     Locator, NameOptions, NameVariable, Named, NumberVariable, OtherTerm, PageVariable, Scope,

@@ -1,6 +1,6 @@
 //! The calls of `csl_tree`.
 
-use crate::bounds::{converted, displayed, has_type};
+use crate::surface::bounds::{converted, displayed, has_type};
 use csl_style::Display;
 use csl_tree::{
     BufWriteFormat, Elem, ElemChild, ElemChildren, ElemMeta, FlatTree, Formatted, Formatting,

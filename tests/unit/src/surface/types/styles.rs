@@ -1,6 +1,6 @@
 //! The settings of a style, its errors, and the variables that a layout names.
 
-use crate::bounds::{defaulted, has_type};
+use crate::surface::bounds::{defaulted, has_type};
 use csl_style::{
     DateVariable, DemoteNonDroppingParticle, InheritableNameOptions, Kind, NameVariable, Named,
     NumberVariable, PageRangeFormat, PageVariable, StandardVariable, StyleError, StyleSettings,

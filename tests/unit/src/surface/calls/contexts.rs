@@ -1,6 +1,6 @@
 //! The calls of `csl_context`.
 
-use crate::bounds::has_type;
+use crate::surface::bounds::has_type;
 use csl_context::{
     BodyDressing, Context, LeftState, Mark, OpenBody, RenderError, Rendered, WritingContext,
 };

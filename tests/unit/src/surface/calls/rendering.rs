@@ -1,6 +1,6 @@
 //! The calls of the crates above the context: names, nodes, pairs, and the program.
 
-use crate::bounds::{has_type, iterates};
+use crate::surface::bounds::{has_type, iterates};
 use csl_context::{Context, LeftState, RenderError, Rendered};
 use csl_entry::{CiteProperties, DisambiguatedNameForm, EntryLike, Sorting, SpecialForm};
 use csl_render::{BranchConditionIter, BranchConditionPos, Pair, RenderCsl, UsageInfo};

@@ -1,6 +1,6 @@
 //! The output tree.
 
-use crate::bounds::{copied, defaulted, equal, has_type, hashed};
+use crate::surface::bounds::{copied, defaulted, equal, has_type, hashed};
 use csl_style::{
     Display, FontStyle, FontVariant, FontWeight, NameVariable, TextDecoration, VerticalAlign,
 };

@@ -1,6 +1,6 @@
 //! The options of nodes and styles, and their defaults.
 
-use crate::bounds::{copied, defaulted, has_type};
+use crate::surface::bounds::{copied, defaulted, has_type};
 use csl_style::{
     Affixes, ChooseMatch, DateAnyForm, DateForm, DatePartName, DateParts, DelimiterBehavior,
     DemoteNonDroppingParticle, Display, FontStyle, FontVariant, FontWeight, Formatting,

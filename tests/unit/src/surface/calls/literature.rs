@@ -1,6 +1,6 @@
 //! The calls of `lit_model`.
 
-use crate::bounds::{displayed, has_type};
+use crate::surface::bounds::{displayed, has_type};
 use lit_model::{
     ChunkedString, Clause, Date, Entry, EntryType, FormatString, GrammarGender, LanguageIdentifier,
     LongShortForm, MaybeTyped, Memory, NumberForm, Numeric, NumericError, NumericValue, Ordinals,

@@ -1,6 +1,6 @@
 //! The nodes and options of names.
 
-use crate::bounds::{copied, defaulted, has_type};
+use crate::surface::bounds::{copied, defaulted, has_type};
 use csl_style::{
     Affixes, DelimiterBehavior, Display, EtAl, Formatting, InheritableNameOptions,
     LayoutRenderingElement, Name, NameAnd, NameAsSortOrder, NameForm, NameOptions, NamePart,

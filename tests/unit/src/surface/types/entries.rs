@@ -1,6 +1,6 @@
 //! The types of cites and name forms.
 
-use crate::bounds::{copied, defaulted, equal, has_type, hashed, ordered};
+use crate::surface::bounds::{copied, defaulted, equal, has_type, hashed, ordered};
 use csl_entry::{
     Alphanumerical, CertainCiteProperties, CitationNumber, CiteProperties, DisambiguateState,
     DisambiguatedNameForm, IbidState, InstanceContext, LocatorPayload,

@@ -1,6 +1,6 @@
 //! What a rendering returns, and the types of the layer above the context.
 
-use crate::bounds::{copied, equal, has_type, iterates};
+use crate::surface::bounds::{copied, equal, has_type, iterates};
 use csl_context::{LeftState, Mark, RenderError, Rendered};
 use csl_entry::NameDisambiguationProperties;
 use csl_render::{BranchConditionIter, BranchConditionPos, Pair, UsageInfo};

@@ -1,0 +1,49 @@
+"""The built libraries of this checkout's sources that the kit keeps: what `rt ci` proved on this machine, here or in another checkout."""
+import os
+import shutil
+import subprocess
+import sys
+
+from kit import TOP, kit
+
+# `rt` has no word for it. This asks its own code for the library of each crate, lowest first, over those below.
+# A kit that keeps nothing, or in another way, gives none.
+ASKING = """
+import os, sys
+path = os.path.realpath(sys.argv[1])
+sys.path.insert(0, os.path.dirname(path))
+rt = {"__name__": "rt", "__file__": path}
+exec(compile(open(path).read(), path, "exec"), rt)
+rt["Crate"].allowed, rt["Crate"].cuts_libraries = rt["handles_of"](os.getcwd()), True
+crates = rt["crates_of"](os.getcwd())
+kept, found = rt["Kept"](crates), set()
+for crate in crates:
+    if all(it.name in found for it in crate.below()) and kept.give(crate, False, kept.key(crate)):
+        kept.is_built(crate)
+        found.add(crate.name)
+        print("library", crate.name, flush=True)
+"""
+
+
+def copy_sources(room: str) -> None:
+    """Copies the crates of the checkout into a room, without edits and without what was built."""
+    for file in ("crates.txt", "HANDLES"):
+        shutil.copy2(f"{TOP}/{file}", room)
+    shutil.copytree(f"{TOP}/crates", f"{room}/crates", ignore=shutil.ignore_patterns("out", "must-fail"))
+
+
+def kept_libraries(room: str, below: list[str]) -> dict[str, str]:
+    """The libraries among these crates that an earlier `rt ci` built of these very sources, each with its place in the room, a new
+    folder."""
+    os.makedirs(room)
+    copy_sources(room)
+    asked = [sys.executable, "-c", ASKING, f"{kit()}/bin/rt"]
+    said = subprocess.run(asked, cwd=room, stdin=subprocess.DEVNULL, stdout=subprocess.PIPE, stderr=subprocess.DEVNULL, text=True).stdout
+    names = [line.removeprefix("library ") for line in said.splitlines() if line.startswith("library ")]
+    return {name: f"{room}/crates/{name}/out/rlib/{name}.rlib" for name in names if name in below}
+
+
+def libraries_of_ci(below: list[str]) -> dict[str, str]:
+    """The libraries among these crates that `rt ci` has built in the checkout itself."""
+    places = {name: f"{TOP}/crates/{name}/out/rlib/{name}.rlib" for name in below}
+    return {name: place for name, place in places.items() if os.path.isdir(place)}
