@@ -50,7 +50,8 @@ def goal_at(file: str, line: int) -> str:
 class Edit:
     """An edit of a crate: its pairs of old and new texts, by file, the functions that they change, and the cycles of calls of these.
 
-    After a check of these functions `open` is an open goal of one of them, and `is_proved` tells whether the check proved them all."""
+    After a check of these functions `open` is an open goal of one of them, and `is_proved` tells whether it left none and proved those that are
+    in no cycle."""
 
     def __init__(self, name: str, file: str):
         self.name, self.file, self.label = name, file, file.removeprefix(f"{TOP}/")
@@ -139,7 +140,9 @@ def read_check(folder: str, edits: list[Edit], texts: dict[str, str], said: str)
         for edit in edits:
             if edit.is_of(function.replace("::fn::", "::")):
                 edit.open = edit.open or error
+    # The functions of a cycle of calls are proved together or not at all, so of these only the open goals can tell.
     proved = re.findall(r"^fn (\S+): proved$", said, re.M)
     for edit in edits:
-        edit.is_proved = all(any(f"::{it}".endswith(f"::{function}") for it in proved) for function in edit.functions)
+        is_told = all(any(f"::{it}".endswith(f"::{function}") for it in proved) for function in edit.functions)
+        edit.is_proved = bool(is_ended) and not edit.open and (is_told or bool(edit.cycles))
     return unread if unread or is_ended else edits
