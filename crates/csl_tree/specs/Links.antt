@@ -1,8 +1,7 @@
 -- If only some addresses are allowed, a link to any other address becomes its text. The text is not
 -- joined with a text beside it.
-use Rattle.std.specs.Prelude.{◌≡◌, ℕ, Bool, true, List, [], ◌∷◌, map, if◌then◌else◌}
+use Rattle.std.specs.Prelude.{◌≡◌, ℕ, Bool, List, [], ◌∷◌, map, if◌then◌else◌}
 use Rattle.std.specs.List.{flat_map}
-use Rattle.std.specs.Borrow.{Bor}
 use Rattle.csl_tree.specs.declared.elem.ElemChild.{ElemChild}
 use Rattle.csl_tree.specs.declared.elem.ElemChild.TheOpen.{ElemChild-F, Text, Elem, Markup, Link, Transparent}
 use Rattle.csl_tree.specs.declared.elem.ElemChild.TheViews.{out-ElemChild}
@@ -46,10 +45,17 @@ link_address (solid (elem_end d)) = []
 abbrev pub addresses : List Token → List (List ℕ)
 addresses ts = flat_map link_address ts
 
--- each call of a closure returns the result of the test for the address
-abbrev pub AllowsBy : {F : Type 0} → (F → Bor (List ℕ) → Bool → F → Type 0) → (List ℕ → Bool) → Type 0
-AllowsBy {F} step allowed = (f after : F) (url : Bor (List ℕ)) (r : Bool) → step f url r after → r ≡ allowed url.now
+-- Links that a closure keeps. It is called, by `called`, at the address of each link in turn, and each
+-- call may change it, from `f` to `g`. A link that it rejects becomes its text. Only the contracts of
+-- private functions cite `KeepsToken` and `KeepsInTurn`.
+abbrev pub KeepsToken : {F : Type 0} → (F → List ℕ → Bool → F → Type 0) → F → Token → Token → F → Type 0
+KeepsToken called f (text bs s) new g = (new ≡ text bs s) × (g ≡ f)
+KeepsToken called f (solid (markup bs)) new g = (new ≡ solid (markup bs)) × (g ≡ f)
+KeepsToken called f (solid (link bs s url)) new g = (keep : Bool) × called f url keep g × (new ≡ (if keep then solid (link bs s url) else text bs s))
+KeepsToken called f (solid (transparent n s)) new g = (new ≡ solid (transparent n s)) × (g ≡ f)
+KeepsToken called f (solid (elem_start d m)) new g = (new ≡ solid (elem_start d m)) × (g ≡ f)
+KeepsToken called f (solid (elem_end d)) new g = (new ≡ solid (elem_end d)) × (g ≡ f)
 
--- some call of a closure returned true for the address
-abbrev pub WasAccepted : {F : Type 0} → (F → Bor (List ℕ) → Bool → F → Type 0) → List ℕ → Type 0
-WasAccepted {F} step address = (f : F) × (after : F) × (url : Bor (List ℕ)) × (url.now ≡ address) × step f url true after
+abbrev pub KeepsInTurn : {F : Type 0} → (F → List ℕ → Bool → F → Type 0) → F → List Token → List Token → F → Type 0
+KeepsInTurn called f [] new g = (new ≡ []) × (g ≡ f)
+KeepsInTurn {F} called f (t ∷ ts) new g = (u : Token) × (h : F) × KeepsToken called f t u h × (us : List Token) × KeepsInTurn called h ts us g × (new ≡ u ∷ us)

@@ -1,8 +1,10 @@
 //! Replaces links by their text if their address is not allowed.
 
 ghost use Rattle.std.specs.Prelude.{◌≡◌, Bool, List, ℕ, true};
-ghost use Rattle.std.specs.List.{list_all, All};
-ghost use Rattle.csl_tree.specs.Links.{AllowsBy, WasAccepted, addresses, kept_links, child_without_link};
+ghost use Rattle.std.specs.Fn.{CalledAt, ComputesKey};
+ghost use Rattle.std.specs.List.{list_all};
+ghost use Rattle.std.specs.List.Retain.{IsFiltered};
+ghost use Rattle.csl_tree.specs.Links.{KeepsInTurn, addresses, kept_links, child_without_link};
 ghost use Rattle.csl_tree.specs.Tokens.{child_tokens, leaf_text, tokens};
 ghost use Rattle.csl_tree.specs.Writing.{plain_text};
 
@@ -39,11 +41,8 @@ impl ElemChild {
     fn keep_links_by<F: FnMut(&str) -> bool>(&mut self, is_allowed: &mut F)
         requires { F.IsAlwaysCallable is_allowed.old }
         ensures callable { F.IsAlwaysCallable is_allowed.new }
-        ensures kept { (allowed : List ℕ → Bool) → AllowsBy F.step allowed
-            → child_tokens self.new ≡ kept_links allowed (child_tokens self.old) }
-        ensures accepted { All (WasAccepted F.step) (addresses (child_tokens self.new)) }
-        ensures leaves { leaf_text (child_tokens self.new) ≡ leaf_text (child_tokens self.old) }
-        ensures plain { plain_text (child_tokens self.new) ≡ plain_text (child_tokens self.old) }
+        ensures kept { KeepsInTurn (CalledAt F.FnMut) is_allowed.old (child_tokens self.old)
+            (child_tokens self.new) is_allowed.new }
     {
         if self.as_elem().is_some() {
             self.children_mut().keep_links_by(is_allowed);
@@ -60,30 +59,28 @@ impl ElemChildren {
     fn keep_links_by<F: FnMut(&str) -> bool>(&mut self, is_allowed: &mut F)
         requires { F.IsAlwaysCallable is_allowed.old }
         ensures callable { F.IsAlwaysCallable is_allowed.new }
-        ensures kept { (allowed : List ℕ → Bool) → AllowsBy F.step allowed
-            → tokens self.new ≡ kept_links allowed (tokens self.old) }
-        ensures accepted { All (WasAccepted F.step) (addresses (tokens self.new)) }
-        ensures leaves { leaf_text (tokens self.new) ≡ leaf_text (tokens self.old) }
-        ensures plain { plain_text (tokens self.new) ≡ plain_text (tokens self.old) }
+        ensures kept { KeepsInTurn (CalledAt F.FnMut) is_allowed.old (tokens self.old)
+            (tokens self.new) is_allowed.new }
     {
         for child in self.0.iter_mut() {
             child.keep_links_by(is_allowed);
         }
     }
 
-    /// Replaces each link, at any depth, by its text if its address is not allowed. Allocates
-    /// nothing.
+    /// Replaces each link, at any depth, by its text if its address is not allowed. `is_allowed` is
+    /// called once for each link, in their order. Allocates nothing.
     pub fn keep_links<F: FnMut(&str) -> bool>(&mut self, mut is_allowed: F)
         requires { F.IsAlwaysCallable is_allowed }
-        // If the result of `is_allowed` depends on the address alone, exactly the links whose
-        // address it rejects become texts.
-        ensures kept { (allowed : List ℕ → Bool) → AllowsBy F.step allowed
+        // `is_allowed` is called at each address in turn, the first time as it is handed over, with
+        // the values that it captures. The addresses that are left are those that it accepts.
+        ensures filtered { IsFiltered (CalledAt F.FnMut) is_allowed
+            (addresses (tokens self.old)) (addresses (tokens self.new)) }
+        // If its result depends on the address alone, exactly the links that it rejects become their
+        // texts.
+        ensures kept { (allowed : List ℕ → Bool) → ComputesKey F.FnMut allowed is_allowed
             → tokens self.new ≡ kept_links allowed (tokens self.old) }
-        ensures allowed { (allowed : List ℕ → Bool) → AllowsBy F.step allowed
+        ensures allowed { (allowed : List ℕ → Bool) → ComputesKey F.FnMut allowed is_allowed
             → list_all allowed (addresses (tokens self.new)) ≡ true }
-        // Whatever its result depends on, `is_allowed` accepted the address of each link that is
-        // left.
-        ensures accepted { All (WasAccepted F.step) (addresses (tokens self.new)) }
         ensures leaves { leaf_text (tokens self.new) ≡ leaf_text (tokens self.old) }
         ensures plain { plain_text (tokens self.new) ≡ plain_text (tokens self.old) }
     {

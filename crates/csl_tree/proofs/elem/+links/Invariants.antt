@@ -1,4 +1,4 @@
-use denote.Param.Members.{Called}
+use Rattle.std.specs.Fn.{CalledAt}
 use Rattle.csl_tree.proofs.KeptLinks.{Visited}
 use Rattle.csl_tree.proofs.elem.+links.Given as goal
 
@@ -11,5 +11,5 @@ decreases-ElemChildren::keep_links_by g l = goal.size-ElemChildren::keep_links_b
 abbrev pub invariant-ElemChildren::keep_links_by-loop-child : goal.invariant-ElemChildren::keep_links_by-loop-child
 invariant-ElemChildren::keep_links_by-loop-child g l =
     goal.F-IsAlwaysCallable g l.is_allowed
-    × Visited (λ f x r after. Called g.F.FnMut f (x, tt) r after) l.initial.child-items l.child-items l.child-index
+    × Visited (CalledAt g.F.FnMut) l.initial.is_allowed l.initial.child-items l.child-items l.child-index l.is_allowed
     × goal.unvisited-ElemChildren::keep_links_by-loop-child g l
