@@ -10,7 +10,7 @@ use Rattle.csl_elements.specs.declared.element.LayoutRenderingElement.TheFolds.{
 use Rattle.csl_elements.specs.View.{view_nodes, view_choose, view_branch, branches_of, view_names, view_child, substitutes, NamesChildView, a_substitute, BranchView, element_step, child_step, choose_step, branch_step, group_step, names_step, substitute_step}
 use Rattle.csl_style.specs.Expanded.{child_size}
 use Rattle.csl_elements.proofs.Rolled.{choose_view}
-use Rattle.csl_style.specs.YearSuffix.{has_year_suffix, any_has_year_suffix, branches_have_year_suffix, substitutes_have_year_suffix, child_has_year_suffix}
+use Rattle.csl_style.specs.YearSuffix.{has_year_suffix, any_has_year_suffix, branches_have_year_suffix, substitutes_have_year_suffix}
 
 -- the substitutes of a names node as written: whether a text of the year suffix is in one, and
 -- their size
@@ -53,23 +53,16 @@ module _ (env : List ℕ → Option ExpandedNodes) where
   sizes_within original no_nodes = refl
   sizes_within original (node n ns) = ap₂ (λ a b. suc (a + b)) (size_within original n) (sizes_within original ns)
 
-  insteads_same : (original : NamesNode) (ss : Substitutes) → substitutes_have_year_suffix (expand_substitutes env original ss) ≡ substitute_has_year_suffix env ss
+  pub insteads_same : (original : NamesNode) (ss : Substitutes) → substitutes_have_year_suffix (expand_substitutes env original ss) ≡ substitute_has_year_suffix env ss
   insteads_same original no_substitutes = refl
   insteads_same original (substitute ns ss) = ap₂ (λ a b. a || b) (all_within original ns) (insteads_same original ss)
 
-  insteads_sized : (original : NamesNode) (ss : Substitutes) → expanded_substitutes_size (expand_substitutes env original ss) ≡ substitutes_size env ss
+  pub insteads_sized : (original : NamesNode) (ss : Substitutes) → expanded_substitutes_size (expand_substitutes env original ss) ≡ substitutes_size env ss
   insteads_sized original no_substitutes = refl
   insteads_sized original (substitute ns ss) = ap₂ (λ a b. suc (a + b)) (sizes_within original ns) (insteads_sized original ss)
 
-  pub names_out : (x : NamesElement) → has_year_suffix (expand env (view_names x)) ≡ substitute_has_year_suffix env (substitutes (map view_child (out-Names x).children.items))
-  names_out x = rw (fold_out-Names Node NamesChildView Node BranchView Node Node Nodes element_step child_step choose_step branch_step group_step names_step substitute_step x) (insteads_same _ (substitutes (map view_child (out-Names x).children.items)))
-
   pub names_sized : (x : NamesElement) → size (expand env (view_names x)) ≡ suc (substitutes_size env (substitutes (map view_child (out-Names x).children.items)))
   names_sized x = rw (fold_out-Names Node NamesChildView Node BranchView Node Node Nodes element_step child_step choose_step branch_step group_step names_step substitute_step x) (ap suc (insteads_sized _ (substitutes (map view_child (out-Names x).children.items))))
-
-  pub children_have : (c : NamesChildView) (cs : List NamesChildView) → substitute_has_year_suffix env (substitutes (c ∷ cs)) ≡ (child_has_year_suffix env c || substitute_has_year_suffix env (substitutes cs))
-  children_have (a_substitute ns) cs = refl
-  children_have other cs = refl
 
   pub children_sized : (c : NamesChildView) (cs : List NamesChildView) → substitutes_size env (substitutes (c ∷ cs)) ≡ child_size env c + substitutes_size env (substitutes cs)
   children_sized (a_substitute ns) cs = omega arith
@@ -88,8 +81,5 @@ pub choose_out : (x : Choose) → view_choose x ≡ choose (branch (view_branch 
 choose_out x = choose_view x
 
 module _ (env : List ℕ → Option ExpandedNodes) where
-  pub choose_has : (x : Choose) → has_year_suffix (expand env (view_choose x)) ≡ (any_has_year_suffix (expand_nodes env (view_nodes (out-ChooseBranch (out-Choose x).if_).children.items)) || branches_have_year_suffix (expand_branches env (behind x)))
-  choose_has x = ap (λ n. has_year_suffix (expand env n)) (choose_out x) ∙ ap (λ ns. any_has_year_suffix (expand_nodes env ns) || branches_have_year_suffix (expand_branches env (behind x))) (nodes_out (out-Choose x).if_)
-
   pub choose_sized : (x : Choose) → size (expand env (view_choose x)) ≡ suc (suc (sizes (expand_nodes env (view_nodes (out-ChooseBranch (out-Choose x).if_).children.items)) + expanded_branches_size (expand_branches env (behind x))))
   choose_sized x = ap (λ n. size (expand env n)) (choose_out x) ∙ ap (λ ns. suc (suc (sizes (expand_nodes env ns) + expanded_branches_size (expand_branches env (behind x))))) (nodes_out (out-Choose x).if_)

@@ -2,7 +2,7 @@
 -- places of the macros in the list. Each call of a macro that the style has is one edge. The code
 -- searches this graph for cycles. Only private contracts cite `calls_in`, `calls_in_all`,
 -- `calls_in_branches`, `calls_in_substitutes`, `name_at`, `children_at` and `IsCallGraph`.
-use Rattle.std.specs.Prelude.{◌≡◌, ℕ, zero, suc, ◌<◌, List, [], ◌∷◌, ◌++◌, length, Option}
+use Rattle.std.specs.Prelude.{◌≡◌, ℕ, zero, suc, ◌<◌, List, [], ◌∷◌, ◌++◌, length, Option, Some, None}
 use Rattle.std.specs.Option.{option_to_list}
 use Rattle.std.specs.HashMap as hash
 use Rattle.std.specs.BTreeMap as tree
@@ -29,6 +29,11 @@ calls_in_branches ds bs = over_branches [] (call_of ds) (λ a b. a ++ b) bs
 
 abbrev pub calls_in_substitutes : List Definition → Substitutes → List ℕ
 calls_in_substitutes ds ss = over_substitutes [] (call_of ds) (λ a b. a ++ b) ss
+
+-- the place that a node calls itself, without the nodes inside it
+abbrev pub own_calls : List Definition → Option (List ℕ) → List ℕ
+own_calls ds None = []
+own_calls ds (Some name) = call_of ds name
 
 abbrev pub name_at : List Definition → ℕ → List ℕ
 name_at [] i = []

@@ -1,6 +1,6 @@
 -- Which places of a graph lead to which places, by one edge or more. The places are those of the
 -- macros of a style, and the edges are their calls (CSL 1.0.2, Macro).
-use Rattle.std.specs.Prelude.{◌≡◌, ℕ, zero, suc, ◌<◌, List, [], ◌∷◌, length, slice_index, slice_index_or, Vec, Bool, true, false, All, Contains}
+use Rattle.std.specs.Prelude.{◌≡◌, ℕ, zero, suc, ◌<◌, List, [], ◌∷◌, length, ◌≤◌, slice_index, slice_index_or, Vec, Bool, true, false, All, Contains}
 use Rattle.std.specs.declared.alloc.Global.{Global}
 
 -- for each place, the places that its edges lead to
@@ -49,3 +49,14 @@ pub record ArePlaceRanks (g : Graph) (ranks : List ℕ) : Type 0 where
 -- a graph with ranks, in which no place leads back to itself
 abbrev pub HasRanks : Graph → Type 0
 HasRanks g = (ranks : List ℕ) × ArePlaceRanks g ranks
+
+-- a level for each place, below the number of places, that rises along no edge
+pub record ArePlaceLevels (g : Graph) (levels : List ℕ) : Type 0 where
+  pub each : length levels ≡ length g
+  pub small : (a : ℕ) → a < length g → slice_index levels a < length g
+  pub stay : (a b : ℕ) → HasEdge g a b → slice_index levels b ≤ slice_index levels a
+
+-- the number of a place is small, and falls along each of its edges
+pub record Falls (g : Graph) (ranks : List ℕ) (a : ℕ) : Type 0 where
+  pub small : slice_index ranks a < length g
+  pub fall : (b : ℕ) → HasEdge g a b → slice_index ranks b < slice_index ranks a

@@ -11,6 +11,7 @@ pub mod Cyclic
 pub mod TermPlaces
 pub mod Style
 pub mod YearSuffix
+pub mod AllNodes
 pub mod Expanded
 pub mod Depth
 pub mod Size

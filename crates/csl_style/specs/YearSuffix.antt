@@ -9,7 +9,7 @@ use Rattle.csl_elements.specs.declared.taxonomy.Variable.TheVariants as variable
 use Rattle.csl_elements.specs.declared.taxonomy.StandardVariable.TheVariants.{YearSuffix}
 use Rattle.csl_style.specs.declared.style.settings.Scope.{Scope}
 use Rattle.csl_style.specs.Style.{StyleParts, layout_of}
-use Rattle.csl_elements.specs.View.{Definition, view_layout, NamesChildView, a_name, an_et_al, a_label, a_substitute}
+use Rattle.csl_elements.specs.View.{Definition, view_layout}
 use Rattle.csl_elements.specs.Node.{Target, of_variable, of_term, of_value, ExpandedNode, expanded_text, expanded_macro, unknown_macro, expanded_number, expanded_label, expanded_date, expanded_names, shorthand, expanded_choose, expanded_group, ExpandedNodes, no_expanded_nodes, expanded_node, ExpandedBranches, no_expanded_branches, expanded_otherwise, expanded_branch, ExpandedSubstitutes, no_expanded_substitutes, expanded_substitute, ExpandedLayout, expand_nodes, expand_layout}
 use Rattle.csl_style.specs.Expanded.{macro_env}
 use Rattle.csl_style.specs.Expansion.{macro_expansion}
@@ -55,14 +55,6 @@ abbrev mutual
   pub substitutes_have_year_suffix : ExpandedSubstitutes → Bool
   substitutes_have_year_suffix no_expanded_substitutes = false
   substitutes_have_year_suffix (expanded_substitute fs is) = any_has_year_suffix fs || substitutes_have_year_suffix is
-
--- whether a text of the year suffix is in a child of names as written; only a substitute may have
--- one
-abbrev pub child_has_year_suffix : (List ℕ → Option ExpandedNodes) → NamesChildView → Bool
-child_has_year_suffix env (a_name n) = false
-child_has_year_suffix env (an_et_al e) = false
-child_has_year_suffix env (a_label l) = false
-child_has_year_suffix env (a_substitute ns) = any_has_year_suffix (expand_nodes env ns)
 
 -- whether a text of the year suffix is in the nodes that a name stands for; only private contracts
 -- cite it

@@ -1,14 +1,15 @@
 //! The call graph of a style's macros. The place of a macro is its index in the style's list.
 
-ghost use Rattle.std.specs.Prelude.{◌≡◌, ◌<◌, [], ◌∷◌, ◌++◌, length, IfOk, OnOk};
+ghost use Rattle.std.specs.Prelude.{◌≡◌, ◌++◌, length, IfOk, OnOk};
 ghost use Rattle.std.specs.Option.{option_to_list};
 ghost use Rattle.csl_style.specs.GraphReach.{InRange};
-ghost use Rattle.csl_elements.specs.View.{definitions, view_node, view_choose, view_child, view_nodes, substitutes};
+ghost use Rattle.csl_elements.specs.View.{definitions, view_nodes};
 ghost use Rattle.csl_style.specs.Expansion.{macro_index};
-ghost use Rattle.csl_style.specs.Calls.{calls_in, calls_in_all, calls_in_substitutes, IsCallGraph, ArePlacesByName};
+ghost use Rattle.csl_style.specs.Calls.{calls_in_all, IsCallGraph, ArePlacesByName};
 
+use crate::all_nodes::{NodesLeft, called_name};
 use crate::places::Places;
-use csl_elements::{Choose, CslMacro, LayoutRenderingElement, NamesChild, TextTarget};
+use csl_elements::{CslMacro, LayoutRenderingElement};
 use std::alloc::{AllocError, Global};
 use std::marker::Model;
 
@@ -75,90 +76,24 @@ fn add_place(
     Ok(())
 }
 
-/// Adds the places that an element calls.
-#[cycle(calls)]
-fn add_calls(
-    element: &LayoutRenderingElement,
-    macros: &PlacedMacros<'_>,
-    places: &mut Vec<usize>,
-) -> Result<(), AllocError>
-    ensures { OnOk result (places.new.items ≡ places.old.items
-        ++ calls_in (definitions macros.now) (view_node element.now)) }
-{
-    match element {
-        LayoutRenderingElement::Text(text) => match &text.target {
-            TextTarget::Macro { name } => add_place(name.as_str(), macros, places),
-            TextTarget::Variable { .. } | TextTarget::Term { .. } | TextTarget::Value { .. } => {
-                Ok(())
-            }
-        },
-        LayoutRenderingElement::Number(_)
-        | LayoutRenderingElement::Label(_)
-        | LayoutRenderingElement::Date(_) => Ok(()),
-        LayoutRenderingElement::Names(names) => {
-            for child in &names.children {
-                add_child_calls(child, macros, places)?;
-            }
-            Ok(())
-        }
-        LayoutRenderingElement::Choose(choose) => add_choose_calls(choose, macros, places),
-        LayoutRenderingElement::Group(group) => add_all_calls(&group.children, macros, places),
-    }
-}
-
-/// Adds the places that a list of elements calls.
-#[cycle(calls)]
+/// Adds the places that a list of elements calls, at any depth.
+#[tactic(auto, using(crate::proofs::AllNodesLaws::all_calls))]
 fn add_all_calls(
-    elements: &Vec<LayoutRenderingElement>,
+    alloc: Global,
+    elements: &[LayoutRenderingElement],
     macros: &PlacedMacros<'_>,
     places: &mut Vec<usize>,
 ) -> Result<(), AllocError>
     ensures { OnOk result (places.new.items ≡ places.old.items
-        ++ calls_in_all (definitions macros.now) (view_nodes elements.now.items)) }
+        ++ calls_in_all (definitions macros.now) (view_nodes elements.now)) }
 {
-    for element in elements {
-        add_calls(element, macros, places)?;
+    let mut left = NodesLeft::new(alloc, elements)?;
+    while let Some(node) = left.next()? {
+        if let Some(name) = called_name(node) {
+            add_place(name, macros, places)?;
+        }
     }
     Ok(())
-}
-
-/// Adds the places that the branches of a choose call, then those that its `otherwise` nodes call.
-#[cycle(calls)]
-fn add_choose_calls(
-    choose: &Choose,
-    macros: &PlacedMacros<'_>,
-    places: &mut Vec<usize>,
-) -> Result<(), AllocError>
-    ensures { OnOk result (places.new.items ≡ places.old.items
-        ++ calls_in (definitions macros.now) (view_choose choose.now)) }
-{
-    add_all_calls(&choose.if_.children, macros, places)?;
-    for branch in &choose.else_if {
-        add_all_calls(&branch.children, macros, places)?;
-    }
-    match &choose.otherwise {
-        Some(otherwise) => add_all_calls(otherwise, macros, places),
-        None => Ok(()),
-    }
-}
-
-/// Adds the places that a child of names calls. Only a substitute calls any.
-#[cycle(calls)]
-fn add_child_calls(
-    child: &NamesChild,
-    macros: &PlacedMacros<'_>,
-    places: &mut Vec<usize>,
-) -> Result<(), AllocError>
-    ensures { OnOk result (places.new.items ≡ places.old.items
-        ++ calls_in_substitutes (definitions macros.now)
-        (substitutes (view_child child.now ∷ []))) }
-{
-    match child {
-        NamesChild::Name(_) | NamesChild::EtAl(_) | NamesChild::Label(_) => Ok(()),
-        NamesChild::Substitute(substitute) => {
-            add_all_calls(&substitute.children, macros, places)
-        }
-    }
 }
 
 /// The calls of each macro: row i lists the places that the macro at place i calls.
@@ -172,7 +107,7 @@ pub(crate) fn call_graph(
     let mut graph = Vec::new(alloc);
     for m in macros.items() {
         let mut row = Vec::new(alloc);
-        add_all_calls(&m.children, macros, &mut row)?;
+        add_all_calls(alloc, &m.children, macros, &mut row)?;
         graph.push(row)?;
     }
     Ok(graph)

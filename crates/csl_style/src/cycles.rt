@@ -1,8 +1,8 @@
 //! The search for places of a graph that lead back to themselves. It finds macros that call
 //! themselves.
 
-ghost use Rattle.std.specs.Prelude.{◌≡◌, ◌<◌, length, IfOk, IfSome, IsTrue, None};
-ghost use Rattle.csl_style.specs.GraphReach.{InRange, IsReach, IsFirstCyclicPlace, ArePlaceRanks, HasRanks};
+ghost use Rattle.std.specs.Prelude.{◌≡◌, ◌<◌, ℕ, length, IfOk, IfSome, IsTrue, None};
+ghost use Rattle.csl_style.specs.GraphReach.{InRange, IsReach, IsFirstCyclicPlace, ArePlaceRanks, ArePlaceLevels, Falls, HasRanks};
 
 use std::alloc::{AllocError, Global};
 
@@ -28,85 +28,21 @@ fn reach(alloc: Global, graph: &[Vec<usize>], from: usize) -> Result<Vec<bool>, 
     Ok(seen)
 }
 
-/// How many edges lead to each place.
-fn counts_of_edges_to(alloc: Global, graph: &[Vec<usize>]) -> Result<Vec<usize>, AllocError> {
-    let mut counts = vec![in alloc; 0usize; graph.len()]?;
-    for row in graph {
-        for to in row {
-            if let Some(count) = counts.get_mut(*to) {
-                *count = count.saturating_add(1);
-            }
-        }
-    }
-    Ok(counts)
-}
-
-/// Takes away the edges of a row. A place that no edge leads to any more is next in the order.
-fn take_row(
-    row: &[usize],
-    counts: &mut Vec<usize>,
-    order: &mut Vec<usize>,
-) -> Result<(), AllocError> {
-    for to in row {
-        if let Some(count) = counts.get_mut(*to) {
-            *count = count.saturating_sub(1);
-            if *count == 0 {
-                order.push(*to)?;
-            }
-        }
-    }
-    Ok(())
-}
-
-/// An order of the places in which each comes before those that its edges lead to. It lacks the
-/// places that lead back to themselves, and those that they lead to. It takes time in proportion to
-/// the places and edges.
-pub(crate) fn callers_first(alloc: Global, graph: &[Vec<usize>]) -> Result<Vec<usize>, AllocError> {
-    let mut counts = counts_of_edges_to(alloc, graph)?;
-    let mut order = Vec::new(alloc);
-    for (place, count) in counts.iter().enumerate() {
-        if *count == 0 {
-            order.push(place)?;
-        }
-    }
-    for next in 0..graph.len() {
-        if let Some(place) = order.get(next) {
-            if let Some(row) = graph.get(*place) {
-                take_row(row, &mut counts, &mut order)?;
-            }
-        }
-    }
-    Ok(order)
-}
-
-/// A number for each place of an order, which falls from place to place.
-fn numbers_of(alloc: Global, order: &[usize]) -> Result<Vec<usize>, AllocError> {
-    let mut numbers = vec![in alloc; 0usize; order.len()]?;
-    let mut left = order.len();
-    for place in order {
-        left = left.saturating_sub(1);
-        if let Some(number) = numbers.get_mut(*place) {
-            *number = left;
-        }
-    }
-    Ok(numbers)
-}
-
-/// Whether each edge leads to a place of a lower number.
-fn are_ranks(graph: &[Vec<usize>], numbers: &[usize]) -> bool
+/// Whether no edge leads to a place of a higher level, and each level is below the number of places.
+fn are_levels(graph: &[Vec<usize>], levels: &[usize]) -> bool
     requires { InRange graph.now (length graph.now) }
-    ensures { IsTrue result → ArePlaceRanks graph.now numbers.now }
+    ensures { IsTrue result → ArePlaceLevels graph.now levels.now }
 {
-    if numbers.len() != graph.len() {
+    if levels.len() != graph.len() {
         return false;
     }
     for at in 0..graph.len() {
-        let number = numbers[at];
-        if number >= graph.len() {
+        let level = levels[at];
+        if level >= graph.len() {
             return false;
         }
         for to in &graph[at] {
-            if numbers[*to] >= number {
+            if levels[*to] > level {
                 return false;
             }
         }
@@ -114,21 +50,31 @@ fn are_ranks(graph: &[Vec<usize>], numbers: &[usize]) -> bool
     true
 }
 
-/// The first place that leads back to itself, if there is one. If the numbers of an order fall along
-/// each edge, there is none. Otherwise a search from each place in turn finds the first. Row i of
-/// the graph lists the places that the edges from place i lead to.
-pub(crate) fn first_cyclic(
-    alloc: Global,
-    graph: &[Vec<usize>],
-    order: &[usize],
-) -> Result<Option<usize>, AllocError>
+/// The first place with an edge to a place of its own level, if there is one.
+fn first_in_level(graph: &[Vec<usize>], levels: &[usize]) -> Option<usize>
+    requires graph { InRange graph.now (length graph.now) }
+    requires levels { ArePlaceLevels graph.now levels.now }
+    ensures within { IfSome result (λ i. i < length graph.now) }
+    ensures earlier { IfSome result (λ i. (k : ℕ) → k < i → Falls graph.now levels.now k) }
+    ensures ranks { result ≡ None → ArePlaceRanks graph.now levels.now }
+{
+    for at in 0..graph.len() {
+        let level = levels[at];
+        for to in &graph[at] {
+            if levels[*to] >= level {
+                return Some(at);
+            }
+        }
+    }
+    None
+}
+
+/// The first place that leads back to itself, if there is one. It searches from each place in turn.
+fn first_by_searches(alloc: Global, graph: &[Vec<usize>]) -> Result<Option<usize>, AllocError>
     requires { InRange graph.now (length graph.now) }
     ensures cyclic { IfOk result (λ found. IfSome found (IsFirstCyclicPlace graph.now)) }
     ensures ranks { IfOk result (λ found. found ≡ None → HasRanks graph.now) }
 {
-    if are_ranks(graph, &numbers_of(alloc, order)?) {
-        return Ok(None);
-    }
     for i in 0..graph.len() {
         let seen = reach(alloc, graph, i)?;
         if seen[i] {
@@ -136,4 +82,29 @@ pub(crate) fn first_cyclic(
         }
     }
     Ok(None)
+}
+
+/// The first place that leads back to itself, if there is one. Row i of the graph lists the places
+/// that the edges from place i lead to. The levels are those of the graph's components: the first place
+/// with an edge inside its component is the first on a cycle, and one search confirms it. Other levels
+/// change no result, but cost a search from each place.
+pub(crate) fn first_cyclic(
+    alloc: Global,
+    graph: &[Vec<usize>],
+    levels: &[usize],
+) -> Result<Option<usize>, AllocError>
+    requires { InRange graph.now (length graph.now) }
+    ensures cyclic { IfOk result (λ found. IfSome found (IsFirstCyclicPlace graph.now)) }
+    ensures ranks { IfOk result (λ found. found ≡ None → HasRanks graph.now) }
+{
+    if are_levels(graph, levels) {
+        let Some(first) = first_in_level(graph, levels) else {
+            return Ok(None);
+        };
+        let seen = reach(alloc, graph, first)?;
+        if seen[first] {
+            return Ok(Some(first));
+        }
+    }
+    first_by_searches(alloc, graph)
 }

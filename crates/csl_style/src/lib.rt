@@ -2,7 +2,9 @@
 //! of is in `csl_elements`, and this crate hands it on.
 #![tactic(auto)]
 
+mod all_nodes;
 mod call_graph;
+mod components;
 mod cycles;
 mod depth;
 mod missing;

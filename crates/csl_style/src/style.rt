@@ -15,7 +15,8 @@ ghost use Rattle.csl_style.specs.Style.{style_of, layout_of, is_chicago, IsRefus
 ghost use Rattle.csl_style.specs.YearSuffix.{is_year_suffix_implicit, reached_layout};
 
 use crate::call_graph::{PlacedMacros, call_graph};
-use crate::cycles::{callers_first, first_cyclic};
+use crate::components::{Components, components_of};
+use crate::cycles::first_cyclic;
 use crate::places::{Places, places_by_name};
 use crate::term_places::TermPlaces;
 use crate::year_suffix::{ImplicitSuffix, implicit_suffix};
@@ -96,8 +97,8 @@ fn is_chicago(format: Option<PageRangeFormat>) -> bool
 struct CheckedMacros {
     /// The index of the first macro of each name.
     places: Places,
-    /// The indices of the macros, callers before the macros that they call.
-    callers_first: Vec<usize>,
+    /// The indices of the macros, each after the macros that it calls.
+    callees_first: Vec<usize>,
 }
 
 /// Checks the macros and the page format of a style.
@@ -113,16 +114,20 @@ fn checked_macros(
 {
     let places = places_by_name(alloc, macros)?;
     let graph = call_graph(alloc, &PlacedMacros::new(macros, &places))?;
-    let callers_first = callers_first(alloc, &graph)?;
-    if let Some(i) = first_cyclic(alloc, &graph, &callers_first)? {
+    let components = components_of(alloc, &graph)?;
+    if let Some(i) = first_cyclic(alloc, &graph, &components.levels)? {
         return Err(StyleError::CyclicMacro(macros[i].name.clone()?));
     }
     if is_chicago(format) {
         return Err(StyleError::ChicagoPageFormat);
     }
+    let Components {
+        levels: _,
+        callees_first,
+    } = components;
     Ok(CheckedMacros {
         places,
-        callers_first,
+        callees_first,
     })
 }
 
@@ -139,8 +144,8 @@ fn first_macro<'s>(macros: &'s [CslMacro], places: &Places, name: &str) -> Optio
 
 impl Style {
     /// Returns a style of these parts. If several macros have one name, calls use the first. On an
-    /// error, the parts are dropped. The number of steps is in proportion to the nodes of the style,
-    /// unless a macro leads back to itself.
+    /// error, the parts are dropped. The number of steps is in proportion to the nodes of the style, and
+    /// their depth takes no stack.
     ///
     /// # Errors
     /// [`StyleError::Memory`]: out of memory. It may come instead of either of the others.
@@ -167,13 +172,13 @@ impl Style {
         let checked = checked_macros(alloc, settings.page_range_format, &macros)?;
         let CheckedMacros {
             places,
-            callers_first,
+            callees_first,
         } = checked;
         let implicit = implicit_suffix(
             alloc,
             &macros,
             &places,
-            &callers_first,
+            &callees_first,
             &citation,
             &bibliography,
         )?;

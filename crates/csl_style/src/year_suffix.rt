@@ -1,17 +1,18 @@
 //! Whether a layout reaches a text of the year suffix (CSL 1.0.2, Disambiguation). If it does, that
 //! text renders the suffix. Otherwise the suffix comes after the first year.
 
-ghost use Rattle.std.specs.Prelude.{◌≡◌, ◌<◌, false, length, IfSome, IfOk, IsTrue, None, Some, option_copied};
-ghost use Rattle.csl_elements.specs.Node.{expand, expand_nodes};
-ghost use Rattle.csl_elements.specs.View.{definitions, view_node, view_nodes, view_names, view_child, view_choose};
+ghost use Rattle.std.specs.Prelude.{◌≡◌, ◌<◌, false, length, IfSome, IfOk, OnOk, IsTrue, None, Some, option_copied};
+ghost use Rattle.csl_elements.specs.Node.{expand_nodes};
+ghost use Rattle.csl_elements.specs.View.{definitions, view_node, view_nodes};
 ghost use Rattle.csl_style.specs.Expansion.{macro_expansion, IsAcyclic};
 ghost use Rattle.csl_style.specs.Calls.{children_at, ArePlacesByName};
-ghost use Rattle.csl_style.specs.YearSuffix.{is_year_suffix, has_year_suffix, any_has_year_suffix, child_has_year_suffix, macro_has_year_suffix, is_implicit_in};
+ghost use Rattle.csl_style.specs.YearSuffix.{is_year_suffix, any_has_year_suffix, macro_has_year_suffix, is_implicit_in};
+ghost use Rattle.csl_style.specs.AllNodes.{is_suffix_text};
 
+use crate::all_nodes::{NodesLeft, called_name};
 use crate::places::Places;
 use csl_elements::{
-    Choose, CslMacro, Layout, LayoutRenderingElement, Names, NamesChild, StandardVariable,
-    TextTarget, Variable,
+    CslMacro, Layout, LayoutRenderingElement, StandardVariable, TextTarget, Variable,
 };
 use std::alloc::{AllocError, Global};
 use std::marker::Model;
@@ -128,133 +129,89 @@ impl<'s> Search<'s> {
     }
 }
 
-/// Whether a text of the year suffix is in an element or in a macro that it reaches.
-#[cycle(reach)]
-fn has_year_suffix<'s>(search: &mut Search<'s>, element: &'s LayoutRenderingElement) -> bool
-    ensures kept { search.new ≡ search.old }
-    ensures value { result ≡ has_year_suffix (expand (macro_expansion (definitions search.old))
-        (view_node element.now)) }
+/// Whether a node is a text of the year suffix. The nodes inside it do not count.
+fn is_suffix_text(node: &LayoutRenderingElement) -> bool
+    ensures { result ≡ is_suffix_text (view_node node.now) }
 {
-    match element {
+    match node {
         LayoutRenderingElement::Text(text) => match &text.target {
             TextTarget::Variable { var, .. } => is_year_suffix(*var),
-            TextTarget::Macro { name } => match search.place(name.as_str()) {
-                Some(i) => has_year_suffix_at(search, i),
-                None => false,
-            },
-            TextTarget::Term { .. } | TextTarget::Value { .. } => false,
+            TextTarget::Macro { .. } | TextTarget::Term { .. } | TextTarget::Value { .. } => false,
         },
         LayoutRenderingElement::Number(_)
         | LayoutRenderingElement::Label(_)
-        | LayoutRenderingElement::Date(_) => false,
-        LayoutRenderingElement::Names(names) => names_have_year_suffix(search, names),
-        LayoutRenderingElement::Choose(choose) => choose_has_year_suffix(search, choose),
-        LayoutRenderingElement::Group(group) => any_has_year_suffix(search, &group.children),
+        | LayoutRenderingElement::Date(_)
+        | LayoutRenderingElement::Names(_)
+        | LayoutRenderingElement::Choose(_)
+        | LayoutRenderingElement::Group(_) => false,
     }
 }
 
-/// Whether a text of the year suffix is in the macro at a place.
-#[cycle(reach)]
-fn has_year_suffix_at<'s>(search: &mut Search<'s>, i: usize) -> bool
-    requires { i < length search.old }
-    ensures kept { search.new ≡ search.old }
-    ensures value { result ≡ any_has_year_suffix (expand_nodes
-        (macro_expansion (definitions search.old)) (children_at (definitions search.old) i)) }
+/// Whether a text of the year suffix is in any of the elements, at any depth, or in a macro that they
+/// reach. The nodes of a macro that is not known yet are gone through in its place.
+#[tactic(auto, using(crate::proofs::AllNodesLaws::all_has, crate::proofs::AllNodesLaws::own_append, crate::proofs::AllNodesLaws::costs_append, crate::proofs::AllNodesLaws::all_cost, crate::proofs::AllNodesLaws::some_cost))]
+fn any_has_year_suffix<'s>(
+    alloc: Global,
+    search: &Search<'s>,
+    elements: &'s [LayoutRenderingElement],
+) -> Result<bool, AllocError>
+    ensures { IfOk result (λ has. has ≡ any_has_year_suffix
+        (expand_nodes (macro_expansion (definitions search.now)) (view_nodes elements.now))) }
 {
-    if let Some(has) = search.known(i) {
-        return has;
-    }
-    let nodes = search.nodes_at(i);
-    let has = any_has_year_suffix(search, nodes);
-    search.note(i, has);
-    has
-}
-
-/// Whether a text of the year suffix is in any of the elements.
-#[cycle(reach)]
-fn any_has_year_suffix<'s>(search: &mut Search<'s>, elements: &'s [LayoutRenderingElement]) -> bool
-    ensures kept { search.new ≡ search.old }
-    ensures value { result ≡ any_has_year_suffix
-        (expand_nodes (macro_expansion (definitions search.old)) (view_nodes elements.now)) }
-{
-    for element in elements {
-        if has_year_suffix(search, element) {
-            return true;
+    let mut left = NodesLeft::new(alloc, elements)?;
+    while let Some(node) = left.next()? {
+        if is_suffix_text(node) {
+            return Ok(true);
+        }
+        if let Some(name) = called_name(node) {
+            if let Some(i) = search.place(name) {
+                match search.known(i) {
+                    Some(has) => {
+                        if has {
+                            return Ok(true);
+                        }
+                    }
+                    None => left.push(search.nodes_at(i))?,
+                }
+            }
         }
     }
-    false
+    Ok(false)
 }
 
-/// Whether a text of the year suffix is in a substitute of the names.
-#[cycle(reach)]
-fn names_have_year_suffix<'s>(search: &mut Search<'s>, names: &'s Names) -> bool
-    ensures kept { search.new ≡ search.old }
-    ensures value { result ≡ has_year_suffix (expand (macro_expansion (definitions search.old))
-        (view_names names.now)) }
+/// Searches the macros in an order. If each comes after those that it calls, what a macro calls is
+/// known before it is searched, so that no macro is gone through twice.
+fn search_macros<'s>(
+    alloc: Global,
+    search: &mut Search<'s>,
+    callees_first: &[usize],
+) -> Result<(), AllocError>
+    ensures { OnOk result (search.new ≡ search.old) }
 {
-    for child in &names.children {
-        if child_has_year_suffix(search, child) {
-            return true;
-        }
-    }
-    false
-}
-
-/// Whether a text of the year suffix is in a child of names. Only a substitute may have one.
-#[cycle(reach)]
-fn child_has_year_suffix<'s>(search: &mut Search<'s>, child: &'s NamesChild) -> bool
-    ensures kept { search.new ≡ search.old }
-    ensures value { result ≡ child_has_year_suffix (macro_expansion (definitions search.old))
-        (view_child child.now) }
-{
-    match child {
-        NamesChild::Name(_) | NamesChild::EtAl(_) | NamesChild::Label(_) => false,
-        NamesChild::Substitute(substitute) => any_has_year_suffix(search, &substitute.children),
-    }
-}
-
-/// Whether a text of the year suffix is in a branch of the choice, chosen or not, or in its
-/// `otherwise` nodes.
-#[cycle(reach)]
-fn choose_has_year_suffix<'s>(search: &mut Search<'s>, choose: &'s Choose) -> bool
-    ensures kept { search.new ≡ search.old }
-    ensures value { result ≡ has_year_suffix (expand (macro_expansion (definitions search.old))
-        (view_choose choose.now)) }
-{
-    if any_has_year_suffix(search, &choose.if_.children) {
-        return true;
-    }
-    for branch in &choose.else_if {
-        if any_has_year_suffix(search, &branch.children) {
-            return true;
-        }
-    }
-    match &choose.otherwise {
-        Some(otherwise) => any_has_year_suffix(search, otherwise),
-        None => false,
-    }
-}
-
-/// Searches the macros in the reverse of an order. If callers come first in the order, what a macro
-/// calls is known before it is searched, so that long chains of macros need no stack.
-fn search_macros<'s>(search: &mut Search<'s>, callers_first: &[usize])
-    ensures { search.new ≡ search.old }
-{
-    for at in callers_first.iter().rev() {
+    for at in callees_first.iter() {
         if search.has_macro(*at) {
-            let _has = has_year_suffix_at(search, *at);
+            let has = any_has_year_suffix(alloc, search, search.nodes_at(*at))?;
+            search.note(*at, has);
         }
     }
+    Ok(())
 }
 
 /// Whether the suffix comes after the first year in a layout, or in a scope without one.
-fn is_implicit<'s>(search: &mut Search<'s>, layout: Option<&'s Layout>) -> bool
-    ensures kept { search.new ≡ search.old }
-    ensures value { result ≡ is_implicit_in (definitions search.old) (option_copied layout.entry) }
+fn is_implicit<'s>(
+    alloc: Global,
+    search: &Search<'s>,
+    layout: Option<&'s Layout>,
+) -> Result<bool, AllocError>
+    ensures { IfOk result (λ is. is
+        ≡ is_implicit_in (definitions search.now) (option_copied layout.entry)) }
 {
     match layout {
-        Some(layout) => !any_has_year_suffix(search, &layout.elements),
-        None => true,
+        Some(layout) => {
+            let has = any_has_year_suffix(alloc, search, &layout.elements)?;
+            Ok(!has)
+        }
+        None => Ok(true),
     }
 }
 
@@ -271,7 +228,7 @@ pub(crate) fn implicit_suffix<'s>(
     alloc: Global,
     macros: &'s [CslMacro],
     places: &'s Places,
-    callers_first: &[usize],
+    callees_first: &[usize],
     citation: &'s Layout,
     bibliography: &'s Option<Layout>,
 ) -> Result<ImplicitSuffix, AllocError>
@@ -283,9 +240,9 @@ pub(crate) fn implicit_suffix<'s>(
         ≡ is_implicit_in (definitions macros.now) bibliography.now) }
 {
     let mut search = Search::new(alloc, macros, places)?;
-    search_macros(&mut search, callers_first);
-    let in_citation = is_implicit(&mut search, Some(citation));
-    let in_bibliography = is_implicit(&mut search, bibliography.as_ref());
+    search_macros(alloc, &mut search, callees_first)?;
+    let in_citation = is_implicit(alloc, &search, Some(citation))?;
+    let in_bibliography = is_implicit(alloc, &search, bibliography.as_ref())?;
     Ok(ImplicitSuffix {
         in_citation,
         in_bibliography,

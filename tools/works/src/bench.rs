@@ -10,7 +10,7 @@ mod nested;
 mod render;
 mod rows;
 mod strangers;
-mod styles;
+pub mod styles;
 mod tree;
 
 use crate::error::WorkError;
@@ -36,6 +36,8 @@ pub fn count(alloc: Global, name: &str, size: usize) -> Result<usize, WorkError>
         "html_plain" => html::html_plain(alloc, size),
         "style_chain" => styles::macro_chain(alloc, size),
         "style_dense" => styles::dense(alloc, size),
+        "style_cycle" => styles::cycle(alloc, size),
+        "style_two_cycles" => styles::two_cycles(alloc, size),
         "answers" => entry::answers(alloc, size),
         "labels" => entry::labels(alloc, size),
         "render" => render::render(alloc, size),

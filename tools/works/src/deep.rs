@@ -1,11 +1,12 @@
 //! Works over deep values. Each returns a count.
 
+use crate::bench::styles::call;
 use crate::error::WorkError;
 use crate::nodes::{letter, names_or, style};
 use crate::refuse::text_of;
 use crate::trees::{elem, texts};
 use csl::literature::{EntryType, FormatString};
-use csl::style::{Choose, ChooseBranch, Display, Group, LayoutRenderingElement};
+use csl::style::{Choose, ChooseBranch, CslMacro, Display, Group, LayoutRenderingElement};
 use csl::tree::simplify_fully;
 use csl::{
     BufWriteFormat, CiteProperties, DisambiguateState, ElemChildren, Entry, InstanceContext,
@@ -51,8 +52,12 @@ fn around(
     nodes: Vec<LayoutRenderingElement>,
 ) -> Result<LayoutRenderingElement, WorkError> {
     match name {
-        "groups" | "groups-render" => Ok(Group::new(nodes).into()),
-        "choices" | "choices-render" => Ok(Choose::new(alloc, ChooseBranch::new(nodes)).into()),
+        "groups" | "groups-render" | "style-groups" | "style-macro" => {
+            Ok(Group::new(nodes).into())
+        }
+        "choices" | "choices-render" | "style-choices" => {
+            Ok(Choose::new(alloc, ChooseBranch::new(nodes)).into())
+        }
         _ => names_or(alloc, Vec::new(alloc), nodes),
     }
 }
@@ -72,16 +77,41 @@ fn rendered(alloc: Global, nodes: Vec<LayoutRenderingElement>) -> Result<usize, 
     Ok(text_of(alloc, &style, instance)?.len())
 }
 
-/// Makes `depth` nested nodes around the text `a`, renders them if the name says so, and drops them.
-fn of_nodes(alloc: Global, name: &str, depth: usize) -> Result<usize, WorkError> {
+/// `depth` nested nodes around the text `a`.
+fn nested(
+    alloc: Global,
+    name: &str,
+    depth: usize,
+) -> Result<Vec<LayoutRenderingElement>, WorkError> {
     let mut nodes = letter(alloc)?;
     for _ in 0..depth {
         nodes = vec![in alloc; around(alloc, name, nodes)?]?;
     }
+    Ok(nodes)
+}
+
+/// Makes nested nodes, renders them if the name says so, and drops them.
+fn of_nodes(alloc: Global, name: &str, depth: usize) -> Result<usize, WorkError> {
+    let nodes = nested(alloc, name, depth)?;
     if name.ends_with("-render") {
         return rendered(alloc, nodes);
     }
     Ok(nodes.len())
+}
+
+/// Makes a style whose layout is nested nodes, or calls a macro of them, asks whether the layout is
+/// within the limits for strangers, and drops the style. Returns 1 if it is, and 0 if not.
+fn of_style(alloc: Global, name: &str, depth: usize) -> Result<usize, WorkError> {
+    let nodes = nested(alloc, name, depth)?;
+    let mut macros = Vec::new(alloc);
+    let citation = if name == "style-macro" {
+        macros.push(CslMacro::new(alloc, "macro 0", nodes)?)?;
+        vec![in alloc; call(alloc, 0)?]?
+    } else {
+        nodes
+    };
+    let style = style(alloc, macros, citation)?;
+    Ok(usize::from(style.expanded_within(style.citation(), 20_000, 64)))
 }
 
 /// Does the work with this name at a depth, and returns its count.
@@ -93,6 +123,9 @@ pub fn count(alloc: Global, name: &str, depth: usize) -> Result<usize, WorkError
         "parents" => of_parents(alloc, depth),
         "groups" | "groups-render" | "choices" | "choices-render" | "names" | "names-render" => {
             of_nodes(alloc, name, depth)
+        }
+        "style-groups" | "style-choices" | "style-names" | "style-macro" => {
+            of_style(alloc, name, depth)
         }
         _ => Err(WorkError::Unexpected("no such work")),
     }

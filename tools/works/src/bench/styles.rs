@@ -2,7 +2,9 @@
 
 use crate::error::WorkError;
 use crate::nodes::style;
-use csl::style::{CslMacro, LayoutRenderingElement, Text, Variable};
+use csl::style::{
+    CslMacro, Layout, LayoutRenderingElement, Style, StyleError, StyleSettings, Text, Variable,
+};
 use std::alloc::Global;
 
 /// The name of the macro with this number.
@@ -97,4 +99,47 @@ pub fn macro_chain(alloc: Global, size: usize) -> Result<usize, WorkError> {
 /// Makes a style in which each macro calls every later one, and counts the macros.
 pub fn dense(alloc: Global, size: usize) -> Result<usize, WorkError> {
     macro_count(alloc, macros(alloc, size, size)?)
+}
+
+/// Makes a style of these macros, some of which lead back to themselves, and returns the number of the
+/// first that does.
+fn first_cyclic(alloc: Global, macros: Vec<CslMacro>) -> Result<usize, WorkError> {
+    let settings = StyleSettings::default();
+    let citation = Layout::new(Vec::new(alloc));
+    match Style::new(alloc, settings, macros, citation, None, Vec::new(alloc)) {
+        Err(StyleError::CyclicMacro(name)) => match name.as_str().strip_prefix("macro ") {
+            Some(number) => match number.parse::<usize>() {
+                Ok(number) => Ok(number),
+                Err(_) => Err(WorkError::Unexpected("a macro without a number")),
+            },
+            None => Err(WorkError::Unexpected("a macro of another name")),
+        },
+        Err(error) => Err(error.into()),
+        Ok(_) => Err(WorkError::Unexpected("a style with a cycle")),
+    }
+}
+
+/// `size` macros that each call the next. The last calls itself.
+fn into_a_cycle(alloc: Global, size: usize) -> Result<Vec<CslMacro>, WorkError> {
+    let mut macros = Vec::new(alloc);
+    for number in 0..size {
+        let next = size.saturating_sub(1).min(number + 1);
+        let nodes = vec![in alloc; call(alloc, next)?]?;
+        macros.push(numbered(alloc, number, nodes)?)?;
+    }
+    Ok(macros)
+}
+
+/// Refuses macros of which each calls the next, and the last itself, and returns its number.
+pub fn cycle(alloc: Global, size: usize) -> Result<usize, WorkError> {
+    first_cyclic(alloc, into_a_cycle(alloc, size)?)
+}
+
+/// Refuses the same with a further macro that calls itself and the first, so that the others are a
+/// chain between two cycles.
+pub fn two_cycles(alloc: Global, size: usize) -> Result<usize, WorkError> {
+    let mut macros = into_a_cycle(alloc, size)?;
+    let nodes = vec![in alloc; call(alloc, size)?, call(alloc, 0)?]?;
+    macros.push(numbered(alloc, size, nodes)?)?;
+    first_cyclic(alloc, macros)
 }

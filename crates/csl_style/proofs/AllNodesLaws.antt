@@ -1,0 +1,238 @@
+-- A walk through all nodes of a list: what is left of it, and what its nodes tell by themselves, which
+-- is together what the list tells.
+use Rattle.std.proofs.Common.{◌≡◌, ℕ, zero, suc, ◌+◌, ◌<◌, ◌≤◌, Bool, true, false, ◌||◌, List, [], ◌∷◌, ◌++◌, length, map, drop, get_or, Option, Some, None, option_map, Vec, Global, refl, sym, ap, ap₂, ◌∙◌, arith, append_assoc, append-nil}
+use Rattle.std.specs.Prelude.{flat_map}
+use Rattle.std.proofs.lemmas.Grind.{flat_map-append}
+use denote.Bor.{Bor}
+use Rattle.csl_elements.specs.Node.{Node, text, call, number, label, date, names, choose, group, Nodes, no_nodes, node, Branches, no_branches, otherwise, branch, Substitutes, no_substitutes, substitute, ExpandedNodes, expand, expand_call, expand_nodes, expand_branches, expand_substitutes, size, sizes, expanded_branches_size, expanded_substitutes_size}
+use Rattle.csl_elements.specs.Dressing.{TextDressing}
+use Rattle.csl_elements.specs.View.{Definition, view_node, view_nodes, view_choose, view_branch, view_child, view_names, branches_of, substitutes, NamesChildView, a_name, an_et_al, a_label, a_substitute, BranchView, element_step, child_step, choose_step, branch_step, group_step, names_step, substitute_step}
+use Rattle.csl_elements.specs.declared.element.LayoutRenderingElement.{LayoutRenderingElement}
+use Rattle.csl_elements.specs.declared.element.LayoutRenderingElement.TheFolds.{fold_out-Names}
+use Rattle.csl_elements.specs.declared.element.Choose.{Choose, out-Choose}
+use Rattle.csl_elements.specs.declared.element.ChooseBranch.{ChooseBranch, out-ChooseBranch}
+use Rattle.csl_elements.specs.declared.element.Names.{Names as NamesElement, out-Names}
+use Rattle.csl_elements.specs.declared.element.NamesChild.{NamesChild}
+use Rattle.csl_style.specs.AllNodes.{all_nodes, nodes_inside, nodes_in_branches, nodes_in_substitutes, nodes_in_child, nodes_left, called_name, is_suffix_text}
+use Rattle.csl_style.specs.Calls.{calls_in, calls_in_all, calls_in_branches, calls_in_substitutes, own_calls}
+use Rattle.csl_style.specs.YearSuffix.{has_year_suffix, any_has_year_suffix, branches_have_year_suffix, substitutes_have_year_suffix, macro_has_year_suffix}
+use Rattle.csl_style.proofs.YearSuffixes.{nodes_out, behind, choose_out, substitute_has_year_suffix, substitutes_size, insteads_same, insteads_sized}
+
+-- ---- what is left
+
+-- the last of some lists comes first
+pub left_pushed : (ls : List (Bor (List LayoutRenderingElement))) (l : Bor (List LayoutRenderingElement)) → nodes_left (ls ++ l ∷ []) ≡ all_nodes (view_nodes l.now) ++ nodes_left ls
+left_pushed [] l = sym (append-nil (all_nodes (view_nodes l.now)))
+left_pushed (x ∷ ls) l = ap (λ ns. ns ++ all_nodes (view_nodes x.now)) (left_pushed ls l) ∙ append_assoc (all_nodes (view_nodes l.now)) (nodes_left ls) (all_nodes (view_nodes x.now))
+
+none_in : (xs : List LayoutRenderingElement) (ns : List Node) → length xs ≡ 0 → all_nodes (view_nodes xs) ++ ns ≡ ns
+none_in [] ns e = refl
+none_in (x ∷ xs) ns e = absurd (omega (arith, e))
+
+pub empty_left : (ls : List (Bor (List LayoutRenderingElement))) (l : Bor (List LayoutRenderingElement)) → length l.now ≡ 0 → nodes_left (ls ++ l ∷ []) ≡ nodes_left ls
+empty_left ls l e = left_pushed ls l ∙ none_in l.now (nodes_left ls) e
+
+pub first_left : (ls : List (Bor (List LayoutRenderingElement))) (l : Bor (List LayoutRenderingElement)) (x : LayoutRenderingElement) (xs : List LayoutRenderingElement) → l.now ≡ x ∷ xs
+    → nodes_left (ls ++ l ∷ []) ≡ view_node x ∷ (nodes_inside (view_node x) ++ (all_nodes (view_nodes xs) ++ nodes_left ls))
+first_left ls l x xs e =
+    left_pushed ls l ∙ ap (λ (ys : List LayoutRenderingElement). all_nodes (view_nodes ys) ++ nodes_left ls) e
+    ∙ ap (λ ns. view_node x ∷ ns) (append_assoc (nodes_inside (view_node x)) (all_nodes (view_nodes xs)) (nodes_left ls))
+
+pub joined : (xs ys zs : List Node) → (xs ++ ys) ++ zs ≡ xs ++ (ys ++ zs)
+joined xs ys zs = append_assoc xs ys zs
+
+-- ---- the branches of a choose and the children of names, from the last to the first
+
+-- the branches from a place on, and the nodes of `cs:else`
+abbrev pub branches_from : List ChooseBranch → Option (Vec LayoutRenderingElement Global) → ℕ → List Node
+branches_from bs o i = nodes_in_branches (branches_of (map view_branch (drop i bs)) (option_map (λ v. view_nodes v.items) o))
+
+branch_step' : (bs : List ChooseBranch) (o : Option (Vec LayoutRenderingElement Global)) (i : ℕ) (b : ChooseBranch) → i < length bs → b ≡ get_or bs i b
+    → branches_from bs o i ≡ all_nodes (view_nodes (out-ChooseBranch b).children.items) ++ branches_from bs o (suc i)
+branch_step' [] o i b less is = absurd (omega arith)
+branch_step' (x ∷ bs) o zero b less is = ap (λ ns. all_nodes ns ++ branches_from bs o 0) (nodes_out x ∙ ap (λ y. view_nodes (out-ChooseBranch y).children.items) (sym is))
+branch_step' (x ∷ bs) o (suc i) b less is = branch_step' bs o i b (omega arith) is
+
+next-place : (i : ℕ) → suc i ≡ i + 1
+next-place i = omega arith
+
+pub branch_left : (bs : List ChooseBranch) (o : Option (Vec LayoutRenderingElement Global)) (i : ℕ) (b : ChooseBranch) → i < length bs → b ≡ get_or bs i b
+    → branches_from bs o i ≡ all_nodes (view_nodes (out-ChooseBranch b).children.items) ++ branches_from bs o (i + 1)
+branch_left bs o i b less is = branch_step' bs o i b less is ∙ ap (λ k. all_nodes (view_nodes (out-ChooseBranch b).children.items) ++ branches_from bs o k) (next-place i)
+
+pub no_branch_left : (bs : List ChooseBranch) (o : Option (Vec LayoutRenderingElement Global)) → branches_from bs o (length bs) ≡ nodes_in_branches (branches_of [] (option_map (λ v. view_nodes v.items) o))
+no_branch_left [] o = refl
+no_branch_left (x ∷ bs) o = no_branch_left bs o
+
+pub choose_inside : (x : Choose) → nodes_inside (view_choose x) ≡ all_nodes (view_nodes (out-ChooseBranch (out-Choose x).if_).children.items) ++ branches_from (out-Choose x).else_if.items (out-Choose x).otherwise 0
+choose_inside x = ap nodes_inside (choose_out x) ∙ ap (λ ns. all_nodes ns ++ nodes_in_branches (behind x)) (nodes_out (out-Choose x).if_)
+
+abbrev pub children_from : List NamesChild → ℕ → List Node
+children_from cs i = nodes_in_substitutes (substitutes (map view_child (drop i cs)))
+
+one_child : (c : NamesChildView) (cs : List NamesChildView) → nodes_in_substitutes (substitutes (c ∷ cs)) ≡ nodes_in_child c ++ nodes_in_substitutes (substitutes cs)
+one_child (a_name n) cs = refl
+one_child (an_et_al e) cs = refl
+one_child (a_label l) cs = refl
+one_child (a_substitute ns) cs = refl
+
+child_step' : (cs : List NamesChild) (i : ℕ) (c : NamesChild) → i < length cs → c ≡ get_or cs i c → children_from cs i ≡ nodes_in_child (view_child c) ++ children_from cs (suc i)
+child_step' [] i c less is = absurd (omega arith)
+child_step' (x ∷ cs) zero c less is = one_child (view_child x) (map view_child cs) ∙ ap (λ y. nodes_in_child (view_child y) ++ children_from cs 0) (sym is)
+child_step' (x ∷ cs) (suc i) c less is = child_step' cs i c (omega arith) is
+
+pub child_left : (cs : List NamesChild) (i : ℕ) (c : NamesChild) → i < length cs → c ≡ get_or cs i c → children_from cs i ≡ nodes_in_child (view_child c) ++ children_from cs (i + 1)
+child_left cs i c less is = child_step' cs i c less is ∙ ap (λ k. nodes_in_child (view_child c) ++ children_from cs k) (next-place i)
+
+pub no_child_left : (cs : List NamesChild) → children_from cs (length cs) ≡ []
+no_child_left [] = refl
+no_child_left (x ∷ cs) = no_child_left cs
+
+pub names_inside : (x : NamesElement) → nodes_inside (view_names x) ≡ children_from (out-Names x).children.items 0
+names_inside x = rw (fold_out-Names Node NamesChildView Node BranchView Node Node Nodes element_step child_step choose_step branch_step group_step names_step substitute_step x) refl
+
+-- ---- the calls of macros
+
+module _ (ds : List Definition) where
+  abbrev pub calls_of : List Node → List ℕ
+  calls_of ns = flat_map (λ n. own_calls ds (called_name n)) ns
+
+  calls_join : (xs ys : List Node) → calls_of (xs ++ ys) ≡ calls_of xs ++ calls_of ys
+  calls_join xs ys = flat_map-append (λ n. own_calls ds (called_name n)) xs ys
+
+  mutual
+    pub all_calls : (ns : Nodes) → calls_of (all_nodes ns) ≡ calls_in_all ds ns
+    all_calls no_nodes = refl
+    all_calls (node n ns) =
+        ap (λ xs. own_calls ds (called_name n) ++ xs) (calls_join (nodes_inside n) (all_nodes ns))
+        ∙ sym (append_assoc (own_calls ds (called_name n)) (calls_of (nodes_inside n)) (calls_of (all_nodes ns)))
+        ∙ ap₂ (λ a b. a ++ b) (node_calls n) (all_calls ns)
+
+    node_calls : (n : Node) → own_calls ds (called_name n) ++ calls_of (nodes_inside n) ≡ calls_in ds n
+    node_calls (text t d) = refl
+    node_calls (call name d) = append-nil (own_calls ds (Some name))
+    node_calls (number n) = refl
+    node_calls (label v l) = refl
+    node_calls (date d) = refl
+    node_calls (names n ss) = substitute_calls ss
+    node_calls (choose bs) = branch_calls bs
+    node_calls (group delimiter d ns) = all_calls ns
+
+    branch_calls : (bs : Branches) → calls_of (nodes_in_branches bs) ≡ calls_in_branches ds bs
+    branch_calls no_branches = refl
+    branch_calls (otherwise ns) = all_calls ns
+    branch_calls (branch ts ns bs) = calls_join (all_nodes ns) (nodes_in_branches bs) ∙ ap₂ (λ a b. a ++ b) (all_calls ns) (branch_calls bs)
+
+    substitute_calls : (ss : Substitutes) → calls_of (nodes_in_substitutes ss) ≡ calls_in_substitutes ds ss
+    substitute_calls no_substitutes = refl
+    substitute_calls (substitute ns ss) = calls_join (all_nodes ns) (nodes_in_substitutes ss) ∙ ap₂ (λ a b. a ++ b) (all_calls ns) (substitute_calls ss)
+
+-- ---- texts of the year suffix
+
+or_assoc : (a b c : Bool) → (a || (b || c)) ≡ ((a || b) || c)
+or_assoc true b c = refl
+or_assoc false b c = refl
+
+or_none : (b : Bool) → (b || false) ≡ b
+or_none true = refl
+or_none false = refl
+
+module _ (env : List ℕ → Option ExpandedNodes) where
+  abbrev pub called_has : Option (List ℕ) → Bool
+  called_has None = false
+  called_has (Some name) = macro_has_year_suffix (env name)
+
+  -- whether a node has such a text, without the nodes inside it
+  abbrev pub own_has : Node → Bool
+  own_has n = is_suffix_text n || called_has (called_name n)
+
+  abbrev pub any_own : List Node → Bool
+  any_own [] = false
+  any_own (n ∷ ns) = own_has n || any_own ns
+
+  pub own_append : (xs ys : List Node) → any_own (xs ++ ys) ≡ (any_own xs || any_own ys)
+  own_append [] ys = refl
+  own_append (x ∷ xs) ys = ap (λ b. own_has x || b) (own_append xs ys) ∙ or_assoc (own_has x) (any_own xs) (any_own ys)
+
+  by_call : (d : TextDressing) (o : Option ExpandedNodes) → ((false || macro_has_year_suffix o) || false) ≡ has_year_suffix (expand_call d o)
+  by_call d None = refl
+  by_call d (Some fs) = or_none (any_has_year_suffix fs)
+
+  mutual
+    pub all_has : (ns : Nodes) → any_own (all_nodes ns) ≡ any_has_year_suffix (expand_nodes env ns)
+    all_has no_nodes = refl
+    all_has (node n ns) =
+        ap (λ b. own_has n || b) (own_append (nodes_inside n) (all_nodes ns))
+        ∙ or_assoc (own_has n) (any_own (nodes_inside n)) (any_own (all_nodes ns))
+        ∙ ap₂ (λ a b. a || b) (node_has n) (all_has ns)
+
+    node_has : (n : Node) → (own_has n || any_own (nodes_inside n)) ≡ has_year_suffix (expand env n)
+    node_has (text t d) = or_none (is_suffix_text (text t d) || false) ∙ or_none (is_suffix_text (text t d))
+    node_has (call name d) = by_call d (env name)
+    node_has (number n) = refl
+    node_has (label v l) = refl
+    node_has (date d) = refl
+    node_has (names n ss) = substitute_has ss ∙ sym (insteads_same env n ss)
+    node_has (choose bs) = branch_has bs
+    node_has (group delimiter d ns) = all_has ns
+
+    branch_has : (bs : Branches) → any_own (nodes_in_branches bs) ≡ branches_have_year_suffix (expand_branches env bs)
+    branch_has no_branches = refl
+    branch_has (otherwise ns) = all_has ns
+    branch_has (branch ts ns bs) = own_append (all_nodes ns) (nodes_in_branches bs) ∙ ap₂ (λ a b. a || b) (all_has ns) (branch_has bs)
+
+    substitute_has : (ss : Substitutes) → any_own (nodes_in_substitutes ss) ≡ substitute_has_year_suffix env ss
+    substitute_has no_substitutes = refl
+    substitute_has (substitute ns ss) = own_append (all_nodes ns) (nodes_in_substitutes ss) ∙ ap₂ (λ a b. a || b) (all_has ns) (substitute_has ss)
+
+  -- ---- how much is left to be gone through, macros included
+
+  abbrev pub expansion_cost : Option ExpandedNodes → ℕ
+  expansion_cost None = 0
+  expansion_cost (Some fs) = suc (sizes fs)
+
+  abbrev pub called_cost : Option (List ℕ) → ℕ
+  called_cost None = 0
+  called_cost (Some name) = expansion_cost (env name)
+
+  abbrev pub own_cost : Node → ℕ
+  own_cost n = suc (called_cost (called_name n))
+
+  abbrev pub costs : List Node → ℕ
+  costs [] = 0
+  costs (n ∷ ns) = own_cost n + costs ns
+
+  pub costs_append : (xs ys : List Node) → costs (xs ++ ys) ≡ costs xs + costs ys
+  costs_append [] ys = omega arith
+  costs_append (x ∷ xs) ys = omega (arith, costs_append xs ys)
+
+  by_call_cost : (d : TextDressing) (o : Option ExpandedNodes) → suc (expansion_cost o) + 0 ≤ suc (size (expand_call d o))
+  by_call_cost d None = omega arith
+  by_call_cost d (Some fs) = omega arith
+
+  mutual
+    pub all_cost : (ns : Nodes) → costs (all_nodes ns) ≤ sizes (expand_nodes env ns)
+    all_cost no_nodes = omega arith
+    all_cost (node n ns) = omega (arith, costs_append (nodes_inside n) (all_nodes ns), node_cost n, all_cost ns)
+
+    node_cost : (n : Node) → own_cost n + costs (nodes_inside n) ≤ suc (size (expand env n))
+    node_cost (text t d) = omega arith
+    node_cost (call name d) = by_call_cost d (env name)
+    node_cost (number n) = omega arith
+    node_cost (label v l) = omega arith
+    node_cost (date d) = omega arith
+    node_cost (names n ss) = omega (arith, substitute_cost ss, insteads_sized env n ss)
+    node_cost (choose bs) = omega (arith, branch_cost bs)
+    node_cost (group delimiter d ns) = omega (arith, all_cost ns)
+
+    branch_cost : (bs : Branches) → costs (nodes_in_branches bs) ≤ expanded_branches_size (expand_branches env bs)
+    branch_cost no_branches = omega arith
+    branch_cost (otherwise ns) = omega (arith, all_cost ns)
+    branch_cost (branch ts ns bs) = omega (arith, costs_append (all_nodes ns) (nodes_in_branches bs), all_cost ns, branch_cost bs)
+
+    substitute_cost : (ss : Substitutes) → costs (nodes_in_substitutes ss) ≤ substitutes_size env ss
+    substitute_cost no_substitutes = omega arith
+    substitute_cost (substitute ns ss) = omega (arith, costs_append (all_nodes ns) (nodes_in_substitutes ss), all_cost ns, substitute_cost ss)
+
+  pub some_cost : (n : Node) → 0 < own_cost n
+  some_cost n = omega arith

@@ -1,0 +1,136 @@
+//! A walk through all nodes of a list, at any depth (CSL 1.0.2, Rendering Elements). It keeps what is
+//! left in a list, so that no style is too deep for it.
+
+ghost use Rattle.std.specs.Prelude.{◌≡◌, [], ◌∷◌, ◌++◌, None, IfOk, IfSome, OnOk, option_map};
+ghost use Rattle.csl_elements.specs.View.{view_node, view_nodes, view_choose, view_names, view_child};
+ghost use Rattle.csl_style.specs.AllNodes.{all_nodes, nodes_inside, nodes_in_child, nodes_left, called_name};
+
+use csl_elements::{Choose, LayoutRenderingElement, Names, NamesChild, TextTarget};
+use std::alloc::{AllocError, Global};
+
+/// The nodes that a walk has still to go through (`nodes_left`).
+#[derive(Drop)]
+pub(crate) struct NodesLeft<'s> {
+    /// Lists of nodes, each with the nodes inside them. The last list comes first.
+    lists: Vec<&'s [LayoutRenderingElement]>,
+}
+
+impl<'s> NodesLeft<'s> {
+    /// All nodes of a list, at any depth.
+    pub(crate) fn new(
+        alloc: Global,
+        nodes: &'s [LayoutRenderingElement],
+    ) -> Result<NodesLeft<'s>, AllocError>
+        ensures { IfOk result (λ left. nodes_left left.lists.items ≡ all_nodes (view_nodes nodes.now)) }
+    {
+        let lists = vec![in alloc; nodes]?;
+        Ok(NodesLeft { lists })
+    }
+
+    /// Puts a list of nodes, with those inside them, before the others.
+    #[tactic(auto, using(crate::proofs::AllNodesLaws::left_pushed))]
+    pub(crate) fn push(&mut self, nodes: &'s [LayoutRenderingElement]) -> Result<(), AllocError>
+        ensures { OnOk result (nodes_left self.new.lists.items
+            ≡ all_nodes (view_nodes nodes.now) ++ nodes_left self.old.lists.items) }
+    {
+        if !nodes.is_empty() {
+            self.lists.push(nodes)?;
+        }
+        Ok(())
+    }
+
+    /// Puts the nodes inside a choose before the others.
+    #[tactic(auto, using(crate::proofs::AllNodesLaws::branch_left, crate::proofs::AllNodesLaws::no_branch_left, crate::proofs::AllNodesLaws::choose_inside, crate::proofs::AllNodesLaws::joined))]
+    fn push_branches(&mut self, choose: &'s Choose) -> Result<(), AllocError>
+        ensures { OnOk result (nodes_left self.new.lists.items
+            ≡ nodes_inside (view_choose choose.now) ++ nodes_left self.old.lists.items) }
+    {
+        if let Some(otherwise) = &choose.otherwise {
+            self.push(otherwise)?;
+        }
+        let mut i = choose.else_if.len();
+        while i > 0 {
+            i -= 1;
+            self.push(&choose.else_if[i].children)?;
+        }
+        self.push(&choose.if_.children)
+    }
+
+    /// Puts the nodes inside a child of names before the others. Only a substitute has any.
+    fn push_child(&mut self, child: &'s NamesChild) -> Result<(), AllocError>
+        ensures { OnOk result (nodes_left self.new.lists.items
+            ≡ nodes_in_child (view_child child.now) ++ nodes_left self.old.lists.items) }
+    {
+        match child {
+            NamesChild::Name(_) | NamesChild::EtAl(_) | NamesChild::Label(_) => Ok(()),
+            NamesChild::Substitute(substitute) => self.push(&substitute.children),
+        }
+    }
+
+    /// Puts the nodes inside a names node before the others. They are those of its substitutes.
+    #[tactic(auto, using(crate::proofs::AllNodesLaws::child_left, crate::proofs::AllNodesLaws::no_child_left, crate::proofs::AllNodesLaws::names_inside, crate::proofs::AllNodesLaws::joined))]
+    fn push_substitutes(&mut self, names: &'s Names) -> Result<(), AllocError>
+        ensures { OnOk result (nodes_left self.new.lists.items
+            ≡ nodes_inside (view_names names.now) ++ nodes_left self.old.lists.items) }
+    {
+        let mut i = names.children.len();
+        while i > 0 {
+            i -= 1;
+            self.push_child(&names.children[i])?;
+        }
+        Ok(())
+    }
+
+    /// Puts the nodes inside a node before the others.
+    fn push_inside(&mut self, node: &'s LayoutRenderingElement) -> Result<(), AllocError>
+        ensures { OnOk result (nodes_left self.new.lists.items
+            ≡ nodes_inside (view_node node.now) ++ nodes_left self.old.lists.items) }
+    {
+        match node {
+            LayoutRenderingElement::Text(_)
+            | LayoutRenderingElement::Number(_)
+            | LayoutRenderingElement::Label(_)
+            | LayoutRenderingElement::Date(_) => Ok(()),
+            LayoutRenderingElement::Names(names) => self.push_substitutes(names),
+            LayoutRenderingElement::Choose(choose) => self.push_branches(choose),
+            LayoutRenderingElement::Group(group) => self.push(&group.children),
+        }
+    }
+
+    /// Takes the next node.
+    #[tactic(auto, using(crate::proofs::AllNodesLaws::first_left, crate::proofs::AllNodesLaws::empty_left))]
+    pub(crate) fn next(&mut self) -> Result<Option<&'s LayoutRenderingElement>, AllocError>
+        ensures next { IfOk result (λ next. IfSome next (λ node. nodes_left self.old.lists.items
+            ≡ view_node node.now ∷ nodes_left self.new.lists.items)) }
+        ensures end { IfOk result (λ next. next ≡ None
+            → nodes_left self.old.lists.items ≡ []) }
+    {
+        while let Some(list) = self.lists.pop() {
+            if let Some((first, rest)) = list.split_first() {
+                self.push(rest)?;
+                self.push_inside(first)?;
+                return Ok(Some(first));
+            }
+        }
+        Ok(None)
+    }
+}
+
+/// The name of the macro that a node calls. The nodes inside it do not count.
+pub(crate) fn called_name(node: &LayoutRenderingElement) -> Option<&str>
+    ensures { option_map (λ name. name.now) result ≡ called_name (view_node node.now) }
+{
+    match node {
+        LayoutRenderingElement::Text(text) => match &text.target {
+            TextTarget::Macro { name } => Some(name.as_str()),
+            TextTarget::Variable { .. } | TextTarget::Term { .. } | TextTarget::Value { .. } =>
+                None,
+        },
+        LayoutRenderingElement::Number(_)
+        | LayoutRenderingElement::Label(_)
+        | LayoutRenderingElement::Date(_)
+        | LayoutRenderingElement::Names(_)
+        | LayoutRenderingElement::Choose(_)
+        | LayoutRenderingElement::Group(_) => None,
+    }
+}
