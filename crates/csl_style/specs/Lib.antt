@@ -15,6 +15,7 @@ pub mod AllNodes
 pub mod Expanded
 pub mod Depth
 pub mod Size
+pub mod RenderedSize
 pub mod Scopes
 pub mod Named
 pub mod NamedWalk

@@ -11,6 +11,7 @@ mod missing;
 mod missing_term;
 mod named;
 mod places;
+mod rendered_size;
 mod scopes;
 mod size;
 pub mod style;

@@ -25,7 +25,7 @@ fn room_after_test<T>(items: &Option<Vec<T>>, room: u64) -> Option<u64>
 }
 
 /// The room that is left after the tests of a branch.
-fn room_after_tests(branch: &ChooseBranch, room: u64) -> Option<u64>
+pub(crate) fn room_after_tests(branch: &ChooseBranch, room: u64) -> Option<u64>
     ensures some { IfSome result (λ left. left + tests_weight (view_branch branch.now).tests
         ≡ room) }
     ensures none { IfNone result (room < tests_weight (view_branch branch.now).tests) }
@@ -173,7 +173,12 @@ fn room_after_choose(style: &Style, choose: &Choose, room: u64, most: usize) -> 
 
 /// The room that is left after a layout, which counts one, or `None` if the layout is larger than the
 /// room or deeper than `most`.
-fn room_after_layout(style: &Style, layout: &Layout, room: u64, most: usize) -> Option<u64>
+pub(crate) fn room_after_layout(
+    style: &Style,
+    layout: &Layout,
+    room: u64,
+    most: usize,
+) -> Option<u64>
     ensures some { IfSome result (λ left. (left
         + layout_size (expand_layout (macro_env style.now) (view_layout layout.now)) ≡ room)
         × (layout_depth (expand_layout (macro_env style.now) (view_layout layout.now)) ≤ most)) }

@@ -17,6 +17,7 @@ mod number;
 mod of_citation;
 mod options_of_scopes;
 mod reach;
+mod rendered_size;
 mod size;
 mod style;
 mod style_ordinals;

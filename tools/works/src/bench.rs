@@ -58,6 +58,7 @@ pub fn count(alloc: Global, name: &str, size: usize) -> Result<usize, WorkError>
         "doubling" => nested::doubling(alloc, size),
         "doubling_named" => nested::doubling_named(alloc, size),
         "doubling_size" => nested::doubling_size(alloc, size),
+        "branching_size" => nested::branching_size(alloc, size),
         "chains" => strangers::chains(alloc, size),
         "chains_suppressed" => strangers::chains_suppressed(alloc, size),
         "leaves" => strangers::leaves(alloc, size),

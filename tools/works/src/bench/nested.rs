@@ -2,7 +2,7 @@
 
 use crate::bench::entry::article;
 use crate::bench::render::{named_count, suppressed_size, text_size};
-use crate::bench::styles::{call, linked};
+use crate::bench::styles::{branching, call, linked};
 use crate::error::WorkError;
 use crate::nodes::{names_or, style, title};
 use csl::style::{
@@ -110,4 +110,12 @@ fn expanded_size(style: &Style) -> u64 {
 /// The expanded size of this layout. Nothing is rendered.
 pub fn doubling_size(alloc: Global, size: usize) -> Result<usize, WorkError> {
     Ok(expanded_size(&doubling_style(alloc, size)?) as usize)
+}
+
+/// Whether a layout of `size` macros, each of which calls the next in two branches of a choose, is
+/// within the limits for strangers: 1 or 0. Nothing is rendered. Of the branches the larger counts, but
+/// the question goes through all.
+pub fn branching_size(alloc: Global, size: usize) -> Result<usize, WorkError> {
+    let style = first_of(alloc, branching(alloc, size)?)?;
+    Ok(usize::from(style.rendered_within(style.citation(), 2_000, 20_000, 64)))
 }

@@ -3,7 +3,8 @@
 use crate::error::WorkError;
 use crate::nodes::style;
 use csl::style::{
-    CslMacro, Layout, LayoutRenderingElement, Style, StyleError, StyleSettings, Text, Variable,
+    Choose, ChooseBranch, CslMacro, Layout, LayoutRenderingElement, Style, StyleError,
+    StyleSettings, Text, Variable,
 };
 use std::alloc::Global;
 
@@ -81,6 +82,22 @@ pub fn linked(
     let mut macros = Vec::new(alloc);
     for number in 0..size {
         let nodes = links(alloc, number, size, times, end)?;
+        macros.push(numbered(alloc, number, nodes)?)?;
+    }
+    Ok(macros)
+}
+
+/// `size` macros, each of which calls the next in both branches of a choose. The last has none.
+pub fn branching(alloc: Global, size: usize) -> Result<Vec<CslMacro>, WorkError> {
+    let mut macros = Vec::new(alloc);
+    for number in 0..size {
+        let next = number + 1;
+        let if_ = ChooseBranch::new(calls(alloc, next, size.min(next + 1))?);
+        let choose = Choose {
+            otherwise: Some(calls(alloc, next, size.min(next + 1))?),
+            ..Choose::new(alloc, if_)
+        };
+        let nodes = vec![in alloc; choose.into()]?;
         macros.push(numbered(alloc, number, nodes)?)?;
     }
     Ok(macros)

@@ -57,6 +57,9 @@ fn styles() {
     let _: fn(&Style, DateForm) -> Option<&Date> = Style::localized_date;
     let _: fn(&Style, &Layout) -> Option<(Term, TermForm)> = Style::missing_term;
     let _: fn(&Style, Scope) -> bool = Style::renders_year_suffix_implicitly;
+    let _: fn(&Style, &Layout, u64) -> Option<u64> = Style::expanded_size;
+    let _: fn(&Style, &Layout, u64, usize) -> bool = Style::expanded_within;
+    let _: fn(&Style, &Layout, u64, u64, usize) -> bool = Style::rendered_within;
     let _: fn(Global, &Style, &Layout) -> Result<Named, Memory> = csl_style::named_by;
     let _: fn(&Named, Global) -> Result<Named, Memory> = Named::clone;
 }
