@@ -253,8 +253,8 @@ impl Style {
         &self.locales
     }
 
-    /// The index of the first macro of a name.
-    pub(crate) fn macro_index(&self, name: &str) -> Option<usize>
+    /// The index in [`Style::macros`] of the first macro of a name (CSL 1.0.2, Macro).
+    pub fn macro_index(&self, name: &str) -> Option<usize>
         ensures { result ≡ macro_index name.now (definitions self.now.macros) }
     {
         self.places.get(name)

@@ -50,6 +50,7 @@ fn styles() {
     let _: fn(&Style) -> &Layout = Style::citation;
     let _: fn(&Style) -> Option<&Layout> = Style::bibliography;
     let _: fn(&Style) -> &[Locale] = Style::locales;
+    let _: fn(&Style, &str) -> Option<usize> = Style::macro_index;
     let _: for<'a> fn(&'a Style, &str) -> Option<&'a CslMacro> = Style::get_macro;
     let _: fn(&Style, Term, TermForm, bool) -> Option<&str> = Style::term;
     let _: fn(&Style, Term) -> Option<GrammarGender> = Style::gender;
