@@ -21,4 +21,6 @@ mod csl_tree_tests;
 #[cfg(test)]
 mod lit_model_tests;
 #[cfg(test)]
+mod shared;
+#[cfg(test)]
 mod surface;

@@ -2,8 +2,9 @@
 //! words alone do not cover. The expected texts are written by hand.
 
 use crate::csl_cli_tests::assertions::{assert_status, assert_text};
-use crate::csl_cli_tests::shared::{assert_plain, entries, put, state_words};
+use crate::csl_cli_tests::shared::{assert_plain, entries, state_words};
 use crate::csl_cli_tests::words::NATURE;
+use crate::shared::put;
 use csl_cli::run::run_into;
 use csl_common::TrackingWriter;
 use csl_context::{LeftState, Rendered};

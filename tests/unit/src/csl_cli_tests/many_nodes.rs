@@ -1,6 +1,7 @@
 //! A test of a cite by a group with a thousand nodes.
 
-use crate::csl_cli_tests::shared::{assert_plain, put, title_only};
+use crate::csl_cli_tests::shared::{assert_plain, title_only};
+use crate::shared::put;
 use csl_context::Rendered;
 use csl_entry::{CiteProperties, DisambiguateState};
 use csl_render::cite;

@@ -1,7 +1,8 @@
 //! Tests of cites of entries that answer oddly: with empty texts, or by a table. The expected texts
 //! are written by hand.
 
-use crate::csl_cli_tests::shared::{assert_plain, put};
+use crate::csl_cli_tests::shared::assert_plain;
+use crate::shared::put;
 use csl_context::Rendered;
 use csl_entry::{CiteProperties, DisambiguateState, EntryLike};
 use csl_laws::blank::Blank;

@@ -1,7 +1,8 @@
 //! Tests of the calls that render two entries. Rows state more pairs (`tests/rows`).
 
 use crate::csl_cli_tests::assertions::assert_text;
-use crate::csl_cli_tests::shared::{entries, put, title_only};
+use crate::csl_cli_tests::shared::{entries, title_only};
+use crate::shared::put;
 use csl_context::LeftState;
 use csl_entry::{CiteProperties, DisambiguateState};
 use csl_render::{Pair, cite_pair, render_pair};

@@ -1,6 +1,7 @@
 //! Functions that tests share: lists, built-in entries, cites, and the words of a state.
 
 use crate::csl_cli_tests::assertions::assert_text;
+use crate::shared::put;
 use csl_context::{LeftState, Rendered};
 use csl_entry::{CiteProperties, InstanceContext};
 use csl_samples::{BuiltIn, TitleOnly};
@@ -8,11 +9,6 @@ use csl_tree::BufWriteFormat;
 use lit_model::{ChunkedString, Entry};
 use std::alloc::Global;
 use std::process::Abort;
-
-/// Appends an item.
-pub(crate) fn put<T: Drop>(rt: &impl Abort, items: &mut Vec<T>, item: T) {
-    items.push(item).expect(rt, "memory");
-}
 
 /// Some built-in entries. A function that holds a list is quicker to prove than one that holds an
 /// entry.

@@ -39,11 +39,14 @@ static NAMED: [(BuiltInStyle, &str); 2] = [
     ),
 ];
 
+/// Asserts the variables and kinds that a style names, and those of a copy of them.
 fn assert_named(rt: &impl Abort, alloc: Global, style: BuiltInStyle, wanted: &str) {
     let named = variables_of(rt, alloc, style);
-    let words = words_of(rt, alloc, &named);
-    drop(named);
-    assert_text(rt, words.as_str(), wanted, &["style"]);
+    let copy = named.clone(alloc).expect(rt, "memory");
+    for sets in [&named, &copy] {
+        let words = words_of(rt, alloc, sets);
+        assert_text(rt, words.as_str(), wanted, &["style"]);
+    }
 }
 
 #[test]

@@ -2,7 +2,7 @@
 //! written by hand.
 
 use crate::csl_cli_tests::assertions::{assert_status, assert_text};
-use crate::csl_cli_tests::shared::put;
+use crate::shared::put;
 use csl_cli::run::run;
 use std::alloc::Global;
 use std::process::Abort;

@@ -5,12 +5,13 @@ use crate::csl_context_tests::lookups::{look, look_and_suppress, suppress_genre}
 use crate::csl_context_tests::queries::{
     ask_cite, ask_locale, ask_terms, attempt, delimit, inherit_options, keep_names, mark_dates,
 };
-use crate::csl_context_tests::samples::{affixes, alone, style};
+use crate::csl_context_tests::samples::{affixes, style};
 use crate::csl_context_tests::words::say;
 use crate::csl_context_tests::writes::{
     affix, discard, dress, format, join, nest, quote_twice, space, splice, strip, write_in,
     write_pieces,
 };
+use crate::shared::alone;
 use csl_context::{Context, RenderError, Rendered};
 use csl_entry::{CiteProperties, DisambiguateState, InstanceContext, Sorting, SpecialForm};
 use csl_laws::quotes::push_quoted;

@@ -1,6 +1,6 @@
 //! The entry type of these tests.
 
-use crate::csl_context_tests::samples::pieces;
+use crate::shared::chunks;
 use csl_entry::EntryLike;
 use csl_style::{DateVariable, Kind, NameVariable, NumberVariable, PageVariable, StandardVariable};
 use lit_model::{
@@ -96,7 +96,7 @@ impl EntryLike for Film {
 pub(crate) fn metropolis(rt: &impl Abort, alloc: Global) -> Film {
     let shown = Date::new(1927, None, None, None, false).expect(rt, "a year");
     let pages = PageRanges::parse(alloc, "7").expect(rt, "pages");
-    let title = pieces(rt, alloc, "a.+`b.+$c.");
+    let title = chunks(rt, alloc, "a.+`b.+$c.");
     let director = Person::institution(alloc, "Lang").expect(rt, "memory");
     Film {
         number: Numeric::new(20),

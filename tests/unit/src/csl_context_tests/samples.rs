@@ -1,5 +1,6 @@
 //! Constructors of the tests' style, of texts and of affixes.
 
+use crate::shared::{alone, put};
 use csl_style::{
     Affixes, Date, DateForm, Formatting, InheritableNameOptions, Layout, Locale, OrdinalSlot,
     OrdinalTerm, OtherTerm as Word, PageVariable, Style, StyleSettings, Term, TermEntry, TermForm,
@@ -7,43 +8,6 @@ use csl_style::{
 use lit_model::{ChunkKind, ChunkedString, GrammarGender, StringChunk};
 use std::alloc::Global;
 use std::process::Abort;
-
-/// The kind of a piece of a text, and the piece without the mark of its kind.
-fn kind_of(piece: &str) -> (ChunkKind, &str) {
-    if let Some(verbatim) = piece.strip_prefix('`') {
-        return (ChunkKind::Verbatim, verbatim);
-    }
-    if let Some(math) = piece.strip_prefix('$') {
-        return (ChunkKind::Math, math);
-    }
-    (ChunkKind::Normal, piece)
-}
-
-/// The text of the pieces that `+` separates. A backtick before a piece means `Verbatim`, and `$`
-/// means `Math`.
-pub(crate) fn pieces(rt: &impl Abort, alloc: Global, text: &str) -> ChunkedString {
-    let mut chunks = Vec::new(alloc);
-    for piece in text.split('+') {
-        let (kind, piece) = kind_of(piece);
-        let value = String::from_str(alloc, piece).expect(rt, "memory");
-        chunks
-            .push(StringChunk { value, kind })
-            .expect(rt, "memory");
-    }
-    ChunkedString(chunks)
-}
-
-/// A list of one item.
-pub(crate) fn alone<T: Drop>(rt: &impl Abort, alloc: Global, item: T) -> Vec<T> {
-    let mut items = Vec::new(alloc);
-    put(rt, &mut items, item);
-    items
-}
-
-/// Appends an item to a list.
-fn put<T: Drop>(rt: &impl Abort, items: &mut Vec<T>, item: T) {
-    items.push(item).expect(rt, "memory");
-}
 
 /// A term, its form, its singular and its plural.
 type TermRow = (Term, TermForm, &'static str, &'static str);

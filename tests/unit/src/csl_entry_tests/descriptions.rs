@@ -9,6 +9,7 @@
 //! `+` between them, and its short form after `|`. A chunk of the kind `Verbatim` begins with a
 //! backtick, and one of the kind `Math` with `$`.
 
+use crate::shared::{alone, chunks, put};
 use lit_model::{
     ChunkKind, ChunkedString, Date, Entry, EntryType, FormatString, LanguageIdentifier, MaybeTyped,
     Numeric, PageRanges, Person, PersonRole, PersonsWithRoles, Publisher, QualifiedUrl,
@@ -60,18 +61,6 @@ fn state_all(rt: &impl Abort, alloc: Global, work: &mut Entry, clauses: &str) {
         let (word, value) = clause.split_once(' ').unwrap_or((clause, ""));
         state(rt, alloc, work, word, value);
     }
-}
-
-/// A list of one item.
-pub fn alone<T: Drop>(rt: &impl Abort, alloc: Global, item: T) -> Vec<T> {
-    let mut items = Vec::new(alloc);
-    put(rt, &mut items, item);
-    items
-}
-
-/// Appends an item to a list.
-pub fn put<T: Drop>(rt: &impl Abort, items: &mut Vec<T>, item: T) {
-    items.push(item).expect(rt, "memory");
 }
 
 /// A work of this type, as a part of other works.
@@ -191,30 +180,6 @@ pub fn text(rt: &impl Abort, alloc: Global, text: &str) -> FormatString {
         value,
         short: Some(short),
     }
-}
-
-/// The text of the chunks that `text` describes.
-pub fn chunks(rt: &impl Abort, alloc: Global, text: &str) -> ChunkedString {
-    let mut chunks = Vec::new(alloc);
-    for piece in text.split('+') {
-        let (kind, piece) = kind_of(piece);
-        let value = String::from_str(alloc, piece).expect(rt, "memory");
-        chunks
-            .push(StringChunk { value, kind })
-            .expect(rt, "memory");
-    }
-    ChunkedString(chunks)
-}
-
-/// The kind of a chunk, and the chunk without the mark of its kind.
-fn kind_of(piece: &str) -> (ChunkKind, &str) {
-    if let Some(verbatim) = piece.strip_prefix('`') {
-        return (ChunkKind::Verbatim, verbatim);
-    }
-    if let Some(math) = piece.strip_prefix('$') {
-        return (ChunkKind::Math, math);
-    }
-    (ChunkKind::Normal, piece)
 }
 
 fn integer(rt: &impl Abort, digits: &str) -> i32 {

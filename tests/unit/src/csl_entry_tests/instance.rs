@@ -3,7 +3,7 @@
 use crate::assertions::assert_same;
 use crate::csl_entry_tests::answers::{assert_answer, chunks_text, only, result_text, value};
 use crate::csl_entry_tests::cite::{Way, state};
-use crate::csl_entry_tests::descriptions::{alone, chunks};
+use crate::shared::{alone, chunks};
 use csl_elements::{
     DateVariable, Kind, Locator, NameVariable, NumberVariable, PageVariable, StandardVariable,
 };

@@ -2,7 +2,7 @@
 //! that a caller can prove about such a node with at most one named lemma.
 
 use crate::assertions::{assert_same, assert_text};
-use crate::csl_style_tests::notation::{alone, put};
+use crate::shared::{alone, put};
 use csl_style::{
     Affixes, Choose, ChooseBranch, ChooseMatch, CslMacro, Date, DateForm, DatePart, DatePartName,
     DateVariable, EtAl, FontStyle, Formatting, Group, Kind, Label, Layout, LayoutRenderingElement,

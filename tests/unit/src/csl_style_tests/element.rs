@@ -1,7 +1,8 @@
 //! Nodes that hold nodes.
 
 use crate::assertions::assert_same;
-use crate::csl_style_tests::notation::{branch, group, nested_nodes, put};
+use crate::csl_style_tests::notation::{branch, group, nested_nodes};
+use crate::shared::put;
 use csl_style::{Choose, ChooseMatch, LayoutRenderingElement};
 use std::alloc::Global;
 use std::mem::swap;

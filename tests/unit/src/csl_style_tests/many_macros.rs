@@ -1,7 +1,8 @@
 //! Styles of many macros, which are found by other means than those of a few.
 
 use crate::assertions::assert_of;
-use crate::csl_style_tests::notation::{alone, layout_of, put, text};
+use crate::csl_style_tests::notation::{layout_of, text};
+use crate::shared::{alone, put};
 use csl_style::{CslMacro, LayoutRenderingElement, Style, StyleSettings, TextTarget};
 use std::alloc::Global;
 use std::process::Abort;

@@ -1,9 +1,8 @@
 //! The first term that a layout asks for and that no locale of the style has.
 
 use crate::assertions::assert_of;
-use crate::csl_style_tests::notation::{
-    LocaleRows, SILENT, TermRow, alone, branch, layout_of, locales, put,
-};
+use crate::csl_style_tests::notation::{LocaleRows, SILENT, TermRow, branch, layout_of, locales};
+use crate::shared::{alone, put};
 use csl_style::{
     Choose, ChooseMatch, CslMacro, EtAl, Group, InheritableNameOptions, Label,
     LayoutRenderingElement, Locator, Name, NameAnd, NameVariable, Names, NamesChild,

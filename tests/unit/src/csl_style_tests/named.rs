@@ -2,8 +2,9 @@
 
 use crate::assertions::assert_text;
 use crate::csl_style_tests::notation::{
-    EMPTY, StyleRows, alone, branch, group, layout_of, names, names_or, put, style,
+    EMPTY, StyleRows, branch, group, layout_of, names, names_or, style,
 };
+use crate::shared::{alone, put};
 use csl_style::{
     Choose, ChooseBranch, ChooseMatch, Date, DateVariable, Kind, Label, Layout,
     LayoutRenderingElement, NameVariable, Named, Number, NumberOrPageVariable, NumberVariable,

@@ -1,5 +1,6 @@
 //! Styles and locales from a short notation.
 
+use crate::shared::{alone, put};
 use csl_style::{
     Choose, ChooseBranch, ChooseMatch, CslMacro, Date, DateForm, DateParts, GrammarGender, Group,
     Layout, LayoutRenderingElement, Locale, LongShortForm, NameVariable, Names, NamesChild,
@@ -44,18 +45,6 @@ pub(crate) const SILENT: LocaleRows<'static> = LocaleRows {
     punctuation_in_quote: false,
     limit_day_ordinals_to_day_1: false,
 };
-
-/// Appends an item.
-pub(crate) fn put<T: Drop>(rt: &impl Abort, items: &mut Vec<T>, item: T) {
-    items.push(item).expect(rt, "memory");
-}
-
-/// A list of one item.
-pub(crate) fn alone<T: Drop>(rt: &impl Abort, alloc: Global, item: T) -> Vec<T> {
-    let mut items = Vec::new(alloc);
-    put(rt, &mut items, item);
-    items
-}
 
 /// A copy of a text, if there is one.
 pub(crate) fn copy_text(rt: &impl Abort, alloc: Global, text: Option<&str>) -> Option<String> {

@@ -2,7 +2,8 @@
 
 use crate::assertions::assert_of;
 use crate::csl_style_tests::named::{choice, date_or_place_branch, numeric_book};
-use crate::csl_style_tests::notation::{EMPTY, StyleRows, alone, branch, layout_of, put, style};
+use crate::csl_style_tests::notation::{EMPTY, StyleRows, branch, layout_of, style};
+use crate::shared::{alone, put};
 use csl_style::{
     Choose, ChooseMatch, Date, DateForm, DatePart, DatePartName, DateVariable, Layout,
     LayoutRenderingElement, Locale, Style, StyleSettings, Text,

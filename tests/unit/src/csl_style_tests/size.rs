@@ -4,7 +4,8 @@ use crate::assertions::assert_of;
 use crate::csl_style_tests::named::{
     author_date, choice, date_or_place_branch, numeric_book, reference,
 };
-use crate::csl_style_tests::notation::{EMPTY, StyleRows, alone, layout_of, names, put, style};
+use crate::csl_style_tests::notation::{EMPTY, StyleRows, layout_of, names, style};
+use crate::shared::{alone, put};
 use csl_style::{
     Affixes, Date, DatePart, DatePartName, DateVariable, Formatting, Layout, Name, NamePart,
     NamePartName, NameVariable, Names, NamesChild, Scope, Style, Substitute, VariablelessLabel,

@@ -1,7 +1,8 @@
 //! Tests of a cite and of a bibliography entry, through `csl` alone.
 
 use crate::assertions::assert_text;
-use crate::csl_tests::lists::{alone, layout};
+use crate::csl_tests::lists::layout;
+use crate::shared::alone;
 use csl::literature::{Entry, EntryType};
 use csl::style::{Affixes, StandardVariable, StyleSettings, Text};
 use csl::{

@@ -1,7 +1,8 @@
 //! Tests of a context, its dry runs and its conditions, through `csl` alone.
 
 use crate::assertions::assert_same;
-use crate::csl_tests::lists::{alone, layout};
+use crate::csl_tests::lists::layout;
+use crate::shared::alone;
 use csl::context::{Context, Mark, RenderError};
 use csl::literature::{Entry, EntryType};
 use csl::render::{BranchConditionIter, RenderCsl, UsageInfo};

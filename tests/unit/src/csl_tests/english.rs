@@ -1,7 +1,7 @@
 //! Tests of the English locale: the ordinals, the dates and the settings.
 
 use crate::assertions::{assert_same, assert_text};
-use crate::csl_tests::lists::alone;
+use crate::shared::alone;
 use csl::style::{DateForm, Layout, StyleSettings};
 use csl::{Style, english};
 use std::alloc::Global;

@@ -1,6 +1,7 @@
 //! Copies are equal to their originals.
 
-use crate::csl_tree_tests::trees::{MIXED, alone, assert_tree, names, read};
+use crate::csl_tree_tests::trees::{MIXED, assert_tree, names, read};
+use crate::shared::alone;
 use csl_elements::NameVariable;
 use csl_tree::{ElemChild, ElemChildren, ElemMeta};
 use std::alloc::Global;

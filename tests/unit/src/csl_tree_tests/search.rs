@@ -1,6 +1,7 @@
 //! Searches in a tree, and removal from it.
 
-use crate::csl_tree_tests::trees::{alone, assert_tree, put, read, read_meta};
+use crate::csl_tree_tests::trees::{assert_tree, read, read_meta};
+use crate::shared::{alone, put};
 use csl_tree::{Elem, ElemChild, ElemChildren};
 use std::alloc::Global;
 use std::process::Abort;

@@ -1,6 +1,7 @@
 //! Rounds of simplification, and the normal form after the last one.
 
-use crate::csl_tree_tests::trees::{alone, assert_tree, read};
+use crate::csl_tree_tests::trees::{assert_tree, read};
+use crate::shared::alone;
 use csl_tree::{ElemChild, ElemChildren, simplify_children, simplify_fully};
 use std::alloc::Global;
 use std::process::Abort;

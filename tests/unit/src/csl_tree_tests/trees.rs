@@ -15,6 +15,7 @@
 //! its meta: `)block`, `):date`, `)block:entry`. A meta other than `date`, `label` and `entry` is
 //! the name of an author.
 
+use crate::shared::{alone, put};
 use csl_elements::{Display, FontStyle, NameVariable};
 use csl_tree::{Elem, ElemChild, ElemChildren, ElemMeta, Formatted, Formatting};
 use lit_model::Person;
@@ -24,18 +25,6 @@ use std::process::Abort;
 
 /// A block around a link, a markup, a place for a text of a cite, and a text of white space.
 pub const MIXED: &str = "( @/x|https://x.y/?a=1&b=2 $$m$ #7 ~ )block:entry";
-
-/// Appends an item.
-pub fn put<T: Drop>(rt: &impl Abort, items: &mut Vec<T>, item: T) {
-    items.push(item).expect(rt, "memory");
-}
-
-/// A list of one item.
-pub fn alone<T: Drop>(rt: &impl Abort, alloc: Global, item: T) -> Vec<T> {
-    let mut items = Vec::new(alloc);
-    put(rt, &mut items, item);
-    items
-}
 
 /// The text that a word describes.
 fn read_text(rt: &impl Abort, alloc: Global, word: &str) -> String {

@@ -1,6 +1,7 @@
 //! Entries by calls that chain. Each call sets its field and keeps the others.
 
-use crate::lit_model_tests::samples::{alone, person, text};
+use crate::lit_model_tests::samples::{person, text};
+use crate::shared::alone;
 use lit_model::{
     ChunkKind, Date, Entry, EntryType, FormatString, MaybeTyped, Numeric, PageRanges,
     PageRangesPart, Person, Publisher, QualifiedUrl, SerialNumber,

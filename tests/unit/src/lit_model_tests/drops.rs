@@ -1,6 +1,6 @@
 //! Entries of many levels drop. Recursion at each level would need more stack than a test has.
 
-use crate::lit_model_tests::samples::alone;
+use crate::shared::alone;
 use lit_model::{Entry, EntryType};
 use std::alloc::Global;
 use std::process::Abort;

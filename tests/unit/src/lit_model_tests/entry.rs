@@ -1,6 +1,7 @@
 //! Equality of entries.
 
-use crate::lit_model_tests::samples::{Shown, Work, entries, put};
+use crate::lit_model_tests::samples::{Shown, Work, entries};
+use crate::shared::put;
 use csl_laws::entry::same_entry;
 use lit_model::{Entry, EntryType};
 use std::alloc::Global;

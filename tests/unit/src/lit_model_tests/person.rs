@@ -1,7 +1,8 @@
 //! Persons: the parts of their names, and equality.
 
 use crate::assertions::assert_of;
-use crate::lit_model_tests::samples::{alone, assert_text, assert_whether, person};
+use crate::lit_model_tests::samples::{assert_text, assert_whether, person};
+use crate::shared::alone;
 use csl_laws::person::{have_one_hash, same_group, same_person, same_role};
 use lit_model::{Person, PersonRole, PersonsWithRoles};
 use std::alloc::Global;

@@ -1,6 +1,7 @@
 //! Whether persons are the same.
 
-use crate::lit_model_tests::samples::{assert_whether, person, put};
+use crate::lit_model_tests::samples::{assert_whether, person};
+use crate::shared::put;
 use lit_model::{Person, are_same_people};
 use std::alloc::Global;
 use std::process::Abort;

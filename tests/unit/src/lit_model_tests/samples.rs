@@ -1,23 +1,12 @@
 //! Samples for the tests, and assertions.
 
 use crate::assertions::assert_of;
+use crate::shared::put;
 use lit_model::{
     ChunkKind, ChunkedString, Date, Entry, EntryType, FormatString, Person, StringChunk,
 };
 use std::alloc::Global;
 use std::process::Abort;
-
-/// A list of one item.
-pub fn alone<T: Drop>(rt: &impl Abort, alloc: Global, item: T) -> Vec<T> {
-    let mut items = Vec::new(alloc);
-    put(rt, &mut items, item);
-    items
-}
-
-/// Appends an item to a list.
-pub fn put<T: Drop>(rt: &impl Abort, items: &mut Vec<T>, item: T) {
-    items.push(item).expect(rt, "memory");
-}
 
 /// A person with a name, and a given name if there is one.
 pub fn person(rt: &impl Abort, alloc: Global, name: &str, given: Option<&str>) -> Person {

@@ -1,7 +1,8 @@
 //! Selections from a work and its parents, and equality of clauses.
 
 use crate::assertions::{assert_of, assert_same};
-use crate::lit_model_tests::samples::{Shown, Work, alone, assert_text, entries, person, put};
+use crate::lit_model_tests::samples::{Shown, Work, assert_text, entries, person};
+use crate::shared::{alone, put};
 use csl_laws::select::same_clause;
 use lit_model::select::{audio_video, chapter, event, part, volume_title};
 use lit_model::{Bind, Clause, Entry, EntryType as Type, Field, PersonRole, PersonsWithRoles};
