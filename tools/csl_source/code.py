@@ -13,6 +13,13 @@ KEYWORDS = set(
     "super syntax trait true try type typeof union unsafe unsized use virtual where while yield".split())
 
 
+def shown(text):
+    """A text of a file as a terminal may have it, on one line: what has no shape, such as a control character, a line
+    feed or a turn of the direction of writing, is written by its number."""
+    hidden = {it for it in set(text) if unicodedata.category(it)[0] == "C" or unicodedata.category(it) in ("Zl", "Zp")}
+    return "".join(f"\\u{{{ord(it):x}}}" if it in hidden else it for it in text) if hidden else text
+
+
 def quoted(text):
     """A literal of a text. What has no shape of its own, such as a no-break space, is written by its number."""
     escapes = {"\\": r"\\", '"': r"\"", "\n": r"\n", "\r": r"\r", "\t": r"\t"}
@@ -40,11 +47,13 @@ def snake(text, instead):
 
 
 def unique(base, taken):
-    """A name that is not taken, and is from now on."""
-    name, count = base, 2
+    """A name that is not taken, and is from now on. `taken` has the names, each with the number that is tried next
+    where it is wanted again."""
+    name, count = base, taken.get(base, 2)
     while name in taken:
         name, count = f"{base.strip('_')}_{count}", count + 1
-    taken.add(name)
+    taken[base] = count
+    taken.setdefault(name, 2)
     return name
 
 
@@ -187,7 +196,7 @@ def function(name, result, steps, value, indent=0):
     found = [f"{space}fn {name}(alloc: Global{ends}"]
     if len(found[0]) > LINE:
         found = [f"{space}fn {name}(", f"{space}    alloc: Global,", f"{space}{ends}"]
-    taken = set()
+    taken = {}
     for local, it in steps:
         local.name = unique(local.base, taken)
         found += lines_of(f"let {local.name} = ", it, ";", indent + 4)

@@ -35,10 +35,11 @@ class Reader:
         self.parser = expat.ParserCreate(namespace_separator="}")
         self.parser.buffer_text = True
         self.parser.StartElementHandler = self.start
-        self.parser.EndElementHandler = lambda _: self.open.pop()
-        self.parser.CharacterDataHandler = self.text
+        self.parser.EndElementHandler = self.end
+        # (in pieces, where it is long)
+        self.parser.CharacterDataHandler = lambda text: self.texts.append(text)
         self.parser.StartDoctypeDeclHandler = self.refuse_document_type
-        self.root, self.open = None, []
+        self.root, self.open, self.texts = None, [], []
 
     def refuse_document_type(self, *_):
         raise Refused(f"{self.place()}: a document type is not allowed")
@@ -54,18 +55,26 @@ class Reader:
         node.place = self.place()
         if len(self.open) == DEEPEST:
             node.refuse(f"the elements are nested more than {DEEPEST} levels deep")
+        self.end_text()
         if self.open:
             self.open[-1].append(node)
         else:
             self.root = node
         self.open.append(node)
 
-    def text(self, text):
-        node = self.open[-1]
-        if len(node):
-            node[-1].tail = (node[-1].tail or "") + text
-        else:
-            node.text = (node.text or "") + text
+    def end(self, _):
+        self.end_text()
+        self.open.pop()
+
+    def end_text(self):
+        """Puts the text that ends here where it belongs: into the open element, or after the last one inside of it."""
+        if self.texts:
+            node, text = self.open[-1], "".join(self.texts)
+            self.texts.clear()
+            if len(node):
+                node[-1].tail = text
+            else:
+                node.text = text
 
 
 def document(path, name):

@@ -21,6 +21,16 @@ def variables(*enums):
     return {name: it for enum in enums for name, it in library.variants(enum).items()}
 
 
+def handed_down(names):
+    """The children that names hand down to names without any in their substitutes: the first of each sort, since no
+    other counts."""
+    first = {}
+    for it in names:
+        if it.name != "substitute":
+            first.setdefault(it.name, it)
+    return list(first.values())
+
+
 class Part:
     """A value of a style: the steps that build it, the last of which sets its variable, and what it is."""
 
@@ -60,10 +70,11 @@ class Elements:
     def gathered(self, parts):
         """The steps of parts, and what a list of them holds."""
         sizes, most = [it.lines() for it in parts], STEPS if len(parts) > 1 else ONE
-        items, calls = [it.value() for it in parts], {}
-        while sum(sizes) > most and max(sizes) > 2:
-            longest = sizes.index(max(sizes))
-            calls[longest], sizes[longest] = self.outlined(parts[longest]), 0
+        items, calls, lines = [it.value() for it in parts], {}, sum(sizes)
+        for place in sorted(range(len(parts)), key=lambda it: -sizes[it]):
+            if lines <= most or sizes[place] <= 2:
+                break
+            calls[place], lines = self.outlined(parts[place]), lines - sizes[place]
         steps = [step for place, it in enumerate(parts) if place not in calls for step in it.steps]
         return steps, [calls.get(place, it) for place, it in enumerate(items)]
 
@@ -255,7 +266,7 @@ class Elements:
 
     def names_children(self, node, around, is_direct):
         """The children of names. Names without any take those around them. The library does so itself only directly in a substitute."""
-        parts, left = [], self.left
+        parts, left, inside = [], self.left, handed_down(node)
         if not len(node):
             # (what is left out of them is counted already)
             self.left = collections.Counter()
@@ -263,7 +274,7 @@ class Elements:
             if child.name not in ("name", "et-al", "label", "substitute"):
                 child.refuse(f"`{child.name}` has no place in `names`")
             if child.name == "substitute":
-                parts.append(self.substitute(child, [it for it in node if it.name != "substitute"]))
+                parts.append(self.substitute(child, inside))
             else:
                 parts.append({"name": self.name, "et-al": self.et_al, "label": self.names_label}[child.name](child))
         self.left = left

@@ -96,7 +96,7 @@ class Locales:
     """Writes locales. Their dates are written by `elements`."""
 
     def __init__(self, elements):
-        self.elements, self.left, self.taken = elements, elements.left, set()
+        self.elements, self.left, self.taken = elements, elements.left, {}
         self.used, self.written = set(), []
 
     def of(self, locale, is_own, options):

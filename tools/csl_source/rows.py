@@ -4,7 +4,7 @@ from csl_source import library
 from csl_source.attributes import FORMATTING
 from csl_source.code import comment
 from csl_source.document import CS, LANGUAGE, Node, document
-from csl_source.elements import INSIDE
+from csl_source.elements import handed_down
 from csl_source.locales import OPTIONS, ORDINAL, locales_in_order, options_of
 from csl_source.styles import Style, plain
 
@@ -27,7 +27,8 @@ OWN = {
     "group": ("delimiter",),
 }
 TESTS = ("match", "disambiguate", "is-numeric", "is-uncertain-date", "locator", "position", "type", "variable")
-BREAKS = "line breaks in texts (written as spaces)"
+BREAKS = "line breaks and other control characters in texts (written as spaces)"
+CONTROL = re.compile("[\0-\x1f\x7f-\x9f\u2028\u2029]")
 LINE = 100
 
 
@@ -83,7 +84,8 @@ class Rows:
     def file(self):
         """The text of the file."""
         title, rights = (plain(self.root.findtext(f"{CS}info/{CS}{it}")) for it in ("title", "rights"))
-        found = comment(f"The style “{title}”. `tools/style --rows` wrote this from {os.path.basename(self.path)}.", 0, "#")
+        file = plain(os.path.basename(self.path))
+        found = comment(f"The style “{title}”. `tools/style --rows` wrote this from {file}.", 0, "#")
         found += comment(f"Rights: {rights}", 0, "#") if rights else []
         found += ["", *filled(f"base default-locale={self.language}", self.settings(), 2)]
         for it in [*self.own_locales(), *self.macros(), *self.layouts()]:
@@ -94,15 +96,15 @@ class Rows:
 
     def quoted(self, node, text):
         """A text in quotes. The notation has no escapes, but two sorts of quotes."""
-        if re.search(r"[\n\r\t]", text):
+        if CONTROL.search(text):
             self.left[BREAKS] += 1
-            text = re.sub(r"[\n\r\t]", " ", text)
+            text = CONTROL.sub(" ", text)
         if '"' in text and "'" in text:
             node.refuse(f"a text has both sorts of quotes: {text}")
         return f"'{text}'" if '"' in text else f'"{text}"'
 
     def attribute(self, node, name, value):
-        is_bare = value and not re.search(r"""[\s()"'=]""", value)
+        is_bare = value and not re.search(r"""[\s()"'=]""", value) and not CONTROL.search(value)
         return f"{name}={value if is_bare else self.quoted(node, value)}"
 
     def attributes(self, node, names):
@@ -171,10 +173,9 @@ class Rows:
         """Names. Without children they take those around them. The library does so itself only directly in a substitute."""
         form = self.dressed(node, Form(" ".join(["names", *self.words(node, "variable")])))
         inner = form.parts[0] if form.head == "group" else form
-        is_direct = is_direct and not self.is_split(node)
+        is_direct, others = is_direct and not self.is_split(node), handed_down(node)
         for child in list(node) or ([] if is_direct else around):
             if child.name == "substitute":
-                others = [it for it in node if it.name != "substitute"]
                 inner.parts.append(Form("substitute", [], self.nodes(child, around=others, is_direct=True)))
             else:
                 inner.parts.append({"name": self.name, "et-al": self.et_al, "label": self.label}[child.name](child))

@@ -45,15 +45,16 @@ def macros_of(style):
 
 def refuse_cycle(first, macros, done):
     """Follows the calls of a macro, and refuses one that leads back to itself. Of the macros in `done` none does."""
-    path, rest = [], [(first, True)]
+    path, rest = {}, [(first, True)]
     while rest:
         name, begins = rest.pop()
         if not begins:
-            done.add(path.pop())
+            done.add(name)
+            del path[name]
         elif name in path:
             macros[name].refuse(f"the macro `{name}` leads back to itself")
         elif name not in done:
-            path.append(name)
+            path[name] = True
             rest.append((name, False))
             rest += [(it.get("macro"), True) for it in macros[name].iter(f"{CS}text") if it.get("macro") is not None]
 
@@ -65,7 +66,7 @@ class Style:
         self.path, self.files, self.module, self.indent = path, files, module, 4 if module else 0
         self.left = collections.Counter()
         self.root = document(path, "style")
-        self.elements = Elements(self.left, {"style", "style_settings", *HELPERS}, self.indent)
+        self.elements = Elements(self.left, dict.fromkeys(["style", "style_settings", *HELPERS], 2), self.indent)
         self.locales = Locales(self.elements)
 
     def text(self):
@@ -90,7 +91,7 @@ class Style:
     def head(self):
         """What the file is, and the style's rights."""
         title, rights = (plain(self.root.findtext(f"{CS}info/{CS}{it}")) for it in ("title", "rights"))
-        files = " and ".join(os.path.basename(it) for it in [self.path, *(path for path, _ in self.files)])
+        files = " and ".join(plain(os.path.basename(it)) for it in [self.path, *(path for path, _ in self.files)])
         text = f"The style “{title}”, with its locale. `tools/style` wrote this from {files}: change the style there."
         lines = comment(text, self.indent, "//!")
         return [*lines, f"{' ' * self.indent}//!", *comment(f"Rights: {rights}", self.indent, "//!")] if rights else lines
