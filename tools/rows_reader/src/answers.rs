@@ -39,7 +39,7 @@ pub enum Question {
     Pair,
 }
 
-/// The lines that a row consists of. They are parsed for each question.
+/// The lines that a row consists of. All but those of the style are parsed for each question.
 #[derive(Clone, Copy)]
 pub struct Row<'r> {
     pub alloc: Global,
@@ -79,11 +79,10 @@ impl<'r> Row<'r> {
         entry(&Forms::read(self.alloc, line)?)
     }
 
-    /// The answer to a question.
-    pub fn answer(&self, question: Question) -> Result<String, Fault> {
+    /// The answer to a question in the style of the row.
+    pub fn answer(&self, style: &Style, question: Question) -> Result<String, Fault> {
         let forms = Forms::read(self.alloc, self.cite)?;
         let cite_props = properties(&forms)?;
-        let style = self.style()?;
         let work = self.work(self.entry)?;
         let scope = forms.choice("scope")?.unwrap_or(Scope::Citation);
         let mut words = String::new(self.alloc);
@@ -92,7 +91,7 @@ impl<'r> Row<'r> {
                 let start = start(&forms)?;
                 let scene = Scene {
                     alloc: self.alloc,
-                    style: &style,
+                    style,
                     cite: InstanceContext {
                         entry: &work,
                         cite_props: &cite_props,
@@ -108,7 +107,7 @@ impl<'r> Row<'r> {
             }
             None => {
                 forms.ensure_attributes(&[CITE])?;
-                let own = (&style, &work, &cite_props);
+                let own = (style, &work, &cite_props);
                 self.add_own_answer(&mut words, question, scope, own)?;
             }
         }

@@ -8,8 +8,8 @@ use crate::cite::properties;
 use crate::fault::Fault;
 use crate::form::Forms;
 use crate::names::Named;
-use csl::BufWriteFormat;
 use csl::style::Variable;
+use csl::{BufWriteFormat, Style};
 use std::alloc::Global;
 use std::mem;
 
@@ -26,6 +26,10 @@ pub struct Rows {
     entry: String,
     beside: String,
     cite: String,
+    /// The style of the base alone, once it is made.
+    style_of_base: Option<Style>,
+    /// The style of a row with a style line of its own, once it is made.
+    style_of_row: Option<Style>,
     /// The line that may continue, and its number.
     line: String,
     number: usize,
@@ -50,6 +54,8 @@ impl Rows {
             entry: String::new(alloc),
             beside: String::new(alloc),
             cite: String::new(alloc),
+            style_of_base: None,
+            style_of_row: None,
             line: String::new(alloc),
             number: 0,
             last: 0,
@@ -117,6 +123,7 @@ impl Rows {
     fn begin_file(&mut self, name: &str) -> Result<(), Fault> {
         self.last = 1;
         self.base.clear();
+        self.style_of_base = None;
         self.file.clear();
         Ok(self.file.push_str(name)?)
     }
@@ -130,6 +137,7 @@ impl Rows {
         };
         self.is_open = false;
         self.style.clear();
+        self.style_of_row = None;
         self.nodes.clear();
         self.entry.clear();
         self.beside.clear();
@@ -141,8 +149,8 @@ impl Rows {
         if !self.is_trial {
             return Err(Fault::Wrong("no line says what is wanted of the row that ends here"));
         }
-        let plain = self.row().answer(Question::Text(BufWriteFormat::Plain))?;
-        let html = self.row().answer(Question::Text(BufWriteFormat::Html))?;
+        let plain = self.answer(Question::Text(BufWriteFormat::Plain))?;
+        let html = self.answer(Question::Text(BufWriteFormat::Html))?;
         print_came(rt, self.file.as_str(), self.number, "plain", plain.as_str())?;
         print_came(rt, self.file.as_str(), self.number, "html", html.as_str())
     }
@@ -163,14 +171,47 @@ impl Rows {
         let is_whole = matches!(word, "layout" | "node" | "beside");
         kept.push_str(if is_whole { line } else { rest })?;
         self.is_open = word != "base";
+        if matches!(word, "base" | "style") {
+            self.style_of_row = None;
+            if word == "base" {
+                self.style_of_base = None;
+            }
+            return self.make_style();
+        }
         let row = self.row();
         match word {
-            "base" | "style" => drop(row.style()?),
             "entry" | "beside" => drop(row.work(rest)?),
             "cite" => drop(properties(&Forms::read(self.alloc, rest)?)?),
             _ => drop(row.element()?),
         }
         Ok(())
+    }
+
+    /// Makes the style of the row, unless its lines have made it already.
+    fn make_style(&mut self) -> Result<(), Fault> {
+        if !self.style.is_empty() {
+            if self.style_of_row.is_none() {
+                self.style_of_row = Some(self.row().style()?);
+            }
+        } else if self.style_of_base.is_none() {
+            self.style_of_base = Some(self.row().style()?);
+        }
+        Ok(())
+    }
+
+    /// The answer of the row to a question.
+    fn answer(&mut self, question: Question) -> Result<String, Fault> {
+        self.make_style()?;
+        let is_own = !self.style.is_empty();
+        let made = if is_own {
+            &self.style_of_row
+        } else {
+            &self.style_of_base
+        };
+        match made {
+            Some(style) => self.row().answer(style, question),
+            None => Err(Fault::Wrong("there is no style")),
+        }
     }
 
     /// Compares the answer of the row with what is wanted.
@@ -182,7 +223,7 @@ impl Rows {
         wanted: &str,
     ) -> Result<(), Fault> {
         self.is_open = false;
-        let answer = self.row().answer(question)?;
+        let answer = self.answer(question)?;
         self.rows = self.rows.saturating_add(1);
         if answer.as_str() == wanted {
             self.as_wanted = self.as_wanted.saturating_add(1);
