@@ -138,18 +138,18 @@ fn left_after_choose(style: &Style, choose: &Choose, room: u64) -> Option<u64>
 }
 
 impl Style {
-    /// Whether one rendering of a layout goes through at most `size` nodes, in a layout that has with
-    /// all macros expanded at most the size `all` and the depth `depth`.
+    /// Whether a layout with all macros expanded has at most the size `all` and the depth `depth`, as
+    /// in [`Style::expanded_within`], and one rendering goes through at most `size` of it.
     ///
-    /// `all` and `depth` count as in [`Style::expanded_within`]. `size` counts the same way, except
-    /// that of a choose only the most expensive way through its branches counts, since one branch at
-    /// most is rendered, and that a localized date counts the parts of the style's date of its form
-    /// too.
+    /// A rendering takes one branch of a choose, so of its branches only the largest way through
+    /// counts: the tests up to a branch, and the nodes of that branch. A localized date counts the
+    /// parts of the style's date of its form too.
     ///
-    /// Check this before you render with a style from a stranger. The function allocates nothing.
-    /// Its number of steps grows with the smaller of the size of the layout and `all`, and its stack
-    /// with the smaller of the depth and its limit. `all` bounds the steps because forty macros that
-    /// each call the next in two branches have a small rendered size, but a size above 2^40.
+    /// Check this before you render with a style from a stranger. It does not count persons, texts,
+    /// ordinals, and each et-al and label of names: limit the entry and the style's file too. The
+    /// function allocates nothing. Its number of steps grows with the smaller of the size of the
+    /// layout and `all`, and its stack with the smaller of the depth and its limit. Forty macros that
+    /// each call the next in two branches have a small `size`, but `all` has to be above 2^40.
     pub fn rendered_within(&self, layout: &Layout, size: u64, all: u64, depth: usize) -> bool
         ensures within { IsTrue result → (rendered_size self.now.locales
             (expand_layout (macro_env self.now) (view_layout layout.now)) ≤ size)

@@ -201,9 +201,9 @@ impl Style {
     /// of a test, and each variable, each `cs:name` and each `cs:name-part` of a names node.
     ///
     /// Within a limit of depth, the time and memory of a rendering are bounded by this size times
-    /// what the entry, the texts of the style and its locales hold. Forty macros that each call the
-    /// next twice have a size above 2^40. The function allocates nothing. Its number of steps grows
-    /// with the smaller of the size and `most`, and so does its stack.
+    /// what the entry, the texts of the style, its locales and its names nodes hold. Forty macros
+    /// that each call the next twice have a size above 2^40. The function allocates nothing. Its
+    /// number of steps grows with the smaller of the size and `most`, and so does its stack.
     /// [`Style::expanded_within`] limits the stack too.
     pub fn expanded_size(&self, layout: &Layout, most: u64) -> Option<u64>
         ensures some { IfSome result (λ size. (size
@@ -219,9 +219,9 @@ impl Style {
     /// Whether a layout with all macros expanded has at most this size and this depth, as
     /// [`Style::expanded_size`] and [`Style::expanded_depth`] count them.
     ///
-    /// Check this before you render with a style from a stranger. The function allocates nothing.
-    /// Its number of steps grows with the smaller of the size and its limit, and its stack with the
-    /// smaller of the depth and its limit.
+    /// The function allocates nothing. Its number of steps grows with the smaller of the size and its
+    /// limit, and its stack with the smaller of the depth and its limit. [`Style::rendered_within`]
+    /// limits what one rendering takes of this size too.
     pub fn expanded_within(&self, layout: &Layout, size: u64, depth: usize) -> bool
         ensures within { IsTrue result
             → (layout_size (expand_layout (macro_env self.now) (view_layout layout.now)) ≤ size)
