@@ -50,13 +50,13 @@ def goal_at(file: str, line: int) -> str:
 class Edit:
     """An edit of a crate: its pairs of old and new texts, by file, the functions that they change, and the cycles of calls of these.
 
-    After a check of these functions `open` is an open goal of one of them, and `is_proved` tells whether it left none and proved those that are
-    in no cycle."""
+    After a check of these functions `open` is an open goal of one of them, `fault` says why the check could not read the edit, and `is_proved`
+    tells whether it left no goal open and proved those functions that are in no cycle."""
 
     def __init__(self, name: str, file: str):
         self.name, self.file, self.label = name, file, file.removeprefix(f"{TOP}/")
         self.pairs: list[tuple[str, str, str]] = []
-        self.open, self.is_proved = "", False
+        self.open, self.fault, self.is_proved = "", "", False
         with open(file, encoding="utf-8") as text:
             for line in text.read().split("\n"):
                 word, _, rest = line.partition(":")
@@ -132,6 +132,7 @@ def read_check(folder: str, edits: list[Edit], texts: dict[str, str], said: str)
             is_own_goal = not is_shared or any(f"::{name}::{goal}".endswith(f"::{it}") for it in edit.functions)
             if is_own or any(f"/+{it}/" in file and is_own_goal for it in edit.cycles):
                 if not is_proof:
+                    edit.fault = f"{file}:{line}: {error}"
                     unread.append(edit)
                 elif not re.search(LOST_NAME, error):
                     edit.open = edit.open or f"{file}:{line}: {error}"
@@ -145,4 +146,8 @@ def read_check(folder: str, edits: list[Edit], texts: dict[str, str], said: str)
     for edit in edits:
         is_told = all(any(f"::{it}".endswith(f"::{function}") for it in proved) for function in edit.functions)
         edit.is_proved = bool(is_ended) and not edit.open and (is_told or bool(edit.cycles))
-    return unread if unread or is_ended else edits
+    if not unread and not is_ended:
+        for edit in edits:
+            edit.fault = said.strip().rpartition("\n")[2]
+        return edits
+    return unread
