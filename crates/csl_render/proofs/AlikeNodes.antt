@@ -172,7 +172,7 @@ module _ (a b : Answers) where
     all_looked_alike s [] = refl
     all_looked_alike s (x ∷ vs) = all_looked_alike (state_after_resolve (variable.Name x) s) vs
 
-    lists_state_alike : (s : State) (vs : List NameVariable) → lists_state v s vs ≡ lists_state u s vs
+    pub lists_state_alike : (s : State) (vs : List NameVariable) → lists_state v s vs ≡ lists_state u s vs
     lists_state_alike s vs = ap (λ t. if may_merge w.style vs then state_after_resolve (variable.Name Translator) (state_after_resolve (variable.Name Editor) s) else t) (all_looked_alike s vs)
 
     -- the variables of lists that may merge are the editors and the translators
@@ -244,7 +244,7 @@ module _ (a b : Answers) where
       each_if_alike None h = refl
       each_if_alike (Some xs) h = each_alike xs h
 
-    holds_alike : (s : State) (ts : Tests) → SameNamedAnswers (named_in_tests ts) a b → branch_matches v s ts ≡ branch_matches u s ts
+    pub holds_alike : (s : State) (ts : Tests) → SameNamedAnswers (named_in_tests ts) a b → branch_matches v s ts ≡ branch_matches u s ts
     unfolding branch_matches
     holds_alike s ts h =
         let past_numbers = on_right _ _ h in

@@ -1,10 +1,26 @@
 -- The laws of rendering, over the definitions of `specs/`, proved for every input. The contracts
 -- state what the code does by the same definitions.
+use Rattle.std.proofs.Common.{◌≡◌, false, None, Some, ap}
+use Rattle.csl_elements.specs.NamedSet.{a_variable}
+use Rattle.csl_elements.specs.Node.{expand_layout}
+use Rattle.csl_elements.specs.View.{view_layout}
+use Rattle.csl_style.specs.declared.style.settings.Scope.TheVariants.{Citation}
+use Rattle.csl_style.specs.Expanded.{macro_env}
+use Rattle.csl_style.specs.Style.{StyleParts}
+use Rattle.csl_entry.specs.Alike.{SameNamedAnswers}
+use Rattle.csl_entry.specs.Answers.{Answers}
+use Rattle.csl_entry.specs.Cite.{CiteState}
+use Rattle.csl_entry.specs.declared.citation.cite.SpecialForm.{SpecialForm}
+use Rattle.csl_entry.specs.declared.citation.cite.SpecialForm.TheVariants.{SuppressAuthor}
 use Rattle.csl_entry.specs.Snapshot.{snapshot_of, kept_in}
-use Rattle.csl_entry.proofs.Kept.{alike_of}
-use Rattle.csl_context.specs.ContextView.{initial_state}
-use Rattle.csl_render.specs.Laws.{AlikeEntriesRenderAlike, RenderingKeepsState, SnapshotsRenderAlike, AnswersDecide}
+use Rattle.csl_entry.proofs.Kept.{alike_of, same_named}
+use Rattle.csl_context.specs.ContextView.{initial_state, base_inherited}
+use Rattle.csl_render.specs.CiteContent.{special_cite, whole_cite, named_by, AgreeButForAuthors}
+use Rattle.csl_render.specs.Laws.{AlikeEntriesRenderAlike, RenderingKeepsState, SnapshotsRenderAlike, AnswersDecide, EqualSnapshotsCiteAlike, SuppressedAuthorsAreSilent}
+use Rattle.csl_render.specs.Names.{author}
 use Rattle.csl_render.specs.PairOutput.{cite_input}
+use Rattle.csl_render.specs.Tested.{tested_by}
+use Rattle.csl_render.proofs.AuthorSilent.{author_silent}
 use Rattle.csl_render.proofs.AlikeNodes.{layout_alike}
 use Rattle.csl_render.proofs.Pairs.{printed_alike}
 use Rattle.csl_render.proofs.KeepsNodes as keeps
@@ -27,3 +43,23 @@ snapshots_render_alike w l named a within inherited s =
 pub answers_decide : AnswersDecide
 answers_decide style scope cite sorting special layout a b alike =
     printed_alike initial_state (cite_input style scope cite sorting special a) layout a b alike
+
+pub equal_snapshots_cite_alike : EqualSnapshotsCiteAlike
+equal_snapshots_cite_alike style scope cite sorting special layout named a b within equal =
+    answers_decide style scope cite sorting special layout a b (λ item h. same_named named a b equal item (within item h))
+
+pub suppressed_authors_are_silent : SuppressedAuthorsAreSilent
+suppressed_authors_are_silent w l a b special untested alike inherited s = author_silent l a b alike w special untested inherited s
+
+-- The same of a cite in that form.
+pub untold_author : (style : StyleParts) (cite : CiteState) (form : SpecialForm) (a b : Answers) → form ≡ SuppressAuthor → tested_by style style.citation (a_variable author) ≡ false
+    → AgreeButForAuthors (named_by style style.citation) a b → special_cite style cite form a ≡ special_cite style cite form b
+untold_author style cite form a b is untested alike =
+    author_silent (expand_layout (macro_env style) (view_layout style.citation)) a b alike (cite_input style Citation cite None (Some form) a) (ap (λ (f : SpecialForm). Some f) is) untested (base_inherited style Citation) initial_state
+
+-- The same of a whole cite by the citation layout, and of one in a special form.
+pub whole_cite_decided : (style : StyleParts) (cite : CiteState) (a b : Answers) → SameNamedAnswers (named_by style style.citation) a b → whole_cite style Citation cite a style.citation ≡ whole_cite style Citation cite b style.citation
+whole_cite_decided style cite a b alike = answers_decide style Citation cite None None style.citation a b alike
+
+pub special_cite_decided : (style : StyleParts) (cite : CiteState) (form : SpecialForm) (a b : Answers) → SameNamedAnswers (named_by style style.citation) a b → special_cite style cite form a ≡ special_cite style cite form b
+special_cite_decided style cite form a b alike = answers_decide style Citation cite None (Some form) style.citation a b alike

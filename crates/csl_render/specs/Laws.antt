@@ -1,13 +1,11 @@
 -- The laws of rendering, over the definitions of `Tree` and `Rendering`. Each holds for every input,
 -- and `proofs/Theorems.antt` proves it. The first two are clauses of `render_pair`.
-use Rattle.std.specs.Prelude.{◌≡◌, true, Option}
+use Rattle.std.specs.Prelude.{◌≡◌, true, false, Option, Some}
 use Rattle.csl_elements.specs.declared.element.Layout.{Layout}
 use Rattle.csl_elements.specs.declared.named.Named.{Named}
-use Rattle.csl_elements.specs.NamedSet.{NamedItem, named_set}
-use Rattle.csl_elements.specs.Node.{ExpandedLayout, expand_layout}
-use Rattle.csl_elements.specs.View.{view_layout}
+use Rattle.csl_elements.specs.NamedSet.{NamedItem, a_variable, named_set}
+use Rattle.csl_elements.specs.Node.{ExpandedLayout}
 use Rattle.csl_style.specs.declared.style.settings.Scope.{Scope}
-use Rattle.csl_style.specs.Expanded.{macro_env}
 use Rattle.csl_style.specs.Named.{named_in_nodes}
 use Rattle.csl_style.specs.Style.{StyleParts}
 use Rattle.csl_entry.specs.Alike.{SameNamedAnswers}
@@ -15,13 +13,16 @@ use Rattle.csl_entry.specs.Answers.{Answers}
 use Rattle.csl_entry.specs.Cite.{CiteState}
 use Rattle.csl_entry.specs.declared.citation.cite.Sorting.{Sorting}
 use Rattle.csl_entry.specs.declared.citation.cite.SpecialForm.{SpecialForm}
+use Rattle.csl_entry.specs.declared.citation.cite.SpecialForm.TheVariants.{SuppressAuthor}
 use Rattle.csl_entry.specs.Snapshot.{snapshot_of, kept_in}
 use Rattle.csl_context.specs.RenderInput.{RenderInput}
 use Rattle.csl_context.specs.State.{Inherited, State}
-use Rattle.csl_render.specs.CiteContent.{new_cite}
+use Rattle.csl_render.specs.CiteContent.{new_cite, named_by, AgreeButForAuthors}
 use Rattle.csl_render.specs.Keeps.{Keeps}
+use Rattle.csl_render.specs.Names.{author}
 use Rattle.csl_render.specs.PairOutput.{with_answers}
 use Rattle.csl_render.specs.Rendering.{Renderable, output_in}
+use Rattle.csl_render.specs.Tested.{tested_in_nodes}
 use Rattle.csl_render.specs.Tree.{layout_output}
 
 -- Entries that answer alike on what a layout names have equal contents and states by it.
@@ -44,5 +45,18 @@ SnapshotsRenderAlike = (w : RenderInput) (l : ExpandedLayout) (named : Named) (a
 -- names have equal cites by it, in content and in the state left.
 abbrev pub AnswersDecide : Type 0
 AnswersDecide = (style : StyleParts) (scope : Scope) (cite : CiteState) (sorting : Option Sorting) (special : Option SpecialForm) (layout : Layout) (a b : Answers)
-    → SameNamedAnswers (named_in_nodes (expand_layout (macro_env style) (view_layout layout)).elements) a b
-    → new_cite style scope cite sorting special a layout ≡ new_cite style scope cite sorting special b layout
+    → SameNamedAnswers (named_by style layout) a b → new_cite style scope cite sorting special a layout ≡ new_cite style scope cite sorting special b layout
+
+-- Two entries whose snapshots by one set are equal have equal cites by each layout that names no
+-- more than the set.
+abbrev pub EqualSnapshotsCiteAlike : Type 0
+EqualSnapshotsCiteAlike = (style : StyleParts) (scope : Scope) (cite : CiteState) (sorting : Option Sorting) (special : Option SpecialForm) (layout : Layout) (named : Named) (a b : Answers)
+    → ((item : NamedItem) → named_by style layout item ≡ true → named_set named item ≡ true)
+    → snapshot_of named a ≡ snapshot_of named b → new_cite style scope cite sorting special a layout ≡ new_cite style scope cite sorting special b layout
+
+-- A cite that suppresses its author does not tell it: by a layout in which no test of a branch names
+-- the author, two entries that answer alike on all else that it names have equal contents and states.
+abbrev pub SuppressedAuthorsAreSilent : Type 0
+SuppressedAuthorsAreSilent = (w : RenderInput) (l : ExpandedLayout) (a b : Answers) → w.instance.special ≡ Some SuppressAuthor → tested_in_nodes l.elements (a_variable author) ≡ false
+    → AgreeButForAuthors (named_in_nodes l.elements) a b
+    → (inherited : Inherited) (s : State) → layout_output (with_answers a w) l inherited s ≡ layout_output (with_answers b w) l inherited s

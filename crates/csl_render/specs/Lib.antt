@@ -10,4 +10,5 @@ pub mod Rendering
 pub mod PairOutput
 pub mod Keeps
 pub mod CiteContent
+pub mod Tested
 pub mod Laws

@@ -1,17 +1,22 @@
 //! Renders an entry, or two entries, by the layouts of a style.
 
-ghost use Rattle.std.specs.Prelude.{◌≡◌, true, IfOk, IfErr, option_map, string_bytes};
+ghost use Rattle.std.specs.Prelude.{◌≡◌, true, false, Some, IfOk, IfErr, IfSome, option_map, string_bytes};
 ghost use Rattle.std.specs.Bool.{Decides};
 ghost use Rattle.csl_style.specs.declared.style.settings.Scope.TheVariants as scopes;
 ghost use Rattle.csl_style.specs.Named.{named_in_nodes};
+ghost use Rattle.csl_elements.specs.NamedSet.{a_variable};
 ghost use Rattle.csl_elements.specs.Node.{expand_layout};
 ghost use Rattle.csl_elements.specs.View.{view_layout};
 ghost use Rattle.csl_style.specs.Expanded.{macro_env};
 ghost use Rattle.csl_entry.specs.Alike.{SameNamedAnswers};
+ghost use Rattle.csl_entry.specs.Answers.{Answers};
 ghost use Rattle.csl_entry.specs.Cite.{cite_state};
+ghost use Rattle.csl_entry.specs.declared.citation.cite.SpecialForm.TheVariants as special_forms;
 ghost use Rattle.csl_context.specs.LeftState.{left_state_view};
-ghost use Rattle.csl_render.specs.CiteContent.{new_cite, sort_key_text, special_cite, whole_cite};
+ghost use Rattle.csl_render.specs.CiteContent.{new_cite, sort_key_text, special_cite, whole_cite, named_by, HoldsForAlike, AgreeButForAuthors};
+ghost use Rattle.csl_render.specs.Names.{author};
 ghost use Rattle.csl_render.specs.PairOutput.{cite_input, layout_output_from, output_of, Prints, PrintsSame};
+ghost use Rattle.csl_render.specs.Tested.{tested_by};
 
 use crate::pair::{Pair, render_pair};
 use crate::render::RenderCsl;
@@ -73,6 +78,7 @@ fn render_new<T: EntryLike>(
 ///
 /// # Errors
 /// [`RenderError::Memory`]: out of memory, here or in the entry.
+#[tactic(auto, using(crate::proofs::Theorems::whole_cite_decided))]
 pub fn cite<T: EntryLike>(
     alloc: Global,
     style: &Style,
@@ -81,6 +87,10 @@ pub fn cite<T: EntryLike>(
 ) -> Result<Rendered, RenderError>
     ensures ok { IfOk result (λ r. output_of r ≡ whole_cite style.now scopes.Citation
         (cite_state cite_props.now) (T.answers entry.now) style.now.citation) }
+    // Entries of any type that answer alike on what the layout names have the same cite.
+    ensures decided { HoldsForAlike (named_by style.now style.now.citation) (T.answers entry.now)
+        (λ others. IfOk result (λ r. output_of r ≡ whole_cite style.now scopes.Citation
+        (cite_state cite_props.now) others style.now.citation)) }
     ensures err { IfErr result (λ e. e ≡ RenderError.Memory) }
 {
     let layout = style.citation();
@@ -102,6 +112,7 @@ pub fn cite<T: EntryLike>(
 ///
 /// # Errors
 /// [`RenderError::Memory`]: out of memory, here or in the entry.
+#[tactic(auto, using(crate::proofs::Theorems::special_cite_decided, crate::proofs::Theorems::untold_author))]
 pub fn cite_in<T: EntryLike>(
     alloc: Global,
     style: &Style,
@@ -111,6 +122,16 @@ pub fn cite_in<T: EntryLike>(
 ) -> Result<Rendered, RenderError>
     ensures ok { IfOk result (λ r. output_of r ≡ special_cite style.now (cite_state cite_props.now)
         form (T.answers entry.now)) }
+    // Entries of any type that answer alike on what the layout names have the same cite.
+    ensures decided { HoldsForAlike (named_by style.now style.now.citation) (T.answers entry.now)
+        (λ others. IfOk result (λ r. output_of r ≡ special_cite style.now
+        (cite_state cite_props.now) form others)) }
+    // Without its authors it tells nothing of them, unless a test of a branch names them.
+    ensures silent { form ≡ special_forms.SuppressAuthor
+        → tested_by style.now style.now.citation (a_variable author) ≡ false → (others : Answers)
+        → AgreeButForAuthors (named_by style.now style.now.citation) (T.answers entry.now) others
+        → IfOk result (λ r. output_of r ≡ special_cite style.now (cite_state cite_props.now) form
+        others) }
     ensures err { IfErr result (λ e. e ≡ RenderError.Memory) }
 {
     let (layout, scope) = (style.citation(), Scope::Citation);
@@ -141,6 +162,11 @@ pub fn bibliography_entry<T: EntryLike>(
     ensures ok { IfOk result (λ found. option_map output_of found
         ≡ option_map (whole_cite style.now scopes.Bibliography (cite_state cite_props.now)
         (T.answers entry.now)) style.now.bibliography) }
+    // Entries of any type that answer alike on what the layout names have the same.
+    ensures decided { IfSome style.now.bibliography (λ layout. HoldsForAlike
+        (named_by style.now layout) (T.answers entry.now) (λ others. IfOk result (λ found.
+        option_map output_of found ≡ Some (whole_cite style.now scopes.Bibliography
+        (cite_state cite_props.now) others layout)))) }
     ensures err { IfErr result (λ e. e ≡ RenderError.Memory) }
 {
     let Some(layout) = style.bibliography() else {

@@ -22,7 +22,7 @@ use Rattle.csl.specs.Entry.Snapshot.{kept_in, snapshot_answers}
 use Rattle.csl.specs.Entry.contracts.snapshot.SnapshotPartialEq.TheImpl.{eq-value}
 use Rattle.csl.specs.Entry.declared.snapshot.Snapshot.{Snapshot}
 use Rattle.csl.specs.Render.CiteContent.{whole_cite}
-use Rattle.csl.proofs.Snapshots.{alike_cites, snapshots_decide}
+use Rattle.csl.proofs.Snapshots.{answers_decide, snapshots_decide}
 use Rattle.csl_uses.specs.List.{line_html, NamedByBibliography, AreLines}
 
 -- the line by this layout, if there is one
@@ -32,7 +32,7 @@ html_by style a layout = text_in_format Html (whole_cite style Bibliography (fir
 module _ (style : StyleParts) (named : Named) (a b : Answers) (alike : SameNamedAnswers (named_set named) a b) (names : NamedByBibliography style named) where
   alike_by : (layout : Option Layout) → style.bibliography ≡ layout → unwrap_or (option_map (html_by style a) layout) [] ≡ unwrap_or (option_map (html_by style b) layout) []
   alike_by None is = refl
-  alike_by (Some layout) is = ap (λ m. text_in_format Html m.content) (alike_cites style Bibliography (first_cite no_disambiguation) None None layout a b (subst (λ ns. SameNamedAnswers ns a b) (names layout is) alike))
+  alike_by (Some layout) is = ap (λ m. text_in_format Html m.content) (answers_decide style Bibliography (first_cite no_disambiguation) None None layout a b (subst (λ ns. SameNamedAnswers ns a b) (names layout is) alike))
 
   pub alike_lines : line_html style a ≡ line_html style b
   alike_lines = alike_by style.bibliography refl
