@@ -16,12 +16,11 @@ use Rattle.csl_entry.specs.Snapshot.{snapshot_of, kept_in}
 use Rattle.csl_entry.proofs.Kept.{alike_of, same_named}
 use Rattle.csl_context.specs.ContextView.{initial_state, base_inherited}
 use Rattle.csl_render.specs.CiteContent.{special_cite, whole_cite, named_by, AgreeButForAuthors}
-use Rattle.csl_render.specs.Laws.{AlikeEntriesRenderAlike, RenderingKeepsState, SnapshotsRenderAlike, AnswersDecide, EqualSnapshotsCiteAlike, SuppressedAuthorsAreSilent, SilentNodesAreEmpty}
+use Rattle.csl_render.specs.Laws.{AlikeEntriesRenderAlike, RenderingKeepsState, SnapshotsRenderAlike, AnswersDecide, EqualSnapshotsCiteAlike, SuppressedAuthorsAreSilent}
 use Rattle.csl_render.specs.Names.{author}
 use Rattle.csl_render.specs.PairOutput.{cite_input}
 use Rattle.csl_render.specs.Tested.{tested_by}
 use Rattle.csl_render.proofs.AuthorSilent.{author_silent}
-use Rattle.csl_render.proofs.StaysNodes.{silent_is_empty}
 use Rattle.csl_render.proofs.AlikeNodes.{layout_alike}
 use Rattle.csl_render.proofs.Pairs.{printed_alike}
 use Rattle.csl_render.proofs.KeepsNodes as keeps
@@ -64,6 +63,3 @@ whole_cite_decided style cite a b alike = answers_decide style Citation cite Non
 
 pub special_cite_decided : (style : StyleParts) (cite : CiteState) (form : SpecialForm) (a b : Answers) → SameNamedAnswers (named_by style style.citation) a b → special_cite style cite form a ≡ special_cite style cite form b
 special_cite_decided style cite form a b alike = answers_decide style Citation cite None (Some form) style.citation a b alike
-
-pub silent_nodes_are_empty : SilentNodesAreEmpty
-silent_nodes_are_empty w plain f inherited s ordinary silent = silent_is_empty w plain f inherited s ordinary silent

@@ -1,10 +1,10 @@
 -- The laws of rendering, over the definitions of `Tree` and `Rendering`. Each holds for every input,
 -- and `proofs/Theorems.antt` proves it. The first two are clauses of `render_pair`.
-use Rattle.std.specs.Prelude.{◌≡◌, true, false, [], Option, Some}
+use Rattle.std.specs.Prelude.{◌≡◌, true, false, Option, Some}
 use Rattle.csl_elements.specs.declared.element.Layout.{Layout}
 use Rattle.csl_elements.specs.declared.named.Named.{Named}
 use Rattle.csl_elements.specs.NamedSet.{NamedItem, a_variable, named_set}
-use Rattle.csl_elements.specs.Node.{ExpandedNode, ExpandedLayout}
+use Rattle.csl_elements.specs.Node.{ExpandedLayout}
 use Rattle.csl_style.specs.declared.style.settings.Scope.{Scope}
 use Rattle.csl_style.specs.Named.{named_in_nodes}
 use Rattle.csl_style.specs.Style.{StyleParts}
@@ -20,11 +20,10 @@ use Rattle.csl_context.specs.State.{Inherited, State}
 use Rattle.csl_render.specs.CiteContent.{new_cite, named_by, AgreeButForAuthors}
 use Rattle.csl_render.specs.Keeps.{Keeps}
 use Rattle.csl_render.specs.Names.{author}
-use Rattle.csl_render.specs.Ordinary.{IsPlain, IsOrdinary}
 use Rattle.csl_render.specs.PairOutput.{with_answers}
 use Rattle.csl_render.specs.Rendering.{Renderable, output_in}
 use Rattle.csl_render.specs.Tested.{tested_in_nodes}
-use Rattle.csl_render.specs.Tree.{info, node_output, layout_output}
+use Rattle.csl_render.specs.Tree.{layout_output}
 
 -- Entries that answer alike on what a layout names have equal contents and states by it.
 abbrev pub AlikeEntriesRenderAlike : Type 0
@@ -61,9 +60,3 @@ abbrev pub SuppressedAuthorsAreSilent : Type 0
 SuppressedAuthorsAreSilent = (w : RenderInput) (l : ExpandedLayout) (a b : Answers) → w.instance.special ≡ Some SuppressAuthor → tested_in_nodes l.elements (a_variable author) ≡ false
     → AgreeButForAuthors (named_in_nodes l.elements) a b
     → (inherited : Inherited) (s : State) → layout_output (with_answers a w) l inherited s ≡ layout_output (with_answers b w) l inherited s
-
--- What a dry run calls silent is silent: in a plain cite, an ordinary node that does not print has no
--- content.
-abbrev pub SilentNodesAreEmpty : Type 0
-SilentNodesAreEmpty = (w : RenderInput) → IsPlain w.instance → (f : ExpandedNode) (inherited : Inherited) (s : State) → IsOrdinary f
-    → (info w s f).prints ≡ false → (node_output w f inherited s).content ≡ []

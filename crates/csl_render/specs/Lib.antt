@@ -11,5 +11,4 @@ pub mod PairOutput
 pub mod Keeps
 pub mod CiteContent
 pub mod Tested
-pub mod Ordinary
 pub mod Laws
