@@ -14,7 +14,8 @@ def edits_in(folder: str) -> list[str]:
 
 
 def owner(head: str) -> str:
-    """The name that rt gives to the block of an `impl` or `trait` line: NumericPut for `impl Put for Numeric {`."""
+    """The name that rt gives to the block of an `impl` or `trait` line: NumericPut for `impl Put for Numeric {`, AnyPut for
+    `impl<T: Number> Put for T {`."""
     split = re.match(r"(?:pub )?(?:impl|trait)(<(?:[^<>]|<[^<>]*>)*>)? (?:(\S.*) for )?([^{]*)", head)
     own = set(re.findall(r"\w+", split[1] or ""))
 
@@ -22,7 +23,7 @@ def owner(head: str) -> str:
         last = re.sub(r"'\w+|\w+::", "", of or "")
         return between.join(it for it in re.findall(r"\w+", last.split(":")[0]) if it not in own and it != "_")
 
-    return words(split[3], "+") + words(split[2], "")
+    return ("Any" if split[3].strip() in own else words(split[3], "+")) + words(split[2], "")
 
 
 def function_at(name: str, file: str, text: str, at: int) -> tuple[str, str]:
@@ -136,6 +137,13 @@ def read_check(folder: str, edits: list[Edit], texts: dict[str, str], said: str)
                     unread.append(edit)
                 elif not re.search(LOST_NAME, error):
                     edit.open = edit.open or f"{file}:{line}: {error}"
+    # In a cycle a goal without an answer is told in a note, at its place in the source.
+    for file, line, goal in re.findall(r"^note: (?:\./)?(src/\S+?):(\d+):\d+: it is not proved that (.*)", said, re.M):
+        text = texts.get(file, "")
+        place = function_at(name, file, text, len("\n".join(text.split("\n")[: int(line)])))[0]
+        for edit in edits:
+            if place and any(f"::{place}".endswith(f"::{it}") for it in edit.functions):
+                edit.open = edit.open or f"{file}:{line}: {goal}"
     # Errors of a function without a proof file. A closure is named below its function, with a part `fn` in front.
     for function, error in re.findall(r"^fn (\S+): (.*`search` did not prove.*)", said, re.M):
         for edit in edits:
