@@ -5,8 +5,9 @@ use Rattle.std.proofs.lemmas.Grind.{flat_map-append}
 use Rattle.csl_tree.specs.Tokens.{Token, Solid, text, Meta, solid, elem_start, elem_end, markup, link, transparent, optional_meta, child_step, elem_step, children_step, child_tokens, elem_tokens, tokens, has_children}
 use Rattle.csl_tree.specs.Formatting.{same_formatting}
 use Rattle.csl_tree.specs.Content.{last_before, ◌++>◌, elem_content, layer_content, child_content}
-use Rattle.std.proofs.Common.{true, false, not, cond, Option, vec_len, ◌==◌}
+use Rattle.std.proofs.Common.{Bool, true, false, not, cond, Option, vec_len, ◌==◌}
 use Rattle.std.specs.Prelude.{Result, Ok, Err, OnErr}
+use Rattle.std.specs.Bool.{OnTrue, OnFalse}
 use Rattle.std.proofs.lemmas.Grind.{common_steps}
 use Rattle.csl_tree.proofs.Trees.{tokens_out, elem_tokens_are}
 use Rattle.csl_elements.specs.declared.formatting.Display.{Display}
@@ -28,6 +29,18 @@ use Rattle.std.proofs.lemmas.List.{take_more, take_more_set, take_all, append-ni
 pub on_err : {T E P : Type 0} (r : Result T E) → P → OnErr r P
 on_err (Ok x) p = tt
 on_err (Err e) p = p
+
+pub on_err_two : {T E P Q : Type 0} (r : Result T E) → P → Q → OnErr r (P × Q)
+on_err_two r p q = on_err r (p, q)
+
+-- a claim on a boolean, from another on it
+pub on_true : {P Q : Type 0} (b : Bool) → (P → Q) → OnTrue b P → OnTrue b Q
+on_true true f p = f p
+on_true false f p = tt
+
+pub on_false : {P Q : Type 0} (b : Bool) → (P → Q) → OnFalse b P → OnFalse b Q
+on_false true f p = tt
+on_false false f p = f p
 
 -- appending a content leaves the tokens before a non-empty end unchanged
 pub join_after : (p : List Token) (u : Token) (l b : List Token) → (p ++ u ∷ l) ++> b ≡ p ++ ((u ∷ l) ++> b)
@@ -131,16 +144,9 @@ link_child f u = ap child_tokens (sym (variants.rolls-Link f u)) ∙ fold-roll-E
 pub transparent_child : (n : ℕ) (f : Formatting) → child_tokens (variants.Transparent n f) ≡ solid (transparent n f) ∷ []
 transparent_child n f = ap child_tokens (sym (variants.rolls-Transparent n f)) ∙ fold-roll-ElemChild (List Token) (List Token) (List Token) child_step elem_step children_step (Transparent n f)
 
-none : (xs : List ElemChild) → length xs ≡ 0 → flat_map child_tokens xs ≡ []
-none [] h = refl
-none (x ∷ xs) h = absurd (omega arith)
-
 some : (xs : List ElemChild) → 0 < length xs → Begins (flat_map child_tokens xs)
 some [] h = absurd (omega arith)
 some (x ∷ xs) h = let b = child_begins x in record { first = b.first; rest = b.rest ++ flat_map child_tokens xs; is = ap (λ l. l ++ flat_map child_tokens xs) b.is }
-
-pub tokens_none : (c : ElemChildren) → length c.0.items ≡ 0 → tokens c ≡ []
-tokens_none c h = tokens_out c ∙ none c.0.items h
 
 has_more : (xs : List ElemChild) (n : ℕ) → n ≡ length xs → has_children (flat_map child_tokens xs) ≡ not (n == 0)
 has_more [] n h = rw h refl

@@ -69,7 +69,7 @@ child_spells = ind-ElemChild ChildSpells ElemSpells ChildrenSpell
     (λ x y is. subst (λ z. ElemSpells (roll-Elem z)) is (elem_layer y))
     (λ x y is. subst (λ z. ChildrenSpell (roll-ElemChildren z)) is (children_layer y))
 
-row_spells : (ks : List ElemChild) → IsUtf8 (leaf_of ks)
+pub row_spells : (ks : List ElemChild) → IsUtf8 (leaf_of ks)
 row_spells [] = IsUtf8-nil
 row_spells (k ∷ ks) = subst IsUtf8 (sym (flat_map-append token_text (child_tokens k) (flat_map child_tokens ks))) (IsUtf8-append _ _ (child_spells k) (row_spells ks))
 

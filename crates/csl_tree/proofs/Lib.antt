@@ -6,6 +6,7 @@ pub mod Appended
 pub mod ContentLaws
 pub mod Flats
 pub mod FlatTexts
+pub mod JoinedTexts
 pub mod Overlays
 pub mod LastChars
 pub mod Rejects

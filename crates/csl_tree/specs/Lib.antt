@@ -11,7 +11,7 @@ pub mod Reading
 pub mod Writing
 pub mod Content
 pub mod Flat
-pub mod FlatItems
+pub mod FlatChildren
 pub mod Stack
 pub mod Tree
 pub mod Simplify

@@ -1,43 +1,82 @@
-//! A tree under construction, in one flat list: children, and a mark at the start of each open part
-//! but the root.
+//! A tree under construction, in one flat list: the children of all open parts, and beside it a mark
+//! for each part, which is the place of its first child.
 
-ghost use Rattle.std.specs.Prelude.{◌≡◌, ◌+◌, ◌<◌, not, length, OnOk, IfOk, OnErr};
-ghost use Rattle.csl_tree.specs.Content.{text_content, child_content, elem_content, affixed_content};
-ghost use Rattle.csl_tree.specs.Tokens.{tokens, optional_meta, has_children, has_text, ends_in_white_space};
+ghost use Rattle.std.specs.Prelude.{◌≡◌, ◌+◌, ◌<◌, ◌≤◌, not, [], ◌∷◌, length, take, drop, OnOk, IfOk, OnErr, vec_len, vec_capacity};
+ghost use Rattle.std.specs.Bool.{OnTrue, OnFalse};
+ghost use Rattle.csl_tree.specs.Content.{◌++>◌, text_content, child_content, elem_content, affixed_content};
+ghost use Rattle.csl_tree.specs.Tokens.{tokens, child_tokens, text, optional_meta, has_children, has_text, ends_in_white_space, leaf_text, last_char};
 ghost use Rattle.csl_tree.specs.Flat.{only_root, with_tokens, open_part, close_part, discard_part, affix_content};
+ghost use Rattle.csl_tree.specs.FlatChildren.{content_of};
 
-use crate::elem::{ElemChild, ElemChildren, ElemMeta};
-use crate::flat_items::{
-    Item, close_items, drop_part, is_fresh, join_texts, last_char, push_child_item, push_item,
-    push_str_item, reserve_first, run_len, splice_items, take_part,
-};
+use crate::content::{join_last, join_texts};
+use crate::elem::{Elem, ElemChild, ElemChildren, ElemMeta};
 use crate::formatting::{Formatted, Formatting};
 use csl_elements::Display;
 use lit_model::Memory;
 use std::alloc::Global;
 use std::marker::Model;
 
-/// The room made for the items when the first part opens. It is what most cites need.
-const ITEMS_OF_A_CITE: usize = 8;
+/// The room made for children and marks when the first part opens. It is what most cites need.
+const ROOM_OF_A_CITE: usize = 8;
 
 /// A tree under construction: its open parts, each with its content. The root is always open.
 #[derive(Drop)]
 pub struct FlatTree {
     alloc: Global,
-    items: Vec<Item>,
-    opened: usize,
+    /// The children of all open parts, from the root inwards.
+    children: Vec<ElemChild>,
+    /// The mark of the innermost part: the place of its first child.
+    start: usize,
+    /// The marks of the parts around it, from the root inwards.
+    around: Vec<usize>,
 }
 
 impl Model for FlatTree {
     ghost use Rattle.std.specs.Prelude.{◌≡◌, length};
     ghost use Rattle.csl_tree.specs.Flat.{OpenParts};
-    ghost use Rattle.csl_tree.specs.FlatItems.{open_parts};
+    ghost use Rattle.csl_tree.specs.FlatChildren.{open_parts, AreMarks};
 
     ghost Value = { OpenParts };
 
-    ghost view = { λ t. open_parts t.items.items };
+    ghost view = { λ t. open_parts t.children.items t.start t.around.items };
 
-    ghost invariant = { λ t. t.opened ≡ length (open_parts t.items.items).outer };
+    ghost invariant = { λ t. AreMarks t.children.items t.start t.around.items };
+}
+
+/// Inserts a text at a place, unless it is absent or empty. There must be room for it.
+fn put_text(children: &mut Vec<ElemChild>, at: usize, text: Option<Formatted>)
+    requires within { at ≤ vec_len children.old }
+    requires room { vec_len children.old < vec_capacity children.old }
+    ensures before { take at children.new.items ≡ take at children.old.items }
+    ensures from { content_of (drop at children.new.items)
+        ≡ affix_content text ++> content_of (drop at children.old.items) }
+    ensures len { (vec_len children.old ≤ vec_len children.new)
+        × (vec_len children.new ≤ vec_len children.old + 1) }
+    ensures kept { vec_capacity children.new ≡ vec_capacity children.old }
+{
+    if let Some(text) = text {
+        if !text.text.is_empty() {
+            match children.insert(at, ElemChild::Text(text)) {
+                Ok(()) => {}
+                Err(_) => unreachable!(),
+            }
+        }
+    }
+}
+
+/// The last character of the leaf text of children.
+fn last_char(children: &[ElemChild]) -> Option<char>
+    ensures { result ≡ last_char (leaf_text (content_of children.now)) }
+{
+    let mut i = children.len();
+    while i > 0 {
+        i -= 1;
+        let last = children[i].last_char();
+        if last.is_some() {
+            return last;
+        }
+    }
+    None
 }
 
 impl FlatTree {
@@ -47,8 +86,9 @@ impl FlatTree {
     {
         FlatTree {
             alloc,
-            items: Vec::new(alloc),
-            opened: 0,
+            children: Vec::new(alloc),
+            start: 0,
+            around: Vec::new(alloc),
         }
     }
 
@@ -56,31 +96,56 @@ impl FlatTree {
     pub fn depth(&self) -> usize
         ensures { result ≡ length self.now.outer + 1 }
     {
-        self.opened + 1
+        self.around.len() + 1
     }
 
     /// Whether the innermost part has no children.
     pub fn is_empty(&self) -> bool
         ensures { result ≡ not (has_children self.now.inner) }
     {
-        is_fresh(&self.items)
+        self.children.len() == self.start
     }
 
     /// Whether the leaf text of the innermost part is not empty.
     pub fn has_text(&self) -> bool
         ensures { result ≡ has_text self.now.inner }
     {
-        last_char(&self.items).is_some()
+        last_char(&self.children[self.start..]).is_some()
     }
 
     /// Whether the leaf text of the innermost part ends in white space.
     pub fn ends_in_white_space(&self) -> bool
         ensures { result ≡ ends_in_white_space self.now.inner }
     {
-        match last_char(&self.items) {
+        match last_char(&self.children[self.start..]) {
             Some(c) => c.is_whitespace(),
             None => false,
         }
+    }
+
+    /// Appends a text to the last child of the innermost part if that is a text of equal
+    /// formatting. Returns whether it is.
+    fn join_end(&mut self, more: &str, formatting: Formatting) -> Result<bool, Memory>
+        ensures joins { IfOk result (λ did. OnTrue did
+            (self.new ≡ with_tokens (text more.now formatting ∷ []) self.old)) }
+        ensures unchanged { IfOk result (λ did. OnFalse did (self.new ≡ self.old)) }
+        ensures err { OnErr result (self.new ≡ self.old) }
+    {
+        let len = self.children.len();
+        if len == self.start {
+            return Ok(false);
+        }
+        let did = join_last(&mut self.children[len - 1], more, formatting)?;
+        Ok(did)
+    }
+
+    /// Appends a child as it is.
+    fn push_child(&mut self, child: ElemChild) -> Result<(), Memory>
+        ensures ok { OnOk result (self.new ≡ with_tokens (child_tokens child) self.old) }
+        ensures err { OnErr result (self.new ≡ self.old) }
+    {
+        self.children.push(child)?;
+        Ok(())
     }
 
     /// Appends a text, which joins a last text of equal formatting. An empty text adds nothing.
@@ -95,8 +160,11 @@ impl FlatTree {
         if more.is_empty() {
             return Ok(());
         }
-        push_str_item(&mut self.items, self.alloc, more, formatting)?;
-        Ok(())
+        if self.join_end(more, formatting)? {
+            return Ok(());
+        }
+        let text = String::from_str(self.alloc, more)?;
+        self.push_child(ElemChild::Text(Formatted { text, formatting }))
     }
 
     /// Appends a child. A text joins a last text of equal formatting. A text, markup or link with
@@ -111,8 +179,12 @@ impl FlatTree {
         if child.shows_nothing() {
             return Ok(());
         }
-        push_child_item(&mut self.items, child)?;
-        Ok(())
+        if let ElemChild::Text(text) = &child {
+            if self.join_end(text.text.as_str(), text.formatting)? {
+                return Ok(());
+            }
+        }
+        self.push_child(child)
     }
 
     /// Opens a part.
@@ -123,10 +195,24 @@ impl FlatTree {
         ensures ok { OnOk result (self.new ≡ open_part self.old) }
         ensures err { OnErr result (self.new ≡ self.old) }
     {
-        reserve_first(&mut self.items, ITEMS_OF_A_CITE)?;
-        push_item(&mut self.items, Item::Mark)?;
-        self.opened += 1;
+        if self.children.is_empty() {
+            self.children.reserve(ROOM_OF_A_CITE)?;
+            self.around.reserve(ROOM_OF_A_CITE)?;
+        }
+        self.around.push(self.start)?;
+        self.start = self.children.len();
         Ok(())
+    }
+
+    /// Closes the innermost part, and appends its content to the part around it.
+    fn leave(&mut self)
+        requires is_open { 0 < length self.old.outer }
+        ensures { self.new ≡ close_part self.old.inner self.old }
+    {
+        match self.around.pop() {
+            Some(start) => self.start = start,
+            None => unreachable!(),
+        }
     }
 
     /// Closes the innermost part, and appends its content to the part around it as an element.
@@ -145,8 +231,16 @@ impl FlatTree {
             self.old) }
         ensures err { OnErr result (self.new ≡ self.old) }
     {
-        close_items(&mut self.items, self.alloc, display, meta)?;
-        self.opened -= 1;
+        if !self.is_empty() {
+            join_texts(&mut self.children, self.start)?;
+            let children = ElemChildren(self.children.split_off(self.start)?);
+            self.children.push_reserved(ElemChild::Elem(Elem {
+                children,
+                display,
+                meta,
+            }));
+        }
+        self.leave();
         Ok(())
     }
 
@@ -166,8 +260,13 @@ impl FlatTree {
             (affix_content after) self.old.inner) self.old) }
         ensures err { OnErr result (self.new ≡ self.old) }
     {
-        splice_items(&mut self.items, before, after)?;
-        self.opened -= 1;
+        let end = self.children.len();
+        if end > self.start {
+            self.children.reserve(2)?;
+            put_text(&mut self.children, end, after);
+            put_text(&mut self.children, self.start, before);
+        }
+        self.leave();
         Ok(())
     }
 
@@ -176,8 +275,8 @@ impl FlatTree {
         requires is_open { 0 < length self.old.outer }
         ensures { self.new ≡ discard_part self.old }
     {
-        drop_part(&mut self.items);
-        self.opened -= 1;
+        self.children.truncate(self.start);
+        self.leave();
     }
 
     /// Returns the content of the root. No other part may be open.
@@ -188,11 +287,9 @@ impl FlatTree {
         requires root { length self.outer ≡ 0 }
         ensures { IfOk result (λ children. tokens children ≡ self.inner) }
     {
-        let alloc = self.alloc;
-        let mut items = self.items;
-        let from = items.len() - run_len(&items);
-        join_texts(&mut items, from)?;
-        let children = take_part(&mut items, alloc)?;
+        let mut children = self.children;
+        join_texts(&mut children, 0)?;
+        children.shrink_to_fit();
         Ok(ElemChildren(children))
     }
 }

@@ -13,7 +13,6 @@ mod ends;
 mod escapes;
 mod find_names;
 pub mod flat;
-mod flat_items;
 pub mod formatting;
 pub mod html_error;
 mod last_text;
