@@ -1,8 +1,10 @@
 //! Lookups in the style and the citation of a context (CSL 1.0.2, Terms, Ordinals, Localized Date
 //! Formats; Choose: disambiguate).
 
-ghost use Rattle.std.specs.Prelude.{◌≡◌, option_map};
+ghost use Rattle.std.specs.Prelude.{◌≡◌, map, option_map};
 ghost use Rattle.csl_elements.specs.Date.{date_in_form};
+ghost use Rattle.csl_elements.specs.Locale.{ordinals_of};
+ghost use Rattle.csl_elements.specs.Ordinal.{ordinals, long_ordinals};
 ghost use Rattle.csl_context.specs.RenderInput.{term_in, gender_in, should_disambiguate};
 
 use crate::context::Context;
@@ -27,7 +29,10 @@ impl<'s, T> Context<'s, T> {
 
     /// The ordinals of the style.
     pub fn ordinal_lookup(&self) -> LocaleOrdinals<'s>
-        ensures { result.locales.now ≡ self.now.style.locales }
+        ensures suffixes { ordinals (map ordinals_of result.locales.now)
+            ≡ ordinals (map ordinals_of self.now.style.locales) }
+        ensures words { long_ordinals (map ordinals_of result.locales.now)
+            ≡ long_ordinals (map ordinals_of self.now.style.locales) }
     {
         self.style.ordinals()
     }

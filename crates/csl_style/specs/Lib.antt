@@ -9,6 +9,7 @@ pub mod GraphReach
 pub mod Calls
 pub mod Cyclic
 pub mod TermPlaces
+pub mod FirstOrdinals
 pub mod Style
 pub mod YearSuffix
 pub mod AllNodes

@@ -7,6 +7,7 @@ mod call_graph;
 mod components;
 mod cycles;
 mod depth;
+mod first_ordinals;
 mod missing;
 mod missing_term;
 mod named;
@@ -15,7 +16,6 @@ mod rendered_size;
 mod scopes;
 mod size;
 pub mod style;
-mod style_ordinals;
 mod term_places;
 mod year_suffix;
 

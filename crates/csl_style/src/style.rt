@@ -9,7 +9,7 @@ ghost use Rattle.csl_style.specs.Calls.{ArePlacesByName};
 ghost use Rattle.csl_style.specs.Cyclic.{HasNoCycle};
 ghost use Rattle.csl_elements.specs.Locale.{terms_of, ordinals_of};
 ghost use Rattle.csl_elements.specs.Term.{term_text, term_gender};
-ghost use Rattle.csl_elements.specs.Ordinal.{ordinals};
+ghost use Rattle.csl_elements.specs.Ordinal.{ordinals, long_ordinals};
 ghost use Rattle.csl_elements.specs.Date.{date_in_form};
 ghost use Rattle.csl_style.specs.Style.{style_of, layout_of, is_chicago, IsRefusal};
 ghost use Rattle.csl_style.specs.YearSuffix.{is_year_suffix_implicit, reached_layout};
@@ -17,11 +17,14 @@ ghost use Rattle.csl_style.specs.YearSuffix.{is_year_suffix_implicit, reached_la
 use crate::call_graph::{PlacedMacros, call_graph};
 use crate::components::{Components, components_of};
 use crate::cycles::first_cyclic;
+use crate::first_ordinals::first_ordinals;
 use crate::places::{Places, places_by_name};
 use crate::term_places::TermPlaces;
 use crate::year_suffix::{ImplicitSuffix, implicit_suffix};
 use csl_common::GrammarGender;
-use csl_elements::{CslMacro, Date, DateForm, Layout, Locale, Term, TermForm, lookup};
+use csl_elements::{
+    CslMacro, Date, DateForm, Layout, Locale, LocaleOrdinals, Term, TermForm, lookup,
+};
 use std::alloc::Global;
 use std::marker::Model;
 
@@ -43,6 +46,8 @@ pub struct Style {
     places: Places,
     /// The places of the terms in `locales`.
     term_places: TermPlaces,
+    /// The ordinals that lookups in `locales` find, as those of one locale.
+    first_ordinals: Vec<Locale>,
     /// Whether each layout reaches no text of the year suffix.
     implicit: ImplicitSuffix,
 }
@@ -63,6 +68,7 @@ impl Model for Style {
     ghost use Rattle.csl_style.specs.Style.{is_chicago};
     ghost use Rattle.csl_style.specs.Calls.{ArePlacesByName};
     ghost use Rattle.csl_style.specs.TermPlaces.{ArePlacesOfTerms};
+    ghost use Rattle.csl_style.specs.FirstOrdinals.{HaveSameOrdinals};
     ghost use Rattle.csl_style.specs.YearSuffix.{is_implicit_in};
 
     ghost view = { λ s. record {
@@ -77,6 +83,7 @@ impl Model for Style {
         × (is_chicago s.settings.page_range_format ≡ false)
         × ArePlacesByName s.places (definitions s.macros.items)
         × ArePlacesOfTerms s.term_places s.locales.items
+        × HaveSameOrdinals s.first_ordinals.items s.locales.items
         × (s.implicit.in_citation ≡ is_implicit_in (definitions s.macros.items) (Some s.citation))
         × (s.implicit.in_bibliography ≡ is_implicit_in (definitions s.macros.items)
         s.bibliography) };
@@ -183,6 +190,7 @@ impl Style {
             &bibliography,
         )?;
         let term_places = TermPlaces::new(alloc, &locales)?;
+        let first_ordinals = first_ordinals(alloc, &locales)?;
         Ok(Style {
             settings,
             macros,
@@ -191,6 +199,7 @@ impl Style {
             locales,
             places,
             term_places,
+            first_ordinals,
             implicit,
         })
     }
@@ -295,7 +304,20 @@ impl Style {
         ensures { option_map (λ text. text.now) result
             ≡ ordinals (map ordinals_of self.now.locales) number gender }
     {
-        lookup::ordinal(&self.locales, number, gender)
+        lookup::ordinal(&self.first_ordinals, number, gender)
+    }
+
+    /// The ordinals of the style: the first of each slot, match and gender, since lookups find no
+    /// other.
+    pub fn ordinals(&self) -> LocaleOrdinals<'_>
+        ensures suffixes { ordinals (map ordinals_of result.locales.now)
+            ≡ ordinals (map ordinals_of self.now.locales) }
+        ensures words { long_ordinals (map ordinals_of result.locales.now)
+            ≡ long_ordinals (map ordinals_of self.now.locales) }
+    {
+        LocaleOrdinals {
+            locales: &self.first_ordinals,
+        }
     }
 
     /// The first localized date of a form (CSL 1.0.2, Localized Date Formats).

@@ -6,16 +6,21 @@ use csl_style::{OrdinalSlot, Style};
 use std::alloc::Global;
 use std::process::Abort;
 
-/// A style with a suffix and a word for 3, and with a default suffix.
+/// A style with a suffix and a word for 3, and with a default suffix, after a locale without ordinals.
+/// Of two suffixes for the same numbers, the first counts.
 const ROWS: StyleRows<'static> = StyleRows {
-    locales: &[LocaleRows {
-        ordinals: &[
-            (OrdinalSlot::Default, None, None, "th"),
-            (OrdinalSlot::Two(3), None, None, "rd"),
-            (OrdinalSlot::Long(3), None, None, "third"),
-        ],
-        ..SILENT
-    }],
+    locales: &[
+        SILENT,
+        LocaleRows {
+            ordinals: &[
+                (OrdinalSlot::Default, None, None, "th"),
+                (OrdinalSlot::Two(3), None, None, "rd"),
+                (OrdinalSlot::Two(3), None, None, "d"),
+                (OrdinalSlot::Long(3), None, None, "third"),
+            ],
+            ..SILENT
+        },
+    ],
     ..EMPTY
 };
 

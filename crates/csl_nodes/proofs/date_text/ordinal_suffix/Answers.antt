@@ -19,5 +19,5 @@ returns g c =
     ∙ unwrap_now c.suffix.result _
     ∙ ap (λ o. unwrap_or o [])
     (c.suffix.ensures
-    ∙ ap (λ ls. ordinals (map ordinals_of ls) number gender) c.ordinal_lookup.ensures
+    ∙ ap (λ f. f number gender) c.ordinal_lookup.ensures.suffixes
     ∙ ap (λ n. ordinals (map ordinals_of c.args.ctx.now.style.locales) n gender) (to_z-of_z w32 c.from.result fits ∙ c.from.ensures))

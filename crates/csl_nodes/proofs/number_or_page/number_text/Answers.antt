@@ -1,4 +1,4 @@
-use Rattle.std.proofs.Common.{◌≡◌, map, string_bytes, ap, ◌∙◌, rules}
+use Rattle.std.proofs.Common.{◌≡◌, map, string_bytes, ap₂, ◌∙◌, rules}
 use Rattle.std.proofs.lemmas.Fmt.{contents_after_writes}
 use Rattle.lit_model.specs.Numeric.{numeric_view}
 use Rattle.lit_model.specs.NumericForm.{numeric_in_form}
@@ -13,4 +13,4 @@ returns-in-Ok g c =
     let locales = c.ordinal_lookup.result.locales.now in
     let written = contents_after_writes _ string_bytes (λ w bs v h. h) _ _ _ c.in-Ok.ensures in
     let is : string_bytes c.with_form.new.w ≡ numeric_in_form (ordinals (map ordinals_of locales)) (long_ordinals (map ordinals_of locales)) c.args.form c.args.gender (numeric_view c.args.number.now) = search (rules, written) in
-    is ∙ ap (λ ls. numeric_in_form (ordinals (map ordinals_of ls)) (long_ordinals (map ordinals_of ls)) c.args.form c.args.gender (numeric_view c.args.number.now)) c.ordinal_lookup.ensures
+    is ∙ ap₂ (λ f g. numeric_in_form f g c.args.form c.args.gender (numeric_view c.args.number.now)) c.ordinal_lookup.ensures.suffixes c.ordinal_lookup.ensures.words

@@ -13,4 +13,5 @@ returns c =
     let fits : FitsSigned w32 c.args.number = search rules in
     let number = to_z-of_z w32 c.args.number fits in
     rw (← c.self.view_is) (c.ordinal.ensures ∙ ap (λ n. ordinals (map ordinals_of ls) n c.args.gender) number
-    ∙ ap (λ (ls : List Locale). ordinals (map ordinals_of ls) c.args.number c.args.gender) c.deref.ensures.value)
+    ∙ ap (λ (ls : List Locale). ordinals (map ordinals_of ls) c.args.number c.args.gender) c.deref.ensures.value
+    ∙ ap (λ f. f c.args.number c.args.gender) c.self.invariant.4.0)
