@@ -4,7 +4,7 @@ use Rattle.std.proofs.Common.{◌≡◌, ℕ, zero, suc, ◌+◌, ◌<◌, ◌�
 use Rattle.std.specs.Prelude.{flat_map}
 use Rattle.std.proofs.lemmas.Grind.{flat_map-append}
 use denote.Bor.{Bor}
-use Rattle.csl_elements.specs.Node.{Node, text, call, number, label, date, names, choose, group, Nodes, no_nodes, node, Branches, no_branches, otherwise, branch, Substitutes, no_substitutes, substitute, ExpandedNodes, expand, expand_call, expand_nodes, expand_branches, expand_substitutes, size, sizes, expanded_branches_size, expanded_substitutes_size}
+use Rattle.csl_elements.specs.Node.{Node, text, call, number, label, date, names, choose, group, Nodes, no_nodes, node, Branches, no_branches, otherwise, branch, Substitutes, no_substitutes, substitute, ExpandedNodes, expand, expand_call, expand_nodes, expand_branches, size, sizes, expanded_branches_size}
 use Rattle.csl_elements.specs.Dressing.{TextDressing}
 use Rattle.csl_elements.specs.View.{Definition, view_node, view_nodes, view_choose, view_branch, view_child, view_names, branches_of, substitutes, NamesChildView, a_name, an_et_al, a_label, a_substitute, BranchView, element_step, child_step, choose_step, branch_step, group_step, names_step, substitute_step}
 use Rattle.csl_elements.specs.declared.element.LayoutRenderingElement.{LayoutRenderingElement}
@@ -15,7 +15,7 @@ use Rattle.csl_elements.specs.declared.element.Names.{Names as NamesElement, out
 use Rattle.csl_elements.specs.declared.element.NamesChild.{NamesChild}
 use Rattle.csl_style.specs.AllNodes.{all_nodes, nodes_inside, nodes_in_branches, nodes_in_substitutes, nodes_in_child, nodes_left, called_name, is_suffix_text}
 use Rattle.csl_style.specs.Calls.{calls_in, calls_in_all, calls_in_branches, calls_in_substitutes, own_calls}
-use Rattle.csl_style.specs.YearSuffix.{has_year_suffix, any_has_year_suffix, branches_have_year_suffix, substitutes_have_year_suffix, macro_has_year_suffix}
+use Rattle.csl_style.specs.YearSuffix.{has_year_suffix, any_has_year_suffix, branches_have_year_suffix, macro_has_year_suffix}
 use Rattle.csl_style.proofs.YearSuffixes.{nodes_out, behind, choose_out, substitute_has_year_suffix, substitutes_size, insteads_same, insteads_sized}
 
 -- ---- what is left

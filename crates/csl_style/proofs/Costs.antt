@@ -1,13 +1,13 @@
 -- What a names node costs, one level at a time.
-use Rattle.std.proofs.Common.{◌≡◌, ℕ, ◌+◌, suc, Bool, true, false, List, ◌∷◌, map, length, Option, refl, ap, ap₂, ◌∙◌, arith, if◌then◌else◌}
+use Rattle.std.proofs.Common.{◌≡◌, ℕ, ◌+◌, suc, Bool, true, false, List, map, length, Option, refl, ap, ap₂, ◌∙◌, arith, if◌then◌else◌}
 use Rattle.csl_elements.specs.Names.{NamesNode, shorthand_expansion}
 use Rattle.csl_elements.specs.Node.{Node, names, Nodes, no_nodes, node, Substitutes, no_substitutes, substitute, ExpandedNode, ExpandedNodes, expanded_names, shorthand, expand, expand_nodes, expand_substitutes, expand_substitute_nodes, as_substitute_child, is_childless}
 use Rattle.csl_elements.specs.declared.element.Names.{Names as NamesElement, out-Names}
 use Rattle.csl_elements.specs.declared.element.LayoutRenderingElement.TheFolds.{fold_out-Names}
 use Rattle.csl_elements.specs.declared.locale.Locale.{Locale}
-use Rattle.csl_elements.specs.View.{view_names, view_child, substitutes, name_children, NamesChildView, a_name, a_substitute, BranchView, element_step, child_step, choose_step, branch_step, group_step, names_step, substitute_step}
+use Rattle.csl_elements.specs.View.{view_names, view_child, substitutes, name_children, NamesChildView, BranchView, element_step, child_step, choose_step, branch_step, group_step, names_step, substitute_step}
 use Rattle.csl_style.specs.Size.{name_children_weight}
-use Rattle.csl_style.specs.RenderedSize.{cost, costs, substitutes_cost, child_cost}
+use Rattle.csl_style.specs.RenderedSize.{cost, costs, substitutes_cost}
 
 module _ (locales : List Locale) where
   -- the substitutes of a names node as written

@@ -19,7 +19,7 @@ use Rattle.csl_elements.specs.contracts.locale.OrdinalSlot.{enum as slots}
 use Rattle.csl_elements.specs.contracts.locale.OrdinalSlotPartialEq.TheImpl.{eq-value}
 use Rattle.csl_elements.specs.declared.locale.OrdinalTerm.{OrdinalTerm}
 use Rattle.csl_elements.specs.Locale.{OrdinalView, ordinal_view, ordinals_of}
-use Rattle.csl_elements.specs.Ordinal.{ordinals, ordinal_for, first_of, first_ordinals, slot_between, is_in, for_gender}
+use Rattle.csl_elements.specs.Ordinal.{ordinal_for, first_of, first_ordinals, slot_between, is_in, for_gender}
 use Rattle.csl_elements.proofs.Alike.{values_tell, bare, alone}
 use Rattle.csl_style.specs.FirstOrdinals.{OrdinalTest, first_passing, passes, same_key, AreFoundAs, HaveSameOrdinals}
 

@@ -10,7 +10,7 @@ use Rattle.csl_elements.specs.declared.element.LayoutRenderingElement.TheFolds.{
 use Rattle.csl_elements.specs.View.{view_nodes, view_choose, view_branch, branches_of, view_names, view_child, substitutes, NamesChildView, a_substitute, BranchView, element_step, child_step, choose_step, branch_step, group_step, names_step, substitute_step}
 use Rattle.csl_style.specs.Expanded.{child_size}
 use Rattle.csl_elements.proofs.Rolled.{choose_view}
-use Rattle.csl_style.specs.YearSuffix.{has_year_suffix, any_has_year_suffix, branches_have_year_suffix, substitutes_have_year_suffix}
+use Rattle.csl_style.specs.YearSuffix.{has_year_suffix, any_has_year_suffix, substitutes_have_year_suffix}
 
 -- the substitutes of a names node as written: whether a text of the year suffix is in one, and
 -- their size

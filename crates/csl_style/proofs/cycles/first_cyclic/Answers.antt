@@ -1,4 +1,4 @@
-use Rattle.std.proofs.Common.{◌≡◌, ◌<◌, length, None, true, false, refl, arith, rules}
+use Rattle.std.proofs.Common.{◌≡◌, ◌<◌, length, true, false, arith, rules}
 use Rattle.std.proofs.lemmas.Grind.{common_steps}
 use Rattle.std.proofs.lemmas.List.{get_or_read}
 use Rattle.csl_style.specs.GraphReach.{is_marked, ArePlaceLevels}

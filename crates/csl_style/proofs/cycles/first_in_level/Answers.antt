@@ -1,5 +1,4 @@
 use Rattle.std.proofs.Common.{◌≡◌, ◌<◌, length, sym, ◌∙◌, subst, arith, Contains}
-use Rattle.std.proofs.lemmas.Grind.{common_steps}
 use Rattle.csl_style.specs.GraphReach.{row_at}
 use Rattle.csl_style.proofs.Edges.{row-read}
 use Rattle.csl_style.proofs.Falling.{along-all, falls-more, all-fall}
