@@ -1,6 +1,6 @@
 -- The view of a node that holds nodes, by its fields. Callers name these lemmas where they build
 -- such a node, with a struct literal or by struct update.
-use Rattle.std.proofs.Common.{◌≡◌, Bool, false, ◌∷◌, map, refl, sym, ap, ◌∙◌, arith}
+use Rattle.std.proofs.Common.{◌≡◌, Bool, false, ◌∷◌, map, length, refl, sym, ap, ◌∙◌, arith}
 use Rattle.std.proofs.lemmas.Grind.{common_steps}
 use Rattle.std.specs.Prelude.{Option, option_map, Vec, String}
 use Rattle.std.specs.declared.alloc.Global.{Global}
@@ -59,7 +59,7 @@ group_made children delimiter f a d =
     let x = roll-Group record { children = children; delimiter = delimiter; formatting = f; affixes = a; display = d } in
     in_group x ∙ group_view x
 
-pub names_made : (variables : Vec NameVariable Global) (children : Vec NamesChild Global) (options : InheritableNameOptions) (delimiter : Option (String Global)) (f : Formatting) (a : Affixes) (d : Option Display) → view_node (elements.Names (roll-Names record { variable = variables; children = children; options = options; delimiter = delimiter; formatting = f; affixes = a; display = d })) ≡ names (record { variables = variables.items; options = partial_options options; delimiter = text_if delimiter; dressing = dressing_of f a d; name_children = name_children (map view_child children.items); et_al = first_et_al (map view_child children.items); label = first_label false (map view_child children.items) }) (substitutes (map view_child children.items))
+pub names_made : (variables : Vec NameVariable Global) (children : Vec NamesChild Global) (options : InheritableNameOptions) (delimiter : Option (String Global)) (f : Formatting) (a : Affixes) (d : Option Display) → view_node (elements.Names (roll-Names record { variable = variables; children = children; options = options; delimiter = delimiter; formatting = f; affixes = a; display = d })) ≡ names (record { variables = variables.items; options = partial_options options; delimiter = text_if delimiter; dressing = dressing_of f a d; name_children = name_children (map view_child children.items); et_al = first_et_al (map view_child children.items); label = first_label false (map view_child children.items); child_count = length (map view_child children.items) }) (substitutes (map view_child children.items))
 names_made variables children options delimiter f a d =
     let x = roll-Names record { variable = variables; children = children; options = options; delimiter = delimiter; formatting = f; affixes = a; display = d } in
     in_names x ∙ names_view x

@@ -71,6 +71,8 @@ pub record NamesNode : Type 0 where
   pub name_children : List NameNode
   pub et_al : Option EtAlNode
   pub label : Option NamesLabel
+  -- how many children it has, those that do not count included
+  pub child_count : ℕ
 
 abbrev pub first_of : List NameNode → Option NameNode
 first_of [] = None
@@ -91,4 +93,5 @@ shorthand_expansion original own = record {
   name_children = original.name_children;
   et_al = original.et_al;
   label = original.label;
+  child_count = original.child_count;
 }

@@ -5,7 +5,7 @@
 -- its own if it is set, field by field, else that node's (`shorthand_expansion`). The default name
 -- and the default et-al set nothing. They serve nodes without such a child. Of the parts of a name,
 -- the first for the given name and the first for the family name count.
-use Rattle.std.specs.Prelude.{ℕ, Bool, false, List, [], map, Option, Some, None, option_map, find}
+use Rattle.std.specs.Prelude.{ℕ, Bool, false, List, [], map, length, Option, Some, None, option_map, find}
 use denote.Bor.{Bor}
 use denote.Enum.Bare.{sameb}
 use Rattle.csl_elements.specs.declared.element.Names.{Names, out-Names}
@@ -35,6 +35,7 @@ names_node n = record {
   name_children = name_children (children_of n);
   et_al = first_et_al (children_of n);
   label = first_label false (children_of n);
+  child_count = length (children_of n);
 }
 
 abbrev pub names_substitutes : Names → Substitutes
@@ -63,6 +64,7 @@ parts_node p = record {
   name_children = name_children (map view_child p.children.now);
   et_al = first_et_al (map view_child p.children.now);
   label = first_label false (map view_child p.children.now);
+  child_count = length (map view_child p.children.now);
 }
 
 abbrev pub placed_label : PlacedLabel → NamesLabel

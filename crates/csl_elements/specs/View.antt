@@ -1,6 +1,6 @@
 -- The node of each value of a style, as plain data: texts as bytes, lists as lists. Of several
 -- et-al children or labels of a names node the first counts.
-use Rattle.std.specs.Prelude.{ℕ, Bool, true, false, List, [], ◌∷◌, map, Option, Some, None, option_map, Vec, string_bytes}
+use Rattle.std.specs.Prelude.{ℕ, Bool, true, false, List, [], ◌∷◌, map, length, Option, Some, None, option_map, Vec, string_bytes}
 use Rattle.std.specs.declared.alloc.Global.{Global}
 use Rattle.csl_elements.specs.Dressing.{affix_texts, dressing_of, TextDressing, text_if}
 use Rattle.csl_elements.specs.NameOptions.{partial_options}
@@ -157,6 +157,7 @@ names_step n = names (record {
   name_children = name_children n.children.items;
   et_al = first_et_al n.children.items;
   label = first_label false n.children.items;
+  child_count = length n.children.items;
 }) (substitutes n.children.items)
 
 abbrev pub child_step : NamesChild-F Node NamesChildView Node BranchView Node Node Nodes → NamesChildView

@@ -9,7 +9,7 @@
 --   italics; the volume and the pages, each after its short label and a space; the month of issue
 --   in its long form and the year, with a space between them. The second begins with a space and
 --   is the DOI after `https://doi.org/`.
-use Rattle.std.specs.Prelude.{◌≡◌, ℕ, Bool, true, false, List, [], ◌∷◌, Option, Some, None, codes, if◌then◌else◌}
+use Rattle.std.specs.Prelude.{◌≡◌, ℕ, Bool, true, false, List, [], ◌∷◌, length, Option, Some, None, codes, if◌then◌else◌}
 use Rattle.std.specs.Str.{bytes_eq}
 use Rattle.csl_common.specs.declared.form.NumberForm.TheVariants as number_forms
 use Rattle.csl_common.specs.declared.form.LongShortForm.TheVariants.{Long}
@@ -96,6 +96,7 @@ persons_by variable children = names (record {
   name_children = name_children children;
   et_al = first_et_al children;
   label = first_label false children;
+  child_count = length children;
 }) (substitutes children)
 
 -- name options with the word `and` before the last name, with or without a form and an order

@@ -6,18 +6,18 @@ use Rattle.csl_elements.specs.declared.element.Names.{Names as NamesElement, out
 use Rattle.csl_elements.specs.declared.element.LayoutRenderingElement.TheFolds.{fold_out-Names}
 use Rattle.csl_elements.specs.declared.locale.Locale.{Locale}
 use Rattle.csl_elements.specs.View.{view_names, view_child, substitutes, name_children, NamesChildView, BranchView, element_step, child_step, choose_step, branch_step, group_step, names_step, substitute_step}
-use Rattle.csl_style.specs.Size.{name_children_weight}
+use Rattle.csl_style.specs.Size.{parts_weight}
 use Rattle.csl_style.specs.RenderedSize.{cost, costs, substitutes_cost}
 
 module _ (locales : List Locale) where
   -- the substitutes of a names node as written
   abbrev pub written_cost : (List ℕ → Option ExpandedNodes) → Substitutes → ℕ
   written_cost env no_substitutes = 0
-  written_cost env (substitute ns ss) = suc (costs locales (expand_nodes env ns) + written_cost env ss)
+  written_cost env (substitute ns ss) = costs locales (expand_nodes env ns) + written_cost env ss
 
   -- what the children of a names node as written add
   abbrev pub children_cost : (List ℕ → Option ExpandedNodes) → List NamesChildView → ℕ
-  children_cost env cs = name_children_weight (name_children cs) + written_cost env (substitutes cs)
+  children_cost env cs = length cs + parts_weight (name_children cs) + written_cost env (substitutes cs)
 
   module _ (env : List ℕ → Option ExpandedNodes) where
     childless : (n m : NamesNode) (ss : Substitutes) (b : Bool) → is_childless n ss ≡ b → (f : ExpandedNode) → f ≡ expanded_names n (expand_substitutes env n ss)
@@ -36,13 +36,13 @@ module _ (locales : List Locale) where
 
     insteads_same : (original : NamesNode) (ss : Substitutes) → substitutes_cost locales (expand_substitutes env original ss) ≡ written_cost env ss
     insteads_same original no_substitutes = refl
-    insteads_same original (substitute ns ss) = ap₂ (λ a b. suc (a + b)) (all_within original ns) (insteads_same original ss)
+    insteads_same original (substitute ns ss) = ap₂ (λ a b. a + b) (all_within original ns) (insteads_same original ss)
 
     pub names_costly : (x : NamesElement) → cost locales (expand env (view_names x)) ≡ suc (length (out-Names x).variable.items + children_cost env (map view_child (out-Names x).children.items))
     names_costly x =
         let cs = map view_child (out-Names x).children.items in
         let v = length (out-Names x).variable.items in
-        rw (fold_out-Names Node NamesChildView Node BranchView Node Node Nodes element_step child_step choose_step branch_step group_step names_step substitute_step x) (ap (λ k. suc (v + name_children_weight (name_children cs) + k)) (insteads_same _ (substitutes cs)) ∙ together v (name_children_weight (name_children cs)) (written_cost env (substitutes cs)))
+        rw (fold_out-Names Node NamesChildView Node BranchView Node Node Nodes element_step child_step choose_step branch_step group_step names_step substitute_step x) (ap (λ k. suc (v + (length cs + parts_weight (name_children cs)) + k)) (insteads_same _ (substitutes cs)) ∙ together v (length cs) (parts_weight (name_children cs)) (written_cost env (substitutes cs)))
       where
-        together : (a b c : ℕ) → suc (a + b + c) ≡ suc (a + (b + c))
-        together a b c = omega arith
+        together : (a b c d : ℕ) → suc (a + (b + c) + d) ≡ suc (a + (b + c + d))
+        together a b c d = omega arith

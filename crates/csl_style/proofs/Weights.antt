@@ -7,17 +7,17 @@ use Rattle.csl_elements.specs.declared.element.Choose.{Choose, out-Choose}
 use Rattle.csl_elements.specs.declared.element.ChooseBranch.{ChooseBranch, out-ChooseBranch}
 use Rattle.csl_elements.specs.declared.element.LayoutRenderingElement.TheFolds.{fold_out-Names, fold_out-ChooseBranch}
 use Rattle.csl_elements.specs.View.{view_nodes, view_choose, view_branch, view_names, view_child, substitutes, name_children, NamesChildView, a_name, a_substitute, BranchView, element_step, child_step, choose_step, branch_step, group_step, names_step, substitute_step}
-use Rattle.csl_style.specs.Size.{list_weight, tests_weight, name_children_weight, weight, weights, branches_weight, substitutes_weight, child_weight, branch_weight}
+use Rattle.csl_style.specs.Size.{list_weight, tests_weight, parts_weight, weight, weights, branches_weight, substitutes_weight, child_weight, branch_weight}
 use Rattle.csl_style.proofs.YearSuffixes.{behind, choose_out, nodes_out}
 
 -- the weight of the substitutes of a names node as written
 abbrev pub written_weight : (List ℕ → Option ExpandedNodes) → Substitutes → ℕ
 written_weight env no_substitutes = 0
-written_weight env (substitute ns ss) = suc (weights (expand_nodes env ns) + written_weight env ss)
+written_weight env (substitute ns ss) = weights (expand_nodes env ns) + written_weight env ss
 
 -- what the children of a names node as written add
 abbrev pub children_weight : (List ℕ → Option ExpandedNodes) → List NamesChildView → ℕ
-children_weight env cs = name_children_weight (name_children cs) + written_weight env (substitutes cs)
+children_weight env cs = length cs + parts_weight (name_children cs) + written_weight env (substitutes cs)
 
 pub tests_heavy : (b : ChooseBranch) → tests_weight (view_branch b).tests ≡ list_weight (option_map (λ v. v.items) (out-ChooseBranch b).is_numeric) + (list_weight (option_map (λ v. v.items) (out-ChooseBranch b).is_uncertain_date) + (list_weight (option_map (λ v. v.items) (out-ChooseBranch b).locator) + (list_weight (option_map (λ v. v.items) (out-ChooseBranch b).position) + (list_weight (option_map (λ v. v.items) (out-ChooseBranch b).type_) + list_weight (option_map (λ v. v.items) (out-ChooseBranch b).variable)))))
 tests_heavy b = rw (fold_out-ChooseBranch Node NamesChildView Node BranchView Node Node Nodes element_step child_step choose_step branch_step group_step names_step substitute_step b) refl
@@ -39,16 +39,16 @@ module _ (env : List ℕ → Option ExpandedNodes) where
 
   insteads_same : (original : NamesNode) (ss : Substitutes) → substitutes_weight (expand_substitutes env original ss) ≡ written_weight env ss
   insteads_same original no_substitutes = refl
-  insteads_same original (substitute ns ss) = ap₂ (λ a b. suc (a + b)) (all_within original ns) (insteads_same original ss)
+  insteads_same original (substitute ns ss) = ap₂ (λ a b. a + b) (all_within original ns) (insteads_same original ss)
 
   pub names_heavy : (x : NamesElement) → weight (expand env (view_names x)) ≡ suc (length (out-Names x).variable.items + children_weight env (map view_child (out-Names x).children.items))
   names_heavy x =
       let cs = map view_child (out-Names x).children.items in
       let v = length (out-Names x).variable.items in
-      rw (fold_out-Names Node NamesChildView Node BranchView Node Node Nodes element_step child_step choose_step branch_step group_step names_step substitute_step x) (ap (λ k. suc (v + name_children_weight (name_children cs) + k)) (insteads_same _ (substitutes cs)) ∙ together v (name_children_weight (name_children cs)) (written_weight env (substitutes cs)))
+      rw (fold_out-Names Node NamesChildView Node BranchView Node Node Nodes element_step child_step choose_step branch_step group_step names_step substitute_step x) (ap (λ k. suc (v + (length cs + parts_weight (name_children cs)) + k)) (insteads_same _ (substitutes cs)) ∙ together v (length cs) (parts_weight (name_children cs)) (written_weight env (substitutes cs)))
     where
-      together : (a b c : ℕ) → suc (a + b + c) ≡ suc (a + (b + c))
-      together a b c = omega arith
+      together : (a b c d : ℕ) → suc (a + (b + c) + d) ≡ suc (a + (b + c + d))
+      together a b c d = omega arith
 
   pub children_heavy : (c : NamesChildView) (cs : List NamesChildView) → children_weight env (c ∷ cs) ≡ child_weight env c + children_weight env cs
   children_heavy (a_name n) cs = omega arith

@@ -11,7 +11,7 @@ use Rattle.csl_elements.specs.declared.date.DateForm.{DateForm}
 use Rattle.csl_elements.specs.declared.locale.Locale.{Locale}
 use Rattle.csl_elements.specs.View.{NamesChildView, a_name, an_et_al, a_label, a_substitute}
 use Rattle.csl_elements.specs.Node.{DateNode, ExpandedNode, expanded_text, expanded_macro, unknown_macro, expanded_number, expanded_label, expanded_date, expanded_names, shorthand, expanded_choose, expanded_group, ExpandedNodes, no_expanded_nodes, expanded_node, ExpandedBranches, no_expanded_branches, expanded_otherwise, expanded_branch, ExpandedSubstitutes, no_expanded_substitutes, expanded_substitute, ExpandedLayout, expand_nodes}
-use Rattle.csl_style.specs.Size.{name_weight, names_weight, tests_weight}
+use Rattle.csl_style.specs.Size.{names_weight, tests_weight}
 
 -- the parts of a date, if there is one
 abbrev pub parts_of : Option Date → ℕ
@@ -51,15 +51,15 @@ module _ (locales : List Locale) where
 
     pub substitutes_cost : ExpandedSubstitutes → ℕ
     substitutes_cost no_expanded_substitutes = 0
-    substitutes_cost (expanded_substitute fs is) = suc (costs fs + substitutes_cost is)
+    substitutes_cost (expanded_substitute fs is) = costs fs + substitutes_cost is
 
   -- A layout counts like a group: one more than its elements.
   abbrev pub rendered_size : ExpandedLayout → ℕ
   rendered_size l = suc (costs l.elements)
 
-  -- what a child of names as written adds; an et-al or a label adds nothing
+  -- what a child of names as written adds
   abbrev pub child_cost : (List ℕ → Option ExpandedNodes) → NamesChildView → ℕ
-  child_cost env (a_name n) = name_weight n
-  child_cost env (an_et_al e) = 0
-  child_cost env (a_label l) = 0
+  child_cost env (a_name n) = suc (length n.parts)
+  child_cost env (an_et_al e) = 1
+  child_cost env (a_label l) = 1
   child_cost env (a_substitute ns) = suc (costs (expand_nodes env ns))

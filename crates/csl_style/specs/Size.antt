@@ -1,9 +1,9 @@
 -- The size of a layout with all macros expanded (CSL 1.0.2, Rendering Elements; Macro), which limits
 -- what rendering with a style from a stranger costs. The layout counts one, and so does each node of
 -- a list. A group, a names node, a choose and a text of a macro that the style has count one more.
--- So does each branch, `cs:else` included, and each substitute. The lists that a node holds count
--- too: the parts of a date, the items of a test, the variables of a names node, and its names with
--- their parts. The weight of a node is its size without the one that it counts in its list.
+-- So does each branch, `cs:else` included. The lists that a node holds count too: the parts of a date,
+-- the items of a test, and the variables and children of a names node, with the parts of its names and
+-- the nodes of its substitutes. The weight of a node is its size without the one that it counts in its list.
 use Rattle.std.specs.Prelude.{ℕ, ◌+◌, suc, List, [], ◌∷◌, length, Option, Some, None}
 use Rattle.csl_elements.specs.Names.{NamesNode, NameNode}
 use Rattle.csl_elements.specs.View.{NamesChildView, a_name, an_et_al, a_label, a_substitute, BranchView}
@@ -17,16 +17,13 @@ list_weight (Some xs) = length xs
 abbrev pub tests_weight : Tests → ℕ
 tests_weight ts = list_weight ts.is_numeric + (list_weight ts.is_uncertain_date + (list_weight ts.locator + (list_weight ts.position + (list_weight ts.type_ + list_weight ts.variable))))
 
--- a name, and its parts
-abbrev pub name_weight : NameNode → ℕ
-name_weight n = suc (length n.parts)
-
-abbrev pub name_children_weight : List NameNode → ℕ
-name_children_weight [] = 0
-name_children_weight (n ∷ ns) = name_weight n + name_children_weight ns
+-- the parts of names
+abbrev pub parts_weight : List NameNode → ℕ
+parts_weight [] = 0
+parts_weight (n ∷ ns) = length n.parts + parts_weight ns
 
 abbrev pub names_weight : NamesNode → ℕ
-names_weight n = length n.variables + name_children_weight n.name_children
+names_weight n = length n.variables + (n.child_count + parts_weight n.name_children)
 
 abbrev mutual
   pub weight : ExpandedNode → ℕ
@@ -52,17 +49,17 @@ abbrev mutual
 
   pub substitutes_weight : ExpandedSubstitutes → ℕ
   substitutes_weight no_expanded_substitutes = 0
-  substitutes_weight (expanded_substitute fs is) = suc (weights fs + substitutes_weight is)
+  substitutes_weight (expanded_substitute fs is) = weights fs + substitutes_weight is
 
 -- A layout counts like a group: one more than its elements.
 abbrev pub layout_size : ExpandedLayout → ℕ
 layout_size l = suc (weights l.elements)
 
--- what a child of names as written adds; an et-al or a label adds nothing
+-- what a child of names as written adds
 abbrev pub child_weight : (List ℕ → Option ExpandedNodes) → NamesChildView → ℕ
-child_weight env (a_name n) = name_weight n
-child_weight env (an_et_al e) = 0
-child_weight env (a_label l) = 0
+child_weight env (a_name n) = suc (length n.parts)
+child_weight env (an_et_al e) = 1
+child_weight env (a_label l) = 1
 child_weight env (a_substitute ns) = suc (weights (expand_nodes env ns))
 
 abbrev pub branch_weight : (List ℕ → Option ExpandedNodes) → BranchView → ℕ

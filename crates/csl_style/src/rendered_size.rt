@@ -106,7 +106,7 @@ fn left_after_child(style: &Style, child: &NamesChild, room: u64) -> Option<u64>
 {
     match child {
         NamesChild::Name(name) => room.checked_sub(1)?.checked_sub(name.parts.len() as u64),
-        NamesChild::EtAl(_) | NamesChild::Label(_) => Some(room),
+        NamesChild::EtAl(_) | NamesChild::Label(_) => room.checked_sub(1),
         NamesChild::Substitute(substitute) => {
             left_after_all(style, &substitute.children, room.checked_sub(1)?)
         }
@@ -145,11 +145,11 @@ impl Style {
     /// counts: the tests up to a branch, and the nodes of that branch. A localized date counts the
     /// parts of the style's date of its form too.
     ///
-    /// Check this before you render with a style from a stranger. It does not count persons, texts,
-    /// ordinals, and each et-al and label of names: limit the entry and the style's file too. The
-    /// function allocates nothing. Its number of steps grows with the smaller of the size of the
-    /// layout and `all`, and its stack with the smaller of the depth and its limit. Forty macros that
-    /// each call the next in two branches have a small `size`, but `all` has to be above 2^40.
+    /// Check this before you render with a style from a stranger. It does not count persons and texts:
+    /// limit the entry and the style's file too. The function allocates nothing. Its number of steps
+    /// grows with the smaller of the size of the layout and `all`, and its stack with the smaller of the
+    /// depth and its limit. Forty macros that each call the next in two branches have a small `size`,
+    /// but `all` has to be above 2^40.
     pub fn rendered_within(&self, layout: &Layout, size: u64, all: u64, depth: usize) -> bool
         ensures within { IsTrue result → (rendered_size self.now.locales
             (expand_layout (macro_env self.now) (view_layout layout.now)) ≤ size)

@@ -116,8 +116,8 @@ fn room_after_names(style: &Style, names: &Names, room: u64, most: usize) -> Opt
     Some(left)
 }
 
-/// The room that is left after a child of a names node. A name counts one more than its parts, and a
-/// substitute one more than the elements in it.
+/// The room that is left after a child of a names node. Each counts one, and a name its parts and a
+/// substitute the elements in it too.
 #[cycle(size)]
 fn room_after_child(style: &Style, child: &NamesChild, room: u64, most: usize) -> Option<u64>
     ensures some { IfSome result (λ left. (left + child_weight (macro_env style.now)
@@ -128,7 +128,7 @@ fn room_after_child(style: &Style, child: &NamesChild, room: u64, most: usize) -
 {
     match child {
         NamesChild::Name(name) => room.checked_sub(1)?.checked_sub(name.parts.len() as u64),
-        NamesChild::EtAl(_) | NamesChild::Label(_) => Some(room),
+        NamesChild::EtAl(_) | NamesChild::Label(_) => room.checked_sub(1),
         NamesChild::Substitute(substitute) => {
             room_after_all(style, &substitute.children, room.checked_sub(1)?, most)
         }
@@ -196,15 +196,15 @@ impl Style {
     /// above `most`.
     ///
     /// The layout counts one, and so does each node of a list. A group, a names node, a choose and
-    /// a call of a macro that the style has count one more. So do each branch, `cs:else` included,
-    /// and each substitute. The lists that a node holds count too: each part of a date, each item
-    /// of a test, and each variable, each `cs:name` and each `cs:name-part` of a names node.
+    /// a call of a macro that the style has count one more. So does each branch, `cs:else` included.
+    /// The lists that a node holds count too: each part of a date, each item of a test, and each
+    /// variable, each child and each `cs:name-part` of a names node.
     ///
     /// Within a limit of depth, the time and memory of a rendering are bounded by this size times
-    /// what the entry, the texts of the style, its locales and its names nodes hold. Forty macros
-    /// that each call the next twice have a size above 2^40. The function allocates nothing. Its
-    /// number of steps grows with the smaller of the size and `most`, and so does its stack.
-    /// [`Style::expanded_within`] limits the stack too.
+    /// what the entry, the texts of the style and its locales hold. Forty macros that each call the
+    /// next twice have a size above 2^40. The function allocates nothing. Its number of steps grows
+    /// with the smaller of the size and `most`, and so does its stack. [`Style::expanded_within`]
+    /// limits the stack too.
     pub fn expanded_size(&self, layout: &Layout, most: u64) -> Option<u64>
         ensures some { IfSome result (λ size. (size
             ≡ layout_size (expand_layout (macro_env self.now) (view_layout layout.now))) ×

@@ -105,6 +105,7 @@ impl Names {
           name_children = [];
           et_al = None;
           label = None;
+          child_count = 0;
         }) no_substitutes }
         ensures variable { result.variable ≡ variables }
         ensures children { result.children.items ≡ [] }

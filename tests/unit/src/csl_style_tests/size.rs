@@ -22,8 +22,8 @@ const MACROS: &[&str] = &[
 ];
 
 /// A line of the layout, its size and its depth. The layout counts one, and so does each node of a
-/// list. Each group, names node, choose, branch and substitute adds one to the size, and so does
-/// each call of a macro that the style has, and the variable of a names node. The depth counts the
+/// list. Each group, names node, choose and branch adds one to the size, and so does each call of a
+/// macro that the style has, and each variable and child of a names node. The depth counts the
 /// layout, and the nodes of the longest chain of nodes in one another.
 static ROWS: [(&str, u64, usize); 18] = [
     ("", 1, 1),
@@ -131,9 +131,9 @@ fn assert_layout(rt: &impl Abort, alloc: Global, layout: Layout, size: u64, of: 
 }
 
 #[test]
-fn variables_name_children_and_substitutes_of_names_count(rt: HostRuntime) {
+fn variables_and_children_of_names_count(rt: HostRuntime) {
     let alloc = rt.alloc();
-    assert_layout(&rt, alloc, editor(&rt, alloc), 6, "editor");
+    assert_layout(&rt, alloc, editor(&rt, alloc), 7, "editor");
     assert_layout(&rt, alloc, author_date(&rt, alloc), 7, "author and date");
     // The childless names node in the substitute counts as elsewhere.
     assert_layout(&rt, alloc, reference(&rt, alloc), 24, "reference");
